@@ -1,0 +1,5 @@
+pub mod Entries
+pub mod Lent
+pub mod Setting
+pub mod Steps
+pub mod Voxels

@@ -1,0 +1,90 @@
+-- Steps of the abstract scene, from what was found out about a command.
+use Rattle.std.proofs.Common.{◌≡◌, refl, sym, ap, ◌∙◌, ℕ, Bool, true, false, cond, ◌&&◌, not, List, [], ◌∷◌, Option, Some, None, unwrap_or, IsTrue, Result, Ok, Err, inl, inr}
+use Rattle.vdb_coord.specs.declared.Coord.{Coord}
+use Rattle.vdb_scene.specs.Doing.{AppliesTo, CarriesOut}
+use Rattle.vdb_scene.specs.Scalars.{has_form, has_value}
+use Rattle.vdb_scene.specs.Scene.{Grid, Scene, field_at, grid_at, kind_at, new_grid}
+use Rattle.vdb_scene.specs.declared.answer.Scalar.TheVariants.{Bool as truth}
+use Rattle.vdb_scene.specs.Shown.{Shows}
+use Rattle.vdb_scene.specs.Step.{Reply, Refused, Step, first_of_all, is_accessor, is_place, other_form, out_of_range, place, refusal}
+use Rattle.vdb_scene.specs.declared.answer.Answer.{Answer}
+use Rattle.vdb_scene.specs.declared.answer.Answer.TheVariants as answers
+use Rattle.vdb_scene.specs.declared.answer.Refusal.{Refusal}
+use Rattle.vdb_scene.specs.declared.answer.Refusal.TheVariants as refusals
+use Rattle.vdb_scene.specs.declared.command.Command.{Command}
+use Rattle.vdb_scene.specs.declared.command.Command.TheVariants as commands
+use Rattle.vdb_scene.specs.declared.command.Literal.{Literal}
+use Rattle.vdb_scene.specs.declared.command.Num.{Num}
+use Rattle.vdb_scene.specs.declared.command.Point.{Point}
+
+-- a value that is there where a test holds
+pub test_passes : {A : Type 0} (b : Bool) (x y : A) → cond b (Some x) None ≡ Some y → (b ≡ true) × (x ≡ y)
+test_passes true x y h = (refl, cc)
+test_passes false x y h = absurd (none_some y h)
+  where
+    none_some : {A : Type 0} (y : A) → None ≡ Some y → ⊥
+    none_some y h = cc
+
+module _ (s : Scene) (name : List ℕ) (g : Grid) (found : grid_at s name ≡ Some g) where
+  -- the field of a grid that was found
+  pub field_found : field_at s name ≡ g.field
+  field_found = ap (λ (o : Option Grid). (unwrap_or o (new_grid (truth false))).field) found
+
+  -- no refusal of a look-up is left
+  pub get_accepted : (k : Option Num) (p : Point) → is_place p ≡ true → is_accessor k ≡ true → refusal s (commands.Get name k p) ≡ None
+  get_accepted k p there accessor = rw (found, there, accessor) refl
+
+  -- nor of a write
+  pub set_accepted : (k : Option Num) (p : Point) (v : Literal) → has_form (kind_at s name) v ≡ true → is_place p ≡ true → has_value (kind_at s name) v ≡ true → is_accessor k ≡ true
+      → refusal s (commands.Set name k p v) ≡ None
+  set_accepted k p v form there value accessor = rw (found, form, there, value, accessor) refl
+
+-- a refusal that isn't want of memory
+pub refused : (s : Scene) (c : Command) (r : Refusal) (next : Scene) → refusal s c ≡ Some r → (r ≡ refusals.Memory → ⊥) → next ≡ s → CarriesOut s c (Err r) next
+refused s c refusals.Memory next is other same = absurd (other refl)
+refused s c r next is other same = (is, same)
+
+some_exact : (x y : Refusal) → Some x ≡ Some y → x ≡ y
+some_exact x y h = cc
+
+none_some : (x : Refusal) → None ≡ Some x → ⊥
+none_some x h = cc
+
+kind_memory : refusals.Kind ≡ refusals.Memory → ⊥
+kind_memory h = cc
+
+range_memory : refusals.ValueRange ≡ refusals.Memory → ⊥
+range_memory h = cc
+
+-- a value that is refused by itself is refused beside a place
+value_first : (form value place : Bool) (rest : List (Option Refusal)) (r : Refusal)
+    → first_of_all (cond (not form) (Some refusals.Kind) None ∷ cond (not value) (Some refusals.ValueRange) None ∷ []) ≡ Some r
+    → (first_of_all (cond (not form) (Some refusals.Kind) None ∷ cond (not (place && value)) (Some refusals.ValueRange) None ∷ rest) ≡ Some r) × (r ≡ refusals.Memory → ⊥)
+value_first false value place rest r h = (h, λ e. kind_memory (some_exact _ _ h ∙ e))
+value_first true false true rest r h = (h, λ e. range_memory (some_exact _ _ h ∙ e))
+value_first true false false rest r h = (h, λ e. range_memory (some_exact _ _ h ∙ e))
+value_first true true place rest r h = absurd (none_some r h)
+
+-- a write of a value that is refused
+pub set_refused : (s : Scene) (name : List ℕ) (g : Grid) → grid_at s name ≡ Some g → (k : Option Num) (p : Point) (v : Literal) (r : Refusal) (next : Scene)
+    → first_of_all (other_form (kind_at s name) v ∷ out_of_range (has_value (kind_at s name) v) ∷ []) ≡ Some r → next ≡ s → CarriesOut s (commands.Set name k p v) (Err r) next
+set_refused s name g found k p v r next is same =
+    let h = value_first (has_form (kind_at s name) v) (has_value (kind_at s name) v) (is_place p) _ r is in
+    refused s (commands.Set name k p v) r next (rw found h.0) h.1 same
+
+-- a value that isn't there where a test fails
+pub test_fails : {A : Type 0} (b : Bool) (x : A) → cond b (Some x) None ≡ None → b ≡ false
+test_fails true x h = absurd (some_none x h)
+  where
+    some_none : {A : Type 0} (x : A) → Some x ≡ None → ⊥
+    some_none x h = cc
+test_fails false x h = refl
+
+-- a command that was carried out is a step
+pub step_done : (s : Scene) (c : Command) (answer : Answer) (next : Scene) → CarriesOut s c (Ok answer) next → AppliesTo s c answer next
+step_done s c answer next h = (h.1.0, h.1.1, inr (inl (h.0, h.1.2, h.2)))
+
+-- and so is one that was refused
+pub step_refused : (s : Scene) (c : Command) (r : Refusal) (next : Scene) → CarriesOut s c (Err r) next → AppliesTo s c (answers.Refused r) next
+step_refused s c refusals.Memory next h = (Refused refusals.Memory, refl, inr (inr (h.0, h.1, refl, h.2)))
+step_refused s c r next h = (Refused r, refl, inl (r, h.0, refl, h.1))

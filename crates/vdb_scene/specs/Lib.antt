@@ -1,0 +1,10 @@
+-- The abstract scene: names, values, grids, the step of a command, and what answers show.
+pub mod Names
+pub mod Scalars
+pub mod Scene
+pub mod Step
+pub mod VoxelMap
+pub mod Grids
+pub mod Shown
+pub mod Doing
+pub mod Watched

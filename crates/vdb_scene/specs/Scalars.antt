@@ -1,0 +1,73 @@
+-- Values of the three kinds, and what a line's words for them mean.
+use Rattle.std.specs.Prelude.{ℕ, ℤ, pos, Bool, true, false, List}
+use Rattle.std.specs.Ordering.{int_eq}
+use Rattle.std.specs.Fmt.{signed_decimal}
+use Rattle.std.proofs.Math.Bool.{beq}
+use Rattle.vdb_value.specs.Values.{has_number, truth_text}
+use Rattle.vdb_value.specs.declared.Kind.{Kind}
+use Rattle.vdb_value.specs.declared.Kind.TheVariants as kinds
+use Rattle.vdb_scene.specs.declared.command.Literal.{Literal}
+use Rattle.vdb_scene.specs.declared.command.Literal.TheVariants.{Number, Truth}
+use Rattle.vdb_scene.specs.declared.command.Num.{Num}
+use Rattle.vdb_scene.specs.declared.command.Num.TheVariants.{Near, Far}
+use Rattle.vdb_scene.specs.declared.answer.Scalar.{Scalar}
+use Rattle.vdb_scene.specs.declared.answer.Scalar.TheVariants.{Bool as truth, I32, I64}
+
+-- the kind of a value
+abbrev pub kind_of : Scalar → Kind
+kind_of (truth b) = kinds.Bool
+kind_of (I32 z) = kinds.I32
+kind_of (I64 z) = kinds.I64
+
+-- whether two kinds are one
+abbrev pub kind_eq : Kind → Kind → Bool
+kind_eq kinds.Bool kinds.Bool = true
+kind_eq kinds.I32 kinds.I32 = true
+kind_eq kinds.I64 kinds.I64 = true
+kind_eq _ _ = false
+
+-- whether two values are one
+abbrev pub scalar_eq : Scalar → Scalar → Bool
+scalar_eq (truth a) (truth b) = beq a b
+scalar_eq (I32 y) (I32 z) = int_eq y z
+scalar_eq (I64 y) (I64 z) = int_eq y z
+scalar_eq _ _ = false
+
+-- the text of a value: a decimal number, true or false
+abbrev pub scalar_text : Scalar → List ℕ
+scalar_text (truth b) = truth_text b
+scalar_text (I32 z) = signed_decimal z
+scalar_text (I64 z) = signed_decimal z
+
+-- ---- as a line has them
+
+-- the number of a line; 0 stands for one outside 64 bits, which every range refuses before
+abbrev pub number : Num → ℤ
+number (Near z) = z
+number Far = pos 0
+
+-- whether a number of a line passes a test of numbers of 64 bits
+abbrev pub is_near : (ℤ → Bool) → Num → Bool
+is_near test (Near z) = test z
+is_near test Far = false
+
+-- whether a value of a line has the form of the kind: a truth value for truth values, a number for the others
+abbrev pub has_form : Kind → Literal → Bool
+has_form kinds.Bool (Truth b) = true
+has_form kinds.Bool (Number n) = false
+has_form kinds.I32 (Truth b) = false
+has_form kinds.I32 (Number n) = true
+has_form kinds.I64 (Truth b) = false
+has_form kinds.I64 (Number n) = true
+
+-- whether a value of a line lies in the kind's range
+abbrev pub has_value : Kind → Literal → Bool
+has_value kind (Truth b) = true
+has_value kind (Number n) = is_near (has_number kind) n
+
+-- the kind's value that a line has; false stands for one of another form, which is refused before
+abbrev pub scalar : Kind → Literal → Scalar
+scalar kinds.I32 (Number n) = I32 (number n)
+scalar kinds.I64 (Number n) = I64 (number n)
+scalar kinds.Bool (Number n) = truth false
+scalar _ (Truth b) = truth b

@@ -1,0 +1,51 @@
+-- The abstract scene: named fields.
+use Rattle.std.specs.Prelude.{ℕ, Bool, false, List, Option, unwrap_or}
+use Rattle.std.specs.Ordering.{nat_cmp}
+use Rattle.std.specs.Cmp.Lexicographic.{slice_cmp}
+use Rattle.std.specs.Map.{lookup, set_value}
+use Rattle.std.specs.BTreeMap.{insert_entry, is_at}
+use Rattle.vdb_value.specs.declared.Kind.{Kind}
+use Rattle.vdb_tree.specs.Field.{Field, new}
+use Rattle.vdb_scene.specs.Scalars.{kind_of}
+use Rattle.vdb_scene.specs.declared.answer.Scalar.{Scalar}
+use Rattle.vdb_scene.specs.declared.answer.Scalar.TheVariants.{Bool as truth}
+
+-- what a name stands for: one total function from coordinates to cells, whose background tells its kind
+pub record Grid : Type 0 where
+  pub field : Field Scalar
+
+-- the grids, each under its name, by rising bytes of the names
+abbrev pub Scene : Type 0
+Scene = List (List ℕ × Grid)
+
+-- whether another name is this one
+abbrev pub is_named : List ℕ → List ℕ → Bool
+is_named name = is_at (slice_cmp nat_cmp name)
+
+-- the grid of a name, if it is there
+abbrev pub grid_at : Scene → List ℕ → Option Grid
+grid_at s name = lookup (is_named name) s
+
+-- a grid that was never written
+abbrev pub new_grid : Scalar → Grid
+new_grid background = record { field = new background }
+
+-- the grid of a name that is there; any other stands for one that isn't, which is refused before
+abbrev pub the_grid : Scene → List ℕ → Grid
+the_grid s name = unwrap_or (grid_at s name) (new_grid (truth false))
+
+-- its field
+abbrev pub field_at : Scene → List ℕ → Field Scalar
+field_at s name = (the_grid s name).field
+
+-- its kind
+abbrev pub kind_at : Scene → List ℕ → Kind
+kind_at s name = kind_of (field_at s name).background
+
+-- the scene with a further grid, under a name that isn't there
+abbrev pub with_grid : Scene → List ℕ → Grid → Scene
+with_grid s name g = insert_entry (slice_cmp nat_cmp) s name g
+
+-- the scene with another grid under a name that is there
+abbrev pub with_changed : Scene → List ℕ → Grid → Scene
+with_changed s name g = set_value (is_named name) s g

@@ -1,0 +1,155 @@
+-- What a command makes of a scene: when it is refused, what it answers, and the scene after it.
+use Rattle.std.specs.Prelude.{◌≡◌, ◌⊎◌, ℕ, ℤ, pos, Bool, true, false, not, ◌&&◌, if◌then◌else◌, List, [], ◌∷◌, length, Option, Some, None, is_some, is_none, IsTrue, nat_le, Result, Ok, Err}
+use Rattle.vdb_coord.specs.Space.{coord, everywhere, is_between}
+use Rattle.vdb_coord.specs.declared.Coord.{Coord}
+use Rattle.vdb_value.specs.declared.Cell.{Cell}
+use Rattle.vdb_value.specs.declared.Kind.{Kind}
+use Rattle.vdb_tree.specs.declared.Write.{Write}
+use Rattle.vdb_tree.specs.declared.Write.TheVariants.{On}
+use Rattle.vdb_tree.specs.Field.{Field, write, written}
+use Rattle.vdb_tree.specs.Plain.{cell_eq}
+use Rattle.vdb_scene.specs.Scalars.{has_form, has_value, is_near, number, scalar, scalar_eq}
+use Rattle.vdb_scene.specs.Scene.{Grid, Scene, field_at, grid_at, kind_at, new_grid, the_grid, with_changed, with_grid}
+use Rattle.vdb_scene.specs.declared.command.Command.{Command}
+use Rattle.vdb_scene.specs.declared.command.Command.TheVariants as commands
+use Rattle.vdb_scene.specs.declared.command.Literal.{Literal}
+use Rattle.vdb_scene.specs.declared.command.Num.{Num}
+use Rattle.vdb_scene.specs.declared.command.Point.{Point}
+use Rattle.vdb_scene.specs.declared.answer.Refusal.{Refusal}
+use Rattle.vdb_scene.specs.declared.answer.Refusal.TheVariants as refusals
+use Rattle.vdb_scene.specs.declared.answer.Scalar.{Scalar}
+
+-- ---- places of a line
+
+-- the coordinate that a line names
+abbrev pub place : Point → Coord
+place p = coord (number p.x) (number p.y) (number p.z)
+
+-- whether a number of a line is one from low to high
+abbrev pub is_from : ℤ → ℤ → Num → Bool
+is_from low high n = is_near (is_between low high) n
+
+-- whether it has 32 bits
+abbrev pub is_component : Num → Bool
+is_component n = is_from everywhere.min.x everywhere.max.x n
+
+-- whether a line names a coordinate
+abbrev pub is_place : Point → Bool
+is_place p = is_component p.x && is_component p.y && is_component p.z
+
+-- whether a line names an accessor, 0 to 7, or none
+abbrev pub is_accessor : Option Num → Bool
+is_accessor None = true
+is_accessor (Some k) = is_from (pos 0) (pos 7) k
+
+-- ---- the scene after a command that isn't refused
+
+-- the scene with the field of a name changed
+abbrev pub changed : Scene → List ℕ → (Field Scalar → Field Scalar) → Scene
+changed s name change = with_changed s name (record (the_grid s name) { field = change (field_at s name) })
+
+-- what a line writes to a grid
+abbrev pub value_at : Scene → List ℕ → Literal → Scalar
+value_at s name v = scalar (kind_at s name) v
+
+-- the scene after each command
+abbrev pub after : Scene → Command → Scene
+after s (commands.Grid name kind background) = with_grid s name (new_grid (scalar kind background))
+after s (commands.Get name k p) = s
+after s (commands.Set name k p v) = changed s name (write (place p) (On (value_at s name v)))
+
+-- ---- when a command is refused
+
+-- the refusal where a test holds
+abbrev pub refused_if : Bool → Refusal → Option Refusal
+refused_if test r = if test then Some r else None
+
+module _ (s : Scene) where
+  -- the grid isn't there
+  abbrev pub no_grid : List ℕ → Option Refusal
+  no_grid name = refused_if (is_none (grid_at s name)) refusals.NoGrid
+
+  -- the name is taken
+  abbrev pub name_taken : List ℕ → Option Refusal
+  name_taken name = refused_if (is_some (grid_at s name)) refusals.NameTaken
+
+  -- there are 64 grids
+  abbrev pub grid_limit : Option Refusal
+  grid_limit = refused_if (nat_le 64 (length s)) refusals.GridLimit
+
+-- a value of another form than the kind's
+abbrev pub other_form : Kind → Literal → Option Refusal
+other_form kind v = refused_if (not (has_form kind v)) refusals.Kind
+
+-- something doesn't fit its range
+abbrev pub out_of_range : Bool → Option Refusal
+out_of_range fits = refused_if (not fits) refusals.ValueRange
+
+-- no such accessor
+abbrev pub no_accessor : Option Num → Option Refusal
+no_accessor k = refused_if (not (is_accessor k)) refusals.NoAccessor
+
+-- what each command may be refused for, in the one order of all refusals
+abbrev pub tried : Scene → Command → List (Option Refusal)
+tried s (commands.Grid name kind v) = name_taken s name ∷ grid_limit s ∷ other_form kind v ∷ out_of_range (has_value kind v) ∷ []
+tried s (commands.Get name k p) = no_grid s name ∷ out_of_range (is_place p) ∷ no_accessor k ∷ []
+tried s (commands.Set name k p v) =
+    no_grid s name ∷ other_form (kind_at s name) v ∷ out_of_range (is_place p && has_value (kind_at s name) v) ∷ no_accessor k ∷ []
+
+-- the first refusal of a list, if there is one
+abbrev pub first_of_all : List (Option Refusal) → Option Refusal
+first_of_all [] = None
+first_of_all (None ∷ rest) = first_of_all rest
+first_of_all (Some r ∷ rest) = Some r
+
+-- why a command is refused, if it is
+abbrev pub refusal : Scene → Command → Option Refusal
+refusal s c = first_of_all (tried s c)
+
+-- ---- the answer
+
+-- what a command answers
+pub data Reply : Type 0 where
+  Done : Reply
+  Refused : (refusal : Refusal) → Reply
+  Value : (cell : Cell Scalar) → Reply
+
+-- the answer to a command that isn't refused
+abbrev pub Answers : Scene → Command → Reply → Type 0
+Answers s (commands.Grid name kind v) reply = reply ≡ Done
+Answers s (commands.Get name k p) reply = reply ≡ Value ((field_at s name).cell (place p))
+Answers s (commands.Set name k p v) reply = reply ≡ Done
+
+-- ---- want of memory
+
+-- whether a write changes the cell
+abbrev pub write_changes : Field Scalar → Coord → Write Scalar → Bool
+write_changes f p w = not (cell_eq scalar_eq (written w (f.cell p)) (f.cell p))
+
+-- whether a command may take memory: to make a grid, and to write what doesn't stand yet
+abbrev pub takes_memory : Scene → Command → Bool
+takes_memory s (commands.Grid name kind v) = true
+takes_memory s (commands.Get name k p) = false
+takes_memory s (commands.Set name k p v) = write_changes (field_at s name) (place p) (On (value_at s name v))
+
+-- ---- one step
+
+-- Either the command is refused and the scene stays; or it isn't, and answer and scene are as said; or it takes memory,
+-- of which there is too little, and the scene stays.
+abbrev pub Step : Scene → Command → Reply → Scene → Type 0
+Step s c reply next =
+    ((r : Refusal) × (refusal s c ≡ Some r) × (reply ≡ Refused r) × (next ≡ s))
+    ⊎ ((refusal s c ≡ None) × Answers s c reply × (next ≡ after s c))
+    ⊎ ((refusal s c ≡ None) × IsTrue (takes_memory s c) × (reply ≡ Refused refusals.Memory) × (next ≡ s))
+
+-- ---- a grid that is handed in
+
+-- why a grid can't be put under a name, if it can't
+abbrev pub insertion_refusal : Scene → List ℕ → Option Refusal
+insertion_refusal s name = first_of_all (name_taken s name ∷ grid_limit s ∷ [])
+
+-- the grid stands under its name, or the first refusal; want of memory comes where nothing else applies
+abbrev pub Inserts : Scene → List ℕ → Grid → Result (Unit {0}) Refusal → Scene → Type 0
+Inserts s name g (Ok _) next = (insertion_refusal s name ≡ None) × (next ≡ with_grid s name g)
+Inserts s name g (Err refusals.Memory) next = (insertion_refusal s name ≡ None) × (next ≡ s)
+Inserts s name g (Err r) next = (insertion_refusal s name ≡ Some r) × (next ≡ s)

@@ -1,0 +1,55 @@
+//! What a command answers.
+
+/// A value of one of the three kinds.
+#[derive(Clone, Copy, Debug, PartialEq, Eq)]
+pub enum Scalar {
+    Bool(bool),
+    I32(i32),
+    I64(i64),
+}
+
+/// Why a line is refused, in the order in which the reasons are tried.
+#[derive(Clone, Copy, Debug, PartialEq, Eq)]
+pub enum Refusal {
+    /// The line has more than 256 bytes.
+    LineTooLong,
+    /// The line is no command.
+    Syntax,
+    /// There is no grid of a name that must be there.
+    NoGrid,
+    /// There is a grid of the name that is to be made.
+    NameTaken,
+    /// A command on two grids names one twice.
+    SameGrid,
+    /// The scene has 64 grids.
+    GridLimit,
+    /// A number for a grid of truth values, a truth value for one of numbers, or grids of two kinds.
+    Kind,
+    /// A value or a number lies outside its range.
+    ValueRange,
+    /// There is no accessor of that number.
+    NoAccessor,
+    /// A minimum of a box is greater than its maximum.
+    Box,
+    /// A box or a slice is too large.
+    TooLarge,
+    /// Truth values have no sum.
+    NoSum,
+    /// A sum lies outside the type.
+    SumRange,
+    /// The grid would have too many root blocks that aren't plain.
+    RootLimit,
+    /// There is too little memory.
+    Memory,
+}
+
+/// What a command answers. It lends the scene until it is dropped.
+#[derive(Drop)]
+pub enum Answer {
+    /// The command is carried out.
+    Done,
+    /// The command is refused, and the scene is as it was.
+    Refused(Refusal),
+    /// The value of a voxel, and whether it is active.
+    Value(Scalar, bool),
+}

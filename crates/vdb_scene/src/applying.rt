@@ -1,0 +1,169 @@
+//! The step of a scene by a command.
+ghost use Rattle.std.specs.Prelude.{◌≡◌, IfOk, IfErr, Some, None, ◌∷◌, [], true, if◌then◌else◌};
+ghost use Rattle.vdb_scene.specs.Doing.{AppliesTo, CarriesOut};
+ghost use Rattle.vdb_scene.specs.Grids.{scene_of};
+ghost use Rattle.vdb_scene.specs.Scalars.{has_form, has_value, number, scalar};
+ghost use Rattle.vdb_scene.specs.Step.{first_of_all, is_accessor, is_component, is_place, other_form, out_of_range, place};
+ghost use Rattle.vdb_scene.specs.declared.command.Command.TheVariants as commands;
+
+use crate::{Answer, AnyGrid, Command, Literal, Name, Num, Point, Refusal, Scalar, Scene};
+use vdb_coord::Coord;
+use vdb_value::Kind;
+
+/// The 32-bit number that a line writes, if it is one.
+fn component_of(component: Num) -> Option<i32>
+    ensures { result ≡ (if is_component component then Some (number component) else None) }
+{
+    match component {
+        Num::Near(value) => i32::try_from(value).ok(),
+        Num::Far => None,
+    }
+}
+
+/// The coordinate that a line names, if it is one.
+fn place_of(at: &Point) -> Option<Coord>
+    ensures { result ≡ (if is_place at.now then Some (place at.now) else None) }
+{
+    let x = component_of(at.x)?;
+    let y = component_of(at.y)?;
+    let z = component_of(at.z)?;
+    Some(Coord { x, y, z })
+}
+
+/// The value of a kind that a line writes. `Kind` refuses one of another form, and `ValueRange` one outside the kind.
+fn scalar_of(kind: Kind, literal: Literal) -> Result<Scalar, Refusal>
+    ensures form { IfOk result (λ value. has_form kind literal ≡ true) }
+    ensures range { IfOk result (λ value. has_value kind literal ≡ true) }
+    ensures value { IfOk result (λ value. value ≡ scalar kind literal) }
+    ensures refusal { IfErr result (λ refusal. first_of_all (other_form kind literal ∷ out_of_range (has_value kind literal) ∷ []) ≡ Some refusal) }
+{
+    match literal {
+        Literal::Truth(value) => match kind {
+            Kind::Bool => Ok(Scalar::Bool(value)),
+            _ => Err(Refusal::Kind),
+        },
+        Literal::Number(value) => match kind {
+            Kind::Bool => Err(Refusal::Kind),
+            Kind::I32 => match component_of(value) {
+                Some(value) => Ok(Scalar::I32(value)),
+                None => Err(Refusal::ValueRange),
+            },
+            Kind::I64 => match value {
+                Num::Near(value) => Ok(Scalar::I64(value)),
+                Num::Far => Err(Refusal::ValueRange),
+            },
+        },
+    }
+}
+
+/// Whether a line names no accessor, or one of 0 to 7.
+fn names_accessor(accessor: Option<Num>) -> bool
+    ensures { result ≡ is_accessor accessor }
+{
+    match accessor {
+        None => true,
+        Some(Num::Near(k)) => 0 <= k && k <= 7,
+        Some(Num::Far) => false,
+    }
+}
+
+impl Scene {
+    /// Carries out a command that makes a grid.
+    fn make(
+        &mut self,
+        name: Name,
+        kind: Kind,
+        background: Literal,
+    ) -> Result<Answer, Refusal>
+        ensures { CarriesOut (scene_of self.old) (commands.Grid name kind background) result (scene_of self.new) }
+    {
+        if self.has(&name) {
+            return Err(Refusal::NameTaken);
+        }
+        if self.is_full() {
+            return Err(Refusal::GridLimit);
+        }
+        let background = scalar_of(kind, background)?;
+        self.put(name, AnyGrid::new(self.alloc, background))?;
+        Ok(Answer::Done)
+    }
+
+    /// Carries out a command that looks up a voxel.
+    fn look_up(
+        &self,
+        name: &Name,
+        accessor: Option<Num>,
+        at: &Point,
+    ) -> Result<Answer, Refusal>
+        ensures { CarriesOut (scene_of self.now) (commands.Get name.now accessor at.now) result (scene_of self.now) }
+    {
+        let Some(grid) = self.get(name) else {
+            return Err(Refusal::NoGrid);
+        };
+        let Some(at) = place_of(at) else {
+            return Err(Refusal::ValueRange);
+        };
+        if !names_accessor(accessor) {
+            return Err(Refusal::NoAccessor);
+        }
+        let cell = grid.get(at);
+        Ok(Answer::Value(cell.value, cell.on))
+    }
+
+    /// Carries out a command that sets a voxel.
+    fn set(
+        &mut self,
+        name: &Name,
+        accessor: Option<Num>,
+        at: &Point,
+        value: Literal,
+    ) -> Result<Answer, Refusal>
+        ensures { CarriesOut (scene_of self.old) (commands.Set name.now accessor at.now value) result (scene_of self.new) }
+    {
+        let Some(grid) = self.grids.get_mut(name) else {
+            return Err(Refusal::NoGrid);
+        };
+        let value = scalar_of(grid.kind(), value)?;
+        let Some(at) = place_of(at) else {
+            return Err(Refusal::ValueRange);
+        };
+        if !names_accessor(accessor) {
+            return Err(Refusal::NoAccessor);
+        }
+        match grid.set(at, value) {
+            Ok(()) => Ok(Answer::Done),
+            Err(_) => Err(Refusal::Memory),
+        }
+    }
+
+    /// Carries out a command and answers it. Refusals are tried in their one order, the first that applies is answered,
+    /// and then the scene is as it was; so it is where the answer is want of memory, which comes in place of nothing else.
+    pub fn apply(&mut self, command: &Command) -> Answer
+        ensures step { AppliesTo (scene_of self.old) command.now result (scene_of self.new) }
+    {
+        match self.carry_out(command) {
+            Ok(answer) => answer,
+            Err(refusal) => Answer::Refused(refusal),
+        }
+    }
+
+    /// Carries out a command.
+    fn carry_out(&mut self, command: &Command) -> Result<Answer, Refusal>
+        ensures { CarriesOut (scene_of self.old) command.now result (scene_of self.new) }
+    {
+        match command {
+            Command::Grid {
+                name,
+                kind,
+                background,
+            } => self.make(*name, *kind, *background),
+            Command::Get { name, accessor, at } => self.look_up(name, *accessor, at),
+            Command::Set {
+                name,
+                accessor,
+                at,
+                value,
+            } => self.set(name, *accessor, at, *value),
+        }
+    }
+}

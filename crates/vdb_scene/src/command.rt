@@ -1,0 +1,52 @@
+//! Commands, as a line has them: numbers may lie outside every range, and names need not be there.
+
+use crate::Name;
+use vdb_value::Kind;
+
+/// A number of a line.
+#[derive(Clone, Copy, Debug, PartialEq, Eq)]
+pub enum Num {
+    /// One of 64 bits.
+    Near(i64),
+    /// One outside 64 bits, and so outside every range.
+    Far,
+}
+
+/// A value of a line.
+#[derive(Clone, Copy, Debug, PartialEq, Eq)]
+pub enum Literal {
+    Number(Num),
+    Truth(bool),
+}
+
+/// The three components of a coordinate of a line.
+#[derive(Clone, Copy, Debug, PartialEq, Eq)]
+pub struct Point {
+    pub x: Num,
+    pub y: Num,
+    pub z: Num,
+}
+
+/// What a line asks for.
+#[derive(Clone, Copy, PartialEq, Eq)]
+pub enum Command {
+    /// Makes a grid that holds its background everywhere.
+    Grid {
+        name: Name,
+        kind: Kind,
+        background: Literal,
+    },
+    /// Answers the cell of a voxel.
+    Get {
+        name: Name,
+        accessor: Option<Num>,
+        at: Point,
+    },
+    /// Sets the value of a voxel, and makes it active.
+    Set {
+        name: Name,
+        accessor: Option<Num>,
+        at: Point,
+        value: Literal,
+    },
+}

@@ -1,0 +1,87 @@
+//! Scenes: grids under names.
+ghost use Rattle.std.specs.Prelude.{◌≡◌, ◌++◌, ◌∷◌, [], IfErr, OnErr, OnOk, map, length, is_some, nat_le};
+ghost use Rattle.std.specs.Option.{option_map};
+ghost use Rattle.vdb_scene.specs.Grids.{grid_of, scene_of};
+ghost use Rattle.vdb_scene.specs.Scene.{grid_at, with_grid};
+ghost use Rattle.vdb_scene.specs.Step.{Inserts};
+
+use crate::{AnyGrid, Name, Refusal};
+use std::alloc::Global;
+use std::collections::BTreeMap;
+use std::collections::btree_map::Keys;
+
+/// The most grids of a scene.
+pub const GRID_LIMIT: usize = 64;
+
+/// Grids under names: at most `GRID_LIMIT` of them.
+#[derive(Drop)]
+pub struct Scene {
+    pub(crate) alloc: Global,
+    pub(crate) grids: BTreeMap<Name, AnyGrid>,
+}
+
+impl Scene {
+    /// The empty scene. It takes no memory.
+    pub fn new(alloc: Global) -> Scene
+        ensures { scene_of result ≡ [] }
+    {
+        Scene {
+            alloc,
+            grids: BTreeMap::new(alloc),
+        }
+    }
+
+    /// The grid of a name, if it is there.
+    pub fn get(&self, name: &Name) -> Option<&AnyGrid>
+        ensures { option_map (λ grid. grid_of grid.now) result ≡ grid_at (scene_of self.now) name.now }
+    {
+        self.grids.get(name)
+    }
+
+    /// The names of the grids, by rising bytes.
+    pub fn names(&self) -> Keys<'_, Name, AnyGrid>
+        ensures { result ≡ map (λ e. e.0) (scene_of self.now) }
+    {
+        self.grids.keys()
+    }
+
+    /// Puts a grid under a name. It is refused, dropped, and the scene stays as it was, where the name is taken, where
+    /// there are `GRID_LIMIT` grids, or for want of memory, in this order.
+    pub fn insert(&mut self, name: Name, grid: AnyGrid) -> Result<(), Refusal>
+        ensures { Inserts (scene_of self.old) name (grid_of grid) result (scene_of self.new) }
+    {
+        if self.has(&name) {
+            return Err(Refusal::NameTaken);
+        }
+        if self.is_full() {
+            return Err(Refusal::GridLimit);
+        }
+        self.put(name, grid)
+    }
+
+    /// Whether there is a grid of a name.
+    pub(crate) fn has(&self, name: &Name) -> bool
+        ensures { result ≡ is_some (grid_at (scene_of self.now) name.now) }
+    {
+        self.grids.contains_key(name)
+    }
+
+    /// Whether there are as many grids as there may be.
+    pub(crate) fn is_full(&self) -> bool
+        ensures { result ≡ nat_le 64 (length (scene_of self.now)) }
+    {
+        self.grids.len() >= GRID_LIMIT
+    }
+
+    /// Puts a grid under a name that isn't taken; only want of memory refuses it.
+    pub(crate) fn put(&mut self, name: Name, grid: AnyGrid) -> Result<(), Refusal>
+        ensures ok { OnOk result (scene_of self.new ≡ with_grid (scene_of self.old) name (grid_of grid)) }
+        ensures err { OnErr result (scene_of self.new ≡ scene_of self.old) }
+        ensures memory { IfErr result (λ refusal. refusal ≡ Refusal.Memory) }
+    {
+        match self.grids.insert(name, grid) {
+            Ok(_) => Ok(()),
+            Err(_) => Err(Refusal::Memory),
+        }
+    }
+}
