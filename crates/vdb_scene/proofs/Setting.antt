@@ -68,9 +68,12 @@ module _ (grids : List (List ℕ × AnyGrid)) (name : List ℕ) (k : Option Num)
         -- there is too little memory for a cell that doesn't stand
         pub set_short : cell_eq scalar_eq (written (On (scalar kind v)) ((grid_field grid).cell (place p))) ((grid_field grid).cell (place p)) ≡ false → next ≡ scene
             → CarriesOut scene (commands.Set name k p v) (Err refusals.Memory) next
-        set_short differs same =
-            (accepted, ap not (subst (λ h. cell_eq scalar_eq (written (On (scalar h v)) ((field_at scene name).cell (place p))) ((field_at scene name).cell (place p)) ≡ false) kind_here
-              (subst (λ (f : Field Scalar). cell_eq scalar_eq (written (On (scalar kind v)) (f.cell (place p))) (f.cell (place p)) ≡ false) (sym (field_found scene name (grid_of grid) (found grids name grid there))) differs)), same)
+        set_short differs same = (
+          accepted,
+          ap not (subst (λ h. cell_eq scalar_eq (written (On (scalar h v)) ((field_at scene name).cell (place p))) ((field_at scene name).cell (place p)) ≡ false) kind_here
+              (subst (λ (f : Field Scalar). cell_eq scalar_eq (written (On (scalar kind v)) (f.cell (place p))) (f.cell (place p)) ≡ false) (sym (field_found scene name (grid_of grid) (found grids name grid there))) differs)),
+          same,
+        )
 
 -- a test that would make a failed call succeed
 pub not_standing : (stands : Bool) → (IsTrue stands → false ≡ true) → stands ≡ false

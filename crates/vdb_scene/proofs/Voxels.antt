@@ -37,8 +37,8 @@ pub written_cell : {V : Type 0} (background : V) (es fs : List (Coord × Cell V)
 written_cell background es fs q w c is puts = same_cells background _ _ (λ p inside.
     ap (λ o. unwrap_or o (off background)) (puts p) ∙ chosen (is_at (coord_cmp q) p) c (cell_at es p) (off background)
     ∙ chosen_under (coord_eq q p) c (written w ((field_over background es).cell p)) _ _
-        (λ same. is ∙ ap (λ r. written w ((field_over background es).cell r)) (coord_exact q p same))
-        (sym (cell_inside background (λ r. unwrap_or (cell_at es r) (off background)) p inside)))
+    (λ same. is ∙ ap (λ r. written w ((field_over background es).cell r)) (coord_exact q p same))
+    (sym (cell_inside background (λ r. unwrap_or (cell_at es r) (off background)) p inside)))
 
 -- the same cell whatever the test says
 either_way : {A : Type 0} (b : Bool) (x y : A) → (b ≡ true → x ≡ y) → y ≡ cond b x y
@@ -52,7 +52,7 @@ written_standing background es q w stands = same_cells background _ _ (λ p insi
     let old : Cell _ = (field_over background es).cell p in
     sym (cell_inside background (λ r. unwrap_or (cell_at es r) (off background)) p inside)
     ∙ either_way (coord_eq q p) (written w old) old
-        (λ same. ap (λ r. written w ((field_over background es).cell r)) (sym (coord_exact q p same)) ∙ stands ∙ ap (λ r. (field_over background es).cell r) (coord_exact q p same)))
+    (λ same. ap (λ r. written w ((field_over background es).cell r)) (sym (coord_exact q p same)) ∙ stands ∙ ap (λ r. (field_over background es).cell r) (coord_exact q p same)))
 
 -- an order that passes the test is Equal
 pub equal : (o : Ordering) → is_eq o ≡ true → o ≡ Equal

@@ -69,12 +69,7 @@ fn names_accessor(accessor: Option<Num>) -> bool
 
 impl Scene {
     /// Carries out a command that makes a grid.
-    fn make(
-        &mut self,
-        name: Name,
-        kind: Kind,
-        background: Literal,
-    ) -> Result<Answer, Refusal>
+    fn make(&mut self, name: Name, kind: Kind, background: Literal) -> Result<Answer, Refusal>
         ensures { CarriesOut (scene_of self.old) (commands.Grid name kind background) result (scene_of self.new) }
     {
         if self.has(&name) {
@@ -89,12 +84,7 @@ impl Scene {
     }
 
     /// Carries out a command that looks up a voxel.
-    fn look_up(
-        &self,
-        name: &Name,
-        accessor: Option<Num>,
-        at: &Point,
-    ) -> Result<Answer, Refusal>
+    fn look_up(&self, name: &Name, accessor: Option<Num>, at: &Point) -> Result<Answer, Refusal>
         ensures { CarriesOut (scene_of self.now) (commands.Get name.now accessor at.now) result (scene_of self.now) }
     {
         let Some(grid) = self.get(name) else {

@@ -17,3 +17,6 @@ pub use name::{NAME_LIMIT, Name};
 pub use scene::{GRID_LIMIT, Scene};
 pub use voxel_map::VoxelMap;
 pub use watched::Watched;
+
+#[cfg(test)]
+mod tests;

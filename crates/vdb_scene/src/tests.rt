@@ -1,0 +1,199 @@
+//! Scenes with ample memory, and names.
+use super::*;
+use std::process::Abort;
+use vdb_value::Kind;
+
+/// A number of a line.
+fn near(value: i64) -> Literal {
+    Literal::Number(Num::Near(value))
+}
+
+/// A place of a line.
+fn point(x: i64, y: i64, z: i64) -> Point {
+    Point {
+        x: Num::Near(x),
+        y: Num::Near(y),
+        z: Num::Near(z),
+    }
+}
+
+/// A name of one letter.
+fn letter(rt: &impl Abort, byte: u8) -> Name {
+    Name::new(&[byte]).expect(rt, "a letter is a name")
+}
+
+/// A command that makes a grid.
+fn grid(name: Name, kind: Kind, background: Literal) -> Command {
+    Command::Grid {
+        name,
+        kind,
+        background,
+    }
+}
+
+/// A command that sets a voxel.
+fn set(name: Name, at: Point, value: Literal) -> Command {
+    Command::Set {
+        name,
+        accessor: None,
+        at,
+        value,
+    }
+}
+
+/// A command that looks up a voxel.
+fn get(name: Name, at: Point) -> Command {
+    Command::Get {
+        name,
+        accessor: Some(Num::Near(7)),
+        at,
+    }
+}
+
+/// Whether an answer is `ok`.
+fn is_done(answer: &Answer) -> bool {
+    matches!(answer, Answer::Done)
+}
+
+/// Whether an answer is this refusal.
+fn is_refused(answer: &Answer, refusal: Refusal) -> bool {
+    match answer {
+        Answer::Refused(given) => *given == refusal,
+        _ => false,
+    }
+}
+
+/// Whether an answer is this cell.
+fn is_value(answer: &Answer, value: Scalar, on: bool) -> bool {
+    match answer {
+        Answer::Value(given, state) => *given == value && *state == on,
+        _ => false,
+    }
+}
+
+#[test]
+fn a_name_has_its_form(rt: HostRuntime) {
+    for (bytes, valid) in [
+        (b"a".as_slice(), true),
+        (b"z0_".as_slice(), true),
+        (b"abcdefghijklmnop".as_slice(), true),
+        (b"abcdefghijklmnopq".as_slice(), false),
+        (b"".as_slice(), false),
+        (b"A".as_slice(), false),
+        (b"0a".as_slice(), false),
+        (b"_a".as_slice(), false),
+        (b"a-b".as_slice(), false),
+    ] {
+        let name = Name::new(bytes);
+        assert_eq!(rt; name.is_some(), valid);
+        if let Some(name) = name {
+            assert_eq!(rt; name.bytes(), bytes);
+        }
+    }
+}
+
+#[test]
+fn grids_of_each_kind_hold_their_cells(rt: HostRuntime) {
+    let mut scene = Scene::new(rt.alloc());
+    let minus = point(-1, -1, -1);
+    for (byte, kind, background, value) in [
+        (
+            b'b',
+            Kind::Bool,
+            Literal::Truth(false),
+            Literal::Truth(true),
+        ),
+        (b'i', Kind::I32, near(0), near(-2147483648)),
+        (b'l', Kind::I64, near(-3), near(9223372036854775807)),
+    ] {
+        let name = letter(&rt, byte);
+        assert!(rt; is_done(&scene.apply(&grid(name, kind, background))));
+        assert!(rt; is_done(&scene.apply(&set(name, minus, value))));
+    }
+    for (byte, there, elsewhere) in [
+        (b'b', Scalar::Bool(true), Scalar::Bool(false)),
+        (b'i', Scalar::I32(-2147483648), Scalar::I32(0)),
+        (b'l', Scalar::I64(9223372036854775807), Scalar::I64(-3)),
+    ] {
+        let name = letter(&rt, byte);
+        assert!(rt; is_value(&scene.apply(&get(name, minus)), there, true));
+        assert!(rt; is_value(&scene.apply(&get(name, point(0, 0, 0))), elsewhere, false));
+    }
+    let mut names = scene.names();
+    for byte in [b'b', b'i', b'l'] {
+        assert!(rt; names.next() == Some(&letter(&rt, byte)));
+    }
+    assert!(rt; names.next().is_none());
+}
+
+#[test]
+fn refusals_come_in_their_order(rt: HostRuntime) {
+    let mut scene = Scene::new(rt.alloc());
+    let a = letter(&rt, b'a');
+    let far = Point {
+        x: Num::Far,
+        y: Num::Near(0),
+        z: Num::Near(0),
+    };
+    for (command, refusal) in [
+        (grid(a, Kind::I32, near(2147483648)), Refusal::ValueRange),
+        (grid(a, Kind::I32, Literal::Truth(true)), Refusal::Kind),
+        (set(a, far, Literal::Truth(true)), Refusal::NoGrid),
+    ] {
+        assert!(rt; is_refused(&scene.apply(&command), refusal));
+    }
+    assert!(rt; is_done(&scene.apply(&grid(a, Kind::I32, near(0)))));
+    let eighth = Command::Set {
+        name: a,
+        accessor: Some(Num::Near(8)),
+        at: point(0, 0, 0),
+        value: near(1),
+    };
+    for (command, refusal) in [
+        (grid(a, Kind::Bool, near(0)), Refusal::NameTaken),
+        (set(a, far, Literal::Truth(true)), Refusal::Kind),
+        (
+            set(a, point(0, 0, 2147483648), near(1)),
+            Refusal::ValueRange,
+        ),
+        (
+            set(a, point(0, 0, 0), near(2147483648)),
+            Refusal::ValueRange,
+        ),
+        (eighth, Refusal::NoAccessor),
+        (get(letter(&rt, b'b'), far), Refusal::NoGrid),
+    ] {
+        assert!(rt; is_refused(&scene.apply(&command), refusal));
+    }
+    assert!(rt; is_value(&scene.apply(&get(a, point(0, 0, 0))), Scalar::I32(0), false));
+}
+
+#[test]
+fn a_scene_has_at_most_64_grids(rt: HostRuntime) {
+    let mut scene = Scene::new(rt.alloc());
+    for first in b'a'..b'i' {
+        for second in b'a'..b'i' {
+            let name = Name::new(&[first, second]).expect(&rt, "two letters are a name");
+            let made = AnyGrid::new(rt.alloc(), Scalar::I32(1));
+            assert!(rt; scene.insert(name, made) == Ok(()));
+        }
+    }
+    let a = letter(&rt, b'a');
+    assert!(rt;
+        is_refused(
+            &scene.apply(&grid(a, Kind::I32, near(0))),
+            Refusal::GridLimit
+        )
+    );
+    let again = AnyGrid::new(rt.alloc(), Scalar::Bool(true));
+    assert!(rt; scene.insert(a, again) == Err(Refusal::GridLimit));
+    let first = Name::new(b"aa").expect(&rt, "two letters are a name");
+    let taken = AnyGrid::new(rt.alloc(), Scalar::Bool(true));
+    assert!(rt; scene.insert(first, taken) == Err(Refusal::NameTaken));
+    assert!(rt;
+        scene
+            .get(&first)
+            .is_some_and(|grid| grid.kind() == Kind::I32)
+    );
+    assert!(rt; scene.get(&a).is_none());
+}

@@ -1,0 +1,150 @@
+-- Lines, tokens, commands and texts, found by computing.
+use Rattle.std.proofs.Common.{refl, ◌≡◌, pos, negsuc, true, false, [], ◌∷◌, replicate, codes, Some, None, Ok, Err}
+use Rattle.std.specs.List.{flat_map}
+use Rattle.std.specs.Fmt.{digits}
+use Rattle.vdb_value.specs.declared.Kind.TheVariants as kinds
+use Rattle.vdb_scene.specs.declared.command.Command.TheVariants as commands
+use Rattle.vdb_scene.specs.declared.command.Literal.TheVariants.{Number, Truth}
+use Rattle.vdb_scene.specs.declared.command.Num.TheVariants.{Near, Far}
+use Rattle.vdb_scene.specs.declared.answer.Refusal.TheVariants as refusals
+use Rattle.vdb_scene.specs.declared.answer.Scalar.TheVariants.{I32, I64}
+use Rattle.vdb_scene.specs.Step.{Done, Refused, Value}
+use Rattle.vdb_script.specs.Lines.{lines, tokens}
+use Rattle.vdb_script.specs.Grammar.{number_of, parse}
+use Rattle.vdb_script.specs.Run.{read}
+use Rattle.vdb_script.specs.Text.{text}
+
+-- ---- lines and tokens
+
+-- an empty line stands between two newlines
+three_lines : lines (codes "a\n\nb") ≡ codes "a" ∷ [] ∷ codes "b" ∷ []
+three_lines = refl
+
+-- nothing behind the last newline is no line
+ended_line : lines (codes "a\n") ≡ codes "a" ∷ []
+ended_line = refl
+
+-- tabs and carriage returns separate, and no separator is part of a token
+separated : tokens (codes "\t get  a\rb\r") ≡ codes "get" ∷ codes "a" ∷ codes "b" ∷ []
+separated = refl
+
+-- separators alone have no token
+blank : tokens (codes " \t \r") ≡ []
+blank = refl
+
+-- ---- numbers
+
+greatest : number_of (codes "9223372036854775807") ≡ Some (Near (pos 9223372036854775807))
+greatest = refl
+
+above_greatest : number_of (codes "9223372036854775808") ≡ Some Far
+above_greatest = refl
+
+least : number_of (codes "-9223372036854775808") ≡ Some (Near (negsuc 9223372036854775807))
+least = refl
+
+below_least : number_of (codes "-9223372036854775809") ≡ Some Far
+below_least = refl
+
+forty_digits : number_of (codes "1234567890123456789012345678901234567890") ≡ Some Far
+forty_digits = refl
+
+nought : number_of (codes "0") ≡ Some (Near (pos 0))
+nought = refl
+
+minus_nought : number_of (codes "-0") ≡ None
+minus_nought = refl
+
+nought_in_front : number_of (codes "01") ≡ None
+nought_in_front = refl
+
+plus_sign : number_of (codes "+5") ≡ None
+plus_sign = refl
+
+no_bytes : number_of [] ≡ None
+no_bytes = refl
+
+sign_alone : number_of (codes "-") ≡ None
+sign_alone = refl
+
+letter_behind : number_of (codes "5a") ≡ None
+letter_behind = refl
+
+-- ---- commands
+
+grid_number : parse (codes "grid a i32 0") ≡ Ok (Some (commands.Grid (codes "a") kinds.I32 (Number (Near (pos 0)))))
+grid_number = refl
+
+grid_truth : parse (codes "grid a i32 true") ≡ Ok (Some (commands.Grid (codes "a") kinds.I32 (Truth true)))
+grid_truth = refl
+
+other_kind : parse (codes "grid a bool 0") ≡ Err refusals.Syntax
+other_kind = refl
+
+capital : parse (codes "grid A i32 0") ≡ Err refusals.Syntax
+capital = refl
+
+longest_name : parse (codes "grid abcdefghijklmnop i32 0") ≡ Ok (Some (commands.Grid (codes "abcdefghijklmnop") kinds.I32 (Number (Near (pos 0)))))
+longest_name = refl
+
+longer_name : parse (codes "grid abcdefghijklmnopq i32 0") ≡ Err refusals.Syntax
+longer_name = refl
+
+set_without_accessor : parse (codes "set a - 0 0 2147483648 1")
+    ≡ Ok (Some (commands.Set (codes "a") None (record { x = Near (pos 0); y = Near (pos 0); z = Near (pos 2147483648) }) (Number (Near (pos 1)))))
+set_without_accessor = refl
+
+set_with_accessor : parse (codes "set a 8 0 0 0 1")
+    ≡ Ok (Some (commands.Set (codes "a") (Some (Near (pos 8))) (record { x = Near (pos 0); y = Near (pos 0); z = Near (pos 0) }) (Number (Near (pos 1)))))
+set_with_accessor = refl
+
+get_without_accessor : parse (codes "get b - 0 0 0") ≡ Ok (Some (commands.Get (codes "b") None (record { x = Near (pos 0); y = Near (pos 0); z = Near (pos 0) })))
+get_without_accessor = refl
+
+other_word : parse (codes "prune a") ≡ Err refusals.Syntax
+other_word = refl
+
+token_too_few : parse (codes "get b - 0 0") ≡ Err refusals.Syntax
+token_too_few = refl
+
+token_too_many : parse (codes "get b - 0 0 0 0") ≡ Err refusals.Syntax
+token_too_many = refl
+
+many_tokens : parse (codes "get b - 0 0 0 1 2 3 4 5 6 7 8 9") ≡ Err refusals.Syntax
+many_tokens = refl
+
+no_tokens : parse (codes " \t\r") ≡ Ok None
+no_tokens = refl
+
+comment : parse (codes "  # grid") ≡ Ok None
+comment = refl
+
+comment_of_one_token : parse (codes "#grid a i32 0") ≡ Ok None
+comment_of_one_token = refl
+
+comment_of_a_hundred_tokens : parse (flat_map (λ b. b ∷ codes " ") (replicate 100 35)) ≡ Ok None
+comment_of_a_hundred_tokens = refl
+
+-- ---- the longest line
+
+longest_line : read (replicate 256 35) ≡ Ok None
+longest_line = refl
+
+longer_line : read (replicate 257 35) ≡ Err refusals.LineTooLong
+longer_line = refl
+
+-- ---- texts
+
+done_text : text Done ≡ codes "ok\n"
+done_text = refl
+
+refused_text : text (Refused refusals.NameTaken) ≡ codes "error name-taken\n"
+refused_text = refl
+
+active_text : text (Value (record { value = I32 (pos 7); on = true })) ≡ codes "value 7 on\n"
+unfolding digits
+active_text = refl
+
+least_text : text (Value (record { value = I64 (negsuc 9223372036854775807); on = false })) ≡ codes "value -9223372036854775808 off\n"
+unfolding digits
+least_text = refl

@@ -1,0 +1,111 @@
+-- Each form takes a number of tokens that is fixed.
+use Rattle.std.proofs.Common.{◌≡◌, ◌≢◌, ℕ, ◌+◌, ◌<◌, ◌≤◌, Bool, true, false, cond, List, [], ◌∷◌, Option, Some, None, Ok, Err, length, refl, ap, sym, ◌∙◌, arith, bytes_eq}
+use Rattle.std.specs.Prelude.{option_map, option_and_then, if◌then◌else◌}
+use Rattle.std.specs.List.{AllByRecursion}
+use Rattle.std.proofs.lemmas.Option.{option_and_then_some}
+use Rattle.vdb_scene.specs.declared.command.Command.{Command}
+use Rattle.vdb_scene.specs.declared.answer.Refusal.TheVariants as refusals
+use Rattle.vdb_script.specs.Lines.{tokens}
+use Rattle.vdb_script.specs.Grammar.{Form, ◌>>=◌, give, one, point, grid, get, set, whole, command_forms, command_of, word_of, is_comment, meaning, parse, name_of, kind_of, literal_of, accessor_of, number_of}
+
+-- where a form is there, it takes so many tokens
+pub record Takes {A : Type 0} (n : ℕ) (form : Form A) : Type 0 where
+  pub count : (tokens : List (List ℕ)) (a : A) (rest : List (List ℕ)) → form tokens ≡ Some (a, rest) → length tokens ≡ n + length rest
+
+-- the tokens behind what was found
+behind : {A : Type 0} → Option (A × List (List ℕ)) → List (List ℕ)
+behind None = []
+behind (Some found) = found.1
+
+behind_map : {A : Type 0} (found : Option A) (tokens rest : List (List ℕ)) (a : A) → option_map {U = A × List (List ℕ)} (λ a. (a, tokens)) found ≡ Some (a, rest) → tokens ≡ rest
+unfolding behind
+behind_map None tokens rest a e = cc
+behind_map (Some b) tokens rest a e = ap behind e
+
+one_count : {A : Type 0} (read : List ℕ → Option A) (tokens : List (List ℕ)) (a : A) (rest : List (List ℕ)) → one read tokens ≡ Some (a, rest) → length tokens ≡ 1 + length rest
+one_count read [] a rest e = cc
+one_count read (token ∷ tokens) a rest e = omega (arith, ap length (behind_map (read token) tokens rest a e))
+
+-- one token
+pub one_takes : {A : Type 0} (read : List ℕ → Option A) → Takes 1 (one read)
+one_takes read = record { count = one_count read }
+
+-- one form behind another
+pub then_takes : {A B : Type 0} (n m : ℕ) (first : Form A) (rest : A → Form B) → Takes n first → ((a : A) → Takes m (rest a)) → Takes (n + m) (first >>= rest)
+then_takes n m first rest p q = record {
+  count = λ tokens b after e. option_and_then_some (λ found. rest found.0 found.1) (first tokens) (b, after) e
+      (λ found is_found is_rest. omega (arith, p.count tokens found.0 found.1 is_found, (q found.0).count found.1 b after is_rest));
+}
+
+-- no token
+pub give_takes : {A : Type 0} (a : A) → Takes 0 (give a)
+unfolding behind
+give_takes a = record { count = λ tokens b after e. omega (arith, ap length (ap behind e)) }
+
+-- a coordinate
+point_takes : Takes 3 point
+point_takes = then_takes 1 2 _ _ (one_takes number_of) (λ x. then_takes 1 1 _ _ (one_takes number_of) (λ y. then_takes 1 0 _ _ (one_takes number_of) (λ z. give_takes _)))
+
+-- grid NAME KIND BACKGROUND
+pub grid_takes : Takes 3 grid
+grid_takes = then_takes 1 2 _ _ (one_takes name_of) (λ name. then_takes 1 1 _ _ (one_takes kind_of) (λ kind. then_takes 1 0 _ _ (one_takes literal_of) (λ background. give_takes _)))
+
+-- get NAME ACCESSOR X Y Z
+pub get_takes : Takes 5 get
+get_takes = then_takes 1 4 _ _ (one_takes name_of) (λ name. then_takes 1 3 _ _ (one_takes accessor_of) (λ k. then_takes 3 0 _ _ point_takes (λ at. give_takes _)))
+
+-- set NAME ACCESSOR X Y Z VALUE
+pub set_takes : Takes 6 set
+set_takes = then_takes 1 5 _ _ (one_takes name_of) (λ name. then_takes 1 4 _ _ (one_takes accessor_of) (λ k. then_takes 3 1 _ _ point_takes (λ at. then_takes 1 0 _ _ (one_takes literal_of) (λ v. give_takes _))))
+
+no_whole : (found : Option (Command × List (List ℕ))) → ((c : Command) → found ≡ Some (c, []) → ⊥) → Err refusals.Syntax ≡ whole found
+no_whole None other = refl
+no_whole (Some (c, [])) other = absurd (other c refl)
+no_whole (Some (c, token ∷ tokens)) other = refl
+
+-- any other number of tokens is no command
+pub whole_takes : (n : ℕ) (form : Form Command) (tokens : List (List ℕ)) → Takes n form → length tokens ≢ n → Err refusals.Syntax ≡ whole (form tokens)
+whole_takes n form tokens takes other = no_whole (form tokens) (λ c e. other (let count : length tokens ≡ n + 0 = takes.count tokens c [] e in omega arith))
+
+picked : (test : Bool) (form : Form Command) (others : Option (Form Command)) (tokens : List (List ℕ)) → Err refusals.Syntax ≡ whole (form tokens)
+    → Err refusals.Syntax ≡ whole (option_and_then (λ f. f tokens) others) → Err refusals.Syntax ≡ whole (option_and_then (λ f. f tokens) (cond test (Some form) others))
+picked true form others tokens h k = h
+picked false form others tokens h k = k
+
+-- a command's form takes at most nine tokens
+record TakesFew (command : List ℕ × Form Command) : Type 0 where
+  n : ℕ
+  few : n ≤ 9
+  takes : Takes n command.1
+
+-- each command's form does
+commands_take_few : AllByRecursion TakesFew command_forms
+commands_take_few = (
+  record { n = 3; few = omega arith; takes = grid_takes },
+  (
+    record { n = 5; few = omega arith; takes = get_takes },
+    (record { n = 6; few = omega arith; takes = set_takes }, tt),
+  ),
+)
+
+too_many_for : (commands : List (List ℕ × Form Command)) (word : List ℕ) (tokens : List (List ℕ)) → AllByRecursion TakesFew commands → 9 < length tokens
+    → Err refusals.Syntax ≡ whole (option_and_then (λ form. form tokens) (word_of commands word))
+too_many_for [] word tokens take many = refl
+too_many_for (command ∷ commands) word tokens take many =
+    let other : length tokens ≢ take.0.n = omega (arith, take.0.few) in
+    picked (bytes_eq word command.0) command.1 (word_of commands word) tokens (whole_takes take.0.n command.1 tokens take.0.takes other) (too_many_for commands word tokens take.1 many)
+
+-- no command has so many tokens
+too_many : (word : List ℕ) (tokens : List (List ℕ)) → 9 < length tokens → Err refusals.Syntax ≡ command_of word tokens
+too_many word tokens many = too_many_for command_forms word tokens commands_take_few many
+
+meant : (pieces others : List (List ℕ)) (word : List ℕ) → pieces ≡ word ∷ others → is_comment word ≡ false → meaning pieces ≡ command_of word others
+meant pieces others word e f = ap meaning e ∙ ap (λ test. if test then Ok None else command_of word others) f
+
+-- a line with a word that begins no comment
+pub line_meant : (line word rest : List ℕ) (others : List (List ℕ)) → tokens line ≡ word ∷ tokens rest → is_comment word ≡ false → others ≡ tokens rest → parse line ≡ command_of word others
+line_meant line word rest others e f g = meant (tokens line) (tokens rest) word e f ∙ ap (command_of word) (sym g)
+
+-- such a line with too many tokens
+pub line_refused : (line word rest : List ℕ) → tokens line ≡ word ∷ tokens rest → is_comment word ≡ false → 9 < length (tokens rest) → Err refusals.Syntax ≡ parse line
+line_refused line word rest e f many = too_many word (tokens rest) many ∙ sym (line_meant line word rest (tokens rest) e f refl)

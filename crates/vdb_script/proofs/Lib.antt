@@ -1,0 +1,6 @@
+-- Lemmas on the lines that are read, their tokens and forms, and the answers that are written.
+mod Checks
+pub mod Forms
+pub mod Reading
+pub mod Splitting
+pub mod Writing

@@ -1,0 +1,21 @@
+use Rattle.std.proofs.Common.{◌≡◌, ℕ, List, true}
+use Rattle.vdb_scene.specs.Watched.{has_failed, source}
+use Rattle.vdb_script.specs.Reading.{budget, ahead, EndsWith, KeepsText}
+use Rattle.vdb_script.proofs.Reading.{Takes}
+use Rattle.vdb_script.proofs.lines.read_text.Given as goal
+
+-- the bytes of the line so far
+abbrev pub invariant-loop-byte : goal.invariant-loop-byte
+invariant-loop-byte g l = record {
+  line : List ℕ;
+  taken : Takes (ahead l.fn.stock (g.R.Read.remaining (source l.fn.reader))) (ahead l.stock (g.R.Read.remaining (source l.reader))) l.fn.stock l.stock line;
+  kept : KeepsText l.fits l.text line;
+  failed : has_failed l.reader ≡ has_failed l.fn.reader;
+  ends : EndsWith l.stock (g.R.Read.remaining (source l.reader));
+  quiet : l.fn.stock.ended ≡ true → l.reader ≡ l.fn.reader;
+  stays : l.fn.stock.ended ≡ true → l.stock.ended ≡ true;
+}
+
+-- each byte takes one of the budget
+abbrev pub decreases-loop-byte : goal.decreases-loop-byte
+decreases-loop-byte g l = budget l.stock

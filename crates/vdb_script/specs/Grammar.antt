@@ -1,0 +1,149 @@
+-- The grammar of a line: what its tokens are, command by command.
+use Rattle.std.specs.Prelude.{ℕ, ◌*◌, ◌+◌, ◌-◌, ℤ, pos, neg_ℤ, Bool, true, false, not, ◌&&◌, ◌==◌, if◌then◌else◌, List, [], ◌∷◌, fold, Option, Some, None, option_map, option_and_then, bytes_eq, codes, Result, Ok, Err}
+use Rattle.std.specs.List.{list_all}
+use Rattle.std.specs.Char.{is_ascii_digit}
+use Rattle.std.specs.Map.{lookup}
+use Rattle.vdb_value.specs.Values.{has_number}
+use Rattle.vdb_value.specs.declared.Kind.{Kind}
+use Rattle.vdb_value.specs.declared.Kind.TheVariants as kinds
+use Rattle.vdb_scene.specs.Names.{is_name}
+use Rattle.vdb_scene.specs.declared.command.Command.{Command}
+use Rattle.vdb_scene.specs.declared.command.Command.TheVariants as commands
+use Rattle.vdb_scene.specs.declared.command.Literal.{Literal}
+use Rattle.vdb_scene.specs.declared.command.Literal.TheVariants.{Number, Truth}
+use Rattle.vdb_scene.specs.declared.command.Num.{Num}
+use Rattle.vdb_scene.specs.declared.command.Num.TheVariants.{Near, Far}
+use Rattle.vdb_scene.specs.declared.command.Point.{Point}
+use Rattle.vdb_scene.specs.declared.answer.Refusal.{Refusal}
+use Rattle.vdb_scene.specs.declared.answer.Refusal.TheVariants as refusals
+use Rattle.vdb_script.specs.Lines.{tokens}
+
+-- ---- one token
+
+-- a name
+abbrev pub name_of : List ℕ → Option (List ℕ)
+name_of token = if is_name token then Some token else None
+
+-- the number that decimal digits write
+abbrev pub digits_value : List ℕ → ℕ
+digits_value digits = fold (λ n b. n * 10 + (b - 48)) 0 digits
+
+-- a number above 0: digits, the first of them not 0
+abbrev pub positive_of : List ℕ → Option ℕ
+positive_of [] = None
+positive_of (b ∷ bytes) = if not (b == 48) && list_all is_ascii_digit (b ∷ bytes) then Some (digits_value (b ∷ bytes)) else None
+
+-- the number as a line has it
+abbrev pub num : ℤ → Num
+num z = if has_number kinds.I64 z then Near z else Far
+
+-- a number of any length: 0, or one above 0, with or without a minus sign
+abbrev pub number_of : List ℕ → Option Num
+number_of [] = None
+number_of (b ∷ bytes) =
+    if bytes_eq (b ∷ bytes) (codes "0") then Some (num (pos 0))
+    else if b == 45 then option_map (λ n. num (neg_ℤ (pos n))) (positive_of bytes)
+    else option_map (λ n. num (pos n)) (positive_of (b ∷ bytes))
+
+-- what stands behind the token's word in a list of words
+abbrev pub word_of : {A : Type 0} → List (List ℕ × A) → List ℕ → Option A
+word_of words token = lookup (bytes_eq token) words
+
+-- a kind
+abbrev pub kind_of : List ℕ → Option Kind
+kind_of token = word_of ((codes "i32", kinds.I32) ∷ []) token
+
+-- the first, or else the other
+abbrev pub or_else : {A : Type 0} → Option A → Option A → Option A
+or_else None other = other
+or_else (Some a) other = Some a
+
+-- true, false or a number
+abbrev pub literal_of : List ℕ → Option Literal
+literal_of token = or_else (word_of ((codes "true", Truth true) ∷ (codes "false", Truth false) ∷ []) token) (option_map Number (number_of token))
+
+-- - for no accessor, or a number
+abbrev pub accessor_of : List ℕ → Option (Option Num)
+accessor_of token = or_else (word_of ((codes "-", None) ∷ []) token) (option_map Some (number_of token))
+
+-- ---- tokens in a row
+
+-- what the first tokens give, and the tokens behind them
+abbrev pub Form : Type 0 → Type 0
+Form A = List (List ℕ) → Option (A × List (List ℕ))
+
+-- one form behind another
+infixl 10 ◌>>=◌
+abbrev pub ◌>>=◌ : {A B : Type 0} → Form A → (A → Form B) → Form B
+first >>= rest = λ tokens. option_and_then (λ found. rest found.0 found.1) (first tokens)
+
+-- no token
+abbrev pub give : {A : Type 0} → A → Form A
+give a tokens = Some (a, tokens)
+
+-- one token
+abbrev pub one : {A : Type 0} → (List ℕ → Option A) → Form A
+one read [] = None
+one read (token ∷ tokens) = option_map (λ a. (a, tokens)) (read token)
+
+-- three numbers
+abbrev pub point : Form Point
+point = do
+  x ← one number_of
+  y ← one number_of
+  z ← one number_of
+  give (record { x = x; y = y; z = z })
+
+-- grid NAME KIND BACKGROUND
+abbrev pub grid : Form Command
+grid = do
+  name ← one name_of
+  kind ← one kind_of
+  background ← one literal_of
+  give (commands.Grid name kind background)
+
+-- get NAME ACCESSOR X Y Z
+abbrev pub get : Form Command
+get = do
+  name ← one name_of
+  k ← one accessor_of
+  p ← point
+  give (commands.Get name k p)
+
+-- set NAME ACCESSOR X Y Z VALUE
+abbrev pub set : Form Command
+set = do
+  name ← one name_of
+  k ← one accessor_of
+  p ← point
+  v ← one literal_of
+  give (commands.Set name k p v)
+
+-- ---- the commands
+
+-- each command's word, and the form of what stands behind it
+abbrev pub command_forms : List (List ℕ × Form Command)
+command_forms = (codes "grid", grid) ∷ (codes "get", get) ∷ (codes "set", set) ∷ []
+
+-- a command with no token left, or a syntax error
+abbrev pub whole : Option (Command × List (List ℕ)) → Result (Option Command) Refusal
+whole (Some (c, [])) = Ok (Some c)
+whole _ = Err refusals.Syntax
+
+-- the command of a word and the tokens behind it
+abbrev pub command_of : List ℕ → List (List ℕ) → Result (Option Command) Refusal
+command_of word rest = whole (option_and_then (λ form. form rest) (word_of command_forms word))
+
+-- whether a token begins a comment
+abbrev pub is_comment : List ℕ → Bool
+is_comment [] = false
+is_comment (b ∷ bytes) = b == 35
+
+-- nothing for no token and for a comment, else the command
+abbrev pub meaning : List (List ℕ) → Result (Option Command) Refusal
+meaning [] = Ok None
+meaning (word ∷ rest) = if is_comment word then Ok None else command_of word rest
+
+-- the command of a line, nothing for a blank line or a comment, or a syntax error
+abbrev pub parse : List ℕ → Result (Option Command) Refusal
+parse line = meaning (tokens line)

@@ -1,0 +1,24 @@
+-- Runs over the lines of a script.
+use Rattle.std.specs.Prelude.{◌≡◌, ℕ, if◌then◌else◌, nat_lt, List, [], ◌∷◌, ◌++◌, length, Option, Some, None, Result, Ok, Err}
+use Rattle.vdb_scene.specs.Scene.{Scene}
+use Rattle.vdb_scene.specs.Step.{Reply, Refused, Step}
+use Rattle.vdb_scene.specs.declared.command.Command.{Command}
+use Rattle.vdb_scene.specs.declared.answer.Refusal.{Refusal}
+use Rattle.vdb_scene.specs.declared.answer.Refusal.TheVariants as refusals
+use Rattle.vdb_script.specs.Grammar.{parse}
+
+-- a line's command, if it has one, or why it is refused before any grid is looked at
+abbrev pub read : List ℕ → Result (Option Command) Refusal
+read line = if nat_lt 256 (length line) then Err refusals.LineTooLong else parse line
+
+-- what such a line does: nothing, the step of its command, or a refusal
+abbrev pub TakesLine : Scene → Result (Option Command) Refusal → List Reply → Scene → Type 0
+TakesLine s (Ok None) replies next = (replies ≡ []) × (next ≡ s)
+TakesLine s (Ok (Some c)) replies next = (reply : Reply) × (replies ≡ reply ∷ []) × Step s c reply next
+TakesLine s (Err r) replies next = (replies ≡ Refused r ∷ []) × (next ≡ s)
+
+-- what the lines do, one after another
+abbrev pub Run : Scene → List (List ℕ) → List Reply → Scene → Type 0
+Run s [] replies last = (replies ≡ []) × (last ≡ s)
+Run s (line ∷ lines) replies last =
+    (first : List Reply) × (rest : List Reply) × (next : Scene) × (replies ≡ first ++ rest) × TakesLine s (read line) first next × Run next lines rest last

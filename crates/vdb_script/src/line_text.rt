@@ -1,0 +1,64 @@
+//! The text of one line, kept in place.
+
+ghost use Rattle.std.specs.Prelude.{◌≡◌, ◌<◌, ◌↔◌, IsTrue, [], ◌∷◌, ◌++◌, length, if◌then◌else◌};
+
+use std::marker::Model;
+
+/// The most bytes that a line may have before its newline.
+pub const LINE_LIMIT: usize = 256;
+
+/// Up to `LINE_LIMIT` bytes.
+#[derive(Drop)]
+pub struct LineText {
+    bytes: [u8; LINE_LIMIT],
+    len: usize,
+}
+
+impl Model for LineText {
+    ghost use Rattle.std.specs.Prelude.{ℕ, List, ◌≤◌, take};
+
+    ghost Value = { List ℕ };
+
+    ghost view = { λ t. take t.len t.bytes };
+
+    ghost invariant = { λ t. t.len ≤ 256 };
+}
+
+impl LineText {
+    /// No byte yet.
+    pub fn new() -> Self
+        ensures { result ≡ [] }
+    {
+        LineText {
+            bytes: [0; LINE_LIMIT],
+            len: 0,
+        }
+    }
+
+    /// The bytes.
+    pub fn as_slice(&self) -> &[u8]
+        ensures { result.now ≡ self.now }
+    {
+        &self.bytes[..self.len]
+    }
+
+    /// Forgets the bytes.
+    pub fn clear(&mut self)
+        ensures { self.new ≡ [] }
+    {
+        self.len = 0;
+    }
+
+    /// Adds a byte where there is room, and answers whether there was.
+    pub fn push(&mut self, byte: u8) -> bool
+        ensures room { IsTrue result ↔ (length self.old < LINE_LIMIT) }
+        ensures text { self.new ≡ (if result then self.old ++ byte ∷ [] else self.old) }
+    {
+        if self.len == LINE_LIMIT {
+            return false;
+        }
+        self.bytes[self.len] = byte;
+        self.len += 1;
+        true
+    }
+}

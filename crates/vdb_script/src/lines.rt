@@ -1,0 +1,215 @@
+//! A script's lines.
+
+ghost use Rattle.std.specs.Prelude.{◌≡◌, ◌≢◌, ℕ, ◌<◌, ◌≤◌, ◌||◌, true, false, List, [], length, IfOk, IfSome, None, Ok, Err};
+ghost use Rattle.vdb_scene.specs.Watched.{has_failed, source};
+ghost use Rattle.vdb_script.specs.Reading.{EndsWith, HandsEnd, HandsLine, HandsPart, HandsTooMuch, HandsUpTo, KeepsText, ahead, budget, ending_of, is_read_fault};
+
+use crate::line_text::LineText;
+use crate::source::{ScriptFault, Source};
+use std::io::Read;
+use std::marker::Model;
+use vdb_scene::Watched;
+
+/// What was read of a script.
+#[derive(Clone, Copy, Debug, PartialEq, Eq)]
+pub enum Line {
+    /// A line, which `Lines::text` lends.
+    Text,
+    /// A line of more than `LINE_LIMIT` bytes.
+    TooLong,
+    /// The end of the script.
+    End,
+}
+
+/// The lines of a script that is read piece by piece.
+#[derive(Drop)]
+pub struct Lines {
+    source: Source,
+    text: LineText,
+    ending: Option<Result<Line, ScriptFault>>,
+}
+
+impl Model for Lines {
+    ghost use Rattle.vdb_script.specs.Reading.{Position};
+
+    ghost Value = { Position };
+
+    ghost view = { λ l. record { source = l.source; text = l.text; ending = l.ending } };
+}
+
+impl Lines {
+    /// No line was read yet.
+    pub fn new() -> Self
+        ensures { result ≡ record {
+          source = record { unread = []; left = 16777216; ended = false };
+          text = [];
+          ending = None;
+        } }
+    {
+        Lines {
+            source: Source::new(),
+            text: LineText::new(),
+            ending: None,
+        }
+    }
+
+    /// The line that was read last, without its newline: nothing after `TooLong`, `End` or a fault.
+    pub fn text(&self) -> &[u8]
+        ensures { result.now ≡ self.now.text }
+    {
+        self.text.as_slice()
+    }
+}
+
+/// How a line was read to its end.
+#[derive(Clone, Copy, Debug, PartialEq, Eq)]
+struct Found {
+    /// Whether the text holds all of the line.
+    fits: bool,
+    /// Whether the script ended before a newline came.
+    at_end: bool,
+}
+
+/// Reads bytes up to a newline or the script's end, and keeps them in `text` as long as they fit.
+fn read_text<R: Read>(
+    stock: &mut Source,
+    text: &mut LineText,
+    reader: &mut Watched<R>,
+) -> Result<Found, ScriptFault>
+    requires empty { text.old ≡ [] }
+    requires ends { EndsWith stock.old (R.remaining (source reader.old)) }
+    ensures ends { EndsWith stock.new (R.remaining (source reader.new)) }
+    ensures quiet { stock.old.ended ≡ true → reader.new ≡ reader.old }
+    ensures stays { stock.old.ended ≡ true → stock.new.ended ≡ true }
+    ensures found { IfOk result (λ found. (line : List ℕ)
+        × HandsUpTo (ahead stock.old (R.remaining (source reader.old)))
+        (ahead stock.new (R.remaining (source reader.new)))
+        stock.old stock.new found.at_end line
+        × KeepsText found.fits text.new line) }
+    ensures overflow { result ≡ Err ScriptFault.TooLong →
+        HandsTooMuch (ahead stock.old (R.remaining (source reader.old)))
+        (R.remaining (source reader.new)) stock.old }
+    ensures read { result ≡ Err ScriptFault.Read →
+        HandsPart (ahead stock.old (R.remaining (source reader.old)))
+        (R.remaining (source reader.new)) stock.old }
+    ensures failed { has_failed reader.new ≡ (has_failed reader.old || is_read_fault result) }
+{
+    let mut fits = true;
+    loop {
+        match stock.next_byte(reader)? {
+            Some(b'\n') => {
+                return Ok(Found {
+                    fits,
+                    at_end: false,
+                });
+            }
+            Some(byte) => fits = fits && text.push(byte),
+            None => return Ok(Found { fits, at_end: true }),
+        }
+    }
+}
+
+/// Reads the next line of a script that has neither ended nor failed.
+fn next_line<R: Read>(
+    stock: &mut Source,
+    text: &mut LineText,
+    reader: &mut Watched<R>,
+) -> Result<Line, ScriptFault>
+    requires empty { text.old ≡ [] }
+    requires ends { EndsWith stock.old (R.remaining (source reader.old)) }
+    ensures ends { EndsWith stock.new (R.remaining (source reader.new)) }
+    ensures quiet { stock.old.ended ≡ true → reader.new ≡ reader.old }
+    ensures stays { stock.old.ended ≡ true → stock.new.ended ≡ true }
+    ensures text { result ≡ Ok Line.Text →
+        HandsLine (ahead stock.old (R.remaining (source reader.old)))
+        (ahead stock.new (R.remaining (source reader.new)))
+        stock.old stock.new text.new
+        × (length text.new ≤ 256) }
+    ensures too_long { result ≡ Ok Line.TooLong → (line : List ℕ)
+        × HandsLine (ahead stock.old (R.remaining (source reader.old)))
+        (ahead stock.new (R.remaining (source reader.new)))
+        stock.old stock.new line
+        × (256 < length line) }
+    ensures end { result ≡ Ok Line.End →
+        HandsEnd (ahead stock.old (R.remaining (source reader.old)))
+        (ahead stock.new (R.remaining (source reader.new))) stock.new }
+    ensures overflow { result ≡ Err ScriptFault.TooLong →
+        HandsTooMuch (ahead stock.old (R.remaining (source reader.old)))
+        (R.remaining (source reader.new)) stock.old }
+    ensures read { result ≡ Err ScriptFault.Read →
+        HandsPart (ahead stock.old (R.remaining (source reader.old)))
+        (R.remaining (source reader.new)) stock.old }
+    ensures failed { has_failed reader.new ≡ (has_failed reader.old || is_read_fault result) }
+    ensures no_text { result ≢ Ok Line.Text → text.new ≡ [] }
+    ensures progress { ending_of result ≡ None → budget stock.new < budget stock.old }
+{
+    let found = match read_text(stock, text, reader) {
+        Ok(found) => found,
+        Err(fault) => {
+            text.clear();
+            return Err(fault);
+        }
+    };
+    if !found.fits {
+        text.clear();
+        return Ok(Line::TooLong);
+    }
+    if found.at_end && text.as_slice().is_empty() {
+        return Ok(Line::End);
+    }
+    Ok(Line::Text)
+}
+
+/// Reads the next line: the bytes up to the next newline, or up to the script's end if there are any.
+///
+/// A line that has come whole is answered without a further call of the reader, and a reader that has said that it has
+/// no more isn't asked again. `Text` leaves the line to `Lines::text`; a line of more than `LINE_LIMIT` bytes is read to
+/// its end and forgotten (`TooLong`). `ScriptFault::Read` says that a call of the reader failed, `ScriptFault::TooLong`
+/// that the reader gave a byte past the script's limit; the line within which that was is lost. After the end or a
+/// fault the same is answered again, and nothing is read.
+pub fn read_line<R: Read>(lines: &mut Lines, reader: &mut Watched<R>) -> Result<Line, ScriptFault>
+    requires ends { EndsWith lines.old.source (R.remaining (source reader.old)) }
+    ensures ends { EndsWith lines.new.source (R.remaining (source reader.new)) }
+    ensures text { lines.old.ending ≡ None → result ≡ Ok Line.Text →
+        HandsLine (ahead lines.old.source (R.remaining (source reader.old)))
+        (ahead lines.new.source (R.remaining (source reader.new)))
+        lines.old.source lines.new.source lines.new.text
+        × (length lines.new.text ≤ 256) }
+    ensures too_long { lines.old.ending ≡ None → result ≡ Ok Line.TooLong → (line : List ℕ)
+        × HandsLine (ahead lines.old.source (R.remaining (source reader.old)))
+        (ahead lines.new.source (R.remaining (source reader.new)))
+        lines.old.source lines.new.source line
+        × (256 < length line) }
+    ensures end { lines.old.ending ≡ None → result ≡ Ok Line.End →
+        HandsEnd (ahead lines.old.source (R.remaining (source reader.old)))
+        (ahead lines.new.source (R.remaining (source reader.new))) lines.new.source }
+    ensures overflow { lines.old.ending ≡ None → result ≡ Err ScriptFault.TooLong →
+        HandsTooMuch (ahead lines.old.source (R.remaining (source reader.old)))
+        (R.remaining (source reader.new)) lines.old.source }
+    ensures read { lines.old.ending ≡ None → result ≡ Err ScriptFault.Read →
+        HandsPart (ahead lines.old.source (R.remaining (source reader.old)))
+        (R.remaining (source reader.new)) lines.old.source }
+    ensures failed { lines.old.ending ≡ None →
+        has_failed reader.new ≡ (has_failed reader.old || is_read_fault result) }
+    ensures ending { lines.old.ending ≡ None → lines.new.ending ≡ ending_of result }
+    ensures progress { lines.old.ending ≡ None → ending_of result ≡ None →
+        budget lines.new.source < budget lines.old.source }
+    ensures quiet { lines.old.source.ended ≡ true → reader.new ≡ reader.old }
+    ensures stays { lines.old.source.ended ≡ true → lines.new.source.ended ≡ true }
+    ensures no_text { result ≢ Ok Line.Text → lines.new.text ≡ [] }
+    ensures again { IfSome lines.old.ending (λ outcome.
+        (result ≡ outcome) × (reader.new ≡ reader.old)
+        × (lines.new.ending ≡ lines.old.ending) × (lines.new.source ≡ lines.old.source)) }
+{
+    lines.text.clear();
+    if let Some(outcome) = lines.ending {
+        return outcome;
+    }
+    let outcome = next_line(&mut lines.source, &mut lines.text, reader);
+    lines.ending = match outcome {
+        Ok(Line::Text) => None,
+        Ok(Line::TooLong) => None,
+        _ => Some(outcome),
+    };
+    outcome
+}

@@ -1,0 +1,142 @@
+//! Lines as commands.
+ghost use Rattle.std.specs.Prelude.{◌≡◌, ℕ, List, [], ◌∷◌, map, MatchOption, Some, None, option_map};
+ghost use Rattle.std.specs.Option.{ok_or};
+ghost use Rattle.vdb_script.specs.Grammar.{name_of, kind_of, literal_of, accessor_of, point, grid, get, set, whole, command_of, is_comment, parse};
+
+use crate::numbers::number_of;
+use crate::tokens::{first_token, split_tokens};
+use std::alloc::Global;
+use vdb_scene::{Command, Literal, Name, Num, Point, Refusal};
+use vdb_value::Kind;
+
+/// The name that a token is.
+fn name_of(token: &[u8]) -> Option<Name>
+    ensures { result ≡ name_of token.now }
+{
+    Name::new(token)
+}
+
+/// The kind that a token names.
+fn kind_of(token: &[u8]) -> Option<Kind>
+    ensures { result ≡ kind_of token.now }
+{
+    match token {
+        b"i32" => Some(Kind::I32),
+        _ => None,
+    }
+}
+
+/// The value that a token writes: `true`, `false` or a number.
+fn literal_of(token: &[u8]) -> Option<Literal>
+    ensures { result ≡ literal_of token.now }
+{
+    match token {
+        b"true" => Some(Literal::Truth(true)),
+        b"false" => Some(Literal::Truth(false)),
+        _ => Some(Literal::Number(number_of(token)?)),
+    }
+}
+
+/// The accessor that a token names: `-` for none, or a number.
+fn accessor_of(token: &[u8]) -> Option<Option<Num>>
+    ensures { result ≡ accessor_of token.now }
+{
+    match token {
+        b"-" => Some(None),
+        _ => Some(Some(number_of(token)?)),
+    }
+}
+
+/// The coordinate that three tokens write.
+fn point_of(x: &[u8], y: &[u8], z: &[u8]) -> Option<Point>
+    ensures { MatchOption result (point (x.now ∷ y.now ∷ z.now ∷ []) ≡ None) (λ at. (rest : List (List ℕ)) → point (x.now ∷ y.now ∷ z.now ∷ rest) ≡ Some (at, rest)) }
+{
+    Some(Point {
+        x: number_of(x)?,
+        y: number_of(y)?,
+        z: number_of(z)?,
+    })
+}
+
+/// The command `grid NAME KIND BACKGROUND`, from the tokens behind its word.
+fn grid_command(tokens: &[&[u8]]) -> Option<Command>
+    ensures { ok_or (option_map Some result) Refusal.Syntax ≡ whole (grid (map (λ t. t.now) tokens.now)) }
+{
+    match tokens {
+        [name, kind, background] => Some(Command::Grid {
+            name: name_of(name)?,
+            kind: kind_of(kind)?,
+            background: literal_of(background)?,
+        }),
+        _ => None,
+    }
+}
+
+/// The command `get NAME ACCESSOR X Y Z`, from the tokens behind its word.
+fn get_command(tokens: &[&[u8]]) -> Option<Command>
+    ensures { ok_or (option_map Some result) Refusal.Syntax ≡ whole (get (map (λ t. t.now) tokens.now)) }
+{
+    match tokens {
+        [name, accessor, x, y, z] => Some(Command::Get {
+            name: name_of(name)?,
+            accessor: accessor_of(accessor)?,
+            at: point_of(x, y, z)?,
+        }),
+        _ => None,
+    }
+}
+
+/// The command `set NAME ACCESSOR X Y Z VALUE`, from the tokens behind its word.
+fn set_command(tokens: &[&[u8]]) -> Option<Command>
+    ensures { ok_or (option_map Some result) Refusal.Syntax ≡ whole (set (map (λ t. t.now) tokens.now)) }
+{
+    match tokens {
+        [name, accessor, x, y, z, value] => Some(Command::Set {
+            name: name_of(name)?,
+            accessor: accessor_of(accessor)?,
+            at: point_of(x, y, z)?,
+            value: literal_of(value)?,
+        }),
+        _ => None,
+    }
+}
+
+/// The command of a word and the tokens behind it.
+fn command_of(word: &[u8], tokens: &[&[u8]]) -> Option<Command>
+    ensures { ok_or (option_map Some result) Refusal.Syntax ≡ command_of word.now (map (λ t. t.now) tokens.now) }
+{
+    match word {
+        b"grid" => grid_command(tokens),
+        b"get" => get_command(tokens),
+        b"set" => set_command(tokens),
+        _ => None,
+    }
+}
+
+/// Whether a token begins a comment, which goes on to the end of the line.
+fn is_comment(token: &[u8]) -> bool
+    ensures { result ≡ is_comment token.now }
+{
+    matches!(token, [b'#', ..])
+}
+
+/// The command of a line, given without its newline, or `None` for a blank line or a comment. A line is read whatever
+/// its length, without taking memory. `Err(Refusal::Syntax)` where it is no command: a word that is none, too few
+/// tokens or too many, or a token of another form than the command has in its place. That a number lies in no range
+/// and that there is no grid of a name are found later, when the command is carried out.
+pub fn parse(alloc: Global, line: &[u8]) -> Result<Option<Command>, Refusal>
+    ensures { result ≡ parse line.now }
+{
+    let Some((word, rest)) = first_token(line) else {
+        return Ok(None);
+    };
+    if is_comment(word) {
+        return Ok(None);
+    }
+    let Some(tokens) = split_tokens(alloc, rest) else {
+        return Err(Refusal::Syntax);
+    };
+    command_of(word, tokens.as_slice())
+        .map(Some)
+        .ok_or(Refusal::Syntax)
+}

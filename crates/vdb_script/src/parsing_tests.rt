@@ -1,0 +1,156 @@
+//! Lines and the commands that they are.
+use crate::parse;
+use vdb_scene::{Command, Literal, Name, Num, Point, Refusal};
+use vdb_value::Kind;
+
+/// The coordinate of the lines below.
+const AT: Point = Point {
+    x: Num::Near(-1),
+    y: Num::Near(0),
+    z: Num::Near(2147483648),
+};
+
+fn grid(name: Name, background: Literal) -> Command {
+    Command::Grid {
+        name,
+        kind: Kind::I32,
+        background,
+    }
+}
+
+fn get(name: Name, accessor: Option<Num>) -> Command {
+    Command::Get {
+        name,
+        accessor,
+        at: AT,
+    }
+}
+
+fn set(name: Name, value: Literal) -> Command {
+    Command::Set {
+        name,
+        accessor: Some(Num::Near(8)),
+        at: AT,
+        value,
+    }
+}
+
+#[test]
+fn commands_are_read(rt: HostRuntime) {
+    let a = Name::new(b"a").expect(&rt, "one letter");
+    let longest = Name::new(b"z_0123456789_abc").expect(&rt, "16 bytes");
+    let zero = Literal::Number(Num::Near(0));
+    let minus_five = Literal::Number(Num::Near(-5));
+    let far = Literal::Number(Num::Far);
+    for (line, want) in [
+        (b"grid a i32 0".as_slice(), grid(a, zero)),
+        (
+            b"\tgrid  z_0123456789_abc\ti32 -5 \r".as_slice(),
+            grid(longest, minus_five),
+        ),
+        (b"grid a i32 true".as_slice(), grid(a, Literal::Truth(true))),
+        (
+            b"grid a i32 false".as_slice(),
+            grid(a, Literal::Truth(false)),
+        ),
+        (b"get a - -1 0 2147483648".as_slice(), get(a, None)),
+        (
+            b"get a 0 -1 0 2147483648".as_slice(),
+            get(a, Some(Num::Near(0))),
+        ),
+        (
+            b"get a -3 -1 0 2147483648".as_slice(),
+            get(a, Some(Num::Near(-3))),
+        ),
+        (b"set a 8 -1 0 2147483648 -5".as_slice(), set(a, minus_five)),
+        (
+            b"set a 8 -1 0 2147483648 -9223372036854775809".as_slice(),
+            set(a, far),
+        ),
+        (
+            b"set a 8 -1 0 2147483648 true".as_slice(),
+            set(a, Literal::Truth(true)),
+        ),
+    ] {
+        assert!(rt; parse(rt.alloc(), line) == Ok(Some(want)));
+    }
+}
+
+#[test]
+fn numbers_have_any_length(rt: HostRuntime) {
+    let a = Name::new(b"a").expect(&rt, "one letter");
+    for (line, number) in [
+        (b"grid a i32 0".as_slice(), Num::Near(0)),
+        (b"grid a i32 10".as_slice(), Num::Near(10)),
+        (
+            b"grid a i32 9223372036854775807".as_slice(),
+            Num::Near(i64::MAX),
+        ),
+        (b"grid a i32 9223372036854775808".as_slice(), Num::Far),
+        (
+            b"grid a i32 -9223372036854775808".as_slice(),
+            Num::Near(i64::MIN),
+        ),
+        (b"grid a i32 -9223372036854775809".as_slice(), Num::Far),
+        (b"grid a i32 18446744073709551616".as_slice(), Num::Far),
+        (b"grid a i32 18446744073709551617".as_slice(), Num::Far),
+        (
+            b"grid a i32 -1234567890123456789012345678901234567890".as_slice(),
+            Num::Far,
+        ),
+    ] {
+        assert!(rt; parse(rt.alloc(), line) == Ok(Some(grid(a, Literal::Number(number)))));
+    }
+}
+
+#[test]
+fn other_lines_are_no_commands(rt: HostRuntime) {
+    for line in [
+        b"grid".as_slice(),
+        b"grid a i32".as_slice(),
+        b"grid a i32 0 0".as_slice(),
+        b"grid a i32 0 # with a zero".as_slice(),
+        b"grid a bool 0".as_slice(),
+        b"grid A i32 0".as_slice(),
+        b"grid 1a i32 0".as_slice(),
+        b"grid z_0123456789_abcd i32 0".as_slice(),
+        b"grid a i32 00".as_slice(),
+        b"grid a i32 05".as_slice(),
+        b"grid a i32 -0".as_slice(),
+        b"grid a i32 -05".as_slice(),
+        b"grid a i32 +5".as_slice(),
+        b"grid a i32 --5".as_slice(),
+        b"grid a i32 5-".as_slice(),
+        b"grid a i32 -".as_slice(),
+        b"grid a i32 1e3".as_slice(),
+        b"grid a i32 True".as_slice(),
+        b"Grid a i32 0".as_slice(),
+        b"grids a i32 0".as_slice(),
+        b"get a - 0 0".as_slice(),
+        b"get a - 0 0 0 0".as_slice(),
+        b"get a true 0 0 0".as_slice(),
+        b"get a -- 0 0 0".as_slice(),
+        b"get a - true 0 0".as_slice(),
+        b"get a - - 0 0".as_slice(),
+        b"set a - 0 0 0".as_slice(),
+        b"set a - 0 0 0 1 1".as_slice(),
+        b"set a - 0 0 0 -".as_slice(),
+        b"prune a".as_slice(),
+        b"get a - 0 0 0 1 2 3 4 5 6 7 8 9 10 11 12".as_slice(),
+    ] {
+        assert!(rt; parse(rt.alloc(), line) == Err(Refusal::Syntax));
+    }
+}
+
+#[test]
+fn blank_lines_and_comments_are_nothing(rt: HostRuntime) {
+    for line in [
+        b"".as_slice(),
+        b" \t \r".as_slice(),
+        b"#".as_slice(),
+        b"#grid a i32 0".as_slice(),
+        b" \t# 1 2 3 4 5 6 7 8 9 10 11 12 13 14".as_slice(),
+    ] {
+        assert!(rt; parse(rt.alloc(), line) == Ok(None));
+    }
+}

@@ -1,0 +1,149 @@
+//! Answers as text.
+
+ghost use Rattle.std.specs.Prelude.{◌≡◌, ◌≤◌, ◌||◌, [], ◌∷◌, ◌++◌, if◌then◌else◌, is_err, length, map};
+ghost use Rattle.vdb_scene.specs.Scalars.{scalar_text};
+ghost use Rattle.vdb_scene.specs.Shown.{Shows};
+ghost use Rattle.vdb_scene.specs.Step.{Reply};
+ghost use Rattle.vdb_scene.specs.Watched.{has_failed, source};
+ghost use Rattle.vdb_script.specs.Text.{line, state_text, text, word};
+ghost use Rattle.vdb_script.specs.Writing.{Writes};
+
+use arrayvec::ArrayVec;
+use itoa::Buffer;
+use std::io::Write;
+use thiserror::Error;
+use vdb_scene::{Answer, Refusal, Scalar, Watched};
+
+/// The most bytes that the line of an answer has, its newline among them.
+const ANSWER_LIMIT: usize = 64;
+
+/// The writer failed, or took no byte of some.
+#[derive(Clone, Copy, Debug, PartialEq, Eq, Error)]
+#[error("write")]
+pub struct WriteFault;
+
+/// The word of a refusal.
+fn refusal_word(refusal: Refusal) -> &'static [u8]
+    ensures text { result.now ≡ word refusal }
+    ensures short { length result.now ≤ 20 }
+{
+    match refusal {
+        Refusal::LineTooLong => b"line-too-long",
+        Refusal::Syntax => b"syntax",
+        Refusal::NoGrid => b"no-grid",
+        Refusal::NameTaken => b"name-taken",
+        Refusal::SameGrid => b"same-grid",
+        Refusal::GridLimit => b"grid-limit",
+        Refusal::Kind => b"kind",
+        Refusal::ValueRange => b"value-range",
+        Refusal::NoAccessor => b"no-accessor",
+        Refusal::Box => b"box",
+        Refusal::TooLarge => b"too-large",
+        Refusal::NoSum => b"no-sum",
+        Refusal::SumRange => b"sum-range",
+        Refusal::RootLimit => b"root-limit",
+        Refusal::Memory => b"memory",
+    }
+}
+
+/// The text of a value: `true`, `false` or a decimal number.
+fn value_text<'b>(value: Scalar, buffer: &'b mut Buffer) -> &'b [u8]
+    ensures text { result.now ≡ scalar_text value }
+    ensures short { length result.now ≤ 20 }
+{
+    match value {
+        Scalar::Bool(true) => b"true",
+        Scalar::Bool(false) => b"false",
+        Scalar::I32(number) => buffer.format(number).as_bytes(),
+        Scalar::I64(number) => buffer.format(number).as_bytes(),
+    }
+}
+
+/// The word of a state.
+fn state_word(on: bool) -> &'static [u8]
+    ensures text { result.now ≡ state_text on }
+    ensures short { length result.now ≤ 3 }
+{
+    match on {
+        true => b"on",
+        false => b"off",
+    }
+}
+
+/// Adds a part of a line, behind a space unless it is the first.
+fn add_part(composed: &mut ArrayVec<u8, ANSWER_LIMIT>, is_first: bool, part: &[u8])
+    requires room { length ((if is_first then composed.old.items else composed.old.items ++ 32 ∷ [])
+        ++ part.now) ≤ ANSWER_LIMIT }
+    ensures { composed.new.items ≡
+        (if is_first then composed.old.items else composed.old.items ++ 32 ∷ []) ++ part.now }
+{
+    if !is_first {
+        composed.push(b' ');
+    }
+    composed.try_extend_from_slice(part).unwrap();
+}
+
+/// A line: its parts with a space between each two, and a newline.
+fn compose(parts: &[&[u8]]) -> ArrayVec<u8, ANSWER_LIMIT>
+    requires room { length (line (map (λ part. part.now) parts.now)) ≤ ANSWER_LIMIT }
+    ensures { result.items ≡ line (map (λ part. part.now) parts.now) }
+{
+    let mut composed = ArrayVec::new();
+    for (i, part) in parts.iter().enumerate() {
+        add_part(&mut composed, i == 0, part);
+    }
+    composed.push(b'\n');
+    composed
+}
+
+/// The line of an answer, its newline at the end.
+fn answer_line(answer: Answer) -> ArrayVec<u8, ANSWER_LIMIT>
+    ensures { (reply : Reply) → Shows answer reply → result.items ≡ text reply }
+{
+    match answer {
+        Answer::Done => compose([b"ok".as_slice()].as_slice()),
+        Answer::Refused(refusal) => {
+            compose([b"error".as_slice(), refusal_word(refusal)].as_slice())
+        }
+        Answer::Value(value, on) => {
+            let mut buffer = Buffer::new();
+            let parts = [
+                b"value".as_slice(),
+                value_text(value, &mut buffer),
+                state_word(on),
+            ];
+            compose(parts.as_slice())
+        }
+    }
+}
+
+/// Writes all of the bytes, in one call where the writer takes them all at once. A writer that fails or takes no byte
+/// of some isn't tried again.
+fn write_bytes<W: Write>(writer: &mut Watched<W>, bytes: &[u8]) -> Result<(), WriteFault>
+    ensures writes { Writes (W.contents (source writer.old)) (W.contents (source writer.new)) result bytes.now }
+    ensures failed { has_failed writer.new ≡ (has_failed writer.old || is_err result) }
+{
+    let mut at = 0;
+    while at < bytes.len() {
+        match writer.write(&bytes[at..]) {
+            Ok(0) => return Err(WriteFault),
+            Ok(taken) => at += taken,
+            Err(_) => return Err(WriteFault),
+        }
+    }
+    Ok(())
+}
+
+/// Writes the line of an answer.
+///
+/// It is composed first and written in one call; only a writer that takes a part of it is called again, with the rest.
+/// `WriteFault` says that a call of the writer failed, or took no byte of some; a front of the line may have been
+/// written then, and nothing is tried again.
+pub fn print<W: Write>(answer: Answer, writer: &mut Watched<W>) -> Result<(), WriteFault>
+    ensures writes { (reply : Reply) → Shows answer reply →
+        Writes (W.contents (source writer.old)) (W.contents (source writer.new)) result (text reply) }
+    ensures failed { has_failed writer.new ≡ (has_failed writer.old || is_err result) }
+{
+    let composed = answer_line(answer);
+    write_bytes(writer, composed.as_slice())
+}

@@ -1,0 +1,69 @@
+//! The tokens of a line.
+ghost use Rattle.std.specs.Prelude.{◌≡◌, ◌<◌, ◌≤◌, [], ◌∷◌, map, length, IfSome, IfNone, not};
+ghost use Rattle.std.specs.List.{take_while};
+ghost use Rattle.vdb_script.specs.Lines.{is_separator, tokens};
+
+use smallvec::SmallVec;
+use std::alloc::Global;
+
+/// The most tokens that stand behind the word of a command.
+pub const ARGUMENT_LIMIT: usize = 9;
+
+/// Tokens of a line, kept in place, so that they need no memory.
+pub type Tokens<'a> = SmallVec<&'a [u8], 12>;
+
+/// Whether a byte stands between tokens: a space, a tab or a carriage return.
+fn is_separator_byte(byte: u8) -> bool
+    ensures { result ≡ is_separator byte }
+{
+    byte == b' ' || byte == b'\t' || byte == b'\r'
+}
+
+/// How many separators stand before anything else.
+fn separators_before(line: &[u8]) -> usize
+    ensures { result ≡ length (take_while is_separator line.now) }
+{
+    line.iter()
+        .take_while(|byte| is_separator_byte(**byte))
+        .count()
+}
+
+/// How many bytes stand before the first separator, or the end.
+fn bytes_before_separator(text: &[u8]) -> usize
+    ensures { result ≡ length (take_while (λ b. not (is_separator b)) text.now) }
+{
+    text.iter()
+        .take_while(|byte| !is_separator_byte(**byte))
+        .count()
+}
+
+/// The first token of a line and the bytes behind it, or `None` where the line has no token.
+pub fn first_token(line: &[u8]) -> Option<(&[u8], &[u8])>
+    ensures some { IfSome result (λ found. tokens line.entry.now ≡ found.0.now ∷ tokens found.1.now) }
+    ensures shorter { IfSome result (λ found. length found.1.now < length line.entry.now) }
+    ensures none { IfNone result (tokens line.entry.now ≡ []) }
+{
+    let text = &line[separators_before(line)..];
+    if text.is_empty() {
+        return None;
+    }
+    Some(text.split_at(bytes_before_separator(text)))
+}
+
+/// The tokens of a line, or `None` where it has more than `ARGUMENT_LIMIT`.
+pub fn split_tokens<'a>(alloc: Global, line: &'a [u8]) -> Option<Tokens<'a>>
+    ensures some { IfSome result (λ found. map (λ t. t.now) found.items ≡ tokens line.entry.now) }
+    ensures few { IfSome result (λ found. length found.items ≤ ARGUMENT_LIMIT) }
+    ensures none { IfNone result (ARGUMENT_LIMIT < length (tokens line.entry.now)) }
+{
+    let mut found = SmallVec::new(alloc);
+    let mut rest = line;
+    while let Some((token, behind)) = first_token(rest) {
+        if found.len() == ARGUMENT_LIMIT {
+            return None;
+        }
+        found.push_reserved(token);
+        rest = behind;
+    }
+    Some(found)
+}

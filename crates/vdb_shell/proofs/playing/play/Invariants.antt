@@ -1,0 +1,23 @@
+use Rattle.std.proofs.Common.{◌≡◌, ℕ, List, Some, None, false}
+use Rattle.std.specs.Io.KnownBytes.{Appends}
+use Rattle.vdb_scene.specs.Grids.{scene_of}
+use Rattle.vdb_scene.specs.Watched.{has_failed, source}
+use Rattle.vdb_script.specs.Reading.{EndsWith, ahead, budget}
+use Rattle.vdb_script.specs.Text.{answers_text}
+use Rattle.vdb_shell.proofs.Told.{Handed}
+use Rattle.vdb_shell.proofs.playing.play.Given as goal
+
+-- what was handed out of the script so far, and the answers to it
+abbrev pub invariant-lines : goal.invariant-lines
+invariant-lines g l = record {
+  told : (bytes : List ℕ) → g.R.Read.remaining (source l.fn.script) ≡ Some bytes →
+      (h : Handed (scene_of l.fn.scene) bytes (ahead l.lines.source (g.R.Read.remaining (source l.script))) l.lines.source (scene_of l.scene) l.refused)
+      × Appends (g.W.Write.contents (source l.fn.answers)) (g.W.Write.contents (source l.answers)) (answers_text h.replies);
+  unended : l.lines.ending ≡ None;
+  ends : EndsWith l.lines.source (g.R.Read.remaining (source l.script));
+  script : has_failed l.script ≡ false;
+  answers : has_failed l.answers ≡ false;
+}
+
+abbrev pub decreases-lines : goal.decreases-lines
+decreases-lines g l = budget l.lines.source

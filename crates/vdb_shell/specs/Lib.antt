@@ -1,0 +1,3 @@
+-- Sessions.
+pub mod Answering
+pub mod Session

@@ -1,0 +1,130 @@
+//! A script that is played on a scene, line by line.
+ghost use Rattle.std.specs.Prelude.{◌≡◌, ◌<◌, ◌||◌, ◌↔◌, false, true, Some, None, Ok, Err, IfOk, OnOk, OnErr, IsTrue, ℕ, List, [], ◌∷◌, length, Option};
+ghost use Rattle.std.specs.Io.KnownBytes.{Appends, Consumes};
+ghost use Rattle.vdb_scene.specs.Grids.{scene_of};
+ghost use Rattle.vdb_scene.specs.Shown.{Shows};
+ghost use Rattle.vdb_scene.specs.Step.{Reply};
+ghost use Rattle.vdb_scene.specs.Watched.{has_failed, source};
+ghost use Rattle.vdb_script.specs.Reading.{EndsWith, HandsEnd, HandsLine, HandsPart, HandsTooMuch, ahead, budget};
+ghost use Rattle.vdb_script.specs.Run.{TakesLine, read};
+ghost use Rattle.vdb_shell.specs.Answering.{ShowsAll, is_read_ending};
+ghost use Rattle.vdb_shell.specs.Session.{PlaysFrom, is_refused};
+
+use crate::Fault;
+use std::alloc::Global;
+use std::io::{Read, Write};
+use vdb_scene::{Answer, Refusal, Scene, Watched};
+use vdb_script::{Line, Lines, ScriptFault, parse, print, read_line};
+
+/// How the playing of a script ended.
+#[derive(Clone, Copy, Debug, PartialEq, Eq)]
+pub struct Played {
+    /// Whether some line was refused.
+    pub refused: bool,
+    /// What ended it early, if anything did.
+    pub fault: Option<Fault>,
+}
+
+/// Plays a script on a scene: reads a line, carries it out and writes its answer before the next line is read. It ends
+/// where the script does, or at the first fault: at a script of more than 16,777,216 bytes, of which each whole line
+/// within that limit is carried out; at a call of the reader that fails, and then the line that it was to end isn't
+/// carried out; or at a call of the writer that fails or takes no byte, and then what went out is a front of the answers.
+pub fn play<R: Read, W: Write>(
+    alloc: Global,
+    scene: &mut Scene,
+    script: &mut Watched<R>,
+    answers: &mut Watched<W>,
+) -> Played
+    requires script_fresh { has_failed script.old ≡ false }
+    requires answers_fresh { has_failed answers.old ≡ false }
+    // Where the reader tells its bytes, answers and scene are those of a run over the script's lines.
+    ensures plays { (bytes : List ℕ) → R.remaining (source script.old) ≡ Some bytes →
+        (given written : List ℕ)
+        × Consumes (Some bytes) (R.remaining (source script.new)) given
+        × Appends (W.contents (source answers.old)) (W.contents (source answers.new)) written
+        × PlaysFrom (scene_of scene.old) bytes result.fault result.refused given written (scene_of scene.new) }
+    // A fault of reading or writing comes exactly where that reader or writer failed.
+    ensures script { (result.fault ≡ Some (Fault.Script ScriptFault.Read)) ↔ IsTrue (has_failed script.new) }
+    ensures answers { (result.fault ≡ Some Fault.Answers) ↔ IsTrue (has_failed answers.new) }
+{
+    let mut lines = Lines::new();
+    let mut refused = false;
+    'lines: loop {
+        match next_answer(alloc, scene, &mut lines, script) {
+            Err(None) => {
+                return Played {
+                    refused,
+                    fault: None,
+                };
+            }
+            Err(Some(fault)) => {
+                return Played {
+                    refused,
+                    fault: Some(Fault::Script(fault)),
+                };
+            }
+            Ok(None) => {}
+            Ok(Some(answer)) => {
+                refused |= is_refusal(&answer);
+                if print(answer, answers).is_err() {
+                    return Played {
+                        refused,
+                        fault: Some(Fault::Answers),
+                    };
+                }
+            }
+        }
+    }
+}
+
+/// Reads the next line of a script that has neither ended nor failed, and carries it out: its answer, if it has one.
+/// `Err(None)` is the script's end.
+fn next_answer<R: Read>(
+    alloc: Global,
+    scene: &mut Scene,
+    lines: &mut Lines,
+    script: &mut Watched<R>,
+) -> Result<Option<Answer>, Option<ScriptFault>>
+    requires unended { lines.old.ending ≡ None }
+    requires ends { EndsWith lines.old.source (R.remaining (source script.old)) }
+    ensures ends { EndsWith lines.new.source (R.remaining (source script.new)) }
+    ensures line { IfOk result (λ answer. (line : List ℕ) × (replies : List Reply)
+        × HandsLine (ahead lines.old.source (R.remaining (source script.old))) (ahead lines.new.source (R.remaining (source script.new))) lines.old.source lines.new.source line
+        × ShowsAll answer replies × TakesLine (scene_of scene.old) (read line) replies (scene_of scene.new)) }
+    ensures end { result ≡ Err None → HandsEnd (ahead lines.old.source (R.remaining (source script.old))) (ahead lines.new.source (R.remaining (source script.new))) lines.new.source }
+    ensures overflow { result ≡ Err (Some ScriptFault.TooLong) → HandsTooMuch (ahead lines.old.source (R.remaining (source script.old))) (R.remaining (source script.new)) lines.old.source }
+    ensures read { result ≡ Err (Some ScriptFault.Read) → HandsPart (ahead lines.old.source (R.remaining (source script.old))) (R.remaining (source script.new)) lines.old.source }
+    ensures failed { has_failed script.new ≡ (has_failed script.old || is_read_ending result) }
+    ensures quiet { lines.old.source.ended ≡ true → script.new ≡ script.old }
+    ensures same { OnErr result (scene_of scene.new ≡ scene_of scene.old) }
+    ensures unended { OnOk result (lines.new.ending ≡ None) }
+    ensures progress { OnOk result (budget lines.new.source < budget lines.old.source) }
+{
+    match read_line(lines, script) {
+        Ok(Line::Text) => Ok(answer_line(alloc, scene, lines.text())),
+        Ok(Line::TooLong) => Ok(Some(Answer::Refused(Refusal::LineTooLong))),
+        Ok(Line::End) => Err(None),
+        Err(fault) => Err(Some(fault)),
+    }
+}
+
+/// Carries out a line of at most 256 bytes: its answer, if it has one.
+fn answer_line(alloc: Global, scene: &mut Scene, line: &[u8]) -> Option<Answer>
+    requires { length line.now < 257 }
+    ensures { (replies : List Reply) × ShowsAll result replies × TakesLine (scene_of scene.old) (read line.now) replies (scene_of scene.new) }
+{
+    match parse(alloc, line) {
+        Ok(command) => {
+            let command = command?;
+            Some(scene.apply(&command))
+        }
+        Err(refusal) => Some(Answer::Refused(refusal)),
+    }
+}
+
+/// Whether an answer is a refusal.
+fn is_refusal(answer: &Answer) -> bool
+    ensures { (reply : Reply) → Shows answer.now reply → result ≡ is_refused reply }
+{
+    matches!(answer, Answer::Refused(_))
+}

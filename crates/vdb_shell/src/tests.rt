@@ -1,0 +1,265 @@
+//! Sessions over memory, over readers and writers that fail, and over readers that never end.
+ghost use Rattle.std.specs.Prelude.{Some};
+
+use super::*;
+use std::io::{self, Read, Write};
+use std::process::Abort;
+use vdb_scene::Watched;
+use vdb_script::ScriptFault;
+
+/// A reader over memory that gives at most `step` bytes at once, and fails at its call numbered `fails_at`.
+#[derive(Drop)]
+struct Slow<'a> {
+    bytes: &'a [u8],
+    step: usize,
+    calls: u64,
+    fails_at: u64,
+}
+
+impl<'a> Read for Slow<'a> {
+    ghost remaining = { λ s. Some s.bytes.now };
+
+    fn read(&mut self, buf: &mut [u8]) -> io::Result<usize> {
+        self.calls = self.calls.saturating_add(1);
+        if self.calls == self.fails_at {
+            return Err(io::Error::from(io::ErrorKind::Other));
+        }
+        let room = buf.len().min(self.step.max(1));
+        self.bytes.read(&mut buf[..room])
+    }
+}
+
+/// A reader that gives its bytes, and then one byte for ever.
+#[derive(Drop)]
+struct Endless<'a> {
+    bytes: &'a [u8],
+    then: u8,
+}
+
+impl<'a> Read for Endless<'a> {
+    fn read(&mut self, buf: &mut [u8]) -> io::Result<usize> {
+        if self.bytes.is_empty() {
+            buf.fill(self.then);
+            return Ok(buf.len());
+        }
+        self.bytes.read(buf)
+    }
+}
+
+/// A writer that takes at most `step` bytes at once, and at its call numbered `fails_at` fails, or takes none.
+#[derive(Drop)]
+struct Picky {
+    taken: Vec<u8>,
+    step: usize,
+    calls: u64,
+    fails_at: u64,
+    fails: bool,
+}
+
+impl Write for Picky {
+    fn write(&mut self, buf: &[u8]) -> io::Result<usize> {
+        self.calls = self.calls.saturating_add(1);
+        if self.calls == self.fails_at {
+            if self.fails {
+                return Err(io::Error::from(io::ErrorKind::Other));
+            }
+            return Ok(0);
+        }
+        let taken = buf.len().min(self.step);
+        self.taken.extend_from_slice(&buf[..taken])?;
+        Ok(taken)
+    }
+
+    fn flush(&mut self) -> io::Result<()> {
+        Ok(())
+    }
+}
+
+/// Plays a script that is given in pieces of `step` bytes, and checks its answers and its status.
+fn expect(rt: &(impl Abort + AllocGlobal), script: &[u8], step: usize, answers: &[u8], status: u8) {
+    let mut reader = Watched::new(Slow {
+        bytes: script,
+        step,
+        calls: 0,
+        fails_at: 0,
+    });
+    let mut writer = Watched::new(Vec::new(rt.alloc()));
+    let outcome = session(rt.alloc(), &mut reader, &mut writer);
+    assert_eq!(rt; outcome.status, status);
+    assert!(rt; outcome.fault.is_none());
+    assert_eq!(rt; writer.get_ref().as_slice(), answers);
+}
+
+const FIRST: &[u8] = b"grid a i32 0\nset a - -1 -1 -1 7\nget a - -1 -1 -1";
+
+#[test]
+fn scripts_are_answered(rt: HostRuntime) {
+    for (script, answers, status) in [
+        (b"".as_slice(), b"".as_slice(), 0),
+        (FIRST, b"ok\nok\nvalue 7 on\n".as_slice(), 0),
+        (
+            b"grid a i32 0\nget a - 5 5 5\n".as_slice(),
+            b"ok\nvalue 0 off\n".as_slice(),
+            0,
+        ),
+        (
+            b"grid a i32 0\nset a 0 -1 -1 -1 7\nget a 1 -1 -1 -1\nget a 0 0 0 0\n".as_slice(),
+            b"ok\nok\nvalue 7 on\nvalue 0 off\n".as_slice(),
+            0,
+        ),
+        (
+            b"grid a i32 2147483648\ngrid a i32 true\ngrid a i32 0\ngrid a i32 0\nset a 8 0 0 0 1\nset a - 0 0 2147483648 1\nget b - 0 0 0\nprune a".as_slice(),
+            b"error value-range\nerror kind\nok\nerror name-taken\nerror no-accessor\nerror value-range\nerror no-grid\nerror syntax\n".as_slice(),
+            1,
+        ),
+        (
+            b"grid a bool true\ngrid b i64 0\ngrid c i32 true\n".as_slice(),
+            b"error syntax\nerror syntax\nerror kind\n".as_slice(),
+            1,
+        ),
+        (
+            b"\r\n \t \n  # grid\n\tgrid a  i32 -2147483648 \r\nget a - 0 0 0".as_slice(),
+            b"ok\nvalue -2147483648 off\n".as_slice(),
+            0,
+        ),
+    ] {
+        expect(&rt, script, 4096, answers, status);
+    }
+}
+
+#[test]
+fn long_lines_are_refused(rt: HostRuntime) {
+    let fits = [b'#'; 256];
+    let too_long = [b'#'; 257];
+    expect(&rt, &fits, 4096, b"", 0);
+    expect(&rt, &too_long, 4096, b"error line-too-long\n", 1);
+}
+
+#[test]
+fn a_sixty_fifth_grid_is_refused(rt: HostRuntime) {
+    let mut script: Vec<u8> = Vec::new(rt.alloc());
+    let mut answers: Vec<u8> = Vec::new(rt.alloc());
+    for first in b'a'..b'i' {
+        for second in b'a'..b'i' {
+            let line = [
+                b'g', b'r', b'i', b'd', b' ', first, second, b' ', b'i', b'3', b'2', b' ', b'0',
+                b'\n',
+            ];
+            script.extend_from_slice(&line).expect(&rt, "memory");
+            answers.extend_from_slice(b"ok\n").expect(&rt, "memory");
+        }
+    }
+    script
+        .extend_from_slice(b"grid zz i32 0\ngrid aa i32 0\n")
+        .expect(&rt, "memory");
+    answers
+        .extend_from_slice(b"error grid-limit\nerror name-taken\n")
+        .expect(&rt, "memory");
+    expect(&rt, script.as_slice(), 4096, answers.as_slice(), 1);
+}
+
+#[test]
+fn pieces_of_any_size_give_the_same_answers(rt: HostRuntime) {
+    for step in 1..301usize {
+        expect(&rt, FIRST, step, b"ok\nok\nvalue 7 on\n", 0);
+    }
+}
+
+#[test]
+fn a_reader_that_fails_ends_the_script(rt: HostRuntime) {
+    // pieces of five bytes: 13 bytes end the first line, 32 the second, and the third needs the end at the eleventh call
+    for fails_at in 1..13u64 {
+        let mut reader = Watched::new(Slow {
+            bytes: FIRST,
+            step: 5,
+            calls: 0,
+            fails_at,
+        });
+        let mut writer = Watched::new(Vec::new(rt.alloc()));
+        let outcome = session(rt.alloc(), &mut reader, &mut writer);
+        let answers = if fails_at <= 3 {
+            b"".as_slice()
+        } else if fails_at <= 7 {
+            b"ok\n".as_slice()
+        } else if fails_at <= 11 {
+            b"ok\nok\n".as_slice()
+        } else {
+            b"ok\nok\nvalue 7 on\n".as_slice()
+        };
+        assert_eq!(rt; writer.get_ref().as_slice(), answers, "at call {fails_at}");
+        if fails_at < 12 {
+            assert_eq!(rt; outcome.status, 4);
+            assert!(rt; outcome.fault == Some(Fault::Script(ScriptFault::Read)));
+        } else {
+            assert_eq!(rt; outcome.status, 0);
+        }
+    }
+}
+
+#[test]
+fn a_writer_that_fails_ends_the_script(rt: HostRuntime) {
+    let all = b"ok\nok\nvalue 7 on\n".as_slice();
+    for fails in [true, false] {
+        for fails_at in 1..5u64 {
+            let mut reader = Watched::new(FIRST);
+            let mut writer = Watched::new(Picky {
+                taken: Vec::new(rt.alloc()),
+                step: 64,
+                calls: 0,
+                fails_at,
+                fails,
+            });
+            let outcome = session(rt.alloc(), &mut reader, &mut writer);
+            let went_out = match fails_at {
+                1 => 0,
+                2 => 3,
+                3 => 6,
+                _ => all.len(),
+            };
+            assert_eq!(rt;
+                writer.get_ref().taken.as_slice(),
+                &all[..went_out],
+                "at call {fails_at}"
+            );
+            if fails_at < 4 {
+                assert_eq!(rt; outcome.status, 4);
+                assert!(rt; outcome.fault == Some(Fault::Answers));
+            } else {
+                assert_eq!(rt; outcome.status, 0);
+            }
+        }
+    }
+}
+
+#[test]
+fn a_writer_may_take_one_byte_at_once(rt: HostRuntime) {
+    let mut reader = Watched::new(FIRST);
+    let mut writer = Watched::new(Picky {
+        taken: Vec::new(rt.alloc()),
+        step: 1,
+        calls: 0,
+        fails_at: 0,
+        fails: true,
+    });
+    let outcome = session(rt.alloc(), &mut reader, &mut writer);
+    assert_eq!(rt; outcome.status, 0);
+    assert_eq!(rt;
+        writer.get_ref().taken.as_slice(),
+        b"ok\nok\nvalue 7 on\n".as_slice()
+    );
+}
+
+#[test]
+fn a_script_without_end_is_stopped(rt: HostRuntime) {
+    for (bytes, then, answers) in [
+        (b"".as_slice(), b'#', b"".as_slice()),
+        (b"grid a i32 0\n".as_slice(), b'\n', b"ok\n".as_slice()),
+    ] {
+        let mut reader = Watched::new(Endless { bytes, then });
+        let mut writer = Watched::new(Vec::new(rt.alloc()));
+        let outcome = session(rt.alloc(), &mut reader, &mut writer);
+        assert_eq!(rt; outcome.status, 4);
+        assert!(rt; outcome.fault == Some(Fault::Script(ScriptFault::TooLong)));
+        assert_eq!(rt; writer.get_ref().as_slice(), answers);
+    }
+}
