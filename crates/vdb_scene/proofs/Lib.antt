@@ -1,3 +1,5 @@
+-- Lemmas on the step of a scene, and worked examples.
+mod Checks
 pub mod Entries
 pub mod Lent
 pub mod Setting

@@ -1,12 +1,12 @@
 -- The lines of a script whose front was read.
-use Rattle.std.proofs.Common.{◌≡◌, ◌≢◌, refl, sym, ap, ◌∙◌, ℕ, ◌+◌, ◌<◌, ◌≤◌, ◌==◌, Bool, true, false, cond, List, [], ◌∷◌, ◌++◌, length, take, arith, append_assoc, append-nil, length-append, ◌-◌, ◌^◌}
+use Rattle.std.proofs.Common.{◌≡◌, ◌≢◌, refl, sym, ap, ◌∙◌, ℕ, ◌+◌, ◌<◌, ◌≤◌, Bool, true, false, cond, List, [], ◌∷◌, ◌++◌, length, take, arith, append_assoc, append-nil, length-append, ◌-◌, ◌^◌}
 use Rattle.std.specs.Prelude.{nat_le}
 use Rattle.std.proofs.Math.Seq.{take-append_seam, take-append-add, take-length}
 use Rattle.std.proofs.lemmas.Bool.{le-leb}
 use Rattle.std.specs.List.{AllByRecursion}
 use Rattle.std.proofs.lemmas.Bool.{ne_eqb}
 use Rattle.std.proofs.lemmas.List.Elements.{recursion_from_All}
-use Rattle.vdb_script.specs.Lines.{into_first, lines, onto_first, script_lines, whole_lines}
+use Rattle.vdb_script.specs.Lines.{lines, script_lines, whole_lines}
 use Rattle.vdb_script.specs.Reading.{NoNewline, line_end}
 
 -- ---- one line

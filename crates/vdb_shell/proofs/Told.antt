@@ -1,21 +1,17 @@
 -- A script that is played line by line: what was handed out so far, and what it comes to at each end.
-use Rattle.std.proofs.Common.{◌≡◌, refl, sym, ap, ◌∙◌, subst, ℕ, ◌+◌, ◌-◌, ◌^◌, ◌<◌, ◌≤◌, Bool, true, false, ◌||◌, List, [], ◌∷◌, ◌++◌, length, take, Option, Some, None, Result, Ok, Err, arith, append_assoc, append-nil, length-append}
-use Rattle.std.specs.Prelude.{nat_le, if◌then◌else◌}
+use Rattle.std.proofs.Common.{◌≡◌, refl, sym, ap, ◌∙◌, subst, ℕ, ◌+◌, ◌^◌, ◌<◌, ◌≤◌, Bool, true, false, ◌||◌, List, [], ◌∷◌, ◌++◌, length, take, Option, Some, None, arith, append_assoc, append-nil, length-append}
 use Rattle.std.specs.List.{list_any}
-use Rattle.std.specs.Io.KnownBytes.{Appends, Consumes, IsAtEnd, prepend_known}
-use Rattle.std.proofs.KnownBytes.{Appends-trans, Consumes-trans}
+use Rattle.std.specs.Io.KnownBytes.{Consumes, IsAtEnd, prepend_known}
+use Rattle.std.proofs.KnownBytes.{Consumes-trans}
 use Rattle.std.proofs.Math.Seq.{take-append_seam}
-use Rattle.std.proofs.lemmas.Grind.{flat_map-append}
 use Rattle.vdb_scene.specs.Scene.{Scene}
 use Rattle.vdb_scene.specs.Step.{Reply}
 use Rattle.vdb_script.specs.Lines.{lines, script_lines, whole_lines}
-use Rattle.vdb_script.specs.Reading.{HandsEnd, HandsLine, HandsPart, HandsTooMuch, NoNewline, Stock, ahead, budget, line_end}
+use Rattle.vdb_script.specs.Reading.{HandsLine, HandsPart, HandsTooMuch, Stock, budget, line_end}
 use Rattle.vdb_script.specs.Run.{Run, TakesLine, read}
 use Rattle.vdb_script.specs.Text.{answers_text, text}
-use Rattle.vdb_script.specs.Writing.{Writes}
 use Rattle.vdb_script.specs.declared.source.ScriptFault.TheVariants as script_faults
-use Rattle.vdb_shell.specs.Session.{IsPrefixOf, Plays, PlaysFrom, is_refused}
-use Rattle.vdb_shell.specs.declared.fault.Fault.{Fault}
+use Rattle.vdb_shell.specs.Session.{IsPrefixOf, PlaysFrom, is_refused}
 use Rattle.vdb_shell.specs.declared.fault.Fault.TheVariants.{Script, Answers}
 use Rattle.vdb_shell.proofs.Fronts.{HasLines, begins_with, has_all, has_at_least, has_more, has_none, has_whole}
 

@@ -1,5 +1,5 @@
 -- One turn of playing a script: a line without an answer, one whose answer went out, and one whose answer didn't.
-use Rattle.std.proofs.Common.{◌≡◌, refl, sym, ap, ◌∙◌, subst, ℕ, Bool, true, false, ◌||◌, is_err, List, [], ◌∷◌, ◌++◌, ◌^◌, Option, Some, None, Result, Ok, Err, append-nil, append_assoc}
+use Rattle.std.proofs.Common.{◌≡◌, refl, sym, ap, ◌∙◌, subst, ℕ, Bool, true, false, ◌||◌, is_err, List, [], ◌∷◌, ◌++◌, ◌^◌, Option, Some, None, Result, Ok, Err, append-nil}
 use Rattle.std.specs.List.{list_any}
 use Rattle.std.specs.Io.KnownBytes.{Appends, Consumes, prepend_known}
 use Rattle.std.proofs.KnownBytes.{Appends-nil, Appends-trans}
@@ -15,7 +15,7 @@ use Rattle.vdb_script.specs.Writing.{Writes}
 use Rattle.vdb_script.specs.declared.source.ScriptFault.{ScriptFault}
 use Rattle.vdb_script.specs.declared.source.ScriptFault.TheVariants.{Read, TooLong}
 use Rattle.vdb_shell.specs.Answering.{ShowsAll, is_read_ending}
-use Rattle.vdb_shell.specs.Session.{IsPrefixOf, PlaysFrom, is_refused}
+use Rattle.vdb_shell.specs.Session.{PlaysFrom, is_refused}
 use Rattle.vdb_shell.specs.declared.fault.Fault.{Fault}
 use Rattle.vdb_shell.specs.declared.fault.Fault.TheVariants.{Answers, Script}
 use Rattle.vdb_shell.proofs.Told.{Handed, handed_line, handed_none, played_cut, played_part, played_too_long, played_whole}

@@ -1,11 +1,11 @@
 -- Operations before and after each value of a field is made another.
-use Rattle.std.proofs.Common.{refl, ◌≡◌, ap, ◌∙◌, sym, Bool, true, false, cond, IsTrue}
-use Rattle.vdb_coord.specs.Space.{Box, coord_eq, everywhere, is_inside}
+use Rattle.std.proofs.Common.{refl, ◌≡◌, ap, ◌∙◌, Bool, true, false, cond}
+use Rattle.vdb_coord.specs.Space.{Box, coord_eq, is_inside}
 use Rattle.vdb_coord.specs.declared.Coord.{Coord}
 use Rattle.vdb_value.specs.declared.Cell.{Cell}
 use Rattle.vdb_tree.specs.declared.Write.{Write}
 use Rattle.vdb_tree.specs.declared.Write.TheVariants.{On, Off, State, Value}
-use Rattle.vdb_tree.specs.Field.{Field, as_field_of, combine, fill, new, off, write, written}
+use Rattle.vdb_tree.specs.Field.{Field, as_field_of, combine, fill, new, write, written}
 use Rattle.vdb_tree.proofs.Fields.{same_cells}
 
 -- a cell with its value made another

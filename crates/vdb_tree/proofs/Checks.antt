@@ -1,5 +1,5 @@
 -- Cells of worked examples, found by computing.
-use Rattle.std.proofs.Common.{refl, ◌≡◌, ℕ, ℤ, pos, true, false, count_by}
+use Rattle.std.proofs.Common.{refl, ◌≡◌, ℕ, ℤ, pos, true, false}
 use Rattle.std.specs.Int.{int_max, int_min}
 use Rattle.std.specs.Ordering.{int_eq}
 use Rattle.vdb_coord.specs.Space.{coord, coordinates, Box}

@@ -1,4 +1,4 @@
-use Rattle.std.proofs.Common.{◌≡◌, ◌∙◌, sym, ap, refl, rules, Err, Some, ◌||◌}
+use Rattle.std.proofs.Common.{◌∙◌, sym, ap, refl, rules, Err, Some, ◌||◌}
 use Rattle.std.proofs.KnownBytes.{prepend_known-nil}
 use Rattle.vdb_scene.specs.Watched.{has_failed, source}
 use Rattle.vdb_script.specs.Reading.{Position, ahead, budget}

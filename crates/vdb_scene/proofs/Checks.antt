@@ -1,0 +1,107 @@
+-- Names, refusals, answers and scenes of worked examples, found by computing.
+use Rattle.std.proofs.Common.{◌≡◌, refl, ℕ, ℤ, pos, negsuc, ◌+◌, true, false, List, [], ◌∷◌, map, length, Option, Some, None, codes, inl, inr}
+use Rattle.std.specs.List.{range_with_len}
+use Rattle.vdb_coord.specs.Space.{coord}
+use Rattle.vdb_value.specs.declared.Cell.{Cell}
+use Rattle.vdb_value.specs.declared.Kind.TheVariants as kinds
+use Rattle.vdb_scene.specs.Names.{is_name}
+use Rattle.vdb_scene.specs.Scene.{Scene, field_at, new_grid}
+use Rattle.vdb_scene.specs.Step.{Done, Refused, Step, after, refusal, takes_memory}
+use Rattle.vdb_scene.specs.declared.answer.Refusal.TheVariants as refusals
+use Rattle.vdb_scene.specs.declared.answer.Scalar.{Scalar}
+use Rattle.vdb_scene.specs.declared.answer.Scalar.TheVariants.{Bool as truth, I32}
+use Rattle.vdb_scene.specs.declared.command.Command.{Command}
+use Rattle.vdb_scene.specs.declared.command.Command.TheVariants as commands
+use Rattle.vdb_scene.specs.declared.command.Literal.{Literal}
+use Rattle.vdb_scene.specs.declared.command.Literal.TheVariants.{Number, Truth}
+use Rattle.vdb_scene.specs.declared.command.Num.{Num}
+use Rattle.vdb_scene.specs.declared.command.Num.TheVariants.{Near, Far}
+use Rattle.vdb_scene.specs.declared.command.Point.{Point}
+
+-- ---- names
+
+sixteen : is_name (codes "abcdefghijklmno_") ≡ true
+sixteen = refl
+seventeen : is_name (codes "abcdefghijklmnopq") ≡ false
+seventeen = refl
+capital : is_name (codes "A") ≡ false
+capital = refl
+empty : is_name [] ≡ false
+empty = refl
+
+-- ---- refusals
+
+abbrev near : ℤ → Literal
+near z = Number (Near z)
+
+abbrev point : ℤ → ℤ → ℤ → Point
+point x y z = record { x = Near x; y = Near y; z = Near z }
+
+abbrev a : List ℕ
+a = codes "a"
+
+abbrev make_a : Command
+make_a = commands.Grid a kinds.I32 (near (pos 0))
+
+abbrev with_a : Scene
+with_a = after [] make_a
+
+background_out_of_range : refusal [] (commands.Grid a kinds.I32 (near (pos 2147483648))) ≡ Some refusals.ValueRange
+background_out_of_range = refl
+background_of_another_kind : refusal [] (commands.Grid a kinds.I32 (Truth true)) ≡ Some refusals.Kind
+background_of_another_kind = refl
+accepted : refusal [] make_a ≡ None
+accepted = refl
+taken : refusal with_a (commands.Grid a kinds.Bool (near (pos 0))) ≡ Some refusals.NameTaken
+taken = refl
+eighth_accessor : refusal with_a (commands.Set a (Some (Near (pos 8))) (point (pos 0) (pos 0) (pos 0)) (near (pos 1))) ≡ Some refusals.NoAccessor
+eighth_accessor = refl
+far_accessor : refusal with_a (commands.Get a (Some Far) (point (pos 0) (pos 0) (pos 0))) ≡ Some refusals.NoAccessor
+far_accessor = refl
+past_the_range : refusal with_a (commands.Set a None (point (pos 0) (pos 0) (pos 2147483648)) (near (pos 1))) ≡ Some refusals.ValueRange
+past_the_range = refl
+at_the_ends : refusal with_a (commands.Set a None (point (negsuc 2147483647) (pos 2147483647) (pos 0)) (near (negsuc 2147483647))) ≡ None
+at_the_ends = refl
+missing : refusal with_a (commands.Get (codes "b") None (point (pos 0) (pos 0) (pos 0))) ≡ Some refusals.NoGrid
+missing = refl
+
+-- the first of several that apply
+missing_first : refusal [] (commands.Set a (Some Far) (point (pos 0) (pos 0) (pos 2147483648)) (Truth true)) ≡ Some refusals.NoGrid
+missing_first = refl
+kind_next : refusal with_a (commands.Set a (Some Far) (point (pos 0) (pos 0) (pos 2147483648)) (Truth true)) ≡ Some refusals.Kind
+kind_next = refl
+range_next : refusal with_a (commands.Set a (Some Far) (point (pos 0) (pos 0) (pos 2147483648)) (near (pos 1))) ≡ Some refusals.ValueRange
+range_next = refl
+
+-- a sixty-fifth grid, of a name that is taken and of one that is free
+abbrev crowd : Scene
+crowd = map (λ k. (97 ∷ (97 + k) ∷ [], new_grid (truth false))) (range_with_len 0 64)
+
+one_too_many : refusal crowd make_a ≡ Some refusals.GridLimit
+one_too_many = refl
+taken_first : refusal crowd (commands.Grid (codes "ab") kinds.I32 (near (pos 0))) ≡ Some refusals.NameTaken
+taken_first = refl
+
+-- ---- scenes
+
+-- one voxel is set, and no other
+abbrev set_seven : Command
+set_seven = commands.Set a None (point (negsuc 0) (negsuc 0) (negsuc 0)) (near (pos 7))
+
+abbrev cell_after : ℤ → Cell Scalar
+cell_after x = (field_at (after with_a set_seven) a).cell (coord x (negsuc 0) (negsuc 0))
+
+seven : cell_after (negsuc 0) ≡ record { value = I32 (pos 7); on = true }
+seven = refl
+beside : cell_after (pos 0) ≡ record { value = I32 (pos 0); on = false }
+beside = refl
+takes_some : takes_memory with_a set_seven ≡ true
+takes_some = refl
+takes_none : takes_memory (after with_a set_seven) set_seven ≡ false
+takes_none = refl
+
+-- a step that is refused, and one that isn't
+stays : Step with_a make_a (Refused refusals.NameTaken) with_a
+stays = inl (refusals.NameTaken, refl, refl, refl)
+moves : Step with_a set_seven Done (after with_a set_seven)
+moves = inr (inl (refl, refl, refl))

@@ -1,0 +1,35 @@
+-- A script as a whole run with its text, and a write fault in the second answer after the first is out.
+use Rattle.std.proofs.Common.{◌≡◌, refl, ℕ, pos, false, List, [], ◌∷◌, Some, codes, inl, inr, arith}
+use Rattle.std.specs.Fmt.{digits}
+use Rattle.vdb_value.specs.declared.Kind.TheVariants as kinds
+use Rattle.vdb_scene.specs.Scene.{Scene}
+use Rattle.vdb_scene.specs.Step.{Reply, Done, Value, after}
+use Rattle.vdb_scene.specs.declared.answer.Scalar.TheVariants.{I32}
+use Rattle.vdb_scene.specs.declared.command.Command.TheVariants as commands
+use Rattle.vdb_scene.specs.declared.command.Literal.TheVariants.{Number}
+use Rattle.vdb_scene.specs.declared.command.Num.TheVariants.{Near}
+use Rattle.vdb_script.specs.Lines.{lines}
+use Rattle.vdb_script.specs.Run.{Run}
+use Rattle.vdb_script.specs.Text.{answers_text}
+use Rattle.vdb_shell.specs.Session.{Plays}
+use Rattle.vdb_shell.specs.declared.fault.Fault.TheVariants.{Answers}
+
+abbrev script : List ℕ
+script = codes "grid a i32 0\nget a - 5 5 5\n"
+
+abbrev with_a : Scene
+with_a = after [] (commands.Grid (codes "a") kinds.I32 (Number (Near (pos 0))))
+
+abbrev shown : Reply
+shown = Value (record { value = I32 (pos 0); on = false })
+
+runs : Run [] (lines script) (Done ∷ shown ∷ []) with_a
+runs = (Done ∷ [], shown ∷ [], with_a, refl, (Done, refl, inr (inl (refl, refl, refl))), (shown ∷ [], [], with_a, refl, (shown, refl, inr (inl (refl, refl, refl))), (refl, refl)))
+
+printed : answers_text (Done ∷ shown ∷ []) ≡ codes "ok\nvalue 0 off\n"
+unfolding digits
+printed = refl
+
+cut : Plays [] script (Some Answers) script (codes "ok\nval") (Done ∷ shown ∷ []) with_a
+unfolding digits
+cut = (2, Done ∷ [], shown, codes "val", omega arith, runs, refl, refl, (codes "ue 0 off\n", refl))
