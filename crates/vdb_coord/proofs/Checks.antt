@@ -1,8 +1,12 @@
 -- Values worked out by hand, found by computing.
-use Rattle.std.proofs.Common.{refl, ◌≡◌, pos, negsuc, length}
+use Rattle.std.proofs.Common.{refl, rules, ◌≡◌, ◌^◌, pos, negsuc, length, Some, None}
 use Rattle.std.specs.declared.cmp.Ordering.TheVariants.{Less, Greater}
-use Rattle.vdb_coord.specs.Space.{coord, coordinates, neighbours}
-use Rattle.vdb_coord.specs.Blocks.{vdb, offset, key, block_cmp, block_numbers}
+use Rattle.vdb_coord.specs.Space.{coord, coordinates, everywhere, neighbours, volume}
+use Rattle.vdb_coord.specs.Blocks.{vdb, offset, key, block_around, block_cmp, block_numbers, sub_block}
+use Rattle.vdb_coord.specs.Boxes.{overlap}
+use Rattle.vdb_coord.specs.Entries.{AreBits}
+use Rattle.vdb_coord.specs.Faces.{neighbour}
+use Rattle.vdb_coord.specs.declared.face.Face.TheVariants.{PlusX, MinusZ}
 use Rattle.vdb_coord.specs.declared.Bits.{Bits}
 use Rattle.vdb_coord.specs.declared.Level.TheVariants.{Leaf, Lower, Upper}
 
@@ -30,7 +34,7 @@ key_below = refl
 keys : block_numbers vdb Upper ≡ record { min = coord (negsuc 524287) (negsuc 524287) (negsuc 524287); max = coord (pos 524287) (pos 524287) (pos 524287) }
 keys = refl
 
--- the order of row 11: (-1,0,0), (0,0,7), (0,1,0), (0,0,8), (8,0,0)
+-- (-1,0,0), (0,0,7), (0,1,0), (0,0,8), (8,0,0)
 order_1 : block_cmp vdb (coord (negsuc 0) (pos 0) (pos 0)) (coord (pos 0) (pos 0) (pos 7)) ≡ Less
 order_1 = refl
 
@@ -56,3 +60,41 @@ at_the_edge = refl
 eight : length (coordinates (record { min = coord (negsuc 0) (negsuc 0) (negsuc 0); max = coord (pos 0) (pos 0) (pos 0) })) ≡ 8
 unfolding coordinates
 eight = refl
+
+whole_space : volume everywhere ≡ 2 ^ 96
+whole_space = refl
+
+narrow_lower : offset narrow Lower (coord (negsuc 0) (negsuc 0) (negsuc 0)) ≡ 511
+narrow_lower = refl
+
+narrow_leaf : offset narrow Leaf (coord (negsuc 0) (negsuc 0) (negsuc 0)) ≡ 511
+narrow_leaf = refl
+
+least_key : key vdb (coord (negsuc 2147483647) (negsuc 2147483647) (negsuc 2147483647)) ≡ coord (negsuc 524287) (negsuc 524287) (negsuc 524287)
+least_key = refl
+
+last_block : block_around vdb Upper (coord (pos 2147483647) (pos 2147483647) (pos 2147483647))
+    ≡ record { min = coord (pos 2147479552) (pos 2147479552) (pos 2147479552); max = coord (pos 2147483647) (pos 2147483647) (pos 2147483647) }
+last_block = refl
+
+first_block : (block_around vdb Leaf (coord (negsuc 2147483647) (pos 0) (negsuc 0))).min ≡ coord (negsuc 2147483647) (pos 0) (negsuc 7)
+first_block = refl
+
+no_neighbour : neighbour PlusX (coord (pos 2147483647) (pos 0) (pos 0)) ≡ None
+no_neighbour = refl
+
+last_neighbour : neighbour MinusZ (coord (pos 0) (pos 0) (negsuc 2147483646)) ≡ Some (coord (pos 0) (pos 0) (negsuc 2147483647))
+last_neighbour = refl
+
+entry_83 : sub_block vdb Leaf (block_around vdb Leaf (coord (negsuc 0) (pos 0) (pos 4000))) 83 ≡ record { min = coord (negsuc 6) (pos 2) (pos 4003); max = coord (negsuc 6) (pos 2) (pos 4003) }
+entry_83 = refl
+
+overlap_of_two : overlap (record { min = coord (negsuc 0) (negsuc 0) (negsuc 0); max = coord (pos 7) (pos 0) (pos 8) }) (record { min = coord (pos 0) (negsuc 9) (pos 5); max = coord (pos 9) (pos 9) (pos 9) })
+    ≡ Some (record { min = coord (pos 0) (negsuc 0) (pos 5); max = coord (pos 7) (pos 0) (pos 8) })
+overlap_of_two = refl
+
+no_overlap : overlap (record { min = coord (pos 0) (pos 0) (pos 0); max = coord (pos 7) (pos 7) (pos 7) }) (record { min = coord (pos 0) (pos 8) (pos 0); max = coord (pos 7) (pos 9) (pos 7) }) ≡ None
+no_overlap = refl
+
+bits_of_a_vdb_tree : AreBits vdb
+bits_of_a_vdb_tree = search rules

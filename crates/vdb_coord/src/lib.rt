@@ -1,6 +1,17 @@
 //! Coordinates of a sparse voxel grid, boxes of them, and the aligned blocks that a tree's nodes span.
 #![tactic(auto)]
 
+mod axis;
+mod blocks;
+mod bounds;
+mod face;
+mod levels;
+#[cfg(test)]
+mod tests;
+
+pub use bounds::Bounds;
+pub use face::Face;
+
 /// A coordinate of a grid, counted in voxels along each axis (OpenVDB's `math::Coord`). Coordinates are ordered by x,
 /// then by y, then by z.
 #[derive(Clone, Copy, Debug, PartialEq, Eq, PartialOrd, Ord)]

@@ -1,5 +1,5 @@
 -- Ranges, sums, bytes and texts of values.
-use Rattle.std.specs.Prelude.{ℕ, ℤ, pos, negsuc, ◌+ℤ◌, Bool, false, ◌&&◌, if◌then◌else◌, int_le, List, [], ◌∷◌, Option, Some, None, codes}
+use Rattle.std.specs.Prelude.{ℕ, ℤ, pos, negsuc, ◌+ℤ◌, Bool, true, false, ◌&&◌, ◌==◌, nat_le, slice_index, length, if◌then◌else◌, int_le, List, [], ◌∷◌, Option, Some, None, codes}
 use Rattle.std.specs.Int.{Width, cast_unsigned, to_be_bytes}
 use Rattle.vdb_value.specs.declared.Kind.{Kind}
 use Rattle.vdb_value.specs.declared.Kind.TheVariants.{Bool as truths, I32, I64}
@@ -25,3 +25,21 @@ truth_bytes b = (if b then 1 else 0) ∷ []
 -- the word of a truth value
 abbrev pub truth_text : Bool → List ℕ
 truth_text b = if b then codes "true" else codes "false"
+
+-- whether two values of the kind may have a sum
+abbrev pub has_sums : Kind → Bool
+has_sums truths = false
+has_sums I32 = true
+has_sums I64 = true
+
+-- how many bytes a value of the kind has
+abbrev pub byte_count : Kind → ℕ
+byte_count truths = 1
+byte_count I32 = 4
+byte_count I64 = 8
+
+-- whether these are the bytes of a value of the kind
+abbrev pub are_bytes_of : Kind → List ℕ → Bool
+are_bytes_of truths bytes = length bytes == 1 && nat_le (slice_index bytes 0) 1
+are_bytes_of I32 bytes = length bytes == 4
+are_bytes_of I64 bytes = length bytes == 8

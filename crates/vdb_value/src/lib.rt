@@ -2,6 +2,8 @@
 #![tactic(auto)]
 
 mod kinds;
+#[cfg(test)]
+mod tests;
 mod voxel;
 
 pub use voxel::Voxel;

@@ -1,0 +1,161 @@
+//! Values worked out by hand.
+use super::*;
+use std::cmp::Ordering;
+use std::test::Fail;
+
+const NARROW: Bits = Bits {
+    upper: 4,
+    lower: 3,
+    leaf: 3,
+};
+
+const LEVELS: [Level; 3] = [Level::Leaf, Level::Lower, Level::Upper];
+
+fn at(x: i32, y: i32, z: i32) -> Coord {
+    Coord { x, y, z }
+}
+
+fn all(component: i32) -> Coord {
+    at(component, component, component)
+}
+
+#[test]
+fn offsets(rt: HostRuntime) -> Result<(), Fail> {
+    let cases = [
+        (at(1, 2, 3), [83, 0, 0], [83, 0, 0]),
+        (all(-1), [511, 4095, 32767], [511, 511, 4095]),
+        (at(8, 16, 128), [0, 288, 1], [0, 80, 2]),
+    ];
+    for (p, wide, narrow) in cases {
+        for (i, level) in LEVELS.iter().enumerate() {
+            assert_eq!(rt; p.offset(*level), wide[i]);
+            assert_eq!(rt; p.offset_in(NARROW, *level), narrow[i]);
+        }
+    }
+    Ok(())
+}
+
+#[test]
+fn keys_and_blocks_reach_both_ends(rt: HostRuntime) -> Result<(), Fail> {
+    assert_eq!(rt; all(i32::MIN).key(), all(-524288));
+    assert_eq!(rt; all(i32::MAX).key(), all(524287));
+    assert_eq!(rt; all(i32::MIN).key_in(NARROW), all(-2097152));
+    assert_eq!(rt; all(i32::MAX).key_in(NARROW), all(2097151));
+    assert_eq!(rt; at(-1, 4096, -4097).key(), at(-1, 1, -2));
+    assert_eq!(rt; all(i32::MAX).block(Level::Upper).min(), all(2147479552));
+    assert_eq!(rt; all(i32::MAX).block(Level::Upper).max(), all(i32::MAX));
+    assert_eq!(rt; all(i32::MIN).block(Level::Leaf).min(), all(i32::MIN));
+    assert_eq!(rt; all(i32::MIN).block(Level::Leaf).max(), all(-2147483641));
+    assert_eq!(rt; at(-1, 0, 200).block(Level::Lower).min(), at(-128, 0, 128));
+    assert_eq!(rt; at(-1, 0, 200).block(Level::Lower).max(), at(-1, 127, 255));
+    assert_eq!(rt; at(-1, 8, 0).block_number(Level::Leaf), at(-1, 1, 0));
+    for p in [all(i32::MIN), all(i32::MAX), at(-1, 4096, -4097)] {
+        let block = p.key().numbered_block_in(Bits::VDB, Level::Upper);
+        assert_eq!(rt; block, p.block(Level::Upper));
+    }
+    Ok(())
+}
+
+#[test]
+fn entries_of_a_node(rt: HostRuntime) -> Result<(), Fail> {
+    let p = at(-1, 0, 4000);
+    let voxel = p.entry_block_in(Bits::VDB, Level::Leaf, 83);
+    assert_eq!(rt; voxel.min(), at(-7, 2, 4003));
+    assert_eq!(rt; voxel.max(), at(-7, 2, 4003));
+    let leaf = p.entry_block_in(Bits::VDB, Level::Lower, 4095);
+    assert_eq!(rt; leaf.min(), at(-8, 120, 4088));
+    assert_eq!(rt; leaf.max(), at(-1, 127, 4095));
+    assert_eq!(rt; p.place_in(Bits::VDB, Level::Upper), at(31, 0, 31));
+    assert_eq!(rt; Bits::VDB.entries(Level::Upper), 32768);
+    assert_eq!(rt; Bits::VDB.place_of(Level::Leaf, 83), at(1, 2, 3));
+    assert_eq!(rt; NARROW.place_of(Level::Upper, 4095), all(15));
+    Ok(())
+}
+
+#[test]
+fn block_order(rt: HostRuntime) -> Result<(), Fail> {
+    let rising = [
+        at(-1, 0, 0),
+        at(0, 0, 7),
+        at(0, 1, 0),
+        at(0, 0, 8),
+        at(8, 0, 0),
+    ];
+    for (i, p) in rising.iter().enumerate() {
+        for (j, q) in rising.iter().enumerate() {
+            assert_eq!(rt; p.block_cmp(q), i.cmp(&j));
+        }
+    }
+    let (far, near) = (at(0, 0, 64), at(63, 0, 0));
+    assert_eq!(rt; far.block_cmp(&near), Ordering::Less);
+    assert_eq!(rt; far.block_cmp_in(NARROW, &near), Ordering::Greater);
+    Ok(())
+}
+
+#[test]
+fn boxes(rt: HostRuntime) -> Result<(), Fail> {
+    assert_eq!(rt; Bounds::new(at(0, 0, 1), all(0)), None);
+    let everywhere = Bounds::new(all(i32::MIN), all(i32::MAX)).expect(&rt, "a box");
+    assert_eq!(rt; everywhere.volume(), 79228162514264337593543950336);
+    assert_eq!(rt;
+        everywhere.blocks_meeting(Level::Upper),
+        1152921504606846976
+    );
+    assert_eq!(rt;
+        everywhere.blocks_meeting_in(NARROW, Level::Upper),
+        73786976294838206464
+    );
+    let small = Bounds::new(all(-1), at(7, 0, 8)).expect(&rt, "a box");
+    assert_eq!(rt; small.volume(), 180);
+    assert_eq!(rt; small.blocks_meeting(Level::Leaf), 12);
+    assert_eq!(rt; small.blocks_meeting(Level::Lower), 8);
+    assert!(rt; small.contains(all(-1)) && small.contains(at(7, 0, 8)));
+    assert!(rt; !small.contains(at(8, 0, 0)) && !small.contains(at(0, 0, -2)));
+    assert!(rt; everywhere.covers(small) && !small.covers(everywhere) && small.covers(small));
+    assert!(rt; small.meets(everywhere) && !small.meets(at(8, 0, 0).block(Level::Leaf)));
+    assert_eq!(rt; small.intersect(everywhere), Some(small));
+    assert_eq!(rt;
+        small.intersect(all(0).block(Level::Leaf)),
+        Bounds::new(all(0), at(7, 0, 7))
+    );
+    assert_eq!(rt; small.intersect(at(8, 0, 0).block(Level::Leaf)), None);
+    Ok(())
+}
+
+#[test]
+fn entries_that_meet_a_box(rt: HostRuntime) -> Result<(), Fail> {
+    let bounds = Bounds::new(at(3, 0, -5), at(9, 0, 17)).expect(&rt, "a box");
+    let cases = [
+        (Level::Leaf, all(0), Bounds::new(at(3, 0, 0), at(7, 0, 7))),
+        (Level::Lower, all(0), Bounds::new(all(0), at(1, 0, 2))),
+        (Level::Upper, all(-1), None),
+        (Level::Leaf, at(16, 0, 0), None),
+        (
+            Level::Lower,
+            at(0, 0, -1),
+            Bounds::new(at(0, 0, 15), at(1, 0, 15)),
+        ),
+    ];
+    for (level, p, places) in cases {
+        assert_eq!(rt; bounds.entries_meeting_in(Bits::VDB, level, p), places);
+    }
+    Ok(())
+}
+
+#[test]
+fn neighbours(rt: HostRuntime) -> Result<(), Fail> {
+    let p = at(i32::MAX, 5, i32::MIN);
+    let cases = [
+        (Face::MinusX, Some(at(i32::MAX - 1, 5, i32::MIN))),
+        (Face::PlusX, None),
+        (Face::MinusY, Some(at(i32::MAX, 4, i32::MIN))),
+        (Face::PlusY, Some(at(i32::MAX, 6, i32::MIN))),
+        (Face::MinusZ, None),
+        (Face::PlusZ, Some(at(i32::MAX, 5, i32::MIN + 1))),
+    ];
+    for (i, (face, neighbour)) in cases.iter().enumerate() {
+        assert_eq!(rt; Face::ALL[i], *face);
+        assert_eq!(rt; p.neighbour(*face), *neighbour);
+    }
+    Ok(())
+}
