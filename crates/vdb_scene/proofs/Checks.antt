@@ -1,5 +1,5 @@
 -- Names, refusals, answers and scenes of worked examples, found by computing.
-use Rattle.std.proofs.Common.{◌≡◌, refl, ℕ, ℤ, pos, negsuc, ◌+◌, true, false, List, [], ◌∷◌, map, length, Option, Some, None, codes, inl, inr}
+use Rattle.std.proofs.Common.{◌≡◌, refl, ℕ, ℤ, pos, negsuc, ◌+◌, true, false, List, [], ◌∷◌, map, Some, None, codes, inl, inr}
 use Rattle.std.specs.List.{range_with_len}
 use Rattle.vdb_coord.specs.Space.{coord}
 use Rattle.vdb_value.specs.declared.Cell.{Cell}
@@ -14,7 +14,6 @@ use Rattle.vdb_scene.specs.declared.command.Command.{Command}
 use Rattle.vdb_scene.specs.declared.command.Command.TheVariants as commands
 use Rattle.vdb_scene.specs.declared.command.Literal.{Literal}
 use Rattle.vdb_scene.specs.declared.command.Literal.TheVariants.{Number, Truth}
-use Rattle.vdb_scene.specs.declared.command.Num.{Num}
 use Rattle.vdb_scene.specs.declared.command.Num.TheVariants.{Near, Far}
 use Rattle.vdb_scene.specs.declared.command.Point.{Point}
 
@@ -22,10 +21,13 @@ use Rattle.vdb_scene.specs.declared.command.Point.{Point}
 
 sixteen : is_name (codes "abcdefghijklmno_") ≡ true
 sixteen = refl
+
 seventeen : is_name (codes "abcdefghijklmnopq") ≡ false
 seventeen = refl
+
 capital : is_name (codes "A") ≡ false
 capital = refl
+
 empty : is_name [] ≡ false
 empty = refl
 
@@ -48,28 +50,38 @@ with_a = after [] make_a
 
 background_out_of_range : refusal [] (commands.Grid a kinds.I32 (near (pos 2147483648))) ≡ Some refusals.ValueRange
 background_out_of_range = refl
+
 background_of_another_kind : refusal [] (commands.Grid a kinds.I32 (Truth true)) ≡ Some refusals.Kind
 background_of_another_kind = refl
+
 accepted : refusal [] make_a ≡ None
 accepted = refl
+
 taken : refusal with_a (commands.Grid a kinds.Bool (near (pos 0))) ≡ Some refusals.NameTaken
 taken = refl
+
 eighth_accessor : refusal with_a (commands.Set a (Some (Near (pos 8))) (point (pos 0) (pos 0) (pos 0)) (near (pos 1))) ≡ Some refusals.NoAccessor
 eighth_accessor = refl
+
 far_accessor : refusal with_a (commands.Get a (Some Far) (point (pos 0) (pos 0) (pos 0))) ≡ Some refusals.NoAccessor
 far_accessor = refl
+
 past_the_range : refusal with_a (commands.Set a None (point (pos 0) (pos 0) (pos 2147483648)) (near (pos 1))) ≡ Some refusals.ValueRange
 past_the_range = refl
+
 at_the_ends : refusal with_a (commands.Set a None (point (negsuc 2147483647) (pos 2147483647) (pos 0)) (near (negsuc 2147483647))) ≡ None
 at_the_ends = refl
+
 missing : refusal with_a (commands.Get (codes "b") None (point (pos 0) (pos 0) (pos 0))) ≡ Some refusals.NoGrid
 missing = refl
 
 -- the first of several that apply
 missing_first : refusal [] (commands.Set a (Some Far) (point (pos 0) (pos 0) (pos 2147483648)) (Truth true)) ≡ Some refusals.NoGrid
 missing_first = refl
+
 kind_next : refusal with_a (commands.Set a (Some Far) (point (pos 0) (pos 0) (pos 2147483648)) (Truth true)) ≡ Some refusals.Kind
 kind_next = refl
+
 range_next : refusal with_a (commands.Set a (Some Far) (point (pos 0) (pos 0) (pos 2147483648)) (near (pos 1))) ≡ Some refusals.ValueRange
 range_next = refl
 
@@ -79,6 +91,7 @@ crowd = map (λ k. (97 ∷ (97 + k) ∷ [], new_grid (truth false))) (range_with
 
 one_too_many : refusal crowd make_a ≡ Some refusals.GridLimit
 one_too_many = refl
+
 taken_first : refusal crowd (commands.Grid (codes "ab") kinds.I32 (near (pos 0))) ≡ Some refusals.NameTaken
 taken_first = refl
 
@@ -93,15 +106,19 @@ cell_after x = (field_at (after with_a set_seven) a).cell (coord x (negsuc 0) (n
 
 seven : cell_after (negsuc 0) ≡ record { value = I32 (pos 7); on = true }
 seven = refl
+
 beside : cell_after (pos 0) ≡ record { value = I32 (pos 0); on = false }
 beside = refl
+
 takes_some : takes_memory with_a set_seven ≡ true
 takes_some = refl
+
 takes_none : takes_memory (after with_a set_seven) set_seven ≡ false
 takes_none = refl
 
 -- a step that is refused, and one that isn't
 stays : Step with_a make_a (Refused refusals.NameTaken) with_a
 stays = inl (refusals.NameTaken, refl, refl, refl)
+
 moves : Step with_a set_seven Done (after with_a set_seven)
 moves = inr (inl (refl, refl, refl))

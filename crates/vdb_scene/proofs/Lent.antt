@@ -1,10 +1,10 @@
 -- The scene after the grid of a name was lent and given back.
-use Rattle.std.proofs.Common.{◌≡◌, refl, sym, ap, ◌∙◌, ℕ, List, Option, Some, None}
+use Rattle.std.proofs.Common.{◌≡◌, sym, ap, ◌∙◌, ℕ, List, Some, None}
 use Rattle.std.specs.Map.{lookup, set_value}
 use Rattle.std.specs.Option.{option_map}
 use Rattle.vdb_tree.specs.Field.{Field}
 use Rattle.vdb_scene.specs.Grids.{grid_field, grid_of, scene_over}
-use Rattle.vdb_scene.specs.Scene.{Grid, Scene, grid_at, field_at, is_named, the_grid}
+use Rattle.vdb_scene.specs.Scene.{Grid, grid_at, is_named}
 use Rattle.vdb_scene.specs.Step.{changed}
 use Rattle.vdb_scene.specs.declared.answer.Scalar.{Scalar}
 use Rattle.vdb_scene.specs.declared.any_grid.AnyGrid.{AnyGrid}

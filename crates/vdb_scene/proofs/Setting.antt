@@ -1,7 +1,6 @@
 -- What setting a voxel comes to, from what was found out about the grid and the command.
-use Rattle.std.proofs.Common.{◌≡◌, refl, sym, ap, ◌∙◌, subst, ℕ, Bool, true, false, not, cond, ◌&&◌, List, [], ◌∷◌, Option, Some, None, Result, Ok, Err, IsOk, IsTrue}
+use Rattle.std.proofs.Common.{◌≡◌, refl, sym, ap, ◌∙◌, subst, ℕ, Bool, true, false, not, List, [], ◌∷◌, Option, Some, None, Ok, Err, IsTrue}
 use Rattle.std.specs.Map.{lookup}
-use Rattle.vdb_coord.specs.declared.Coord.{Coord}
 use Rattle.vdb_value.specs.declared.Kind.{Kind}
 use Rattle.vdb_tree.specs.Field.{Field, write, written}
 use Rattle.vdb_tree.specs.Plain.{cell_eq}

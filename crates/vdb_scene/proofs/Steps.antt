@@ -1,12 +1,10 @@
 -- Steps of the abstract scene, from what was found out about a command.
-use Rattle.std.proofs.Common.{◌≡◌, refl, sym, ap, ◌∙◌, ℕ, Bool, true, false, cond, ◌&&◌, not, List, [], ◌∷◌, Option, Some, None, unwrap_or, IsTrue, Result, Ok, Err, inl, inr}
-use Rattle.vdb_coord.specs.declared.Coord.{Coord}
+use Rattle.std.proofs.Common.{◌≡◌, refl, ap, ◌∙◌, ℕ, Bool, true, false, cond, ◌&&◌, not, List, [], ◌∷◌, Option, Some, None, unwrap_or, Ok, Err, inl, inr}
 use Rattle.vdb_scene.specs.Doing.{AppliesTo, CarriesOut}
 use Rattle.vdb_scene.specs.Scalars.{has_form, has_value}
 use Rattle.vdb_scene.specs.Scene.{Grid, Scene, field_at, grid_at, kind_at, new_grid}
 use Rattle.vdb_scene.specs.declared.answer.Scalar.TheVariants.{Bool as truth}
-use Rattle.vdb_scene.specs.Shown.{Shows}
-use Rattle.vdb_scene.specs.Step.{Reply, Refused, Step, first_of_all, is_accessor, is_place, other_form, out_of_range, place, refusal}
+use Rattle.vdb_scene.specs.Step.{Refused, first_of_all, is_accessor, is_place, other_form, out_of_range, place, refusal}
 use Rattle.vdb_scene.specs.declared.answer.Answer.{Answer}
 use Rattle.vdb_scene.specs.declared.answer.Answer.TheVariants as answers
 use Rattle.vdb_scene.specs.declared.answer.Refusal.{Refusal}

@@ -1,21 +1,18 @@
 -- A map of voxels after a write is its field after that write.
-use Rattle.std.proofs.Common.{◌≡◌, refl, ap, sym, ◌∙◌, Option, Some, Bool, true, false, cond, unwrap_or, List, IsTrue, ◌&&◌, Result, Ok, Err, OnOk, OnErr}
-use Rattle.std.proofs.Math.Bool.{beq}
+use Rattle.std.proofs.Common.{◌≡◌, refl, ap, sym, ◌∙◌, Option, Some, Bool, true, false, cond, unwrap_or, List, Result, Ok, Err, OnOk, OnErr}
 use Rattle.std.specs.BTreeMap.{is_at}
 use Rattle.std.specs.Ordering.{is_eq}
 use Rattle.std.specs.declared.cmp.Ordering.{Ordering}
 use Rattle.std.specs.declared.cmp.Ordering.TheVariants.{Less, Equal, Greater}
-use Rattle.vdb_coord.specs.Space.{coord_cmp, coord_eq, everywhere, is_inside}
+use Rattle.vdb_coord.specs.Space.{coord_cmp, coord_eq}
 use Rattle.vdb_coord.specs.declared.Coord.{Coord}
 use Rattle.vdb_coord.proofs.Members.{coord_exact}
 use Rattle.vdb_value.specs.declared.Cell.{Cell}
 use Rattle.vdb_tree.specs.declared.Write.{Write}
-use Rattle.vdb_tree.specs.Field.{Field, as_field_of, field, off, write, written}
+use Rattle.vdb_tree.specs.Field.{Field, as_field_of, off, write, written}
 use Rattle.vdb_tree.specs.declared.Write.TheVariants.{On}
 use Rattle.vdb_tree.proofs.AsFieldOf.{as_field_of_write}
-use Rattle.vdb_tree.specs.Plain.{cell_eq}
 use Rattle.vdb_tree.proofs.Fields.{same_cells, cell_inside}
-use Rattle.vdb_tree.proofs.Uniform.{cell_exact}
 use Rattle.vdb_scene.specs.VoxelMap.{cell_at, field_over}
 
 -- the entries fs are es with another cell at q

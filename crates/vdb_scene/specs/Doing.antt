@@ -1,5 +1,5 @@
 -- What calls that carry out a command give.
-use Rattle.std.specs.Prelude.{◌≡◌, Option, Some, None, Result, Ok, Err, IsTrue}
+use Rattle.std.specs.Prelude.{◌≡◌, Some, None, Result, Ok, Err, IsTrue}
 use Rattle.vdb_scene.specs.Scene.{Scene}
 use Rattle.vdb_scene.specs.Shown.{Shows}
 use Rattle.vdb_scene.specs.Step.{Answers, Reply, Step, after, refusal, takes_memory}

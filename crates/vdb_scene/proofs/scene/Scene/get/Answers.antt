@@ -1,12 +1,10 @@
-use Rattle.std.proofs.Common.{◌≡◌, ◌∙◌, ap, sym, refl, is_some, Option, Some, None}
-use Rattle.std.specs.Ordering.{nat_cmp}
-use Rattle.std.specs.Cmp.Lexicographic.{slice_cmp}
+use Rattle.std.proofs.Common.{◌≡◌, ◌∙◌, ap, sym, refl, Option, Some, None}
 use Rattle.std.specs.Option.{option_map, option_copied}
 use Rattle.std.specs.Borrow.{Bor}
 use Rattle.vdb_scene.specs.Grids.{grid_of}
 use Rattle.vdb_scene.specs.declared.any_grid.AnyGrid.{AnyGrid}
-use Rattle.vdb_scene.specs.Scene.{is_named, with_grid}
-use Rattle.vdb_scene.proofs.Entries.{insert_entry-over, keys-over, lookup-over}
+use Rattle.vdb_scene.specs.Scene.{is_named}
+use Rattle.vdb_scene.proofs.Entries.{lookup-over}
 use Rattle.vdb_scene.proofs.scene.Scene.get.Goals as goal
 
 -- what a lent grid is in the abstract scene

@@ -1,4 +1,4 @@
-use Rattle.std.proofs.Common.{◌≡◌, ◌∙◌, sym, ap, refl, subst, IsTrue, Some}
+use Rattle.std.proofs.Common.{◌∙◌, sym, ap, refl, subst, IsTrue, Some}
 use Rattle.std.proofs.lemmas.Result.{err_from_is_err_and}
 use Rattle.vdb_tree.specs.Field.{write, written}
 use Rattle.vdb_tree.specs.Plain.{cell_eq}

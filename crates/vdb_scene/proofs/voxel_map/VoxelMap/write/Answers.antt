@@ -1,4 +1,4 @@
-use Rattle.std.proofs.Common.{◌≡◌, ◌∙◌, ap, sym, true, rules}
+use Rattle.std.proofs.Common.{◌∙◌, ap, sym}
 use Rattle.vdb_tree.specs.Field.{written}
 use Rattle.vdb_tree.proofs.Uniform.{cell_exact}
 use Rattle.vdb_scene.proofs.Voxels.{equal, written_cell, written_standing}
