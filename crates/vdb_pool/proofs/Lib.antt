@@ -1,0 +1,10 @@
+pub mod Sharing
+pub mod Walks
+pub mod Places
+pub mod Rows
+pub mod Links
+pub mod Changes
+pub mod Orderly
+pub mod Inserted
+pub mod Growth
+pub mod Lives

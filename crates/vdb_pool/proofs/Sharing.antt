@@ -1,0 +1,31 @@
+-- A `&` to a storage is made where one to each of its items is. Assumes `Logic`.
+use Rattle.std.specs.Prelude.{List, [], ◌∷◌}
+use base.Fraction.{full_share}
+use seplogic.Ra.Ura.{Ura}
+use base.Fml.{Lft, Incl, ftrue, ffalse}
+use types.Logic.{Logic}
+use denote.RattleType.{RattleType, RowLaws}
+use denote.Param.Laws.{Laws}
+use denote.RawPtr.{Ptr, lies_at}
+use denote.Sharing.{ShrLaws, said}
+use denote.SharingLaws.{beside_shr_laws, nothing_shr_laws, said_shr_laws}
+use denote.Shares.{Shares-less}
+use denote.Struct.Lending.{Lends, Lends-both, Lends-nothing, Lends-false, Lends-lies, lent_at, lent_at_shr_laws}
+use Rattle.vdb_pool.specs.Ownership.{storage_owns, storage_lends}
+
+-- what such a `&` holds can be copied and shortened
+pub storage_shr_laws : (R : RattleType) → RowLaws R → (ps : List Ptr) (xs : List R.Denot) → ShrLaws (storage_lends R ps xs)
+storage_shr_laws R L [] [] = nothing_shr_laws
+storage_shr_laws R L [] (x ∷ xs) = said_shr_laws ffalse tt
+storage_shr_laws R L (p ∷ ps) [] = nothing_shr_laws
+storage_shr_laws R L (p ∷ ps) (x ∷ xs) = beside_shr_laws (lent_at R p x) (storage_lends R ps xs) (lent_at_shr_laws R L p x) (storage_shr_laws R L ps xs)
+
+-- it comes of a borrow of what the storage owns
+module _ {M : Type 1} {𝓤 : Ura M} (𝓛 : Logic 𝓤) (R : RattleType) (L : Laws R) (l : Lft) (inc : Incl l R.lives) where
+  pub storage_borrowed : (ps : List Ptr) (xs : List R.Denot) → Lends 𝓛 (storage_owns R ps xs) (storage_lends R ps xs) l
+  storage_borrowed [] [] = Lends-nothing 𝓛 ftrue l
+  storage_borrowed [] (x ∷ xs) = Lends-false 𝓛 (said ffalse) l
+  storage_borrowed (p ∷ ps) [] = Lends-nothing 𝓛 (storage_owns R (p ∷ ps) []) l
+  storage_borrowed (p ∷ ps) (x ∷ xs) =
+      let first = Lends-lies 𝓛 R l p x (Shares-less 𝓛 R R.lives l inc (L.shares 𝓛) x) in
+      Lends-both 𝓛 (lies_at R full_share p x) (storage_owns R ps xs) (lent_at R p x) (storage_lends R ps xs) l first (storage_borrowed ps xs)

@@ -1,0 +1,12 @@
+use Rattle.std.proofs.Common.{◌≤◌, ◌-◌, arith, sym, subst}
+use Rattle.std.proofs.lemmas.List.{length-map}
+use Rattle.vdb_pool.specs.Contents.{spare_of}
+use Rattle.vdb_pool.specs.Slot.{node_of}
+use Rattle.vdb_pool.proofs.Links.{length-linked}
+use Rattle.vdb_pool.proofs.pool.Pool.reserve.Goals as goal
+
+pub returns-then-n-self-clause-had_room : goal.returns-then-n-self-clause-had_room
+returns-then-n-self-clause-had_room g c room =
+    let p = c.self.inside in let ok = c.self.invariant in
+    let room' = subst (λ v. c.args.n ≤ spare_of v) (sym c.self.view_is) room in
+    absurd (omega (arith, c.if-n-self.true, length-linked (p.used - p.held) p.top p.storage.items ok.stack, length-map p.storage.items node_of, ok.used_is, ok.total_is, ok.total_fits, ok.within, ok.held_within))

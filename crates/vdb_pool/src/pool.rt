@@ -1,0 +1,264 @@
+//! The pool.
+ghost use Rattle.std.specs.Prelude.{◌≡◌, ◌+◌, ◌*◌, ◌^◌, ◌-◌, ◌<◌, ◌≤◌, ℕ, [], ◌++◌, length, get_or, min, Some, None, IsSome, MatchOption, IsOk, IsErr, OnOk};
+ghost use Rattle.std.specs.Borrow.{sem};
+ghost use denote.RawPtr.{null_ptr};
+ghost use Rattle.vdb_pool.specs.Contents.{node_at, count_of, spare_of, next_slot, with_inserted, without_node, Grows, IsOrderly};
+ghost use Rattle.vdb_pool.specs.Chunks.{chunk_len};
+
+use crate::chunk::{CHUNK_LEN, Chunk, address_in};
+use crate::place::Place;
+use crate::refusal::Memory;
+use crate::slot::Slot;
+use crate::steps::Steps;
+use crate::storage::{Address, Storage, allocate, deallocate};
+use std::alloc::Global;
+use std::marker::Model;
+use std::mem;
+use std_alloc::room::may_hold;
+
+/// Slots for nodes, at addresses that never change.
+///
+/// Slots are numbered from 0, and there are at most 4,294,967,295. They come in chunks of 255, which are given back
+/// when the pool is dropped, so a pool never gets smaller. A slot takes at most 8 bytes beside its node, where that has
+/// at least 4 bytes and is aligned to at most 8. Making an empty pool allocates nothing.
+///
+/// Vacant slots are linked through themselves and used again last in, first out, as in Rust's crate `slab`.
+///
+/// In contracts a pool is its `Contents`: what each slot that was ever held has, which of them are vacant, and where
+/// each slot lies.
+pub struct Pool<T> {
+    alloc: Global,
+    chunks: Vec<Chunk<T>>,
+    storage: Storage<Slot<T>>,
+    // How many slots were ever held. They are the first ones.
+    used: u32,
+    // How many slots there are.
+    total: u32,
+    // How many slots are held.
+    held: u32,
+    // The vacant slot that was vacated last.
+    top: Option<u32>,
+}
+
+impl<T> Model for Pool<T> {
+    ghost use Rattle.std.specs.Prelude.{map, ◌-◌};
+    ghost use Rattle.vdb_pool.specs.Contents.{Contents, contents_code};
+
+    ghost Value = { Contents T };
+
+    ghost coded = { contents_code T.code };
+
+    ghost use Rattle.vdb_pool.specs.Slot.{node_of};
+    ghost use Rattle.vdb_pool.specs.Stack.{linked};
+    ghost use Rattle.vdb_pool.specs.Pool.{IsSound};
+
+    ghost view = { λ p. record {
+      nodes = map node_of p.storage.items;
+      vacant = linked (p.used - p.held) p.top p.storage.items;
+      places = p.storage.places;
+    } };
+
+    ghost invariant = { λ p. IsSound p.chunks.items p.storage.places p.storage.items p.used p.total p.held p.top };
+}
+
+impl<T> Pool<T> {
+    ghost use Rattle.vdb_pool.specs.Live.{IsLive, KeepsLive, KeepsOthers, KeepsOthersLive, place_slot};
+    ghost use Rattle.vdb_pool.specs.LendsNode.{lends_node};
+
+    /// A pool without slots. It allocates nothing.
+    pub fn new(alloc: Global) -> Pool<T>
+        ensures { result ≡ record { nodes = []; vacant = []; places = [] } }
+    {
+        Pool {
+            alloc,
+            chunks: Vec::new(alloc),
+            storage: Storage::new(),
+            used: 0,
+            total: 0,
+            held: 0,
+            top: None,
+        }
+    }
+
+    /// How many slots are held, that is how many nodes there are.
+    pub fn len(&self) -> u64
+        ensures count { result ≡ count_of self.now }
+        ensures orderly { IsOrderly self.now }
+    {
+        self.held as u64
+    }
+
+    /// How many inserts are sure to succeed: the slots that are not held.
+    pub fn spare(&self) -> u64
+        ensures value { result ≡ spare_of self.now }
+        ensures all { result + count_of self.now ≡ length self.now.places }
+    {
+        (self.total - self.held) as u64
+    }
+
+    fn address(&self, slot: u32) -> Address<Slot<T>>
+        requires { slot < length self.now.places }
+        ensures { result.pointer ≡ get_or self.now.places slot null_ptr }
+    {
+        address_in(self.chunks.as_slice(), slot)
+    }
+
+    /// The place of a slot that is held, and `None` for any other number. It counts no step.
+    pub fn place(&self, slot: u32) -> Option<Place<T>>
+        ensures { MatchOption result (node_at self.now slot ≡ None) (λ p. (place_slot p ≡ slot) × IsLive self.now p) }
+    {
+        if slot >= self.used {
+            return None;
+        }
+        let address = self.address(slot);
+        match self.storage.get(address, slot) {
+            Slot::Held(_) => Some(Place { slot, address }),
+            Slot::Vacant(_) => None,
+        }
+    }
+
+    /// The node at a live place, for one step.
+    pub fn at(&self, place: Place<T>, steps: &mut Steps) -> &T
+        requires { IsLive self.now place }
+        ensures node { node_at self.now (place_slot place) ≡ Some result.now }
+        ensures step { steps.new ≡ min (steps.old + 1) (2 ^ 64 - 1) }
+    {
+        steps.step(); // a node is read
+        self.storage.get(place.address, place.slot).node()
+    }
+
+    /// The node at a live place, for writing and for one step. Places stay live, and nothing else changes.
+    pub fn at_mut(&mut self, place: Place<T>, steps: &mut Steps) -> &mut T
+        requires { IsLive self.old place }
+        ensures* writes_back { sem 𝓛 (lends_node T.row self.entry (place_slot place) result) }
+        ensures node { node_at self.old (place_slot place) ≡ Some result.now }
+        ensures step { steps.new ≡ min (steps.old + 1) (2 ^ 64 - 1) }
+    {
+        steps.step(); // a node is lent
+        self.storage.get_mut(place.address, place.slot).node_mut()
+    }
+
+    /// Makes sure of room for `n` inserts, by as many chunks as that takes.
+    ///
+    /// Where there is room already, nothing changes and the answer is `Ok`. The error comes where the allocator has no
+    /// memory, or where there would be more than 4,294,967,295 slots. Nodes, vacant slots and live places stay as they
+    /// were, also with an error, which may leave more room than there was.
+    pub fn reserve(&mut self, n: u64) -> Result<(), Memory>
+        ensures room { OnOk result (n ≤ spare_of self.new) }
+        ensures had_room { n ≤ spare_of self.old → IsOk result × (self.new ≡ self.old) }
+        ensures too_many { 2 ^ 32 - 1 < n + count_of self.old → IsErr result × (self.new ≡ self.old) }
+        ensures grows { Grows self.old self.new }
+        ensures live { KeepsLive self.old self.new }
+    {
+        if n > (u32::MAX - self.held) as u64 {
+            return Err(Memory);
+        }
+        while self.spare() < n {
+            self.grow()?;
+        }
+        Ok(())
+    }
+
+    /// One more chunk.
+    fn grow(&mut self) -> Result<(), Memory>
+        requires { length self.old.places < 2 ^ 32 - 1 }
+        ensures room { OnOk result (spare_of self.new ≡ spare_of self.old + chunk_len) }
+        ensures grows { Grows self.old self.new }
+        ensures live { KeepsLive self.old self.new }
+    {
+        if !may_hold::<Slot<T>>(CHUNK_LEN) {
+            return Err(Memory);
+        }
+        self.chunks.reserve(1)?;
+        let (base, storage, block) = allocate(&self.alloc, CHUNK_LEN)?;
+        self.storage.append(storage);
+        self.chunks.push_reserved(Chunk { base, block });
+        self.total += CHUNK_LEN as u32;
+        Ok(())
+    }
+
+    /// Puts a node into the slot that was vacated last, or else into the lowest one that was never held, and gives its
+    /// place. There has to be room, which `reserve` makes. Other places stay live.
+    pub fn insert(&mut self, node: T) -> Place<T>
+        requires { 0 < spare_of self.old }
+        ensures slot { place_slot result ≡ next_slot self.old }
+        ensures after { self.new ≡ with_inserted self.old node }
+        ensures live { IsLive self.new result }
+        ensures was_vacant { node_at self.old (place_slot result) ≡ None }
+        ensures others { KeepsOthers self.old self.new (place_slot result) }
+        ensures others_live { KeepsLive self.old self.new }
+        ensures spare { spare_of self.new + 1 ≡ spare_of self.old }
+    {
+        match self.top {
+            Some(slot) => {
+                let address = self.address(slot);
+                let vacant = self.storage.get_mut(address, slot);
+                match mem::replace(vacant, Slot::Held(node)) {
+                    Slot::Vacant(next) => self.top = next,
+                    Slot::Held(_) => unreachable!(),
+                }
+                self.held += 1;
+                Place { slot, address }
+            }
+            None => {
+                let slot = self.used;
+                let address = self.address(slot);
+                self.storage.push(address, Slot::Held(node));
+                self.used += 1;
+                self.held += 1;
+                Place { slot, address }
+            }
+        }
+    }
+
+    /// Takes the node out of a live place, for one step. The slot is then vacant, and the next insert uses it. Places
+    /// of other slots stay live, and those of this slot do not.
+    pub fn take(&mut self, place: Place<T>, steps: &mut Steps) -> T
+        requires { IsLive self.old place }
+        ensures node { node_at self.old (place_slot place) ≡ Some result }
+        ensures after { self.new ≡ without_node self.old (place_slot place) }
+        ensures others { KeepsOthers self.old self.new (place_slot place) }
+        ensures others_live { KeepsOthersLive self.old self.new (place_slot place) }
+        ensures spare { spare_of self.new ≡ spare_of self.old + 1 }
+        ensures step { steps.new ≡ min (steps.old + 1) (2 ^ 64 - 1) }
+    {
+        steps.step(); // a node is taken
+        let vacant = Slot::Vacant(self.top);
+        let held = self.storage.get_mut(place.address, place.slot);
+        match mem::replace(held, vacant) {
+            Slot::Held(node) => {
+                self.top = Some(place.slot);
+                self.held -= 1;
+                node
+            }
+            Slot::Vacant(_) => unreachable!(),
+        }
+    }
+}
+
+/// Drops the nodes, and gives the chunks back.
+impl<T: Drop> Drop for Pool<T> {
+    fn drop(self) {
+        let Pool {
+            alloc,
+            mut chunks,
+            mut storage,
+            used,
+            total: _,
+            held: _,
+            top: _,
+        } = self;
+        let mut slot = used;
+        while slot > 0 {
+            slot -= 1;
+            drop(storage.pop(address_in(chunks.as_slice(), slot)));
+        }
+        while let Some(chunk) = chunks.pop() {
+            let Chunk { base, block } = chunk;
+            let room = storage.split_off(chunks.len() * CHUNK_LEN);
+            deallocate(&alloc, base, CHUNK_LEN, room, block);
+        }
+        storage.end();
+        chunks.destroy_empty();
+    }
+}
