@@ -1,0 +1,129 @@
+-- What an internal node shows of its masks and its rows.
+use Rattle.std.proofs.Common.{◌≡◌, ◌≢◌, ◌<◌, ℕ, Bool, true, false, List, get_or, ap, sym, ◌∙◌, refl, inl, inr, arith}
+use Rattle.std.specs.Prelude.{◌↔◌, Option, Some, None}
+use Rattle.std.proofs.lemmas.Bool.{cases_Bool, cases_lt}
+use Rattle.vdb_mask.specs.Mask.{is_on, IsNext}
+use Rattle.vdb_node.specs.Entries.{entry_of, HasChild, IsConstant, IsNextChild, SetsEntry}
+use Rattle.vdb_node.specs.Nodes.{listed}
+use Rattle.vdb_node.specs.declared.Entry.{Entry}
+use Rattle.vdb_node.specs.declared.Entry.TheVariants.{Child, Tile}
+use Rattle.vdb_node.proofs.Listed.{get_or-listed, get_or-listed_past}
+use Rattle.vdb_value.specs.declared.Cell.{Cell}
+
+-- one entry is changed
+pub SetsEntry-listed : {A : Type 0} (old new : ℕ → A) (n i : ℕ) (x : A) → i < n → new i ≡ x → ((j : ℕ) → j ≢ i → new j ≡ old j)
+    → SetsEntry (listed old n) (listed new n) i x
+SetsEntry-listed old new n i x h here others =
+    record {
+      changed = λ d. get_or-listed new n i d h ∙ here;
+      others = λ d j other.
+          elim (cases_lt j n) [
+            | inl below ↦ get_or-listed new n j d below ∙ others j other ∙ sym (get_or-listed old n j d below)
+            | inr past ↦ get_or-listed_past new n j d past ∙ sym (get_or-listed_past old n j d past)
+          ];
+    }
+
+-- no tile is a child
+pub tile_child : {V : Type 0} (cell : Cell V) (slot : ℕ) → ◌≡◌ {A = Entry V} (Tile cell) (Child slot) → ⊥
+tile_child cell slot e = cc
+
+-- equal tiles are of one cell
+pub tile_tile : {V : Type 0} (a b : Cell V) → ◌≡◌ {A = Entry V} (Tile a) (Tile b) → a ≡ b
+tile_tile a b e = cc
+
+-- cells of the same parts are equal
+pub same_cell : {V : Type 0} (a b : Cell V) → a.value ≡ b.value → a.on ≡ b.on → a ≡ b
+same_cell {V} a b value on =
+    ap (λ (v : V). let c : Cell V = record { value = v; on = a.on } in c) value
+    ∙ ap (λ (o : Bool). let c : Cell V = record { value = b.value; on = o } in c) on
+
+module _ {V : Type 0} (children states : List Bool) (value_at : ℕ → V) (slots : List ℕ) where
+  -- where the child mask is on stands the slot
+  pub entry_of-child : (i : ℕ) → is_on children i ≡ true → entry_of children states value_at slots i ≡ Child (get_or slots i 0)
+  entry_of-child i on = rw on refl
+
+  -- where it is off stands the value with its state
+  pub entry_of-tile : (i : ℕ) → is_on children i ≡ false → entry_of children states value_at slots i ≡ Tile (record { value = value_at i; on = is_on states i })
+  entry_of-tile i off = rw off refl
+
+  -- a node with no child, one value and one state is constant
+  pub IsConstant-node_of : (n : ℕ) (cell : Cell V) → ((i : ℕ) → i < n → is_on children i ≡ false) → ((i : ℕ) → i < n → value_at i ≡ cell.value)
+      → ((i : ℕ) → i < n → is_on states i ≡ cell.on) → IsConstant (listed (entry_of children states value_at slots) n) n (Tile cell)
+  IsConstant-node_of n cell off values on d i h =
+      get_or-listed (entry_of children states value_at slots) n i d h ∙ entry_of-tile i (off i h) ∙ rw (values i h, on i h) refl
+
+  -- of a constant node each entry is the tile
+  constant_entry : (n : ℕ) (cell : Cell V) → IsConstant (listed (entry_of children states value_at slots) n) n (Tile cell) → (i : ℕ) → i < n
+      → entry_of children states value_at slots i ≡ Tile cell
+  constant_entry n cell constant i h = sym (get_or-listed (entry_of children states value_at slots) n i (Tile cell) h) ∙ constant (Tile cell) i h
+
+  -- so it has no child
+  pub no_child : (n : ℕ) (cell : Cell V) → IsConstant (listed (entry_of children states value_at slots) n) n (Tile cell) → (i : ℕ) → i < n → is_on children i ≡ false
+  no_child n cell constant i h =
+      elim (cases_Bool (is_on children i)) [
+        | inl on ↦ absurd (tile_child cell _ (sym (constant_entry n cell constant i h) ∙ entry_of-child i on))
+        | inr off ↦ off
+      ]
+
+  constant_cell : (n : ℕ) (cell : Cell V) → IsConstant (listed (entry_of children states value_at slots) n) n (Tile cell) → (i : ℕ) → i < n
+      → ◌≡◌ {A = Cell V} (record { value = value_at i; on = is_on states i }) cell
+  constant_cell n cell constant i h =
+      tile_tile _ cell (sym (entry_of-tile i (no_child n cell constant i h)) ∙ constant_entry n cell constant i h)
+
+  -- and one value
+  pub one_value : (n : ℕ) (cell : Cell V) → IsConstant (listed (entry_of children states value_at slots) n) n (Tile cell) → (i : ℕ) → i < n → value_at i ≡ cell.value
+  one_value n cell constant i h = ap (λ (c : Cell V). c.value) (constant_cell n cell constant i h)
+
+  -- and one state
+  pub one_state : (n : ℕ) (cell : Cell V) → IsConstant (listed (entry_of children states value_at slots) n) n (Tile cell) → (i : ℕ) → i < n → is_on states i ≡ cell.on
+  one_state n cell constant i h = ap (λ (c : Cell V). c.on) (constant_cell n cell constant i h)
+
+  -- an index where the child mask is on has a child
+  pub has_child : (n i : ℕ) → i < n → is_on children i ≡ true → HasChild (listed (entry_of children states value_at slots) n) i
+  has_child n i h on = (get_or slots i 0, λ d. get_or-listed (entry_of children states value_at slots) n i d h ∙ entry_of-child i on)
+
+  -- an index where it is off has none
+  pub has_no_child : (n i : ℕ) → i < n → is_on children i ≡ false → HasChild (listed (entry_of children states value_at slots) n) i → ⊥
+  has_no_child n i h off (slot, child) =
+      tile_child _ slot
+      (sym (get_or-listed (entry_of children states value_at slots) n i (Child slot) h ∙ entry_of-tile i off) ∙ child (Child slot))
+
+  -- the next index of the child mask is the next child
+  pub IsNextChild-listed : (n from : ℕ) (result : Option ℕ) → IsNext true children n from result
+      → IsNextChild (listed (entry_of children states value_at slots) n) n from result
+  IsNextChild-listed n from (Some index) next =
+      record {
+        within = next.within;
+        from_on = next.from_on;
+        here = has_child n index next.within next.here;
+        before = λ i least less. has_no_child n i (omega (arith, less, next.within)) (next.before i least less);
+      }
+  IsNextChild-listed n from None next = λ i least below. has_no_child n i below (next i least below)
+
+  module _ (n : ℕ) (some : 0 < n) where
+    -- where there is no child, the values are alike and the states are, the first tile is the one of all
+    pub constant_alike : (first : Cell V) → ((i : ℕ) → is_on children i ≡ false) → ((i : ℕ) → i < n → is_on states i ≡ is_on states 0)
+        → ((i : ℕ) → i < n → value_at i ≡ value_at 0) → value_at 0 ≡ first.value → is_on states 0 ≡ first.on
+        → (cell : Cell V) → (Some first ≡ Some cell) ↔ IsConstant (listed (entry_of children states value_at slots) n) n (Tile cell)
+    constant_alike first off on values value state cell = (
+      λ e.
+          let same : first ≡ cell = cc in
+          rw (← same)
+          (IsConstant-node_of n first (λ i _. off i) (λ i h. values i h ∙ value) (λ i h. on i h ∙ state)),
+      λ constant.
+          let here : value_at 0 ≡ cell.value = one_value n cell constant 0 some in
+          let here' : is_on states 0 ≡ cell.on = one_state n cell constant 0 some in
+          ap Some (same_cell first cell (sym value ∙ here) (sym state ∙ here')),
+    )
+
+    -- where one of these fails, there is no such cell
+    pub constant_mixed : (((i : ℕ) → i < n → is_on children i ≡ false) → ((i : ℕ) → i < n → is_on states i ≡ is_on states 0)
+        → ((i : ℕ) → i < n → value_at i ≡ value_at 0) → ⊥)
+        → (cell : Cell V) → (None ≡ Some cell) ↔ IsConstant (listed (entry_of children states value_at slots) n) n (Tile cell)
+    constant_mixed differ cell = (
+      λ e. absurd (cc),
+      λ constant.
+          absurd
+          (differ (no_child n cell constant) (λ i h. one_state n cell constant i h ∙ sym (one_state n cell constant 0 some))
+          (λ i h. one_value n cell constant i h ∙ sym (one_value n cell constant 0 some))),
+    )

@@ -1,0 +1,80 @@
+-- What a leaf shows of its row and its mask.
+use Rattle.std.proofs.Common.{◌≡◌, ◌≢◌, ◌<◌, ℕ, Bool, List, ap, sym, ◌∙◌, refl, inl, inr}
+use Rattle.std.specs.Prelude.{◌↔◌, Some, None}
+use Rattle.std.proofs.lemmas.Bool.{cases_lt}
+use Rattle.vdb_mask.specs.Mask.{is_on}
+use Rattle.vdb_node.specs.Leaf.{Leaf, cell_in, IsConstantLeaf, SetsVoxel}
+use Rattle.vdb_node.specs.Nodes.{listed}
+use Rattle.vdb_node.proofs.Listed.{get_or-listed, get_or-listed_past}
+use Rattle.vdb_value.specs.declared.Cell.{Cell}
+
+-- a cell of these two parts
+abbrev pub cell_of : {V : Type 0} → V → Bool → Cell V
+cell_of value on = record { value = value; on = on }
+
+-- the leaf of a row's first n values and a mask
+abbrev pub leaf_of : {V : Type 0} → (ℕ → V) → ℕ → List Bool → Leaf V
+leaf_of value_at n states = record { values = listed value_at n; states = states }
+
+module _ {V : Type 0} (value_at : ℕ → V) (n : ℕ) (states : List Bool) where
+  -- below the entry count stands the row's value with the mask's state
+  pub cell_in-leaf_of : (d : Cell V) (i : ℕ) → i < n → cell_in d (leaf_of value_at n states) i ≡ cell_of (value_at i) (is_on states i)
+  cell_in-leaf_of d i h = ap (λ (v : V). cell_of v (is_on states i)) (get_or-listed value_at n i d.value h)
+
+  -- a leaf of one value and one state is constant
+  pub IsConstantLeaf-leaf_of : (cell : Cell V) → ((i : ℕ) → i < n → value_at i ≡ cell.value) → ((i : ℕ) → i < n → is_on states i ≡ cell.on)
+      → IsConstantLeaf (leaf_of value_at n states) n cell
+  IsConstantLeaf-leaf_of cell values on d i h = cell_in-leaf_of d i h ∙ rw (values i h, on i h) refl
+
+  -- a constant leaf has one value
+  pub same_values : (cell : Cell V) → 0 < n → IsConstantLeaf (leaf_of value_at n states) n cell → (i : ℕ) → i < n → value_at i ≡ cell.value
+  same_values cell some constant i h = ap (λ (c : Cell V). c.value) (sym (cell_in-leaf_of cell i h) ∙ constant cell i h)
+
+  -- and one state
+  pub same_states : (cell : Cell V) → 0 < n → IsConstantLeaf (leaf_of value_at n states) n cell → (i : ℕ) → i < n → is_on states i ≡ cell.on
+  same_states cell some constant i h = ap (λ (c : Cell V). c.on) (sym (cell_in-leaf_of cell i h) ∙ constant cell i h)
+
+-- one entry of the row and of the mask is changed
+pub SetsVoxel-leaf_of : {V : Type 0} (old new : ℕ → V) (n : ℕ) (states states' : List Bool) (i : ℕ) (cell : Cell V) → i < n
+    → new i ≡ cell.value → ((j : ℕ) → j ≢ i → new j ≡ old j)
+    → is_on states' i ≡ cell.on → ((j : ℕ) → j ≢ i → is_on states' j ≡ is_on states j)
+    → SetsVoxel (leaf_of old n states) (leaf_of new n states') i cell
+SetsVoxel-leaf_of {V} old new n states states' i cell h here others here' others' =
+    record {
+      changed = λ d. cell_in-leaf_of new n states' d i h ∙ rw (here, here') refl;
+      others = λ d j other.
+          elim (cases_lt j n) [
+            | inl below ↦
+                cell_in-leaf_of new n states' d j below ∙ (rw (others j other, others' j other) refl) ∙ sym (cell_in-leaf_of old n states d j below)
+            | inr past ↦
+                rw (get_or-listed_past new n j d.value past, get_or-listed_past old n j d.value past, others' j other) refl
+          ];
+    }
+
+module _ {V : Type 0} (value_at : ℕ → V) (n : ℕ) (states : List Bool) (some : 0 < n) where
+  -- where the values are alike and the states are, the first cell is the one of all
+  pub constant_alike : (first : Cell V) → ((i : ℕ) → i < n → is_on states i ≡ is_on states 0) → ((i : ℕ) → i < n → value_at i ≡ value_at 0)
+      → cell_in first (leaf_of value_at n states) 0 ≡ first
+      → (cell : Cell V) → (Some first ≡ Some cell) ↔ IsConstantLeaf (leaf_of value_at n states) n cell
+  constant_alike first on values here cell =
+      let at_first : cell_of (value_at 0) (is_on states 0) ≡ first = sym (cell_in-leaf_of value_at n states first 0 some) ∙ here in
+      let value : value_at 0 ≡ first.value = ap (λ (c : Cell V). c.value) at_first in
+      let state : is_on states 0 ≡ first.on = ap (λ (c : Cell V). c.on) at_first in (
+        λ e.
+            let same : first ≡ cell = cc in
+            rw (← same)
+            (IsConstantLeaf-leaf_of value_at n states first (λ i h. values i h ∙ value) (λ i h. on i h ∙ state)),
+        λ constant. ap Some (sym here ∙ constant first 0 some),
+      )
+
+  -- where they are not, there is no such cell
+  pub constant_mixed : (((i : ℕ) → i < n → is_on states i ≡ is_on states 0) → ((i : ℕ) → i < n → value_at i ≡ value_at 0) → ⊥)
+      → (cell : Cell V) → (None ≡ Some cell) ↔ IsConstantLeaf (leaf_of value_at n states) n cell
+  constant_mixed differ cell = (
+    λ e. absurd (cc),
+    λ constant.
+        absurd
+        (differ
+        (λ i h. same_states value_at n states cell some constant i h ∙ sym (same_states value_at n states cell some constant 0 some))
+        (λ i h. same_values value_at n states cell some constant i h ∙ sym (same_values value_at n states cell some constant 0 some))),
+  )

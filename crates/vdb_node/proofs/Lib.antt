@@ -1,0 +1,5 @@
+pub mod Entries
+pub mod Leaves
+pub mod Listed
+pub mod Rows
+pub mod Sizes

@@ -1,0 +1,24 @@
+-- What stands at an index of a listed function.
+use Rattle.std.proofs.Common.{◌≡◌, ◌*◌, ◌<◌, ◌≤◌, ℕ, length, get_or, arith, pow_pos}
+use Rattle.std.proofs.lemmas.List.{get_or_past}
+use Rattle.std.proofs.lemmas.List.FromFn.{get_or-map-range_with_len, length-map-range_with_len}
+use Rattle.vdb_node.specs.Nodes.{entry_count, listed}
+
+-- a node has an entry
+pub entry_count-pos : (bits : ℕ) → 0 < entry_count bits
+entry_count-pos bits = pow_pos (3 * bits)
+
+module _ {A : Type 0} (f : ℕ → A) (n : ℕ) where
+  -- the list is as long as was asked
+  pub length-listed : length (listed f n) ≡ n
+  unfolding listed
+  length-listed = length-map-range_with_len f 0 n
+
+  -- below the end stands what the function gives
+  pub get_or-listed : (i : ℕ) (d : A) → i < n → get_or (listed f n) i d ≡ f i
+  unfolding listed
+  get_or-listed i d h = get_or-map-range_with_len f 0 n i i d h (omega arith)
+
+  -- past the end stands nothing
+  pub get_or-listed_past : (i : ℕ) (d : A) → n ≤ i → get_or (listed f n) i d ≡ d
+  get_or-listed_past i d h = get_or_past (listed f n) i d (omega (arith, h, length-listed))

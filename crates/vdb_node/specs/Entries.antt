@@ -1,0 +1,46 @@
+-- What a contract sees of an internal node: a list of entries.
+use Rattle.std.specs.Prelude.{◌≡◌, ◌≢◌, ◌*◌, ◌<◌, ◌≤◌, if◌then◌else◌, ℕ, Bool, List, Option, Some, None, slice_index_or}
+use Rattle.vdb_mask.specs.Mask.{is_on}
+use Rattle.vdb_node.specs.Nodes.{entry_count, IsOffFrom}
+use Rattle.vdb_node.specs.declared.Entry.{Entry}
+use Rattle.vdb_node.specs.declared.Entry.TheVariants.{Child, Tile}
+
+-- the child or the tile at an index of the masks and the rows
+abbrev pub entry_of : {V : Type 0} → List Bool → List Bool → (ℕ → V) → List ℕ → ℕ → Entry V
+entry_of children states value_at slots i =
+    if is_on children i then Child (slice_index_or slots i 0) else Tile (record { value = value_at i; on = is_on states i })
+
+-- the new list has this at the index, and at every other what the old one has
+pub record SetsEntry {A : Type 0} (old new : List A) (i : ℕ) (x : A) : Type 0 where
+  pub changed : (d : A) → slice_index_or new i d ≡ x
+  pub others : (d : A) (j : ℕ) → j ≢ i → slice_index_or new j d ≡ slice_index_or old j d
+
+-- each of the first n is this
+abbrev pub IsConstant : {A : Type 0} → List A → ℕ → A → Type 0
+IsConstant {A} xs n x = (d : A) (i : ℕ) → i < n → slice_index_or xs i d ≡ x
+
+-- the entry at an index is a child
+abbrev pub HasChild : {V : Type 0} → List (Entry V) → ℕ → Type 0
+HasChild {V} node i = (slot : ℕ) × ((d : Entry V) → slice_index_or node i d ≡ Child slot)
+
+-- of the indices from `from` on and below n, this is the first whose entry is a child
+pub record IsNextChildAt {V : Type 0} (node : List (Entry V)) (n from index : ℕ) : Type 0 where
+  pub within : index < n
+  pub from_on : from ≤ index
+  pub here : HasChild node index
+  pub before : (i : ℕ) → from ≤ i → i < index → HasChild node i → ⊥
+
+-- the first index from `from` on and below n whose entry is a child, and nothing where none is
+abbrev pub IsNextChild : {V : Type 0} → List (Entry V) → ℕ → ℕ → Option ℕ → Type 0
+IsNextChild node n from (Some index) = IsNextChildAt node n from index
+IsNextChild node n from None = (i : ℕ) → from ≤ i → i < n → HasChild node i → ⊥
+
+-- an internal node with so many bits and words has room for its entries, and no bit past them
+pub record IsSoundInternal (bits words row_len slots_len : ℕ) (children states : List Bool) : Type 0 where
+  pub few_bits : bits ≤ 5
+  pub few_words : words ≤ 512
+  pub mask_room : entry_count bits ≤ 64 * words
+  pub row_room : entry_count bits ≤ row_len
+  pub slots_room : entry_count bits ≤ slots_len
+  pub no_child_past : IsOffFrom children (entry_count bits)
+  pub no_state_past : IsOffFrom states (entry_count bits)

@@ -1,0 +1,131 @@
+//! Internal nodes.
+
+ghost use Rattle.std.specs.Prelude.{◌≡◌, ◌*◌, ◌<◌, ◌≤◌, ◌↔◌, ℕ, slice_index_or, IfOk, Some};
+ghost use Rattle.vdb_node.specs.Entries.{IsConstant, IsNextChild, SetsEntry};
+ghost use Rattle.vdb_node.specs.Nodes.{entry_count};
+ghost use Rattle.vdb_node.specs.declared.Entry.{Entry};
+ghost use Rattle.vdb_node.specs.declared.Entry.TheVariants.{Child, Tile};
+
+use crate::uniform::{cut, entries, is_uniform, put};
+use crate::{Entry, Stored};
+use std::alloc::{AllocError, Global};
+use std::marker::Model;
+use vdb_mask::Mask;
+use vdb_value::Cell;
+
+/// A node whose 8 to the power `LOG2` entries are children or tiles. It is a mask of the children, a
+/// mask of active states, a row of values and a row of slots. The masks' bits past the last entry are
+/// off; with the least `W` only a node of 1 bit has such bits.
+///
+/// A contract sees the list of the entries. It reads the one at index `i` by
+/// `slice_index_or node i d`, which below the entry count is the same for every `d`. OpenVDB's class
+/// `InternalNode<ChildT, LOG2>`.
+#[derive(Drop)]
+pub struct Internal<V: Stored<W>, const LOG2: u32, const W: usize> {
+    children: Mask<W>,
+    states: Mask<W>,
+    values: V::Row,
+    slots: Vec<u32>,
+}
+
+impl<V: Stored<W>, const LOG2: u32, const W: usize> Model for Internal<V, LOG2, W> {
+    ghost use Rattle.std.specs.Prelude.{List, length};
+    ghost use Rattle.vdb_node.specs.Entries.{entry_of, IsSoundInternal};
+    ghost use Rattle.vdb_node.specs.Nodes.{entry_count, listed};
+    ghost use Rattle.vdb_node.specs.declared.Entry.{Entry};
+
+    ghost Value = { List (Entry V) };
+
+    ghost view = { λ node. listed
+        (entry_of node.children node.states (V.value_in node.values) node.slots.items)
+        (entry_count LOG2) };
+
+    ghost invariant = { λ node. IsSoundInternal LOG2 W (V.row_len node.values)
+        (length node.slots.items) node.children node.states };
+}
+
+impl<V: Stored<W>, const LOG2: u32, const W: usize> Internal<V, LOG2, W> {
+    /// A node with a tile of this cell at every entry. The error says that the memory for the values
+    /// or the slots was refused. The constructor `InternalNode(Coord, ValueType, bool)`.
+    pub fn new_constant(alloc: Global, cell: Cell<V>) -> Result<Internal<V, LOG2, W>, AllocError>
+        requires bits { LOG2 ≤ 5 }
+        requires room { entry_count LOG2 ≤ 64 * W }
+        requires few_words { W ≤ 512 }
+        ensures { IfOk result (λ node. IsConstant node (entry_count LOG2) (Tile cell)) }
+    {
+        let values = cell.value.filled_row(alloc, entries(LOG2))?;
+        let slots = vec![in alloc; 0; entries(LOG2) as usize]?;
+        let mut states = Mask::filled(cell.on);
+        cut(&mut states, entries(LOG2));
+        Ok(Internal {
+            children: Mask::off(),
+            states,
+            values,
+            slots,
+        })
+    }
+
+    /// The entry at index `i`. `InternalNode::isChildMaskOn(i)` with `getChildNode(i)`, or
+    /// `mNodes[i].getValue()` and `isValueMaskOn(i)`.
+    pub fn entry(&self, i: u32) -> Entry<V>
+        requires { i < entry_count LOG2 }
+        ensures { (d : Entry V) → slice_index_or self.now i d ≡ result }
+    {
+        if self.children.test(i) {
+            Entry::Child(self.slots[i as usize])
+        } else {
+            Entry::Tile(Cell {
+                value: V::value_at(&self.values, i),
+                on: self.states.test(i),
+            })
+        }
+    }
+
+    /// Makes the entry at index `i` a tile; every other stays. `InternalNode::addTile`, which takes a
+    /// child away too.
+    pub fn set_tile(&mut self, i: u32, cell: Cell<V>)
+        requires { i < entry_count LOG2 }
+        ensures { SetsEntry self.old self.new i (Tile cell) }
+    {
+        self.children.clear(i);
+        V::set_value(&mut self.values, i, cell.value);
+        put(&mut self.states, i, cell.on);
+    }
+
+    /// Makes the entry at index `i` the child in this slot; every other stays.
+    /// `InternalNode::setChildNode(i, child)`.
+    pub fn set_child(&mut self, i: u32, slot: u32)
+        requires { i < entry_count LOG2 }
+        ensures { SetsEntry self.old self.new i (Child slot) }
+    {
+        self.children.set(i);
+        self.slots[i as usize] = slot;
+    }
+
+    /// The cell that every entry is a tile of, or `None` where there is a child or two tiles differ.
+    /// `InternalNode::isConstant`, without a tolerance.
+    pub fn constant(&self) -> Option<Cell<V>>
+        ensures { (cell : Cell V) → (result ≡ Some cell)
+            ↔ IsConstant self.now (entry_count LOG2) (Tile cell) }
+    {
+        let (values, states) = (&self.values, &self.states);
+        let count = entries(LOG2);
+        if self.children.all_off() && is_uniform(states, count) && V::are_alike(values, count) {
+            Some(Cell {
+                value: V::value_at(values, 0),
+                on: states.test(0),
+            })
+        } else {
+            None
+        }
+    }
+
+    /// The least index not below `from` whose entry is a child, or `None` where there is none.
+    /// `InternalNode::getChildMask().findNextOn(from)`, which answers the entry count for none.
+    pub fn next_child(&self, from: u32) -> Option<u32>
+        requires { from ≤ entry_count LOG2 }
+        ensures { IsNextChild self.now (entry_count LOG2) from result }
+    {
+        self.children.next_on(from)
+    }
+}

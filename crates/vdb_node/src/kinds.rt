@@ -1,0 +1,99 @@
+//! The rows of the three kinds of values.
+
+ghost use Rattle.std.specs.Prelude.{◌≡◌, ◌*◌, ◌<◌, ◌↔◌, ℕ, pos, length, slice_index_or, IsTrue};
+ghost use Rattle.std.proofs.Common.{arith};
+ghost use Rattle.vdb_mask.specs.Mask.{is_on};
+
+use crate::Stored;
+use crate::uniform::{is_uniform, put};
+use std::alloc::{AllocError, Global};
+use vdb_mask::Mask;
+use vdb_value::Voxel;
+
+/// Whether the values of the slice are one and the same.
+fn are_one<V: Voxel>(values: &[V]) -> bool
+    requires { 0 < length values.now }
+    ensures { IsTrue result ↔ ((i : ℕ) (d : V) → i < length values.now
+        → slice_index_or values.now i d ≡ slice_index_or values.now 0 d) }
+{
+    let first = values[0];
+    values.iter().all(|each| *each == first)
+}
+
+impl<const W: usize> Stored<W> for bool {
+    type Row = Mask<W>;
+
+    ghost row_len = { λ row. 64 * W };
+
+    ghost value_in = { is_on };
+
+    fn filled_row(self, _alloc: Global, _count: u32) -> Result<Mask<W>, AllocError> {
+        Ok(Mask::filled(self))
+    }
+
+    fn value_at(row: &Mask<W>, i: u32) -> bool {
+        row.test(i)
+    }
+
+    fn set_value(row: &mut Mask<W>, i: u32, value: bool) {
+        put(row, i, value);
+    }
+
+    fn are_alike(row: &Mask<W>, count: u32) -> bool {
+        is_uniform(row, count)
+    }
+
+    ghost row_small = { (Prim.omega arith, Prim.omega arith) };
+}
+
+impl<const W: usize> Stored<W> for i32 {
+    type Row = Vec<i32>;
+
+    ghost row_len = { λ row. length row.items };
+
+    ghost value_in = { λ row i. slice_index_or row.items i (pos 0) };
+
+    fn filled_row(self, alloc: Global, count: u32) -> Result<Vec<i32>, AllocError> {
+        vec![in alloc; self; count as usize]
+    }
+
+    fn value_at(row: &Vec<i32>, i: u32) -> i32 {
+        row[i as usize]
+    }
+
+    fn set_value(row: &mut Vec<i32>, i: u32, value: i32) {
+        row[i as usize] = value;
+    }
+
+    fn are_alike(row: &Vec<i32>, count: u32) -> bool {
+        are_one(&row[..count as usize])
+    }
+
+    ghost row_small = { (Prim.omega arith, Prim.omega arith) };
+}
+
+impl<const W: usize> Stored<W> for i64 {
+    type Row = Vec<i64>;
+
+    ghost row_len = { λ row. length row.items };
+
+    ghost value_in = { λ row i. slice_index_or row.items i (pos 0) };
+
+    fn filled_row(self, alloc: Global, count: u32) -> Result<Vec<i64>, AllocError> {
+        vec![in alloc; self; count as usize]
+    }
+
+    fn value_at(row: &Vec<i64>, i: u32) -> i64 {
+        row[i as usize]
+    }
+
+    fn set_value(row: &mut Vec<i64>, i: u32, value: i64) {
+        row[i as usize] = value;
+    }
+
+    fn are_alike(row: &Vec<i64>, count: u32) -> bool {
+        are_one(&row[..count as usize])
+    }
+
+    ghost row_small = { (Prim.omega arith, Prim.omega arith) };
+}

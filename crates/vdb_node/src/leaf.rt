@@ -1,0 +1,125 @@
+//! Leaves.
+
+ghost use Rattle.std.specs.Prelude.{◌≡◌, ◌*◌, ◌<◌, ◌≤◌, ◌↔◌, ℕ, IfOk, IsOk, Some};
+ghost use Rattle.vdb_mask.specs.Mask.{is_on, on_count};
+ghost use Rattle.vdb_node.specs.Leaf.{cell_in, IsConstantLeaf, SetsVoxel};
+ghost use Rattle.vdb_node.specs.Nodes.{entry_count, IsOffFrom};
+ghost use Rattle.vdb_value.specs.declared.Kind.TheVariants.{Bool as truths};
+
+use crate::Stored;
+use crate::uniform::{cut, entries, is_uniform, put};
+use std::alloc::{AllocError, Global};
+use std::marker::Model;
+use vdb_mask::Mask;
+use vdb_value::Cell;
+
+/// A node whose 8 to the power `LOG2` entries are cells of single voxels. It is a row of values and a
+/// mask of active states. The mask's bits past the last entry are off; with the least `W` only a leaf
+/// of 1 bit has such bits.
+///
+/// A contract sees the list of the values and the list of the states. It reads the cell at index `i`
+/// by `cell_in d leaf i`, which below the entry count is the same for every `d`. OpenVDB's class
+/// `LeafNode<ValueT, LOG2>`.
+#[derive(Drop)]
+pub struct Leaf<V: Stored<W>, const LOG2: u32, const W: usize> {
+    row: V::Row,
+    states: Mask<W>,
+}
+
+impl<V: Stored<W>, const LOG2: u32, const W: usize> Model for Leaf<V, LOG2, W> {
+    ghost use Rattle.vdb_node.specs.Leaf.{IsSoundLeaf, Leaf as Voxels, leaf_code};
+    ghost use Rattle.vdb_node.specs.Nodes.{entry_count, listed};
+
+    ghost Value = { Voxels V };
+
+    ghost coded = { leaf_code V.code };
+
+    ghost view = { λ leaf. record {
+      values = listed (V.value_in leaf.row) (entry_count LOG2);
+      states = leaf.states;
+    } };
+
+    ghost invariant = { λ leaf. IsSoundLeaf LOG2 W (V.row_len leaf.row) leaf.states };
+}
+
+impl<V: Stored<W>, const LOG2: u32, const W: usize> Leaf<V, LOG2, W> {
+    /// A leaf with this cell at every entry. The error says that the memory for the values was
+    /// refused; a leaf of truth values takes none beyond its place. The constructor
+    /// `LeafNode(Coord, ValueType, bool)`.
+    pub fn new_constant(alloc: Global, cell: Cell<V>) -> Result<Leaf<V, LOG2, W>, AllocError>
+        requires bits { LOG2 ≤ 5 }
+        requires room { entry_count LOG2 ≤ 64 * W }
+        requires few_words { W ≤ 512 }
+        ensures cells { IfOk result (λ leaf. IsConstantLeaf leaf (entry_count LOG2) cell) }
+        ensures past_end { IfOk result (λ leaf. IsOffFrom leaf.states (entry_count LOG2)) }
+        ensures in_place { V.KIND ≡ truths → IsOk result }
+    {
+        let row = cell.value.filled_row(alloc, entries(LOG2))?;
+        let mut states = Mask::filled(cell.on);
+        cut(&mut states, entries(LOG2));
+        Ok(Leaf { row, states })
+    }
+
+    /// The cell at index `i`. `LeafNode::getValue(i)` with `LeafNode::isValueOn(i)`.
+    pub fn entry(&self, i: u32) -> Cell<V>
+        requires { i < entry_count LOG2 }
+        ensures { (d : Cell V) → cell_in d self.now i ≡ result }
+    {
+        Cell {
+            value: V::value_at(&self.row, i),
+            on: self.states.test(i),
+        }
+    }
+
+    /// Makes this the cell at index `i`; every other stays. `LeafNode::setValueOn(i, value)` and
+    /// `LeafNode::setValueOff(i, value)`.
+    pub fn set(&mut self, i: u32, cell: Cell<V>)
+        requires { i < entry_count LOG2 }
+        ensures { SetsVoxel self.old self.new i cell }
+    {
+        V::set_value(&mut self.row, i, cell.value);
+        put(&mut self.states, i, cell.on);
+    }
+
+    /// The cell that every entry has, or `None` where two differ. `LeafNode::isConstant`, without
+    /// a tolerance.
+    pub fn constant(&self) -> Option<Cell<V>>
+        ensures { (cell : Cell V) → (result ≡ Some cell)
+            ↔ IsConstantLeaf self.now (entry_count LOG2) cell }
+    {
+        let (row, states) = (&self.row, &self.states);
+        let count = entries(LOG2);
+        if is_uniform(states, count) && V::are_alike(row, count) {
+            Some(self.entry(0))
+        } else {
+            None
+        }
+    }
+
+    /// The states of the entries, which are off past the last one. `LeafNode::getValueMask()`.
+    pub fn states(&self) -> &Mask<W>
+        ensures same { result.now ≡ self.now.states }
+        ensures past_end { IsOffFrom result.now (entry_count LOG2) }
+    {
+        &self.states
+    }
+
+    /// Gives each entry its state in the mask, of which the values past the last entry do not count.
+    /// The entries' values stay. `LeafNode::setValueMask(mask)`.
+    pub fn set_states(&mut self, states: &Mask<W>)
+        ensures values { self.new.values ≡ self.old.values }
+        ensures states { (i : ℕ) → i < entry_count LOG2
+            → is_on self.new.states i ≡ is_on states.now i }
+        ensures past_end { IsOffFrom self.new.states (entry_count LOG2) }
+    {
+        self.states.copy_from(states);
+        cut(&mut self.states, entries(LOG2));
+    }
+
+    /// How many entries are on. `LeafNode::onVoxelCount()`.
+    pub fn count_on(&self) -> u32
+        ensures { result ≡ on_count self.now.states (entry_count LOG2) }
+    {
+        self.states.count()
+    }
+}

@@ -1,0 +1,54 @@
+//! How a node keeps its values.
+
+ghost use Rattle.std.specs.Align.{type_align};
+ghost use Rattle.std.specs.Mem.{type_size};
+ghost use Rattle.std.specs.Prelude.{◌≡◌, ◌≢◌, ◌+◌, ◌*◌, ◌<◌, ◌≤◌, ◌↔◌, ℕ, max, IfOk, IsOk, IsTrue};
+ghost use Rattle.vdb_mask.specs.contracts.Mask.{the_row as mask_row};
+ghost use Rattle.vdb_value.specs.declared.Kind.TheVariants.{Bool as truths};
+
+use std::alloc::{AllocError, Global};
+use vdb_value::Voxel;
+
+/// A type of voxel values with the row in which a node keeps them: a vector for the integers, a mask
+/// of `W` words for truth values (OpenVDB's `LeafBuffer<ValueT, LOG2>` and `LeafBuffer<bool, LOG2>`).
+pub trait Stored<const W: usize>: Voxel {
+    /// A row of values.
+    type Row: Drop;
+
+    /// How many values a row has room for, and the value at an index of a row.
+    ghost row_len: { Self.Row → ℕ };
+
+    ghost value_in: { Self.Row → ℕ → Self };
+
+    /// A row with this value at the first `count` indices. The error says that the memory for them
+    /// was refused; truth values take none beyond the row's place.
+    fn filled_row(self, alloc: Global, count: u32) -> Result<Self::Row, AllocError>
+        requires { count ≤ 64 * W }
+        ensures room { IfOk result (λ row. count ≤ row_len row) }
+        ensures values { IfOk result (λ row. (i : ℕ) → i < count → value_in row i ≡ self) }
+        ensures in_place { Self.KIND ≡ truths → IsOk result };
+
+    /// The value at an index.
+    fn value_at(row: &Self::Row, i: u32) -> Self
+        requires { i < row_len row.now }
+        ensures { value_in row.now i ≡ result };
+
+    /// Makes this the value at an index; every other stays.
+    fn set_value(row: &mut Self::Row, i: u32, value: Self)
+        requires { i < row_len row.old }
+        ensures room { row_len row.new ≡ row_len row.old }
+        ensures here { value_in row.new i ≡ value }
+        ensures others { (j : ℕ) → j ≢ i → value_in row.new j ≡ value_in row.old j };
+
+    /// Whether the first `count` values are one and the same.
+    fn are_alike(row: &Self::Row, count: u32) -> bool
+        requires few_words { W ≤ 512 }
+        requires some { 0 < count }
+        requires room { count ≤ row_len row.now }
+        ensures { IsTrue result ↔ ((i : ℕ) → i < count → value_in row.now i ≡ value_in row.now 0) };
+
+    /// A row's place takes at most 64 bytes more than a mask's, at addresses that 8 divides or a
+    /// mask's place needs. (A law here cannot count a mask's bytes, `8 * W`.)
+    ghost row_small: { (type_size Self.Row.row ≤ 64 + type_size (mask_row W.row))
+        × (type_align Self.Row.row ≤ max 8 (type_align (mask_row W.row))) };
+}

@@ -1,0 +1,198 @@
+//! Nodes of every kind and number of bits, read at both ends.
+
+ghost use Rattle.std.specs.Prelude.{◌≡◌, ◌*◌, ◌<◌, ◌≤◌};
+ghost use Rattle.vdb_node.specs.Nodes.{entry_count};
+
+use crate::{Entry, Internal, Leaf, Stored};
+use std::alloc::{AllocError, Global};
+use std::mem::size_of;
+use std::process::Abort;
+use vdb_mask::Mask;
+use vdb_value::Cell;
+
+#[test]
+fn a_voxel_changes_and_changes_back(rt: HostRuntime) -> Result<(), AllocError> {
+    let three = Cell { value: 3, on: true };
+    let mut leaf: Leaf<i32, 3, 8> = Leaf::new_constant(rt.alloc(), three)?;
+    assert_eq!(rt; leaf.entry(83), three);
+    leaf.set(83, Cell { value: 5, on: true });
+    assert_eq!(rt; leaf.constant(), None);
+    leaf.set(83, three);
+    assert_eq!(rt; leaf.constant(), Some(three));
+    Ok(())
+}
+
+#[test]
+fn a_child_leaves_no_constant(rt: HostRuntime) -> Result<(), AllocError> {
+    let plain = Cell {
+        value: 3,
+        on: false,
+    };
+    let mut node: Internal<i32, 4, 64> = Internal::new_constant(rt.alloc(), plain)?;
+    assert_eq!(rt; node.constant(), Some(plain));
+    node.set_child(0, 4);
+    assert_eq!(rt; node.constant(), None);
+    assert_eq!(rt; node.entry(0), Entry::Child(4));
+    assert_eq!(rt; node.entry(1), Entry::Tile(plain));
+    node.set_tile(0, plain);
+    assert_eq!(rt; node.constant(), Some(plain));
+    Ok(())
+}
+
+fn on<V>(value: V) -> Cell<V> {
+    Cell { value, on: true }
+}
+
+fn off<V>(value: V) -> Cell<V> {
+    Cell { value, on: false }
+}
+
+// What a leaf answers: the cell at an index, the cell of all, and how many are on.
+fn expect_leaf<V: Stored<W>, const LOG2: u32, const W: usize>(
+    rt: &impl Abort,
+    leaf: &Leaf<V, LOG2, W>,
+    i: u32,
+    cell: Cell<V>,
+    constant: bool,
+    count_on: u32,
+)
+    requires { i < entry_count LOG2 }
+{
+    assert!(rt; leaf.entry(i) == cell);
+    assert!(rt; leaf.constant() == if constant { Some(cell) } else { None });
+    assert_eq!(rt; leaf.count_on(), count_on);
+}
+
+// A leaf of `count` entries, each `one`, in which the last is made `other` and back.
+fn try_leaf<V: Stored<W>, const LOG2: u32, const W: usize>(
+    rt: &impl Abort,
+    alloc: Global,
+    one: V,
+    other: V,
+    count: u32,
+) -> Result<(), AllocError>
+    requires bits { LOG2 ≤ 5 }
+    requires room { entry_count LOG2 ≤ 64 * W }
+    requires few_words { W ≤ 512 }
+    requires all { count ≡ entry_count LOG2 }
+    requires several { 2 ≤ count }
+{
+    let last = count - 1;
+    let mut leaf: Leaf<V, LOG2, W> = Leaf::new_constant(alloc, on(one))?;
+    expect_leaf(rt, &leaf, last, on(one), true, count);
+    leaf.set(last, off(other));
+    expect_leaf(rt, &leaf, last, off(other), false, last);
+    expect_leaf(rt, &leaf, last - 1, on(one), false, last);
+    assert_eq!(rt; leaf.states().next_off(0), Some(last));
+    leaf.set_states(&Mask::filled(true));
+    expect_leaf(rt, &leaf, last, on(other), false, count);
+    leaf.set(last, on(one));
+    expect_leaf(rt, &leaf, last, on(one), true, count);
+    leaf.set_states(&Mask::off());
+    expect_leaf(rt, &leaf, 0, off(one), true, 0);
+    Ok(())
+}
+
+#[test]
+fn leaves_of_every_kind(rt: HostRuntime) -> Result<(), AllocError> {
+    try_leaf::<bool, 1, 1>(&rt, rt.alloc(), true, false, 8)?;
+    try_leaf::<bool, 2, 1>(&rt, rt.alloc(), false, true, 64)?;
+    try_leaf::<bool, 3, 8>(&rt, rt.alloc(), true, false, 512)?;
+    try_leaf::<bool, 4, 64>(&rt, rt.alloc(), true, false, 4096)?;
+    try_leaf::<bool, 5, 512>(&rt, rt.alloc(), false, true, 32768)?;
+    try_leaf::<i32, 3, 8>(&rt, rt.alloc(), i32::MIN, i32::MAX, 512)?;
+    try_leaf::<i64, 1, 1>(&rt, rt.alloc(), i64::MIN, i64::MAX, 8)?;
+    try_leaf::<i64, 3, 8>(&rt, rt.alloc(), 0, -1, 512)?;
+    try_leaf::<i64, 4, 64>(&rt, rt.alloc(), 7, 8, 4096)?;
+    try_leaf::<i64, 5, 512>(&rt, rt.alloc(), 7, 8, 32768)
+}
+
+// What an internal node answers: the entry at an index, the cell of all, and the first child.
+fn expect_node<V: Stored<W>, const LOG2: u32, const W: usize>(
+    rt: &impl Abort,
+    node: &Internal<V, LOG2, W>,
+    i: u32,
+    entry: Entry<V>,
+    constant: Option<Cell<V>>,
+    child: Option<u32>,
+)
+    requires { i < entry_count LOG2 }
+{
+    assert!(rt; node.entry(i) == entry);
+    assert!(rt; node.constant() == constant);
+    assert_eq!(rt; node.next_child(0), child);
+}
+
+// An internal node of `count` entries, each a tile of `one`, in which the last is made another tile,
+// a child and the first tile again.
+fn try_internal<V: Stored<W>, const LOG2: u32, const W: usize>(
+    rt: &impl Abort,
+    alloc: Global,
+    one: V,
+    other: V,
+    count: u32,
+) -> Result<(), AllocError>
+    requires bits { LOG2 ≤ 5 }
+    requires room { entry_count LOG2 ≤ 64 * W }
+    requires few_words { W ≤ 512 }
+    requires all { count ≡ entry_count LOG2 }
+    requires several { 2 ≤ count }
+{
+    let last = count - 1;
+    let mut node: Internal<V, LOG2, W> = Internal::new_constant(alloc, on(one))?;
+    expect_node(rt, &node, last, Entry::Tile(on(one)), Some(on(one)), None);
+    node.set_tile(last, on(other));
+    expect_node(rt, &node, last, Entry::Tile(on(other)), None, None);
+    expect_node(rt, &node, last - 1, Entry::Tile(on(one)), None, None);
+    node.set_tile(last, off(one));
+    expect_node(rt, &node, last, Entry::Tile(off(one)), None, None);
+    node.set_child(last, u32::MAX);
+    expect_node(rt, &node, last, Entry::Child(u32::MAX), None, Some(last));
+    assert_eq!(rt; node.next_child(last), Some(last));
+    assert_eq!(rt; node.next_child(count), None);
+    node.set_tile(last, on(one));
+    expect_node(rt, &node, 0, Entry::Tile(on(one)), Some(on(one)), None);
+    Ok(())
+}
+
+#[test]
+fn internal_nodes_of_every_kind(rt: HostRuntime) -> Result<(), AllocError> {
+    try_internal::<bool, 1, 1>(&rt, rt.alloc(), true, false, 8)?;
+    try_internal::<bool, 3, 8>(&rt, rt.alloc(), true, false, 512)?;
+    try_internal::<bool, 4, 64>(&rt, rt.alloc(), true, false, 4096)?;
+    try_internal::<bool, 5, 512>(&rt, rt.alloc(), false, true, 32768)?;
+    try_internal::<i32, 2, 1>(&rt, rt.alloc(), i32::MIN, i32::MAX, 64)?;
+    try_internal::<i64, 1, 1>(&rt, rt.alloc(), i64::MIN, i64::MAX, 8)?;
+    try_internal::<i64, 3, 8>(&rt, rt.alloc(), 0, -1, 512)?;
+    try_internal::<i64, 4, 64>(&rt, rt.alloc(), 7, 8, 4096)?;
+    try_internal::<i64, 5, 512>(&rt, rt.alloc(), 7, 8, 32768)
+}
+
+// A leaf of truth values is made with no memory: that its maker cannot fail is proved here, and it
+// passes with every allocation refused.
+#[test]
+fn a_leaf_of_truth_values_takes_no_memory(rt: HostRuntime) {
+    let yes = Cell {
+        value: true,
+        on: true,
+    };
+    let Ok(small) = Leaf::<bool, 3, 8>::new_constant(rt.alloc(), yes) else {
+        unreachable!()
+    };
+    let Ok(large) = Leaf::<bool, 5, 512>::new_constant(rt.alloc(), yes) else {
+        unreachable!()
+    };
+    assert_eq!(rt; small.constant(), Some(yes));
+    assert_eq!(rt; large.constant(), Some(yes));
+}
+
+// The bytes of a node's place: 8 for each word of a mask, and 24 for each vector.
+#[test]
+fn places_are_small(rt: HostRuntime) {
+    assert_eq!(rt; size_of::<Leaf<bool, 3, 8>>(), 128);
+    assert_eq!(rt; size_of::<Leaf<i32, 3, 8>>(), 88);
+    assert_eq!(rt; size_of::<Internal<i32, 4, 64>>(), 1072);
+    assert_eq!(rt; size_of::<Internal<i32, 5, 512>>(), 8240);
+    assert_eq!(rt; size_of::<Internal<bool, 4, 64>>(), 1560);
+    assert_eq!(rt; size_of::<Internal<bool, 5, 512>>(), 12312);
+}

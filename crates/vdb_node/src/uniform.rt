@@ -1,0 +1,58 @@
+//! Masks of which only the first values stand for entries.
+
+ghost use Rattle.std.specs.Prelude.{◌≡◌, ◌≢◌, ◌*◌, ◌<◌, ◌≤◌, ◌↔◌, ℕ, IsTrue};
+ghost use Rattle.vdb_mask.specs.Mask.{is_on};
+ghost use Rattle.vdb_node.specs.Nodes.{entry_count, IsOffFrom};
+
+use vdb_mask::Mask;
+
+/// How many entries a node with this many bits has.
+pub fn entries(bits: u32) -> u32
+    requires { bits ≤ 5 }
+    ensures { result ≡ entry_count bits }
+{
+    1 << (3 * bits)
+}
+
+/// Makes the value at index `i` what `on` says; every other stays.
+pub fn put<const W: usize>(mask: &mut Mask<W>, i: u32, on: bool)
+    requires { i < 64 * W }
+    ensures here { is_on mask.new i ≡ on }
+    ensures others { (j : ℕ) → j ≢ i → is_on mask.new j ≡ is_on mask.old j }
+{
+    if on {
+        mask.set(i);
+    } else {
+        mask.clear(i);
+    }
+}
+
+/// Whether the first `count` values of the mask are one and the same.
+pub fn is_uniform<const W: usize>(mask: &Mask<W>, count: u32) -> bool
+    requires few_words { W ≤ 512 }
+    requires some { 0 < count }
+    requires room { count ≤ 64 * W }
+    ensures { IsTrue result ↔ ((i : ℕ) → i < count → is_on mask.now i ≡ is_on mask.now 0) }
+{
+    let other = if mask.test(0) {
+        mask.next_off(0)
+    } else {
+        mask.next_on(0)
+    };
+    match other {
+        Some(i) => count <= i,
+        None => true,
+    }
+}
+
+/// Turns off every value from index `count` on; the others stay.
+pub fn cut<const W: usize>(mask: &mut Mask<W>, count: u32)
+    requires few_words { W ≤ 512 }
+    requires past_end { IsOffFrom mask.old (64 * W) }
+    ensures off { IsOffFrom mask.new count }
+    ensures others { (i : ℕ) → i < count → is_on mask.new i ≡ is_on mask.old i }
+{
+    for i in count..64 * W as u32 {
+        mask.clear(i);
+    }
+}
