@@ -51,6 +51,10 @@ entries_power bits level h =
     let e : 1 * 2 ^ (3 * b) % 65536 ≡ 2 ^ (3 * b) = omega (arith, small) in
     e ∙ three_times b ∙ sym (cube_is (2 ^ b))
 
+-- and as a power of 2
+pub entries_is : (bits : Bits) (level : Level) → entries bits level ≡ 2 ^ (3 * node_bits bits level)
+entries_is bits level = let b = node_bits bits level in cube_is (2 ^ b) ∙ sym (three_times b)
+
 -- three places make an offset
 abbrev pub joined : ℕ → ℕ → ℕ → ℕ → ℕ
 joined w x y z = (x * w + y) * w + z

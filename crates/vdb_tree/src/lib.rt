@@ -1,9 +1,36 @@
-//! What a tree holds in the abstract: fields of cells, and what each operation makes of them.
+//! The tree of a sparse grid, and the field that it stands for: a cell at each coordinate.
+//!
+//! Contracts of this crate speak of fields. How a tree is laid out, in a root table, tiles and nodes, shows only where it
+//! matters: for paths of nodes, for the number of visits and for the size of the tree.
 #![tactic(auto)]
 
 ghost use Rattle.std.specs.Prelude.{◌≡◌};
 ghost use Rattle.vdb_tree.specs.Field.{written};
 
+mod counts;
+mod descent;
+mod keys;
+mod leaves;
+mod next_leaf;
+mod nodes;
+mod path;
+mod pieces;
+mod prune;
+mod refusal;
+mod root;
+mod split;
+#[cfg(test)]
+mod tests;
+mod tiles;
+mod trace;
+mod tree;
+mod writing;
+
+pub use counts::NodeCounts;
+pub use path::{Path, PathOf};
+pub use pieces::Piece;
+pub use refusal::TreeRefusal;
+pub use tree::{Tree, Tree433, TreeOf};
 use vdb_value::Cell;
 
 /// What is written to a voxel: a value and a state, or one of them (OpenVDB's `setValueOn`, `setValueOff`,

@@ -1,0 +1,84 @@
+-- The cells of a block, and what the tests of the field say of it.
+use Rattle.std.proofs.Common.{◌≡◌, refl, sym, subst, ◌∙◌, Bool, true, false, IsTrue}
+use Rattle.vdb_coord.specs.Blocks.{block, block_around, block_number}
+use Rattle.vdb_coord.specs.Entries.{AreBits}
+use Rattle.vdb_coord.specs.Space.{everywhere, is_inside}
+use Rattle.vdb_coord.specs.declared.Bits.{Bits}
+use Rattle.vdb_coord.specs.declared.Coord.{Coord}
+use Rattle.vdb_coord.specs.declared.Level.{Level}
+use Rattle.vdb_coord.proofs.Boxes.{not_true}
+use Rattle.vdb_coord.proofs.InRange.{block_in_range, number_of_corner}
+use Rattle.vdb_coord.proofs.Nesting.{inside_numbered, number_in_block}
+use Rattle.vdb_value.specs.declared.Cell.{Cell}
+use Rattle.vdb_tree.specs.Changes.{IsConstantBlock, IsMixedBlock}
+use Rattle.vdb_tree.specs.Field.{Field}
+use Rattle.vdb_tree.specs.Layout.{Layout, cell_at, field_of, plain}
+use Rattle.vdb_tree.specs.Plain.{is_constant, is_plain, is_uniform}
+use Rattle.vdb_tree.proofs.Fields.{cell_inside}
+use Rattle.vdb_tree.proofs.Uniform.{uniform_cells, uniform_from}
+
+-- true isn't false
+pub never : {b : Bool} → b ≡ false → b ≡ true → ⊥
+never {b} h k = let e : false ≡ true = sym h ∙ k in cc
+
+module _ {V : Type 0} (eq : V → V → Bool) (exact : (x y : V) → eq x y ≡ true → x ≡ y) (itself : (x : V) → eq x x ≡ true) where
+  -- ---- any field
+
+  -- each cell of a uniform block is the one
+  pub uniform_block : (bits : Bits) (level : Level) (f : Field V) (n : Coord) (c : Cell V) → is_uniform eq f (block bits level n) c ≡ true → (q : Coord) → block_number bits level q ≡ n → f.cell q ≡ c
+  uniform_block bits level f n c h q e = uniform_cells eq exact itself f (block bits level n) c h q (inside_numbered bits level n q e)
+
+  -- and a block with each cell the same is uniform
+  pub uniform_block_from : (bits : Bits) (level : Level) (f : Field V) (n : Coord) (c : Cell V) → ((q : Coord) → block_number bits level q ≡ n → f.cell q ≡ c) → is_uniform eq f (block bits level n) c ≡ true
+  uniform_block_from bits level f n c h = uniform_from eq exact itself f (block bits level n) c (λ q i. h q (number_in_block bits level n q i))
+
+  -- ---- the field of a tree
+
+  module _ (bits : Bits) (configured : AreBits bits) (level : Level) (t : Layout V) (p : Coord) (inside : IsTrue (is_inside everywhere p)) where
+    -- in the block of a coordinate in range the field has the tree's cells
+    pub block_cell : (q : Coord) → block_number bits level q ≡ block_number bits level p → (field_of bits t).cell q ≡ cell_at bits t q
+    block_cell q e = cell_inside t.background (cell_at bits t) q (block_in_range bits level configured p q inside e)
+
+    -- a uniform block, by the cells of the tree
+    uniform_cell : (c : Cell V) → is_uniform eq (field_of bits t) (block_around bits level p) c ≡ true → IsConstantBlock bits level t p c
+    uniform_cell c h q e = sym (block_cell q e) ∙ uniform_block bits level (field_of bits t) (block_number bits level p) c h q e
+
+    uniform_cell_from : (c : Cell V) → IsConstantBlock bits level t p c → is_uniform eq (field_of bits t) (block_around bits level p) c ≡ true
+    uniform_cell_from c h = uniform_block_from bits level (field_of bits t) (block_number bits level p) c (λ q e. block_cell q e ∙ h q e)
+
+    -- the cells of a constant block are one
+    pub constant_block : is_constant eq (field_of bits t) (block_around bits level p) ≡ true → IsConstantBlock bits level t p (cell_at bits t p)
+    constant_block h q e =
+        let cell = uniform_cell ((field_of bits t).cell (block_around bits level p).min) h in
+        cell q e ∙ sym (cell p refl)
+
+    -- a block whose cells are one is constant
+    pub constant_from : (c : Cell V) → IsConstantBlock bits level t p c → is_constant eq (field_of bits t) (block_around bits level p) ≡ true
+    constant_from c h =
+        let corner = (block_around bits level p).min in
+        let first : (field_of bits t).cell corner ≡ c = let e = number_of_corner bits level (block_number bits level p) in block_cell corner e ∙ h corner e in
+        subst (λ (d : Cell V). is_uniform eq (field_of bits t) (block_around bits level p) d ≡ true) (sym first) (uniform_cell_from c h)
+
+    -- a block with different cells isn't constant
+    pub mixed_from : IsMixedBlock bits level t p → is_constant eq (field_of bits t) (block_around bits level p) ≡ false
+    mixed_from mixed = not_true _ (λ h. mixed (cell_at bits t p) (constant_block h))
+
+    -- and the other way round
+    pub mixed_block : is_constant eq (field_of bits t) (block_around bits level p) ≡ false → IsMixedBlock bits level t p
+    mixed_block h c k = never h (constant_from c k)
+
+    -- the cells of a plain block are the background, inactive
+    pub plain_block : is_plain eq (field_of bits t) (block_around bits level p) ≡ true → IsConstantBlock bits level t p (plain t)
+    plain_block h = uniform_cell (plain t) h
+
+    -- a block whose cells are that is plain
+    pub plain_from : IsConstantBlock bits level t p (plain t) → is_plain eq (field_of bits t) (block_around bits level p) ≡ true
+    plain_from h = uniform_cell_from (plain t) h
+
+    -- a block with another cell isn't plain
+    pub unplain_from : (IsConstantBlock bits level t p (plain t) → ⊥) → is_plain eq (field_of bits t) (block_around bits level p) ≡ false
+    unplain_from other = not_true _ (λ h. other (plain_block h))
+
+    -- and the other way round
+    pub unplain_block : is_plain eq (field_of bits t) (block_around bits level p) ≡ false → IsConstantBlock bits level t p (plain t) → ⊥
+    unplain_block h k = never h (plain_from k)

@@ -1,0 +1,41 @@
+-- What a field has in a leaf block, by what stands over it.
+use Rattle.std.proofs.Common.{◌≡◌, ℕ, Bool, List, IsTrue, ap, refl, sym, ◌∙◌}
+use Rattle.std.specs.Prelude.{Some}
+use Rattle.vdb_coord.specs.Blocks.{block_number}
+use Rattle.vdb_coord.specs.Space.{everywhere, is_inside}
+use Rattle.vdb_coord.specs.declared.Bits.{Bits}
+use Rattle.vdb_coord.specs.declared.Coord.{Coord}
+use Rattle.vdb_coord.specs.declared.Level.TheVariants.{Leaf}
+use Rattle.vdb_node.specs.Leaf.{Leaf as LeafOf}
+use Rattle.vdb_node.specs.declared.Entry.TheVariants.{Child, Tile}
+use Rattle.vdb_pool.specs.Contents.{node_at}
+use Rattle.vdb_value.specs.declared.Cell.{Cell}
+use Rattle.vdb_tree.specs.Field.{Field}
+use Rattle.vdb_tree.specs.Layout.{Layout, cell_at, field_of, lower_entry}
+use Rattle.vdb_tree.specs.Leaves.{IsLeafAround, SetsStates, with_states_of}
+use Rattle.vdb_tree.proofs.Descents.{leaf_cell, lower_by_block, tile_cell}
+use Rattle.vdb_tree.proofs.Fields.{cell_inside}
+use Rattle.vdb_tree.proofs.Levels.{like_coords, unlike_coords}
+
+module _ {V : Type 0} (bits : Bits) (t : Layout V) (p : Coord) where
+  -- a leaf has the cells of its block
+  pub leaf_around : (u : ℕ) (n : LeafOf V) → lower_entry bits t p ≡ Child u → node_at t.leaves u ≡ Some n → IsLeafAround bits (field_of bits t) p n
+  leaf_around u n child was q inside e = cell_inside t.background (cell_at bits t) q inside ∙ leaf_cell bits t p u n child was q e
+
+  -- where a tile stands, all cells are p's
+  pub tile_around : (cell : Cell V) → lower_entry bits t p ≡ Tile cell → IsTrue (is_inside everywhere p)
+      → (q : Coord) → IsTrue (is_inside everywhere q) → block_number bits Leaf q ≡ block_number bits Leaf p → (field_of bits t).cell q ≡ (field_of bits t).cell p
+  tile_around cell tile here q inside e =
+      cell_inside t.background (cell_at bits t) q inside ∙ tile_cell bits t cell q (lower_by_block bits t q p e ∙ tile)
+      ∙ sym (cell_inside t.background (cell_at bits t) p here ∙ tile_cell bits t cell p tile)
+
+-- states set all over p's leaf block, coordinate by coordinate
+pub sets_states : {V : Type 0} (bits : Bits) (old new : Field V) (p : Coord) (mask : List Bool) → new ≡ with_states_of bits p mask old → SetsStates bits old new p mask
+sets_states bits old new p mask e = record {
+  here = λ q inside b.
+      let same = like_coords (block_number bits Leaf p) (block_number bits Leaf q) (sym b) in
+      ap (λ (f : Field _). f.cell q) e ∙ rw (inside, same) refl;
+  there = λ q inside d.
+      let other = unlike_coords (block_number bits Leaf p) (block_number bits Leaf q) (λ b. d (sym b)) in
+      ap (λ (f : Field _). f.cell q) e ∙ rw (inside, other) refl;
+}

@@ -1,0 +1,128 @@
+-- What becomes of a tree when a leaf gets other cells.
+use Rattle.std.proofs.Common.{◌≡◌, ◌≢◌, ℕ, ◌<◌, Bool, List, refl, sym, ap, subst, ◌∙◌, inl, inr}
+use Rattle.std.specs.Prelude.{Some}
+use Rattle.vdb_coord.specs.Blocks.{block_number, offset}
+use Rattle.vdb_coord.specs.Entries.{entry_number}
+use Rattle.vdb_coord.specs.declared.Bits.{Bits}
+use Rattle.vdb_coord.specs.declared.Coord.{Coord}
+use Rattle.vdb_coord.specs.declared.Level.TheVariants.{Leaf}
+use Rattle.vdb_coord.proofs.Nesting.{entry_number_leaf}
+use Rattle.vdb_coord.proofs.Places.{entries_is, offset_below}
+use Rattle.vdb_mask.specs.Mask.{is_on}
+use Rattle.vdb_node.specs.Leaf.{cell_in, Leaf as LeafOf, SetsVoxel}
+use Rattle.vdb_node.specs.Nodes.{entry_count}
+use Rattle.vdb_node.specs.declared.Entry.TheVariants.{Child}
+use Rattle.vdb_pool.specs.Contents.{node_at, with_node}
+use Rattle.vdb_value.specs.declared.Cell.{Cell}
+use Rattle.vdb_tree.specs.declared.Write.{Write}
+use Rattle.vdb_tree.specs.declared.path.PathOf.TheVariants.{Empty, ToUpper, ToLower, ToLeaf}
+use Rattle.vdb_tree.specs.Changes.{Changes, Turns}
+use Rattle.vdb_tree.specs.Field.{written}
+use Rattle.vdb_tree.specs.Layout.{Layout, cell_at, field_of, lower_entry, plain}
+use Rattle.vdb_tree.specs.Leaves.{IsVoxelWritten, with_states_of}
+use Rattle.vdb_tree.specs.Paths.{IsWhole, Lives, TreePath}
+use Rattle.vdb_tree.specs.Sound.{IsSound}
+use Rattle.vdb_tree.proofs.Descents.{leaf_cell, lower_by_block}
+use Rattle.vdb_tree.proofs.Equations.{same_field}
+use Rattle.vdb_tree.proofs.Fields.{cell_inside}
+use Rattle.vdb_tree.proofs.Levels.{child_slot, coord_cases, held_after, like_coords, node_turns, owned_after, unlike_coords, within_same}
+use Rattle.vdb_tree.proofs.Pools.{node_puts}
+
+same_some : {N : Type 0} (n m : N) → Some n ≡ Some m → n ≡ m
+same_some n m e = cc
+
+-- in the layout, another leaf in the slot
+abbrev pub with_leaf : {V : Type 0} → Layout V → ℕ → LeafOf V → Layout V
+with_leaf t u m = record t { leaves = with_node t.leaves u m }
+
+module _ {V : Type 0} (bits : Bits) (t : Layout V) (u : ℕ) (n m : LeafOf V) (was : node_at t.leaves u ≡ Some n) where
+  -- the tree stays sound
+  pub leaf_sound : IsSound bits t → IsSound bits (with_leaf t u m)
+  leaf_sound sound = record {
+    limit = sound.limit;
+    apart = sound.apart;
+    keys = sound.keys;
+    uppers = sound.uppers;
+    lowers = sound.lowers;
+    leaves = owned_after bits Leaf (lower_entry bits t) t.leaves (with_node t.leaves u m) u n m was (node_puts t.leaves u n m was) sound.leaves;
+  }
+
+  -- every path stays
+  lives_after : (path : TreePath V) (q : Coord) → Lives bits t path q → Lives bits (with_leaf t u m) path q
+  lives_after Empty q h = tt
+  lives_after (ToUpper a) q h = h
+  lives_after (ToLower a b) q h = h
+  lives_after (ToLeaf a b f) q h =
+      (h.0, h.1, record { live = (held_after t.leaves (with_node t.leaves u m) u m (node_puts t.leaves u n m was) f.slot h.2.live.0, h.2.live.1); child = h.2.child })
+
+  pub whole_after : (path : TreePath V) (q : Coord) → IsWhole bits t path q → IsWhole bits (with_leaf t u m) path q
+  whole_after path q h = record { lives = lives_after path q h.lives; whole = h.whole }
+
+  -- a voxel of the leaf over p is set
+  module _ (p : Coord) (child : lower_entry bits t p ≡ Child u) (cell : Cell V) (sets : SetsVoxel n m (offset bits Leaf p) cell) where
+    voxel_turns : IsSound bits t → Turns (entry_number bits Leaf) p (cell_at bits t) (cell_at bits (with_leaf t u m)) cell
+    unfolding cell_at
+    voxel_turns sound =
+        node_turns (cell_in (plain t)) (λ c. c) (plain t) bits Leaf (lower_entry bits t) t.leaves (with_node t.leaves u m) p u n m cell
+        (lower_by_block bits t) sound.leaves child was (node_puts t.leaves u n m was) (sets.changed (plain t)) (sets.others (plain t))
+
+    voxel_changes : IsSound bits t → Changes bits t (with_leaf t u m) p cell
+    voxel_changes sound =
+        let turns = voxel_turns sound in
+        record {
+          head = record { background = refl; limit = refl };
+          cells = record {
+            here = λ q e. turns.here q (ap (entry_number bits Leaf) e);
+            there = λ q d. turns.there q (λ e. d (sym (entry_number_leaf bits q) ∙ e ∙ entry_number_leaf bits p));
+          };
+        }
+
+    voxel_alone : IsVoxelWritten bits t (with_leaf t u m) p cell
+    voxel_alone slot k e held =
+        let same : u ≡ slot = child_slot {V = V} u slot (sym child ∙ e) in
+        let node : n ≡ k = same_some n k (sym was ∙ ap (node_at t.leaves) same ∙ held) in
+        (m, ap (λ s. with_leaf t s m) same, subst (λ l. SetsVoxel l m (offset bits Leaf p) cell) node sets)
+
+  -- the voxel at p of the leaf over it, which has this index, is written
+  module _ (p : Coord) (child : lower_entry bits t p ≡ Child u) (i : ℕ) (index : i ≡ offset bits Leaf p) (change : Write V) (old cell : Cell V)
+      (entry : (d : Cell V) → cell_in d n i ≡ old) (applied : cell ≡ written change old) (sets : SetsVoxel n m i cell) where
+    new_cell : cell ≡ written change (cell_at bits t p)
+    new_cell = applied ∙ ap (written change) (sym (leaf_cell bits t p u n child was p refl ∙ ap (cell_in (plain t) n) (sym index) ∙ entry (plain t)))
+
+    at_offset : SetsVoxel n m (offset bits Leaf p) (written change (cell_at bits t p))
+    at_offset = subst (λ c. SetsVoxel n m (offset bits Leaf p) c) new_cell (subst (λ j. SetsVoxel n m j cell) index sets)
+
+    pub write_changes : IsSound bits t → Changes bits t (with_leaf t u m) p (written change (cell_at bits t p))
+    write_changes = voxel_changes p child (written change (cell_at bits t p)) at_offset
+
+    pub write_alone : IsVoxelWritten bits t (with_leaf t u m) p (written change (cell_at bits t p))
+    write_alone = voxel_alone p child (written change (cell_at bits t p)) at_offset
+
+  -- the leaf over p gets the states of a mask
+  module _ (p : Coord) (child : lower_entry bits t p ≡ Child u) (mask : List Bool) (values : m.values ≡ n.values)
+      (states : (i : ℕ) → i < entry_count bits.leaf → is_on m.states i ≡ is_on mask i) where
+    states_here : (q : Coord) → block_number bits Leaf q ≡ block_number bits Leaf p
+        → cell_at bits (with_leaf t u m) q ≡ record { value = (cell_at bits t q).value; on = is_on mask (offset bits Leaf q) }
+    states_here q e =
+        let after = leaf_cell bits (with_leaf t u m) p u m child (node_puts t.leaves u n m was).here q e in
+        let before = leaf_cell bits t p u n child was q e in
+        let state = states (offset bits Leaf q) (subst (λ k. offset bits Leaf q < k) (entries_is bits Leaf) (offset_below bits Leaf q)) in
+        after ∙ rw (before, values, state) refl
+
+    states_there : IsSound bits t → (q : Coord) → block_number bits Leaf q ≢ block_number bits Leaf p → cell_at bits (with_leaf t u m) q ≡ cell_at bits t q
+    unfolding cell_at
+    states_there sound q d =
+        within_same (cell_in (plain t)) (λ c. c) (plain t) t.leaves (with_node t.leaves u m) (lower_entry bits t q) (offset bits Leaf q)
+        (λ r e. (node_puts t.leaves u n m was).others r (λ s. d (sound.leaves.own q p u (e ∙ ap Child s) child)))
+
+    pub states_field : IsSound bits t → field_of bits (with_leaf t u m) ≡ with_states_of bits p mask (field_of bits t)
+    states_field sound = same_field bits (with_leaf t u m) t.background _ refl (λ q inside.
+        let at = cell_inside t.background (cell_at bits t) q inside in
+        elim (coord_cases (block_number bits Leaf p) (block_number bits Leaf q)) [
+          | inl e ↦
+              let yes = like_coords (block_number bits Leaf p) (block_number bits Leaf q) e in
+              rw (yes, at) (states_here q (sym e))
+          | inr d ↦
+              let no = unlike_coords (block_number bits Leaf p) (block_number bits Leaf q) d in
+              rw (no, at) (states_there sound q (λ e. d (sym e)))
+        ])

@@ -1,0 +1,203 @@
+-- The root blocks that aren't plain, counted against the keys of the root table.
+use Rattle.std.proofs.Common.{◌≡◌, ◌≢◌, ◌⊎◌, inl, inr, ◌<◌, ◌≤◌, Bool, true, false, not, ◌||◌, List, [], ◌∷◌, length, refl, sym, ap, subst, ◌∙◌, arith, IsTrue}
+use Rattle.std.specs.Prelude.{Some, None, IsSome}
+use Rattle.std.specs.List.{AllByRecursion, IsDistinct}
+use Rattle.std.specs.Map.{keys_of}
+use Rattle.std.specs.Set.{is_member}
+use Rattle.std.proofs.lemmas.Map.Entries.{length-keys_of}
+use Rattle.std.proofs.lemmas.Map.Made.{is_some-lookup}
+use Rattle.vdb_coord.specs.Blocks.{block, block_number, block_numbers, key}
+use Rattle.vdb_coord.specs.Entries.{AreBits}
+use Rattle.vdb_coord.specs.Space.{coord_eq, everywhere, is_inside}
+use Rattle.vdb_coord.specs.declared.Bits.{Bits}
+use Rattle.vdb_coord.specs.declared.Coord.{Coord}
+use Rattle.vdb_coord.specs.declared.Level.{Level}
+use Rattle.vdb_coord.specs.declared.Level.TheVariants.{Upper}
+use Rattle.vdb_coord.proofs.Boxes.{not_true}
+use Rattle.vdb_coord.proofs.CountBounds.{count_at_least, count_at_most}
+use Rattle.vdb_coord.proofs.InRange.{corner_in_range, number_in_range, number_of_corner, numbered_in_range}
+use Rattle.vdb_coord.proofs.Members.{coord_equiv, coord_exact}
+use Rattle.vdb_node.specs.declared.Entry.{Entry}
+use Rattle.vdb_value.specs.declared.Cell.{Cell}
+use Rattle.vdb_tree.specs.Changes.{IsConstantBlock}
+use Rattle.vdb_tree.specs.Field.{Field, write, written}
+use Rattle.vdb_tree.specs.Layout.{Layout, cell_at, field_of, plain, root_at}
+use Rattle.vdb_tree.specs.Plain.{is_plain, is_uniform, roots}
+use Rattle.vdb_tree.specs.Sound.{IsSound}
+use Rattle.vdb_tree.specs.Table.{HasRoom}
+use Rattle.vdb_tree.specs.declared.Write.{Write}
+use Rattle.vdb_tree.proofs.Blocks.{never, uniform_block, uniform_block_from}
+use Rattle.vdb_tree.proofs.Fields.{cell_inside}
+use Rattle.vdb_tree.proofs.Levels.{coord_cases, unlike_coords}
+use Rattle.vdb_tree.proofs.Needed.{absent_block, has_needed, some_or_none}
+
+pub was_false : (b : Bool) → not b ≡ true → b ≡ false
+was_false true h = cc
+was_false false h = refl
+
+pub not_from : (b : Bool) → b ≡ false → not b ≡ true
+not_from b h = ap not h
+
+pub or_cases : (a b : Bool) → (a || b) ≡ true → (a ≡ true) ⊎ (b ≡ true)
+or_cases true b h = inl refl
+or_cases false b h = inr h
+
+pub or_first : (a b : Bool) → a ≡ true → (a || b) ≡ true
+or_first a b h = rw h refl
+
+pub or_second : (a b : Bool) → b ≡ true → (a || b) ≡ true
+or_second true b h = refl
+or_second false b h = h
+
+-- a key that a list doesn't have, before it, leaves it distinct
+all_apart : (k : Coord) (keys : List Coord) → is_member coord_eq keys k ≡ false → AllByRecursion (λ j. coord_eq k j ≡ false) keys
+all_apart k [] h = tt
+all_apart k (j ∷ keys) h =
+    let first : coord_eq k j ≡ false = not_true (coord_eq k j) (λ e. never h (or_first (coord_eq k j) (is_member coord_eq keys k) e)) in
+    let rest : is_member coord_eq keys k ≡ false = not_true (is_member coord_eq keys k) (λ e. never h (or_second (coord_eq k j) (is_member coord_eq keys k) e)) in
+    (first, all_apart k keys rest)
+
+one_more : (k : Coord) (keys : List Coord) → IsDistinct coord_eq keys → is_member coord_eq keys k ≡ false → IsDistinct coord_eq (k ∷ keys)
+unfolding IsDistinct
+one_more k keys distinct h = (all_apart k keys h, distinct)
+
+module _ {V : Type 0} (eq : V → V → Bool) (bits : Bits) (f : Field V) where
+  -- the root blocks that aren't plain are at most as many as keys among which they all are
+  pub roots_at_most : (keys : List Coord) → ((k : Coord) → IsTrue (is_inside (block_numbers bits Upper) k) → is_plain eq f (block bits Upper k) ≡ false → is_member coord_eq keys k ≡ true)
+      → roots eq bits f ≤ length keys
+  roots_at_most keys h = count_at_most (block_numbers bits Upper) (λ n. not (is_plain eq f (block bits Upper n))) keys (λ k i n. h k i (was_false _ n))
+
+  -- and at least as many as distinct keys of such blocks
+  pub roots_at_least : (keys : List Coord) → IsDistinct coord_eq keys
+      → ((k : Coord) → is_member coord_eq keys k ≡ true → IsTrue (is_inside (block_numbers bits Upper) k) × (is_plain eq f (block bits Upper k) ≡ false)) → length keys ≤ roots eq bits f
+  roots_at_least keys distinct h =
+      count_at_least (block_numbers bits Upper) (λ n. not (is_plain eq f (block bits Upper n))) keys distinct (λ k m. let hs = h k m in (hs.0, not_from _ hs.1))
+
+-- ---- a write to one voxel
+
+module _ {V : Type 0} (p : Coord) (w : Write V) (f : Field V) where
+  pub write_here : IsTrue (is_inside everywhere p) → (write p w f).cell p ≡ written w (f.cell p)
+  write_here inside = let e = coord_equiv.refl p in rw (inside, e) refl
+
+  pub write_there : (q : Coord) → IsTrue (is_inside everywhere q) → q ≢ p → (write p w f).cell q ≡ f.cell q
+  write_there q inside d = let e = unlike_coords p q (λ s. d (sym s)) in rw (inside, e) refl
+
+-- ---- the table
+
+module _ {V : Type 0} (t : Layout V) where
+  -- the keys of a table are those that have an entry
+  pub key_member : (k : Coord) → IsSome (root_at t.root k) → is_member coord_eq (keys_of t.root) k ≡ true
+  key_member k h = sym (is_some-lookup (coord_eq k) t.root) ∙ h
+
+  pub member_entry : (k : Coord) → is_member coord_eq (keys_of t.root) k ≡ true → IsSome (root_at t.root k)
+  member_entry k h = is_some-lookup (coord_eq k) t.root ∙ h
+
+  absent_key : (k : Coord) → root_at t.root k ≡ None → is_member coord_eq (keys_of t.root) k ≡ false
+  absent_key k h = sym (is_some-lookup (coord_eq k) t.root) ∙ rw h refl
+
+module _ {V : Type 0} (eq : V → V → Bool) (exact : (x y : V) → eq x y ≡ true → x ≡ y) (itself : (x : V) → eq x x ≡ true) (bits : Bits) (configured : AreBits bits) where
+  -- fields with the same cells in a block have it uniform alike
+  uniform_as : (level : Level) (f g : Field V) (n : Coord) (c : Cell V) → ((q : Coord) → block_number bits level q ≡ n → g.cell q ≡ f.cell q)
+      → is_uniform eq f (block bits level n) c ≡ true → is_uniform eq g (block bits level n) c ≡ true
+  uniform_as level f g n c same h = uniform_block_from eq exact itself bits level g n c (λ q e. same q e ∙ uniform_block eq exact itself bits level f n c h q e)
+
+  -- a write leaves the other root blocks as they are
+  write_elsewhere : (p : Coord) (w : Write V) (f : Field V) (k : Coord) → IsTrue (is_inside (block_numbers bits Upper) k) → k ≢ key bits p
+      → (q : Coord) → block_number bits Upper q ≡ k → (write p w f).cell q ≡ f.cell q
+  write_elsewhere p w f k inside d q e =
+      write_there p w f q (numbered_in_range bits Upper configured q (subst (λ (n : Coord). is_inside (block_numbers bits Upper) n ≡ true) (sym e) inside))
+      (λ s. d (sym e ∙ ap (key bits) s))
+
+  module _ (t : Layout V) where
+    -- a root block that isn't plain has an entry
+    pub rooted : (k : Coord) → IsTrue (is_inside (block_numbers bits Upper) k) → is_plain eq (field_of bits t) (block bits Upper k) ≡ false → IsSome (root_at t.root k)
+    rooted k inside h =
+        let corner = (block bits Upper k).min in
+        let number = number_of_corner bits Upper k in
+        subst (λ (n : Coord). is_plain eq (field_of bits t) (block bits Upper n) ≡ false → IsSome (root_at t.root n)) number
+        ((has_needed eq exact itself bits configured t).entries corner (corner_in_range bits Upper configured k inside)) h
+
+    -- a table has at least as many entries as there are root blocks that aren't plain
+    pub roots_within : roots eq bits (field_of bits t) ≤ length t.root
+    roots_within =
+        subst (λ n. roots eq bits (field_of bits t) ≤ n) (length-keys_of t.root)
+        (roots_at_most eq bits (field_of bits t) (keys_of t.root) (λ k inside h. key_member t k (rooted k inside h)))
+
+    -- so these keep to the limit
+    pub roots_limit : IsSound bits t → roots eq bits (field_of bits t) ≤ t.limit
+    roots_limit sound = let a = roots_within in let b = sound.limit in omega (arith, a, b)
+
+    module _ (p : Coord) (w : Write V) (inside : IsTrue (is_inside everywhere p)) where
+      -- after a write, a root block that isn't plain has an entry or is the one around the voxel
+      write_rooted : (k : Coord) → IsTrue (is_inside (block_numbers bits Upper) k) → is_plain eq (write p w (field_of bits t)) (block bits Upper k) ≡ false → k ≢ key bits p → IsSome (root_at t.root k)
+      write_rooted k within h d =
+          let f = field_of bits t in
+          let elsewhere = write_elsewhere p w f k within d in
+          rooted k within (not_true _ (λ u. never h (uniform_as Upper f (write p w f) k (plain t) elsewhere u)))
+
+      -- a write that has room keeps to the limit
+      pub write_within : IsSound bits t → HasRoom t (key bits p) → roots eq bits (write p w (field_of bits t)) ≤ t.limit
+      write_within sound room =
+          elim room [
+            | inl held ↦
+                let a = roots_at_most eq bits (write p w (field_of bits t)) (keys_of t.root)
+                (λ k within h. elim (coord_cases k (key bits p)) [
+                  | inl e ↦ key_member t k (subst (λ (n : Coord). IsSome (root_at t.root n)) (sym e) held)
+                  | inr d ↦ key_member t k (write_rooted k within h d)
+                ]) in
+                omega (arith, a, length-keys_of t.root, sound.limit)
+            | inr more ↦
+                let a = roots_at_most eq bits (write p w (field_of bits t)) (key bits p ∷ keys_of t.root)
+                (λ k within h. elim (coord_cases k (key bits p)) [
+                  | inl e ↦ or_first _ _ (subst (λ (n : Coord). coord_eq k n ≡ true) e (coord_equiv.refl k))
+                  | inr d ↦ or_second _ _ (key_member t k (write_rooted k within h d))
+                ]) in
+                omega (arith, a, length-keys_of t.root, more)
+          ]
+
+      -- one that hasn't would exceed it, where no entry is for a plain block
+      pub write_exceeds : IsSound bits t
+          → ((q : Coord) (entry : Entry V) → root_at t.root (key bits q) ≡ Some entry → IsConstantBlock bits Upper t q (plain t) → ⊥)
+          → root_at t.root (key bits p) ≡ None → length t.root ≡ t.limit → (written w (cell_at bits t p) ≡ cell_at bits t p → ⊥)
+          → t.limit < roots eq bits (write p w (field_of bits t))
+      write_exceeds sound entries none full changed =
+          let a = roots_at_least eq bits (write p w (field_of bits t)) (key bits p ∷ keys_of t.root) (one_more (key bits p) (keys_of t.root) sound.apart (absent_key t (key bits p) none)) each in
+          omega (arith, a, length-keys_of t.root, full)
+        where
+          -- the block of the voxel was plain, and isn't now
+          here : is_plain eq (write p w (field_of bits t)) (block bits Upper (key bits p)) ≡ false
+          here = not_true _ (λ u.
+              let was : cell_at bits t p ≡ plain t = absent_block bits t p none p refl in
+              let now : (write p w (field_of bits t)).cell p ≡ plain t = uniform_block eq exact itself bits Upper (write p w (field_of bits t)) (key bits p) (plain t) u p refl in
+              let cell : (write p w (field_of bits t)).cell p ≡ written w (cell_at bits t p) = write_here p w (field_of bits t) inside ∙ ap (written w) (cell_inside t.background (cell_at bits t) p inside) in
+              changed (sym cell ∙ now ∙ sym was))
+
+          -- the block of another key isn't plain, as before
+          there : (k : Coord) → IsTrue (is_inside (block_numbers bits Upper) k) → k ≢ key bits p → IsSome (root_at t.root k) → is_plain eq (write p w (field_of bits t)) (block bits Upper k) ≡ false
+          there k within d held = not_true _ (λ u.
+              let corner = (block bits Upper k).min in
+              let number : key bits corner ≡ k = number_of_corner bits Upper k in
+              elim (some_or_none (root_at t.root (key bits corner))) [
+                | inl entry ↦ entries corner entry.0 entry.1 (λ q e.
+                    let at : key bits q ≡ k = e ∙ number in
+                    let range : IsTrue (is_inside everywhere q) = numbered_in_range bits Upper configured q (subst (λ (n : Coord). is_inside (block_numbers bits Upper) n ≡ true) (sym at) within) in
+                    sym (cell_inside t.background (cell_at bits t) q range) ∙ sym (write_elsewhere p w (field_of bits t) k within d q at)
+                    ∙ uniform_block eq exact itself bits Upper (write p w (field_of bits t)) k (plain t) u q at)
+                | inr empty ↦ never (rw (← number, empty) refl) held
+              ])
+
+          each : (k : Coord) → is_member coord_eq (key bits p ∷ keys_of t.root) k ≡ true → IsTrue (is_inside (block_numbers bits Upper) k) × (is_plain eq (write p w (field_of bits t)) (block bits Upper k) ≡ false)
+          each k m =
+              elim (coord_cases k (key bits p)) [
+                | inl e ↦ (
+                  subst (λ (n : Coord). is_inside (block_numbers bits Upper) n ≡ true) (sym e) (number_in_range bits Upper p inside),
+                  subst (λ (n : Coord). is_plain eq (write p w (field_of bits t)) (block bits Upper n) ≡ false) (sym e) here,
+                )
+                | inr d ↦ elim (or_cases (coord_eq k (key bits p)) (is_member coord_eq (keys_of t.root) k) m) [
+                  | inl s ↦ absurd (d (coord_exact k (key bits p) s))
+                  | inr s ↦
+                      let held = member_entry t k s in
+                      let within = sound.keys k held in
+                      (within, there k within d held)
+                ]
+              ]

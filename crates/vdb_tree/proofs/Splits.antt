@@ -1,0 +1,247 @@
+-- A tile becomes a node with its cell all over, and no cell changes.
+use Rattle.std.proofs.Common.{◌≡◌, ◌≤◌, ◌<◌, ℕ, List, refl, sym, ◌∙◌, length, inl, inr, IsTrue}
+use Rattle.std.specs.Prelude.{Some, None, IsSome, slice_index_or, if◌then◌else◌}
+use Rattle.std.specs.List.{IsDistinct}
+use Rattle.std.specs.Map.{keys_of}
+use Rattle.vdb_coord.specs.Blocks.{block_number, block_numbers, key, node_bits, offset}
+use Rattle.vdb_coord.specs.Space.{coord_eq, is_inside}
+use Rattle.vdb_coord.specs.declared.Bits.{Bits}
+use Rattle.vdb_coord.specs.declared.Coord.{Coord}
+use Rattle.vdb_coord.specs.declared.Level.{Level}
+use Rattle.vdb_coord.specs.declared.Level.TheVariants.{Leaf, Lower, Upper}
+use Rattle.vdb_coord.proofs.Members.{coord_exact}
+use Rattle.vdb_coord.proofs.Places.{entries_is, offset_below}
+use Rattle.vdb_node.specs.Entries.{IsConstant, SetsEntry}
+use Rattle.vdb_node.specs.Leaf.{IsConstantLeaf, cell_in, Leaf as LeafOf}
+use Rattle.vdb_node.specs.Nodes.{entry_count}
+use Rattle.vdb_node.specs.declared.Entry.{Entry}
+use Rattle.vdb_node.specs.declared.Entry.TheVariants.{Child, Tile}
+use Rattle.vdb_pool.specs.Contents.{Contents, node_at}
+use Rattle.vdb_value.specs.declared.Cell.{Cell}
+use Rattle.vdb_tree.specs.Changes.{Keeps, Turns}
+use Rattle.vdb_tree.specs.Layout.{Layout, cell_at, lower_entry, plain, root_at, root_entry, upper_entry}
+use Rattle.vdb_tree.specs.Sound.{IsSound}
+use Rattle.vdb_tree.proofs.Descents.{lower_by_block, root_by_block, upper_by_block}
+use Rattle.vdb_tree.proofs.Levels.{Puts, bool_cases, coord_cases, like_coords, node_turns, owned_after, owned_as, owned_nodes, split_below, split_owned, unlike_coords}
+
+-- an offset is an index of the node
+pub index_below : (bits : Bits) (level : Level) (p : Coord) → offset bits level p < entry_count (node_bits bits level)
+index_below bits level p = let h = offset_below bits level p in rw (entries_is bits level) at h
+
+-- an entry put under p's key is the one over p's root block, and the others stay
+pub root_turns : {V : Type 0} (bits : Bits) (t n : Layout V) (p : Coord) (x : Entry V) → n.background ≡ t.background
+    → ((k : Coord) → root_at n.root k ≡ (if coord_eq (key bits p) k then Some x else root_at t.root k)) → Turns (block_number bits Upper) p (root_entry bits t) (root_entry bits n) x
+root_turns bits t n p x same changed = record {
+  here = λ q e.
+      let a = changed (key bits q) in
+      let b = like_coords (key bits p) (key bits q) (sym e) in
+      rw (a, b) refl;
+  there = λ q d.
+      let a = changed (key bits q) in
+      let b = unlike_coords (key bits p) (key bits q) (λ e. d (sym e)) in
+      rw (a, b, same) refl;
+}
+
+-- the keys stay those of root blocks where one of them gets an entry
+pub root_keys : {V : Type 0} (bits : Bits) (t : Layout V) (root : List (Coord × Entry V)) (at : Coord) (x : Entry V) → IsSound bits t → IsTrue (is_inside (block_numbers bits Upper) at)
+    → ((k : Coord) → root_at root k ≡ (if coord_eq at k then Some x else root_at t.root k)) → (k : Coord) → IsSome (root_at root k) → IsTrue (is_inside (block_numbers bits Upper) k)
+root_keys bits t root at x sound inside changed k h =
+    elim (bool_cases (coord_eq at k)) [
+      | inl e ↦ let s = coord_exact at k e in rw s at inside
+      | inr e ↦ let c = changed k in sound.keys k (rw (c, e) at h)
+    ]
+
+-- a key of the table is that of a root block
+pub entered_key : {V : Type 0} (bits : Bits) (t : Layout V) (p : Coord) → IsSound bits t → IsSome (root_at t.root (key bits p)) → IsTrue (is_inside (block_numbers bits Upper) (key bits p))
+entered_key bits t p sound h = sound.keys (key bits p) h
+
+module _ {V : Type 0} (bits : Bits) where
+  pub keeps_itself : (t : Layout V) → Keeps bits t t
+  keeps_itself t = record { head = record { background = refl; limit = refl }; cells = λ q. refl }
+
+  pub keeps_twice : (s t n : Layout V) → Keeps bits s t → Keeps bits t n → Keeps bits s n
+  keeps_twice s t n a b = record {
+    head = record { background = b.head.background ∙ a.head.background; limit = b.head.limit ∙ a.head.limit };
+    cells = λ q. b.cells q ∙ a.cells q;
+  }
+
+  -- where the entries over lower blocks stay, and the lower nodes do, so do the entries below
+  pub lowers_from : (old new : Layout V) → new.background ≡ old.background → new.lowers ≡ old.lowers → ((q : Coord) → upper_entry bits new q ≡ upper_entry bits old q)
+      → (q : Coord) → lower_entry bits new q ≡ lower_entry bits old q
+  lowers_from old new b l same q = let e = same q in rw (e, b, l) refl
+
+  pub cells_from : (old new : Layout V) → new.background ≡ old.background → new.leaves ≡ old.leaves → ((q : Coord) → lower_entry bits new q ≡ lower_entry bits old q)
+      → (q : Coord) → cell_at bits new q ≡ cell_at bits old q
+  unfolding cell_at
+  cells_from old new b l same q = let e = same q in rw (e, b, l) refl
+
+  -- the root's tile becomes an upper node
+  module _ (t : Layout V) (sound : IsSound bits t) (p : Coord) (s : ℕ) (c : Cell V) (k : List (Entry V)) (root : List (Coord × Entry V)) (uppers : Contents (List (Entry V)))
+      (tiled : root_entry bits t p ≡ Tile c)
+      (changed : (q : Coord) → root_at root q ≡ (if coord_eq (key bits p) q then Some (Child s) else root_at t.root q))
+      (free : node_at t.uppers s ≡ None) (const : IsConstant k (entry_count bits.upper) (Tile c)) (put : Puts t.uppers uppers s (Some k)) where
+    abbrev pub with_upper : Layout V
+    with_upper = record t { root = root; uppers = uppers }
+
+    upper_turns : Turns (block_number bits Upper) p (root_entry bits t) (root_entry bits with_upper) (Child s)
+    upper_turns = root_turns bits t with_upper p (Child s) refl changed
+
+    upper_stays : (q : Coord) → upper_entry bits with_upper q ≡ upper_entry bits t q
+    upper_stays =
+        split_below (λ node i. slice_index_or node i (Tile (plain t))) Tile (Tile (plain t)) bits Upper (root_entry bits t) (root_entry bits with_upper) t.uppers uppers p s k c sound.uppers free
+        (λ r e. root_by_block bits t r p e ∙ tiled) upper_turns put (λ q. const _ _ (index_below bits Upper q))
+
+    lower_stays : (q : Coord) → lower_entry bits with_upper q ≡ lower_entry bits t q
+    lower_stays = lowers_from t with_upper refl refl upper_stays
+
+    pub with_upper_keeps : Keeps bits t with_upper
+    with_upper_keeps = record { head = record { background = refl; limit = refl }; cells = cells_from t with_upper refl refl lower_stays }
+
+    pub with_upper_sound : IsSome (root_at t.root (key bits p)) → length root ≡ length t.root → IsDistinct coord_eq (keys_of root) → IsSound bits with_upper
+    with_upper_sound entered size apart = record {
+      limit = rw size sound.limit;
+      apart = apart;
+      keys = root_keys bits t root (key bits p) (Child s) sound (entered_key bits t p sound entered) changed;
+      uppers = split_owned bits Upper (root_entry bits t) (root_entry bits with_upper) t.uppers uppers p s k c sound.uppers free (λ r e. root_by_block bits t r p e ∙ tiled) upper_turns put;
+      lowers = owned_as bits Lower _ _ _ upper_stays sound.lowers;
+      leaves = owned_as bits Leaf _ _ _ lower_stays sound.leaves;
+    }
+
+    pub with_upper_at : root_entry bits with_upper p ≡ Child s
+    with_upper_at = upper_turns.here p refl
+
+  -- an upper node's tile becomes a lower node
+  module _ (t : Layout V) (sound : IsSound bits t) (p : Coord) (u s : ℕ) (c : Cell V) (n m k : List (Entry V)) (uppers lowers : Contents (List (Entry V)))
+      (at_root : root_entry bits t p ≡ Child u) (tiled : upper_entry bits t p ≡ Tile c)
+      (was : node_at t.uppers u ≡ Some n) (sets : SetsEntry n m (offset bits Upper p) (Child s)) (changed : Puts t.uppers uppers u (Some m))
+      (free : node_at t.lowers s ≡ None) (const : IsConstant k (entry_count bits.lower) (Tile c)) (put : Puts t.lowers lowers s (Some k)) where
+    abbrev pub with_lower : Layout V
+    with_lower = record t { uppers = uppers; lowers = lowers }
+
+    lower_turns : Turns (block_number bits Lower) p (upper_entry bits t) (upper_entry bits with_lower) (Child s)
+    lower_turns =
+        node_turns (λ node i. slice_index_or node i (Tile (plain t))) Tile (Tile (plain t)) bits Upper (root_entry bits t) t.uppers uppers p u n m (Child s) (root_by_block bits t) sound.uppers at_root was changed
+        (sets.changed _) (sets.others _)
+
+    lowers_stay : (q : Coord) → lower_entry bits with_lower q ≡ lower_entry bits t q
+    lowers_stay =
+        split_below (λ node i. slice_index_or node i (Tile (plain t))) Tile (Tile (plain t)) bits Lower (upper_entry bits t) (upper_entry bits with_lower) t.lowers lowers p s k c sound.lowers free
+        (λ r e. upper_by_block bits t r p e ∙ tiled) lower_turns put (λ q. const _ _ (index_below bits Lower q))
+
+    pub with_lower_keeps : Keeps bits t with_lower
+    with_lower_keeps = record { head = record { background = refl; limit = refl }; cells = cells_from t with_lower refl refl lowers_stay }
+
+    pub with_lower_sound : IsSound bits with_lower
+    with_lower_sound = record {
+      limit = sound.limit;
+      apart = sound.apart;
+      keys = sound.keys;
+      uppers = owned_after bits Upper _ _ _ _ _ _ was changed sound.uppers;
+      lowers = split_owned bits Lower (upper_entry bits t) (upper_entry bits with_lower) t.lowers lowers p s k c sound.lowers free (λ r e. upper_by_block bits t r p e ∙ tiled) lower_turns put;
+      leaves = owned_as bits Leaf _ _ _ lowers_stay sound.leaves;
+    }
+
+    pub with_lower_at : upper_entry bits with_lower p ≡ Child s
+    with_lower_at = lower_turns.here p refl
+
+  -- a lower node's tile becomes a leaf
+  module _ (t : Layout V) (sound : IsSound bits t) (p : Coord) (u s : ℕ) (c : Cell V) (n m : List (Entry V)) (k : LeafOf V) (lowers : Contents (List (Entry V))) (leaves : Contents (LeafOf V))
+      (at_upper : upper_entry bits t p ≡ Child u) (tiled : lower_entry bits t p ≡ Tile c)
+      (was : node_at t.lowers u ≡ Some n) (sets : SetsEntry n m (offset bits Lower p) (Child s)) (changed : Puts t.lowers lowers u (Some m))
+      (free : node_at t.leaves s ≡ None) (const : IsConstantLeaf k (entry_count bits.leaf) c) (put : Puts t.leaves leaves s (Some k)) where
+    abbrev pub with_leaf : Layout V
+    with_leaf = record t { lowers = lowers; leaves = leaves }
+
+    leaf_turns : Turns (block_number bits Leaf) p (lower_entry bits t) (lower_entry bits with_leaf) (Child s)
+    leaf_turns =
+        node_turns (λ node i. slice_index_or node i (Tile (plain t))) Tile (Tile (plain t)) bits Lower (upper_entry bits t) t.lowers lowers p u n m (Child s) (upper_by_block bits t) sound.lowers at_upper was changed
+        (sets.changed _) (sets.others _)
+
+    cells_stay : (q : Coord) → cell_at bits with_leaf q ≡ cell_at bits t q
+    unfolding cell_at
+    cells_stay =
+        split_below (cell_in (plain t)) (λ cell. cell) (plain t) bits Leaf (lower_entry bits t) (lower_entry bits with_leaf) t.leaves leaves p s k c sound.leaves free
+        (λ r e. lower_by_block bits t r p e ∙ tiled) leaf_turns put (λ q. const (plain t) _ (index_below bits Leaf q))
+
+    pub with_leaf_keeps : Keeps bits t with_leaf
+    with_leaf_keeps = record { head = record { background = refl; limit = refl }; cells = cells_stay }
+
+    pub with_leaf_sound : IsSound bits with_leaf
+    with_leaf_sound = record {
+      limit = sound.limit;
+      apart = sound.apart;
+      keys = sound.keys;
+      uppers = sound.uppers;
+      lowers = owned_after bits Lower _ _ _ _ _ _ was changed sound.lowers;
+      leaves = split_owned bits Leaf (lower_entry bits t) (lower_entry bits with_leaf) t.leaves leaves p s k c sound.leaves free (λ r e. lower_by_block bits t r p e ∙ tiled) leaf_turns put;
+    }
+
+    pub with_leaf_at : lower_entry bits with_leaf p ≡ Child s
+    with_leaf_at = leaf_turns.here p refl
+
+  -- a root block gets the tile that it stood for
+  module _ (t : Layout V) (sound : IsSound bits t) (p : Coord) (c : Cell V) (root : List (Coord × Entry V))
+      (tiled : root_entry bits t p ≡ Tile c)
+      (changed : (q : Coord) → root_at root q ≡ (if coord_eq (key bits p) q then Some (Tile c) else root_at t.root q)) where
+    abbrev pub with_entry : Layout V
+    with_entry = record t { root = root }
+
+    entry_turns : Turns (block_number bits Upper) p (root_entry bits t) (root_entry bits with_entry) (Tile c)
+    entry_turns = root_turns bits t with_entry p (Tile c) refl changed
+
+    entries_stay : (q : Coord) → root_entry bits with_entry q ≡ root_entry bits t q
+    entries_stay q =
+        elim (coord_cases (key bits q) (key bits p)) [
+          | inl e ↦ entry_turns.here q e ∙ sym (root_by_block bits t q p e ∙ tiled)
+          | inr d ↦ entry_turns.there q d
+        ]
+
+    upper_too : (q : Coord) → upper_entry bits with_entry q ≡ upper_entry bits t q
+    upper_too q = let e = entries_stay q in rw e refl
+
+    lower_too : (q : Coord) → lower_entry bits with_entry q ≡ lower_entry bits t q
+    lower_too = lowers_from t with_entry refl refl upper_too
+
+    pub with_entry_keeps : Keeps bits t with_entry
+    with_entry_keeps = record { head = record { background = refl; limit = refl }; cells = cells_from t with_entry refl refl lower_too }
+
+    pub with_entry_sound : IsTrue (is_inside (block_numbers bits Upper) (key bits p)) → length root ≤ t.limit → IsDistinct coord_eq (keys_of root) → IsSound bits with_entry
+    with_entry_sound inside room apart = record {
+      limit = room;
+      apart = apart;
+      keys = root_keys bits t root (key bits p) (Tile c) sound inside changed;
+      uppers = owned_as bits Upper _ _ _ entries_stay sound.uppers;
+      lowers = owned_as bits Lower _ _ _ upper_too sound.lowers;
+      leaves = owned_as bits Leaf _ _ _ lower_too sound.leaves;
+    }
+
+    pub with_entry_at : root_entry bits with_entry p ≡ Tile c
+    with_entry_at = entries_stay p ∙ tiled
+
+  -- pools with other room, and the same nodes
+  module _ (t n : Layout V) (b : n.background ≡ t.background) (r : n.root ≡ t.root) (u : n.uppers.nodes ≡ t.uppers.nodes) (l : n.lowers.nodes ≡ t.lowers.nodes) (f : n.leaves.nodes ≡ t.leaves.nodes) (m : n.limit ≡ t.limit) where
+    same_root : (q : Coord) → root_entry bits n q ≡ root_entry bits t q
+    same_root q = rw (b, r) refl
+
+    same_uppers : (q : Coord) → upper_entry bits n q ≡ upper_entry bits t q
+    same_uppers q = let e = same_root q in rw (e, u, b) refl
+
+    same_lowers : (q : Coord) → lower_entry bits n q ≡ lower_entry bits t q
+    same_lowers q = let e = same_uppers q in rw (e, l, b) refl
+
+    same_cells : (q : Coord) → cell_at bits n q ≡ cell_at bits t q
+    unfolding cell_at
+    same_cells q = let e = same_lowers q in rw (e, f, b) refl
+
+    pub room_keeps : Keeps bits t n
+    room_keeps = record { head = record { background = b; limit = m }; cells = same_cells }
+
+    pub room_sound : IsSound bits t → IsSound bits n
+    room_sound sound = record {
+      limit = rw (r, m) sound.limit;
+      apart = rw r sound.apart;
+      keys = λ k h. sound.keys k (rw r at h);
+      uppers = owned_as bits Upper _ _ _ same_root (owned_nodes bits Upper _ t.uppers n.uppers u sound.uppers);
+      lowers = owned_as bits Lower _ _ _ same_uppers (owned_nodes bits Lower _ t.lowers n.lowers l sound.lowers);
+      leaves = owned_as bits Leaf _ _ _ same_lowers (owned_nodes bits Leaf _ t.leaves n.leaves f sound.leaves);
+    }

@@ -1,0 +1,82 @@
+-- What a write of a voxel comes to: the outcome of each way through it.
+use Rattle.std.proofs.Common.{◌≡◌, ◌≢◌, ◌⊎◌, inl, inr, ◌<◌, ◌≤◌, ℕ, Bool, true, IsTrue, refl, sym, ap, subst, ◌∙◌, arith, length, Err}
+use Rattle.std.specs.Prelude.{None, Result}
+use Rattle.vdb_coord.specs.Blocks.{key}
+use Rattle.vdb_coord.specs.Entries.{AreBits}
+use Rattle.vdb_coord.specs.Space.{everywhere, is_inside}
+use Rattle.vdb_coord.specs.declared.Bits.{Bits}
+use Rattle.vdb_coord.specs.declared.Coord.{Coord}
+use Rattle.vdb_tree.specs.declared.Write.{Write}
+use Rattle.vdb_tree.specs.declared.refusal.TreeRefusal.{TreeRefusal}
+use Rattle.vdb_tree.specs.declared.refusal.TreeRefusal.TheVariants.{Memory}
+use Rattle.vdb_tree.specs.Changes.{Changes, IsSwept, Keeps}
+use Rattle.vdb_tree.specs.Field.{write, written}
+use Rattle.vdb_node.specs.declared.Entry.TheVariants.{Child, Tile}
+use Rattle.vdb_value.specs.declared.Cell.{Cell}
+use Rattle.vdb_tree.specs.Layout.{Layout, cell_at, field_of, lower_entry, plain, root_at}
+use Rattle.vdb_tree.specs.Outcome.{IsOutcome}
+use Rattle.vdb_tree.specs.Plain.{roots}
+use Rattle.vdb_tree.specs.Sound.{IsSound}
+use Rattle.vdb_tree.specs.Table.{HasRoom}
+use Rattle.vdb_tree.proofs.Descents.{tile_cell, tile_lower, tile_upper}
+use Rattle.vdb_tree.proofs.Equations.{changes_field, keeps_field, same_field}
+use Rattle.vdb_tree.proofs.Fields.{cell_inside}
+use Rattle.vdb_tree.proofs.Levels.{coord_cases, like_coords, tile_no_child, unlike_coords}
+use Rattle.vdb_tree.proofs.Needed.{absent_entry, is_some_from, some_or_none}
+use Rattle.vdb_tree.proofs.Rooted.{write_exceeds}
+
+not_less : (a b : ℕ) → a ≤ b → (a < b → ⊥) → a ≡ b
+not_less a b h never = elim (less_or a b h) [ inl k ↦ absurd (never k) | inr e ↦ e ]
+  where
+    less_or : (a b : ℕ) → a ≤ b → (a < b) ⊎ (a ≡ b)
+    less_or a b h = grind arith
+
+module _ {V : Type 0} (eq : V → V → Bool) (exact : (x y : V) → eq x y ≡ true → x ≡ y) (itself : (x : V) → eq x x ≡ true) (bits : Bits) (configured : AreBits bits) where
+  -- a swept table without room is full of roots, and a cell that changes elsewhere makes one more
+  pub exceeds : (t : Layout V) (p : Coord) → IsTrue (is_inside everywhere p) → IsSound bits t → (HasRoom t (key bits p) → ⊥) → IsSwept bits t → (change : Write V)
+      → written change ((field_of bits t).cell p) ≢ (field_of bits t).cell p → t.limit < roots eq bits (write p change (field_of bits t))
+  exceeds t p inside sound no_room swept change differs =
+      let at = cell_inside t.background (cell_at bits t) p inside in
+      write_exceeds eq exact itself bits configured t p change inside sound swept absent
+      (not_less (length t.root) t.limit sound.limit (λ h. no_room (inr h)))
+      (λ e. differs (ap (written change) at ∙ e ∙ sym at))
+    where
+      absent : root_at t.root (key bits p) ≡ None
+      absent = elim (some_or_none (root_at t.root (key bits p))) [ inl x ↦ absurd (no_room (inl (is_some_from _ x.0 x.1))) | inr n ↦ n ]
+
+module _ {V : Type 0} (bits : Bits) where
+  -- a write of the cell that stands changes nothing
+  pub standing_field : (t : Layout V) (p : Coord) (change : Write V) → written change ((field_of bits t).cell p) ≡ (field_of bits t).cell p → field_of bits t ≡ write p change (field_of bits t)
+  standing_field t p change stands = same_field bits t t.background _ refl (λ q inside.
+      let at = cell_inside t.background (cell_at bits t) q inside in
+      elim (coord_cases p q) [
+        | inl e ↦
+            let yes = like_coords p q e in
+            let s = subst (λ r. written change ((field_of bits t).cell r) ≡ (field_of bits t).cell r) e stands in
+            rw yes (sym at ∙ sym s)
+        | inr d ↦
+            let no = unlike_coords p q d in
+            rw no (sym at)
+      ])
+
+  -- the written voxel after steps that kept every cell
+  pub written_field : (old mid new : Layout V) (p : Coord) (change : Write V) → Keeps bits old mid → Changes bits mid new p (written change (cell_at bits mid p))
+      → field_of bits new ≡ write p change (field_of bits old)
+  written_field old mid new p change keeps changes =
+      changes_field bits mid new p change changes ∙ ap (write p change) (keeps_field bits old mid keeps)
+
+  -- want of memory after steps that kept every cell, where the write would be within the limit
+  pub kept_outcome : (eq : V → V → Bool) (old new : Layout V) (p : Coord) (change : Write V) (result : Result (Unit {0}) TreeRefusal) → result ≡ Err Memory → Keeps bits old new
+      → roots eq bits (write p change (field_of bits old)) ≤ old.limit → IsOutcome eq bits old.limit (field_of bits old) (write p change (field_of bits old)) (field_of bits new) result
+  kept_outcome eq old new p change result memory keeps within = rw memory (keeps_field bits old new keeps, within)
+
+  -- the cell of a tile, in the field
+  pub tile_field_cell : (t : Layout V) (p : Coord) (cell : Cell V) → IsTrue (is_inside everywhere p) → lower_entry bits t p ≡ Tile cell → (field_of bits t).cell p ≡ cell
+  tile_field_cell t p cell inside tile = cell_inside t.background (cell_at bits t) p inside ∙ tile_cell bits t cell p tile
+
+  -- a child over p's leaf block has an entry above it
+  pub leaf_has_room : (t : Layout V) (p : Coord) (slot : ℕ) → lower_entry bits t p ≡ Child slot → HasRoom t (key bits p)
+  leaf_has_room t p slot child = elim (some_or_none (root_at t.root (key bits p))) [
+    | inl x ↦ inl (is_some_from _ x.0 x.1)
+    | inr n ↦ absurd (tile_no_child (plain t) slot (sym (tile_lower bits t (plain t) p (tile_upper bits t (plain t) p (absent_entry bits t p n))) ∙ child))
+  ]

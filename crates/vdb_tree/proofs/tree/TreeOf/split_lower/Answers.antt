@@ -1,0 +1,46 @@
+use Rattle.std.proofs.Common.{refl, sym, ap, ◌∙◌}
+use Rattle.vdb_node.specs.declared.Entry.TheVariants.{Child}
+use Rattle.vdb_tree.proofs.Pools.{node_puts}
+use Rattle.vdb_tree.proofs.Sizes.{internal_small}
+use Rattle.vdb_tree.proofs.Splits.{room_keeps, room_sound, with_leaf_at, with_leaf_keeps, with_leaf_sound}
+use Rattle.vdb_tree.proofs.tree.TreeOf.split_lower.Goals as goal
+
+pub invariant_of-self : goal.invariant_of-self
+invariant_of-self g c =
+    (c.self.invariant.0, room_sound _ _ _ refl refl refl refl c.in_err-slot.ensures.err refl c.self.invariant.1)
+
+pub returns-in_err-slot-clause-keeps : goal.returns-in_err-slot-clause-keeps
+returns-in_err-slot-clause-keeps g c =
+    rw (← c.self.view_is) (room_keeps _ _ _ refl refl refl refl c.in_err-slot.ensures.err refl)
+
+pub set_child-requires : goal.set_child-requires
+set_child-requires g c =
+    let small = g.met.V.Stored-2.row_small in
+    (internal_small _ _ g.row.WL _ c.self.invariant.0.few_lower_words small.1 small.1 small.0, c.offset-offset.ensures.within)
+
+pub invariant_of-self-2 : goal.invariant_of-self-2
+invariant_of-self-2 g c = (
+  c.self.invariant.0,
+  with_leaf_sound _ _ c.self.invariant.1 c.args.p _ _ _ _ _ _ _ _
+      ((rw (← c.self.view_is) at c.requires.node) ∙ ap Child (sym c.held_place-place.ensures.slot)) (rw (← c.self.view_is) at c.requires.tiled)
+      c.at_mut.ensures.node (rw c.offset-offset.ensures.value at c.set_child.ensures) (node_puts _ _ _ _ c.at_mut.ensures.node)
+      c.in_ok-slot.ensures.vacant c.in_ok-node.ensures.cells (record { here = c.in_ok-slot.ensures.node; others = c.in_ok-slot.ensures.others }),
+)
+
+pub returns-clause-keeps : goal.returns-clause-keeps
+returns-clause-keeps g c =
+    rw (← c.self.view_is)
+    (with_leaf_keeps _ _ c.self.invariant.1 c.args.p _ _ _ _ _ _ _ _
+    ((rw (← c.self.view_is) at c.requires.node) ∙ ap Child (sym c.held_place-place.ensures.slot)) (rw (← c.self.view_is) at c.requires.tiled)
+    c.at_mut.ensures.node (rw c.offset-offset.ensures.value at c.set_child.ensures) (node_puts _ _ _ _ c.at_mut.ensures.node)
+    c.in_ok-slot.ensures.vacant c.in_ok-node.ensures.cells (record { here = c.in_ok-slot.ensures.node; others = c.in_ok-slot.ensures.others }))
+
+pub returns-clause-ok : goal.returns-clause-ok
+returns-clause-ok g c =
+    with_leaf_at _ _ c.self.invariant.1 c.args.p _ _ _ _ _ _ _ c.insert_node.new.pool
+    ((rw (← c.self.view_is) at c.requires.node) ∙ ap Child (sym c.held_place-place.ensures.slot)) (rw (← c.self.view_is) at c.requires.tiled)
+    c.at_mut.ensures.node (rw c.offset-offset.ensures.value at c.set_child.ensures) (node_puts _ _ _ _ c.at_mut.ensures.node)
+    c.in_ok-slot.ensures.vacant c.in_ok-node.ensures.cells (record { here = c.in_ok-slot.ensures.node; others = c.in_ok-slot.ensures.others })
+
+pub held_place-place-requires : goal.held_place-place-requires
+held_place-place-requires g c = c.self.invariant.1.lowers.held c.args.p c.args.lower (rw (← c.self.view_is) at c.requires.node)

@@ -1,0 +1,33 @@
+use Rattle.std.proofs.Common.{refl}
+use Rattle.vdb_tree.proofs.Splits.{room_keeps, room_sound, with_upper_at, with_upper_keeps, with_upper_sound}
+use Rattle.vdb_tree.proofs.tree.TreeOf.split_root.Goals as goal
+
+pub invariant_of-self : goal.invariant_of-self
+invariant_of-self g c =
+    (c.self.invariant.0, room_sound _ _ _ refl refl c.in_err-slot.ensures.err refl refl refl c.self.invariant.1)
+
+pub returns-in_err-slot-clause-keeps : goal.returns-in_err-slot-clause-keeps
+returns-in_err-slot-clause-keeps g c =
+    rw (← c.self.view_is) (room_keeps _ _ _ refl refl c.in_err-slot.ensures.err refl refl refl)
+
+pub invariant_of-self-2 : goal.invariant_of-self-2
+invariant_of-self-2 g c = (
+  c.self.invariant.0,
+  with_upper_sound _ _ c.self.invariant.1 c.args.p _ _ _ _ _
+      (rw (← c.self.view_is) at c.requires.tiled) (rw c.key-key.ensures.value at c.set.ensures.updates)
+      c.in_ok-slot.ensures.vacant c.in_ok-node.ensures (record { here = c.in_ok-slot.ensures.node; others = c.in_ok-slot.ensures.others })
+      (rw (← c.self.view_is) at c.requires.entered) c.set.ensures.size c.set.ensures.apart,
+)
+
+pub returns-clause-keeps : goal.returns-clause-keeps
+returns-clause-keeps g c =
+    rw (← c.self.view_is)
+    (with_upper_keeps _ _ c.self.invariant.1 c.args.p _ _ _ _ _
+    (rw (← c.self.view_is) at c.requires.tiled) (rw c.key-key.ensures.value at c.set.ensures.updates)
+    c.in_ok-slot.ensures.vacant c.in_ok-node.ensures (record { here = c.in_ok-slot.ensures.node; others = c.in_ok-slot.ensures.others }))
+
+pub returns-clause-ok : goal.returns-clause-ok
+returns-clause-ok g c =
+    with_upper_at _ _ c.self.invariant.1 c.args.p _ _ _ _ c.insert_node.new.pool
+    (rw (← c.self.view_is) at c.requires.tiled) (rw c.key-key.ensures.value at c.set.ensures.updates)
+    c.in_ok-slot.ensures.vacant c.in_ok-node.ensures (record { here = c.in_ok-slot.ensures.node; others = c.in_ok-slot.ensures.others })

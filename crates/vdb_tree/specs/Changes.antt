@@ -1,0 +1,98 @@
+-- How a call changes what the descents meet. The calls of this crate alone speak of it: above, a change is an equation of fields.
+use Rattle.std.specs.Prelude.{◌≡◌, ◌≢◌, ◌+◌, ◌^◌, ◌<◌, ◌≤◌, ℕ, Option, Some, None}
+use Rattle.vdb_coord.specs.Blocks.{block_number, entries, key, offset}
+use Rattle.vdb_coord.specs.declared.Bits.{Bits}
+use Rattle.vdb_coord.specs.declared.Coord.{Coord}
+use Rattle.vdb_coord.specs.declared.Level.{Level}
+use Rattle.vdb_coord.specs.declared.Level.TheVariants.{Leaf, Lower, Upper}
+use Rattle.vdb_node.specs.declared.Entry.{Entry}
+use Rattle.vdb_value.specs.declared.Cell.{Cell}
+use Rattle.vdb_tree.specs.Layout.{Layout, cell_at, entry_over, plain, root_at}
+use Rattle.vdb_node.specs.declared.Entry.TheVariants.{Child}
+
+-- g has e wherever the number is p's, and elsewhere what f has
+pub record Turns {E : Type 0} (number : Coord → Coord) (p : Coord) (f g : Coord → E) (e : E) : Type 0 where
+  pub here : (q : Coord) → number q ≡ number p → g q ≡ e
+  pub there : (q : Coord) → number q ≢ number p → g q ≡ f q
+
+-- the background and the limit stay
+pub record KeepsHead {V : Type 0} (old new : Layout V) : Type 0 where
+  pub background : new.background ≡ old.background
+  pub limit : new.limit ≡ old.limit
+
+-- so do these, the root table and the upper nodes
+pub record KeepsUppers {V : Type 0} (old new : Layout V) : Type 0 where
+  pub head : KeepsHead old new
+  pub root : new.root ≡ old.root
+  pub uppers : new.uppers ≡ old.uppers
+
+module _ {V : Type 0} (bits : Bits) where
+  -- every cell stays
+  pub record Keeps (old new : Layout V) : Type 0 where
+    pub head : KeepsHead old new
+    pub cells : (q : Coord) → cell_at bits new q ≡ cell_at bits old q
+
+  -- the cell at p becomes this, and every other stays
+  pub record Changes (old new : Layout V) (p : Coord) (cell : Cell V) : Type 0 where
+    pub head : KeepsHead old new
+    pub cells : Turns (λ q. q) p (cell_at bits old) (cell_at bits new) cell
+
+  -- the cells of p's block of the level become this one, and every other stays
+  pub record Fills (level : Level) (old new : Layout V) (p : Coord) (cell : Cell V) : Type 0 where
+    pub head : KeepsHead old new
+    pub cells : Turns (block_number bits level) p (cell_at bits old) (cell_at bits new) cell
+
+  -- each cell of p's block of the level is this
+  abbrev pub IsConstantBlock : Level → Layout V → Coord → Cell V → Type 0
+  IsConstantBlock level t p cell = (q : Coord) → block_number bits level q ≡ block_number bits level p → cell_at bits t q ≡ cell
+
+  -- no one cell stands all over p's block of the level
+  abbrev pub IsMixedBlock : Level → Layout V → Coord → Type 0
+  IsMixedBlock level t p = (cell : Cell V) → IsConstantBlock level t p cell → ⊥
+
+  -- if a node of the level stands over p, its block isn't constant
+  abbrev pub IsNeeded : Level → Layout V → Coord → Type 0
+  IsNeeded level t p = (slot : ℕ) → entry_over bits level t p ≡ Child slot → IsMixedBlock level t p
+
+  -- the same entries stand over q
+  abbrev pub SameDescent : Layout V → Layout V → Coord → Type 0
+  SameDescent old new q = (level : Level) → entry_over bits level new q ≡ entry_over bits level old q
+
+  -- the same of the level and each one below
+  abbrev pub IsNeededTo : Level → Layout V → Coord → Type 0
+  IsNeededTo Leaf t q = IsNeeded Leaf t q
+  IsNeededTo Lower t q = IsNeeded Leaf t q × IsNeeded Lower t q
+  IsNeededTo Upper t q = IsNeeded Leaf t q × IsNeeded Lower t q × IsNeeded Upper t q
+
+  -- all over p's block of the level
+  abbrev pub AreNeeded : Level → Layout V → Coord → Type 0
+  AreNeeded level t p = (q : Coord) → block_number bits level q ≡ block_number bits level p → IsNeededTo level t q
+
+  -- if p's root block has an entry, it isn't all plain
+  abbrev pub IsNoPlainRoot : Layout V → Coord → Type 0
+  IsNoPlainRoot t p = (entry : Entry V) → root_at t.root (key bits p) ≡ Some entry → IsConstantBlock Upper t p (plain t) → ⊥
+
+  -- no entry of the table is that of a plain block
+  abbrev pub IsSwept : Layout V → Type 0
+  IsSwept t = (p : Coord) → IsNoPlainRoot t p
+
+  -- In the level's node around p, each child of the level below is needed, or was made a tile, where its entry stands from one
+  -- offset on and before another. Nothing else changes, and every cell stays.
+  pub record PassesTo (level inner : Level) (old new : Layout V) (p : Coord) (from to : ℕ) : Type 0 where
+    pub keeps : Keeps old new
+    pub others : (q : Coord) → block_number bits level q ≢ block_number bits level p → SameDescent old new q
+    pub before : (q : Coord) → block_number bits level q ≡ block_number bits level p → offset bits level q < from → SameDescent old new q
+    pub done : (q : Coord) → block_number bits level q ≡ block_number bits level p → from ≤ offset bits level q → offset bits level q < to → IsNeededTo inner new q
+
+  -- the same up to the offset that is answered, which leaves out 2 to the power `turns` at least, or up to the end
+  abbrev pub Passes : Level → Level → Layout V → Layout V → Coord → ℕ → ℕ → Option ℕ → Type 0
+  Passes level inner old new p from turns (Some next) = PassesTo level inner old new p from next × (from + 2 ^ turns ≤ next) × (next ≤ entries bits level)
+  Passes level inner old new p from turns None = PassesTo level inner old new p from (entries bits level)
+
+  -- The root block of this key is pruned: each node over it is needed, and it has no entry if it is plain. Nothing else changes,
+  -- and every cell stays.
+  pub record PrunesRoot (old new : Layout V) (k : Coord) : Type 0 where
+    pub keeps : Keeps old new
+    pub others : (q : Coord) → key bits q ≢ k → SameDescent old new q
+    pub table : (j : Coord) → j ≢ k → root_at new.root j ≡ root_at old.root j
+    pub here : (q : Coord) → key bits q ≡ k → IsNeededTo Upper new q × IsNoPlainRoot new q

@@ -1,0 +1,120 @@
+//! Calls that work on a whole leaf, or on a voxel of one.
+
+ghost use Rattle.std.specs.Prelude.{◌≡◌, ◌+◌, ◌≤◌, false, is_some, IfSome, IsNone, IsTrue};
+ghost use Rattle.vdb_coord.specs.Blocks.{block_number};
+ghost use Rattle.vdb_coord.specs.Space.{everywhere, is_inside};
+ghost use Rattle.vdb_coord.specs.declared.Coord.{Coord};
+ghost use Rattle.vdb_coord.specs.declared.Level.TheVariants.{Leaf as leaf_level};
+ghost use Rattle.vdb_node.specs.declared.Entry.TheVariants.{Child};
+ghost use Rattle.vdb_tree.specs.Changes.{Changes};
+ghost use Rattle.vdb_tree.specs.Field.{written};
+ghost use Rattle.vdb_tree.specs.Layout.{bits_of, cell_at, field_of, lower_entry};
+ghost use Rattle.vdb_tree.specs.Leaves.{IsLeafAround, IsVoxelWritten, SetsStates, with_states_of};
+ghost use Rattle.vdb_tree.specs.Paths.{in_leaf, IsWhole, TreePath};
+
+use crate::nodes::held_place;
+use crate::{TreeOf, Write};
+use vdb_coord::{Coord, Level};
+use vdb_mask::Mask;
+use vdb_node::{Entry, Leaf, Stored};
+use vdb_pool::Steps;
+
+impl<
+    V: Stored<WU> + Stored<WL> + Stored<WF>,
+    const U: u32,
+    const L: u32,
+    const F: u32,
+    const WU: usize,
+    const WL: usize,
+    const WF: usize,
+> TreeOf<V, U, L, F, WU, WL, WF> {
+    /// The leaf around a coordinate, where there is one, by at most three visits (OpenVDB's `Tree::probeConstLeaf`). Where there
+    /// is none, all cells of the coordinate's leaf block are equal.
+    pub fn leaf(&self, p: Coord, steps: &mut Steps) -> Option<&Leaf<V, F, WF>>
+        ensures leaf { IfSome result (λ leaf. IsLeafAround (bits_of U L F) (field_of (bits_of U L F) self.now) p leaf.now) }
+        ensures tile { IsNone result → (q : Coord) → IsTrue (is_inside everywhere q)
+            → block_number (bits_of U L F) leaf_level q ≡ block_number (bits_of U L F) leaf_level p
+            → (field_of (bits_of U L F) self.now).cell q ≡ (field_of (bits_of U L F) self.now).cell p }
+        ensures there { is_some result ≡ in_leaf (bits_of U L F) self.now p }
+        ensures steps { steps.new ≤ steps.old + 3 }
+    {
+        match self.leaf_entry(p, steps) {
+            Entry::Child(slot) => Some(self.held_leaf(slot, p, steps)),
+            Entry::Tile(_) => None,
+        }
+    }
+
+    /// Gives the voxels of the leaf around a coordinate the states of the mask, and keeps their values, by at most three
+    /// visits. It takes no memory. The answer says whether there is such a leaf; where there is none, nothing changes
+    /// (OpenVDB's `LeafNode::setValueMask`).
+    pub fn set_states(&mut self, p: Coord, states: &Mask<WF>, steps: &mut Steps) -> bool
+        ensures answer { result ≡ in_leaf (bits_of U L F) self.old p }
+        ensures field { IsTrue result → field_of (bits_of U L F) self.new ≡ with_states_of (bits_of U L F) p states.now (field_of (bits_of U L F) self.old) }
+        ensures sets { IsTrue result → SetsStates (bits_of U L F) (field_of (bits_of U L F) self.old) (field_of (bits_of U L F) self.new) p states.now }
+        ensures untouched { result ≡ false → self.new ≡ self.old }
+        ensures limit { self.new.limit ≡ self.old.limit }
+        ensures paths { (path : TreePath V) (q : Coord) → IsWhole (bits_of U L F) self.old path q → IsWhole (bits_of U L F) self.new path q }
+        ensures steps { steps.new ≤ steps.old + 3 }
+    {
+        match self.leaf_entry(p, steps) {
+            Entry::Child(leaf) => {
+                self.set_leaf_states(leaf, p, states, steps);
+                true
+            }
+            Entry::Tile(_) => false,
+        }
+    }
+
+    /// The entry of the lower node around p that holds p, or the tile above it.
+    pub(crate) fn leaf_entry(&self, p: Coord, steps: &mut Steps) -> Entry<V>
+        ensures value { lower_entry (bits_of U L F) self.now p ≡ result }
+        ensures steps { steps.new ≤ steps.old + 2 }
+    {
+        let upper = match self.root_entry(p) {
+            Entry::Tile(cell) => return Entry::Tile(cell),
+            Entry::Child(slot) => slot,
+        };
+        let lower = match self.upper_entry(upper, p, steps) {
+            Entry::Tile(cell) => return Entry::Tile(cell),
+            Entry::Child(slot) => slot,
+        };
+        self.lower_entry(lower, p, steps)
+    }
+
+    /// The leaf around p.
+    fn held_leaf(&self, slot: u32, p: Coord, steps: &mut Steps) -> &Leaf<V, F, WF>
+        requires { lower_entry (bits_of U L F) self.now p ≡ Child slot }
+        ensures leaf { IsLeafAround (bits_of U L F) (field_of (bits_of U L F) self.now) p result.now }
+        ensures steps { steps.new ≤ steps.old + 1 }
+    {
+        let place = held_place(&self.leaves, slot);
+        self.leaves.at(place, steps)
+    }
+
+    /// Gives the voxels of the leaf around p the states of the mask.
+    fn set_leaf_states(&mut self, leaf: u32, p: Coord, states: &Mask<WF>, steps: &mut Steps)
+        requires { lower_entry (bits_of U L F) self.old p ≡ Child leaf }
+        ensures field { field_of (bits_of U L F) self.new ≡ with_states_of (bits_of U L F) p states.now (field_of (bits_of U L F) self.old) }
+        ensures limit { self.new.limit ≡ self.old.limit }
+        ensures paths { (path : TreePath V) (q : Coord) → IsWhole (bits_of U L F) self.old path q → IsWhole (bits_of U L F) self.new path q }
+        ensures steps { steps.new ≤ steps.old + 1 }
+    {
+        let place = held_place(&self.leaves, leaf);
+        self.leaves.at_mut(place, steps).set_states(states);
+    }
+
+    /// Writes the voxel p of the leaf around it.
+    pub(crate) fn write_voxel(&mut self, leaf: u32, p: Coord, change: Write<V>, steps: &mut Steps)
+        requires { lower_entry (bits_of U L F) self.old p ≡ Child leaf }
+        ensures changes { Changes (bits_of U L F) self.old self.new p (written change (cell_at (bits_of U L F) self.old p)) }
+        ensures alone { IsVoxelWritten (bits_of U L F) self.old self.new p (written change (cell_at (bits_of U L F) self.old p)) }
+        ensures paths { (path : TreePath V) (q : Coord) → IsWhole (bits_of U L F) self.old path q → IsWhole (bits_of U L F) self.new path q }
+        ensures steps { steps.new ≤ steps.old + 1 }
+    {
+        let offset = self.offset(p, Level::Leaf);
+        let place = held_place(&self.leaves, leaf);
+        let leaf = self.leaves.at_mut(place, steps);
+        let cell = change.applied(leaf.entry(offset));
+        leaf.set(offset, cell);
+    }
+}

@@ -1,0 +1,127 @@
+//! The root table of a tree.
+
+ghost use Rattle.std.specs.Prelude.{◌≡◌, ◌+◌, ◌≤◌, List, Some, None, OnOk, OnErr, if◌then◌else◌, IsSome, length};
+ghost use Rattle.std.specs.List.{IsDistinct};
+ghost use Rattle.std.specs.Map.{keys_of};
+ghost use Rattle.vdb_coord.specs.Space.{coord_eq};
+ghost use Rattle.vdb_coord.specs.declared.Coord.{Coord};
+ghost use Rattle.vdb_tree.specs.Layout.{root_at};
+ghost use Rattle.vdb_tree.specs.Table.{IsNextKey};
+
+use std::alloc::{AllocError, Global};
+use std::collections::BTreeMap;
+use std::marker::Model;
+use std::ops::Bound;
+use vdb_coord::Coord;
+use vdb_node::Entry;
+
+/// Entries by the keys of their root blocks, in the order of keys (OpenVDB's `RootNode`).
+#[derive(Drop)]
+pub(crate) struct RootTable<V> {
+    entries: BTreeMap<Coord, Entry<V>>,
+}
+
+impl<V> Model for RootTable<V> {
+    ghost use Rattle.std.specs.Prelude.{List};
+    ghost use Rattle.vdb_coord.specs.declared.Coord.{Coord};
+    ghost use Rattle.vdb_node.specs.declared.Entry.{Entry};
+
+    ghost Value = { List (Coord × Entry V) };
+
+    ghost view = { λ r. r.entries.entries };
+}
+
+impl<V: Copy> RootTable<V> {
+    /// The table without entries. It takes no memory.
+    pub(crate) fn new(alloc: Global) -> RootTable<V>
+        ensures none { (k : Coord) → root_at result k ≡ None }
+        ensures empty { length result ≡ 0 }
+        ensures apart { IsDistinct coord_eq (keys_of result) }
+    {
+        RootTable {
+            entries: BTreeMap::new(alloc),
+        }
+    }
+
+    /// The entry under a key.
+    pub(crate) fn get(&self, key: Coord) -> Option<Entry<V>>
+        ensures { result ≡ root_at self.now key }
+    {
+        self.entries.get(&key).copied()
+    }
+
+    /// How many entries there are.
+    pub(crate) fn len(&self) -> usize
+        ensures { result ≡ length self.now }
+    {
+        self.entries.len()
+    }
+
+    /// The least key past `after`, or the least of all.
+    pub(crate) fn next_key(&self, after: Option<Coord>) -> Option<Coord>
+        ensures { IsNextKey self.now after result }
+    {
+        match after {
+            Some(key) => self.key_after(key),
+            None => self.first_key(),
+        }
+    }
+
+    fn first_key(&self) -> Option<Coord>
+        ensures { IsNextKey self.now None result }
+    {
+        match self
+            .entries
+            .range((Bound::<Coord>::Unbounded, Bound::Unbounded))
+            .next()
+        {
+            Some((key, _)) => Some(*key),
+            None => None,
+        }
+    }
+
+    fn key_after(&self, after: Coord) -> Option<Coord>
+        ensures { IsNextKey self.now (Some after) result }
+    {
+        match self
+            .entries
+            .range((Bound::Excluded(after), Bound::Unbounded))
+            .next()
+        {
+            Some((key, _)) => Some(*key),
+            None => None,
+        }
+    }
+
+    /// Puts an entry under a key. The error says that memory was refused; it never comes where the key has an entry.
+    pub(crate) fn put(&mut self, key: Coord, entry: Entry<V>) -> Result<(), AllocError>
+        ensures ok { OnOk result ((k : Coord) → root_at self.new k ≡ (if coord_eq key k then Some entry else root_at self.old k)) }
+        ensures size { OnOk result (length self.new ≤ length self.old + 1) }
+        ensures apart { OnOk result (IsDistinct coord_eq (keys_of self.new)) }
+        ensures err { OnErr result (self.new ≡ self.old) }
+    {
+        self.entries.insert(key, entry)?;
+        Ok(())
+    }
+
+    /// Changes the entry under a key that has one.
+    pub(crate) fn set(&mut self, key: Coord, entry: Entry<V>)
+        requires { IsSome (root_at self.old key) }
+        ensures updates { (k : Coord) → root_at self.new k ≡ (if coord_eq key k then Some entry else root_at self.old k) }
+        ensures size { length self.new ≡ length self.old }
+        ensures apart { IsDistinct coord_eq (keys_of self.new) }
+    {
+        let Ok(_) = self.entries.insert(key, entry) else {
+            unreachable!()
+        };
+    }
+
+    /// Takes the entry under a key away, if there is one.
+    pub(crate) fn remove(&mut self, key: Coord)
+        ensures updates { (k : Coord) → root_at self.new k ≡ (if coord_eq key k then None else root_at self.old k) }
+        ensures size { length self.new ≤ length self.old }
+        ensures apart { IsDistinct coord_eq (keys_of self.new) }
+    {
+        self.entries.remove(&key);
+    }
+}

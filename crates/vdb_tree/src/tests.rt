@@ -1,0 +1,3 @@
+//! Tests of the tree.
+
+mod union;

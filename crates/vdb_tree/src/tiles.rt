@@ -1,0 +1,89 @@
+//! Tiles in place of nodes. Each node is given back to its pool once its block has tiles alone, so that what stands in
+//! between is a sound tree.
+
+ghost use Rattle.std.specs.Prelude.{◌≡◌, ℕ, Some, if◌then◌else◌};
+ghost use Rattle.vdb_coord.specs.Blocks.{block_number, key};
+ghost use Rattle.vdb_coord.specs.Space.{coord_eq};
+ghost use Rattle.vdb_coord.specs.declared.Coord.{Coord};
+ghost use Rattle.vdb_coord.specs.declared.Level.TheVariants.{Leaf, Lower, Upper};
+ghost use Rattle.vdb_node.specs.declared.Entry.TheVariants.{Child, Tile};
+ghost use Rattle.vdb_tree.specs.Changes.{Fills, KeepsUppers, Turns};
+ghost use Rattle.vdb_tree.specs.Layout.{bits_of, lower_entry, root_at, root_entry, upper_entry};
+
+use crate::TreeOf;
+use crate::nodes::held_place;
+use vdb_coord::{Coord, Level};
+use vdb_node::{Entry, Stored};
+use vdb_pool::Steps;
+use vdb_value::Cell;
+
+impl<
+    V: Stored<WU> + Stored<WL> + Stored<WF>,
+    const U: u32,
+    const L: u32,
+    const F: u32,
+    const WU: usize,
+    const WL: usize,
+    const WF: usize,
+> TreeOf<V, U, L, F, WU, WL, WF> {
+    /// Makes a tile of the leaf around p.
+    pub(crate) fn drop_leaf(
+        &mut self,
+        lower: u32,
+        leaf: u32,
+        p: Coord,
+        cell: Cell<V>,
+        steps: &mut Steps,
+    )
+        requires lower { upper_entry (bits_of U L F) self.old p ≡ Child lower }
+        requires leaf { lower_entry (bits_of U L F) self.old p ≡ Child leaf }
+        ensures fills { Fills (bits_of U L F) Leaf self.old self.new p cell }
+        ensures above { KeepsUppers self.old self.new }
+        ensures entries { Turns (block_number (bits_of U L F) Leaf) p (lower_entry (bits_of U L F) self.old) (lower_entry (bits_of U L F) self.new) (Tile cell) }
+    {
+        let offset = self.offset(p, Level::Lower);
+        let from = held_place(&self.leaves, leaf);
+        let _ = self.leaves.take(from, steps);
+        let place = held_place(&self.lowers, lower);
+        self.lowers.at_mut(place, steps).set_tile(offset, cell);
+    }
+
+    /// Makes a tile of the lower node around p, which has no leaves.
+    pub(crate) fn drop_lower(
+        &mut self,
+        upper: u32,
+        lower: u32,
+        p: Coord,
+        cell: Cell<V>,
+        steps: &mut Steps,
+    )
+        requires upper { root_entry (bits_of U L F) self.old p ≡ Child upper }
+        requires lower { upper_entry (bits_of U L F) self.old p ≡ Child lower }
+        requires childless { (q : Coord) (slot : ℕ) → block_number (bits_of U L F) Lower q ≡ block_number (bits_of U L F) Lower p → lower_entry (bits_of U L F) self.old q ≡ Child slot → ⊥ }
+        ensures fills { Fills (bits_of U L F) Lower self.old self.new p cell }
+        ensures root { self.new.root ≡ self.old.root }
+        ensures uppers { Turns (block_number (bits_of U L F) Lower) p (upper_entry (bits_of U L F) self.old) (upper_entry (bits_of U L F) self.new) (Tile cell) }
+        ensures lowers { Turns (block_number (bits_of U L F) Lower) p (lower_entry (bits_of U L F) self.old) (lower_entry (bits_of U L F) self.new) (Tile cell) }
+    {
+        let offset = self.offset(p, Level::Upper);
+        let from = held_place(&self.lowers, lower);
+        let _ = self.lowers.take(from, steps);
+        let place = held_place(&self.uppers, upper);
+        self.uppers.at_mut(place, steps).set_tile(offset, cell);
+    }
+
+    /// Makes a tile of the upper node around p, which has no lower nodes.
+    pub(crate) fn drop_upper(&mut self, upper: u32, p: Coord, cell: Cell<V>, steps: &mut Steps)
+        requires upper { root_entry (bits_of U L F) self.old p ≡ Child upper }
+        requires childless { (q : Coord) (slot : ℕ) → block_number (bits_of U L F) Upper q ≡ block_number (bits_of U L F) Upper p → upper_entry (bits_of U L F) self.old q ≡ Child slot → ⊥ }
+        ensures fills { Fills (bits_of U L F) Upper self.old self.new p cell }
+        ensures table { (k : Coord) → root_at self.new.root k ≡ (if coord_eq (key (bits_of U L F) p) k then Some (Tile cell) else root_at self.old.root k) }
+        ensures uppers { Turns (block_number (bits_of U L F) Upper) p (upper_entry (bits_of U L F) self.old) (upper_entry (bits_of U L F) self.new) (Tile cell) }
+        ensures lowers { Turns (block_number (bits_of U L F) Upper) p (lower_entry (bits_of U L F) self.old) (lower_entry (bits_of U L F) self.new) (Tile cell) }
+    {
+        let key = p.key_in(self.bits());
+        let from = held_place(&self.uppers, upper);
+        let _ = self.uppers.take(from, steps);
+        self.root.set(key, Entry::Tile(cell));
+    }
+}

@@ -1,0 +1,308 @@
+//! Paths of nodes, and cells by the paths that earlier calls left.
+
+ghost use Rattle.std.specs.Prelude.{◌≡◌, ◌+◌, ◌-◌, ◌≤◌, false, if◌then◌else◌, IsTrue};
+ghost use Rattle.vdb_coord.specs.Blocks.{block_number};
+ghost use Rattle.vdb_coord.specs.Space.{coord_eq};
+ghost use Rattle.vdb_coord.specs.declared.Coord.{Coord};
+ghost use Rattle.vdb_node.specs.declared.Entry.TheVariants.{Child};
+ghost use Rattle.vdb_tree.specs.Field.{write, written};
+ghost use Rattle.vdb_tree.specs.Layout.{bits_of, cell_at, field_of, lower_entry, root_entry, upper_entry};
+ghost use Rattle.vdb_tree.specs.Leaves.{IsVoxelWritten};
+ghost use Rattle.vdb_tree.specs.Paths.{common, common_lower, common_upper, depth, down_count, ends_in_leaf, IsChildAt, IsWhole, Lives, TreePath};
+
+use crate::nodes::held_place;
+use crate::{PathOf, TreeOf, Write};
+use vdb_coord::{Coord, Level};
+use vdb_node::{Entry, Internal, Leaf, Stored};
+use vdb_pool::{Place, Steps};
+use vdb_value::Cell;
+
+/// A path with the cell at its end.
+#[derive(Drop)]
+struct Found<Upper, Lower, Leaf, V> {
+    path: PathOf<Upper, Lower, Leaf>,
+    cell: Cell<V>,
+}
+
+impl<
+    V: Stored<WU> + Stored<WL> + Stored<WF>,
+    const U: u32,
+    const L: u32,
+    const F: u32,
+    const WU: usize,
+    const WL: usize,
+    const WF: usize,
+> TreeOf<V, U, L, F, WU, WL, WF> {
+    /// The path from the root down to a coordinate, as far as there are nodes, by at most three visits.
+    pub fn trace(
+        &self,
+        p: Coord,
+        steps: &mut Steps,
+    ) -> PathOf<Internal<V, U, WU>, Internal<V, L, WL>, Leaf<V, F, WF>>
+        ensures whole { IsWhole (bits_of U L F) self.now result p }
+        ensures steps { steps.new ≤ steps.old + 3 }
+    {
+        self.found_from_root(p, steps).path
+    }
+
+    /// The cell at `p`, by the descent from the lowest node of the path to `q` that contains `p`, which is visited, too. It
+    /// leaves the path to `p` (OpenVDB's `ValueAccessor::getValue`, which does this with the nodes that it caches).
+    pub fn descend(
+        &self,
+        path: &mut PathOf<Internal<V, U, WU>, Internal<V, L, WL>, Leaf<V, F, WF>>,
+        q: Coord,
+        p: Coord,
+        steps: &mut Steps,
+    ) -> Cell<V>
+        requires { Lives (bits_of U L F) self.now path.old q }
+        ensures cell { result ≡ (field_of (bits_of U L F) self.now).cell p }
+        ensures whole { IsWhole (bits_of U L F) self.now path.new p }
+        ensures steps { steps.new ≤ steps.old + (down_count (bits_of U L F) self.now p - (depth (common (bits_of U L F) q p path.old) - 1)) }
+    {
+        let common = self.shared(*path, q, p);
+        let found = self.found_from(common, p, steps);
+        *path = found.path;
+        found.cell
+    }
+
+    /// Writes the voxel at `p` where the path to `q` ends in a leaf that contains `p`, by one visit and without memory. The
+    /// answer says whether it does; where it doesn't, nothing changes and no node is visited. Every path stays whole (OpenVDB's
+    /// `ValueAccessor::setValue` in its cached leaf).
+    pub fn write_near(
+        &mut self,
+        path: &PathOf<Internal<V, U, WU>, Internal<V, L, WL>, Leaf<V, F, WF>>,
+        q: Coord,
+        p: Coord,
+        change: Write<V>,
+        steps: &mut Steps,
+    ) -> bool
+        requires { Lives (bits_of U L F) self.old path.now q }
+        ensures answer { result ≡ ends_in_leaf (common (bits_of U L F) q p path.now) }
+        ensures field { IsTrue result → field_of (bits_of U L F) self.new ≡ write p change (field_of (bits_of U L F) self.old) }
+        ensures alone { IsTrue result → IsVoxelWritten (bits_of U L F) self.old self.new p (written change ((field_of (bits_of U L F) self.old).cell p)) }
+        ensures untouched { result ≡ false → self.new ≡ self.old }
+        ensures paths { (other : TreePath V) (r : Coord) → IsWhole (bits_of U L F) self.old other r → IsWhole (bits_of U L F) self.new other r }
+        ensures steps { steps.new ≤ steps.old + (if result then 1 else 0) }
+    {
+        match self.shared(*path, q, p) {
+            PathOf::ToLeaf(_, _, leaf) => {
+                self.write_voxel(leaf.slot(), p, change, steps);
+                true
+            }
+            _ => false,
+        }
+    }
+
+    /// The nodes of the path to `q` that contain `p`.
+    fn shared(
+        &self,
+        path: PathOf<Internal<V, U, WU>, Internal<V, L, WL>, Leaf<V, F, WF>>,
+        q: Coord,
+        p: Coord,
+    ) -> PathOf<Internal<V, U, WU>, Internal<V, L, WL>, Leaf<V, F, WF>>
+        requires { Lives (bits_of U L F) self.now path q }
+        ensures value { result ≡ common (bits_of U L F) q p path }
+        ensures lives { Lives (bits_of U L F) self.now result p }
+    {
+        self.common(path, q, p)
+    }
+
+    fn common(
+        &self,
+        path: PathOf<Internal<V, U, WU>, Internal<V, L, WL>, Leaf<V, F, WF>>,
+        q: Coord,
+        p: Coord,
+    ) -> PathOf<Internal<V, U, WU>, Internal<V, L, WL>, Leaf<V, F, WF>>
+        ensures { result ≡ common (bits_of U L F) q p path }
+    {
+        match path {
+            PathOf::ToLeaf(upper, lower, _) => {
+                if self.is_same_block(q, p, Level::Leaf) {
+                    path
+                } else {
+                    self.common_lower(upper, lower, q, p)
+                }
+            }
+            PathOf::ToLower(upper, lower) => self.common_lower(upper, lower, q, p),
+            PathOf::ToUpper(upper) => self.common_upper(upper, q, p),
+            PathOf::Empty => path,
+        }
+    }
+
+    fn common_lower(
+        &self,
+        upper: Place<Internal<V, U, WU>>,
+        lower: Place<Internal<V, L, WL>>,
+        q: Coord,
+        p: Coord,
+    ) -> PathOf<Internal<V, U, WU>, Internal<V, L, WL>, Leaf<V, F, WF>>
+        ensures { result ≡ common_lower (bits_of U L F) q p upper lower }
+    {
+        if self.is_same_block(q, p, Level::Lower) {
+            PathOf::ToLower(upper, lower)
+        } else {
+            self.common_upper(upper, q, p)
+        }
+    }
+
+    fn common_upper(
+        &self,
+        upper: Place<Internal<V, U, WU>>,
+        q: Coord,
+        p: Coord,
+    ) -> PathOf<Internal<V, U, WU>, Internal<V, L, WL>, Leaf<V, F, WF>>
+        ensures { result ≡ common_upper (bits_of U L F) q p upper }
+    {
+        if self.is_same_block(q, p, Level::Upper) {
+            PathOf::ToUpper(upper)
+        } else {
+            PathOf::Empty
+        }
+    }
+
+    /// Whether one block of the level holds both.
+    fn is_same_block(&self, q: Coord, p: Coord, level: Level) -> bool
+        ensures { result ≡ coord_eq (block_number (bits_of U L F) level q) (block_number (bits_of U L F) level p) }
+    {
+        let bits = self.bits();
+        q.block_number_in(bits, level) == p.block_number_in(bits, level)
+    }
+
+    /// The cell at `p` and the path to it, by the descent from the path's last node, or from the root where it has none.
+    fn found_from(
+        &self,
+        path: PathOf<Internal<V, U, WU>, Internal<V, L, WL>, Leaf<V, F, WF>>,
+        p: Coord,
+        steps: &mut Steps,
+    ) -> Found<Internal<V, U, WU>, Internal<V, L, WL>, Leaf<V, F, WF>, V>
+        requires { Lives (bits_of U L F) self.now path p }
+        ensures cell { cell_at (bits_of U L F) self.now p ≡ result.cell }
+        ensures whole { IsWhole (bits_of U L F) self.now result.path p }
+        ensures steps { steps.new ≤ steps.old + (down_count (bits_of U L F) self.now p - (depth path - 1)) }
+    {
+        match path {
+            PathOf::Empty => self.found_from_root(p, steps),
+            PathOf::ToUpper(upper) => self.found_from_upper(upper, p, steps),
+            PathOf::ToLower(upper, lower) => self.found_from_lower(upper, lower, p, steps),
+            PathOf::ToLeaf(upper, lower, leaf) => self.found_from_leaf(
+                upper, lower, leaf, p, steps,
+            ),
+        }
+    }
+
+    /// That from the root.
+    #[tactic(auto, unfolding(crate::specs::Layout::cell_at))]
+    fn found_from_root(
+        &self,
+        p: Coord,
+        steps: &mut Steps,
+    ) -> Found<Internal<V, U, WU>, Internal<V, L, WL>, Leaf<V, F, WF>, V>
+        ensures cell { cell_at (bits_of U L F) self.now p ≡ result.cell }
+        ensures whole { IsWhole (bits_of U L F) self.now result.path p }
+        ensures steps { steps.new ≤ steps.old + down_count (bits_of U L F) self.now p }
+    {
+        match self.root_entry(p) {
+            Entry::Tile(cell) => Found {
+                path: PathOf::Empty,
+                cell,
+            },
+            Entry::Child(slot) => {
+                let upper = self.upper_place(slot, p);
+                self.found_from_upper(upper, p, steps)
+            }
+        }
+    }
+
+    #[tactic(auto, unfolding(crate::specs::Layout::cell_at))]
+    fn found_from_upper(
+        &self,
+        upper: Place<Internal<V, U, WU>>,
+        p: Coord,
+        steps: &mut Steps,
+    ) -> Found<Internal<V, U, WU>, Internal<V, L, WL>, Leaf<V, F, WF>, V>
+        requires { IsChildAt self.now.uppers (root_entry (bits_of U L F) self.now p) upper }
+        ensures cell { cell_at (bits_of U L F) self.now p ≡ result.cell }
+        ensures whole { IsWhole (bits_of U L F) self.now result.path p }
+        ensures steps { steps.new ≤ steps.old + down_count (bits_of U L F) self.now p }
+    {
+        match self.upper_entry(upper.slot(), p, steps) {
+            Entry::Tile(cell) => Found {
+                path: PathOf::ToUpper(upper),
+                cell,
+            },
+            Entry::Child(slot) => {
+                let lower = self.lower_place(slot, p);
+                self.found_from_lower(upper, lower, p, steps)
+            }
+        }
+    }
+
+    #[tactic(auto, unfolding(crate::specs::Layout::cell_at))]
+    fn found_from_lower(
+        &self,
+        upper: Place<Internal<V, U, WU>>,
+        lower: Place<Internal<V, L, WL>>,
+        p: Coord,
+        steps: &mut Steps,
+    ) -> Found<Internal<V, U, WU>, Internal<V, L, WL>, Leaf<V, F, WF>, V>
+        requires upper { IsChildAt self.now.uppers (root_entry (bits_of U L F) self.now p) upper }
+        requires lower { IsChildAt self.now.lowers (upper_entry (bits_of U L F) self.now p) lower }
+        ensures cell { cell_at (bits_of U L F) self.now p ≡ result.cell }
+        ensures whole { IsWhole (bits_of U L F) self.now result.path p }
+        ensures steps { steps.new ≤ steps.old + (down_count (bits_of U L F) self.now p - 1) }
+    {
+        match self.lower_entry(lower.slot(), p, steps) {
+            Entry::Tile(cell) => Found {
+                path: PathOf::ToLower(upper, lower),
+                cell,
+            },
+            Entry::Child(slot) => {
+                let leaf = self.leaf_place(slot, p);
+                self.found_from_leaf(upper, lower, leaf, p, steps)
+            }
+        }
+    }
+
+    fn found_from_leaf(
+        &self,
+        upper: Place<Internal<V, U, WU>>,
+        lower: Place<Internal<V, L, WL>>,
+        leaf: Place<Leaf<V, F, WF>>,
+        p: Coord,
+        steps: &mut Steps,
+    ) -> Found<Internal<V, U, WU>, Internal<V, L, WL>, Leaf<V, F, WF>, V>
+        requires upper { IsChildAt self.now.uppers (root_entry (bits_of U L F) self.now p) upper }
+        requires lower { IsChildAt self.now.lowers (upper_entry (bits_of U L F) self.now p) lower }
+        requires leaf { IsChildAt self.now.leaves (lower_entry (bits_of U L F) self.now p) leaf }
+        ensures cell { cell_at (bits_of U L F) self.now p ≡ result.cell }
+        ensures whole { IsWhole (bits_of U L F) self.now result.path p }
+        ensures steps { steps.new ≤ steps.old + 1 }
+    {
+        let cell = self.voxel(leaf.slot(), p, steps);
+        Found {
+            path: PathOf::ToLeaf(upper, lower, leaf),
+            cell,
+        }
+    }
+
+    fn upper_place(&self, slot: u32, p: Coord) -> Place<Internal<V, U, WU>>
+        requires { root_entry (bits_of U L F) self.now p ≡ Child slot }
+        ensures { IsChildAt self.now.uppers (root_entry (bits_of U L F) self.now p) result }
+    {
+        held_place(&self.uppers, slot)
+    }
+
+    fn lower_place(&self, slot: u32, p: Coord) -> Place<Internal<V, L, WL>>
+        requires { upper_entry (bits_of U L F) self.now p ≡ Child slot }
+        ensures { IsChildAt self.now.lowers (upper_entry (bits_of U L F) self.now p) result }
+    {
+        held_place(&self.lowers, slot)
+    }
+
+    fn leaf_place(&self, slot: u32, p: Coord) -> Place<Leaf<V, F, WF>>
+        requires { lower_entry (bits_of U L F) self.now p ≡ Child slot }
+        ensures { IsChildAt self.now.leaves (lower_entry (bits_of U L F) self.now p) result }
+    {
+        held_place(&self.leaves, slot)
+    }
+}

@@ -1,0 +1,156 @@
+//! The tree itself.
+
+ghost use Rattle.std.specs.Prelude.{◌≡◌, ◌<◌, ◌≤◌, [], IsTrue};
+ghost use Rattle.vdb_coord.specs.Blocks.{block_numbers, key, node_bits, offset};
+ghost use Rattle.vdb_coord.specs.Entries.{AreBits};
+ghost use Rattle.vdb_coord.specs.Space.{is_inside};
+ghost use Rattle.vdb_coord.specs.declared.Level.TheVariants.{Upper};
+ghost use Rattle.vdb_node.specs.Nodes.{entry_count};
+ghost use Rattle.vdb_tree.specs.Field.{new};
+ghost use Rattle.vdb_tree.specs.Layout.{bits_of, field_of};
+ghost use Rattle.vdb_tree.specs.Plain.{roots};
+ghost use Rattle.vdb_tree.specs.Sound.{IsConfigured};
+
+use crate::root::RootTable;
+use std::alloc::Global;
+use std::marker::Model;
+use vdb_coord::{Bits, Coord, Level};
+use vdb_node::{Internal, Leaf, Stored};
+use vdb_pool::Pool;
+
+/// A sparse grid: a root table over three pools of nodes, with upper nodes of 2 to the power `U` entries along each axis,
+/// lower ones of 2 to the power `L` and leaves of 2 to the power `F`, whose masks have `WU`, `WL` and `WF` words.
+///
+/// It stands for a field, `field_of` in contracts: each coordinate has a cell. How it is laid out, in tiles and nodes,
+/// never changes one. OpenVDB's class `Tree`.
+#[derive(Drop)]
+pub struct TreeOf<
+    V: Stored<WU> + Stored<WL> + Stored<WF>,
+    const U: u32,
+    const L: u32,
+    const F: u32,
+    const WU: usize,
+    const WL: usize,
+    const WF: usize,
+> {
+    pub(crate) alloc: Global,
+    pub(crate) background: V,
+    pub(crate) limit: u32,
+    pub(crate) root: RootTable<V>,
+    pub(crate) uppers: Pool<Internal<V, U, WU>>,
+    pub(crate) lowers: Pool<Internal<V, L, WL>>,
+    pub(crate) leaves: Pool<Leaf<V, F, WF>>,
+}
+
+/// The standard VDB tree, whose blocks span 8, 128 and 4,096 voxels along each axis.
+pub type Tree<V> = TreeOf<V, 5, 4, 3, 512, 64, 8>;
+
+/// A tree of smaller nodes, whose blocks span 8, 64 and 1,024 voxels along each axis.
+pub type Tree433<V> = TreeOf<V, 4, 3, 3, 64, 8, 8>;
+
+impl<
+    V: Stored<WU> + Stored<WL> + Stored<WF>,
+    const U: u32,
+    const L: u32,
+    const F: u32,
+    const WU: usize,
+    const WL: usize,
+    const WF: usize,
+> Model for TreeOf<V, U, L, F, WU, WL, WF> {
+    ghost use Rattle.vdb_tree.specs.Layout.{Layout, bits_of};
+    ghost use Rattle.vdb_tree.specs.Sound.{IsConfigured, IsSound};
+
+    ghost Value = { Layout V };
+
+    ghost view = { λ t. record {
+      background = t.background;
+      limit = t.limit;
+      root = t.root;
+      uppers = t.uppers;
+      lowers = t.lowers;
+      leaves = t.leaves;
+    } };
+
+    ghost invariant = { λ t. IsConfigured U L F WU WL WF × IsSound (bits_of U L F) (record {
+      background = t.background;
+      limit = t.limit;
+      root = t.root;
+      uppers = t.uppers;
+      lowers = t.lowers;
+      leaves = t.leaves;
+    }) };
+}
+
+impl<
+    V: Stored<WU> + Stored<WL> + Stored<WF>,
+    const U: u32,
+    const L: u32,
+    const F: u32,
+    const WU: usize,
+    const WL: usize,
+    const WF: usize,
+> TreeOf<V, U, L, F, WU, WL, WF> {
+    /// The tree in which every cell is the background, inactive, and whose root table may get `limit` entries. It takes no
+    /// memory.
+    pub fn new(alloc: Global, background: V, limit: u32) -> Self
+        requires configured { IsConfigured U L F WU WL WF }
+        ensures field { field_of (bits_of U L F) result ≡ new background }
+        ensures limit { result.limit ≡ limit }
+        ensures empty { result.root ≡ [] }
+    {
+        TreeOf {
+            alloc,
+            background,
+            limit,
+            root: RootTable::new(alloc),
+            uppers: Pool::new(alloc),
+            lowers: Pool::new(alloc),
+            leaves: Pool::new(alloc),
+        }
+    }
+
+    /// The value of what was never written.
+    pub fn background(&self) -> V
+        ensures { result ≡ (field_of (bits_of U L F) self.now).background }
+    {
+        self.background
+    }
+
+    /// How many entries the root table may have. So many root blocks at most have a cell that isn't plain, which is the
+    /// background, inactive.
+    pub fn limit(&self) -> u32
+        ensures value { result ≡ self.now.limit }
+        ensures kept { roots V.eq (bits_of U L F) (field_of (bits_of U L F) self.now) ≤ result }
+    {
+        self.limit
+    }
+
+    /// The bits of its nodes.
+    pub(crate) fn bits(&self) -> Bits
+        ensures value { result ≡ bits_of U L F }
+        ensures configured { AreBits result }
+    {
+        let _ = &self.root;
+        Bits {
+            upper: U as u8,
+            lower: L as u8,
+            leaf: F as u8,
+        }
+    }
+
+    /// The key of p's root block.
+    pub(crate) fn key(&self, p: Coord) -> Coord
+        ensures value { result ≡ key (bits_of U L F) p }
+        ensures within { IsTrue (is_inside (block_numbers (bits_of U L F) Upper) (key (bits_of U L F) p)) }
+    {
+        p.key_in(self.bits())
+    }
+
+    /// The index of p's entry in the level's node around it.
+    pub(crate) fn offset(&self, p: Coord, level: Level) -> u32
+        ensures value { result ≡ offset (bits_of U L F) level p }
+        ensures within { result < entry_count (node_bits (bits_of U L F) level) }
+    {
+        u32::from(p.offset_in(self.bits(), level))
+    }
+}
