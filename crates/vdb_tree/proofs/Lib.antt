@@ -29,3 +29,5 @@ pub mod EntryCounts
 pub mod NextChild
 pub mod NextLeaf
 pub mod Seeking
+pub mod BlockTests
+pub mod RootCounts

@@ -46,6 +46,10 @@ module _ {V : Type 0} (bits : Bits) where
   abbrev pub IsConstantBlock : Level → Layout V → Coord → Cell V → Type 0
   IsConstantBlock level t p cell = (q : Coord) → block_number bits level q ≡ block_number bits level p → cell_at bits t q ≡ cell
 
+  -- each cell of the entry at this index of the level's node around p is this
+  abbrev pub IsConstantAt : Level → Layout V → Coord → ℕ → Cell V → Type 0
+  IsConstantAt level t p index cell = (q : Coord) → block_number bits level q ≡ block_number bits level p → offset bits level q ≡ index → cell_at bits t q ≡ cell
+
   -- no one cell stands all over p's block of the level
   abbrev pub IsMixedBlock : Level → Layout V → Coord → Type 0
   IsMixedBlock level t p = (cell : Cell V) → IsConstantBlock level t p cell → ⊥

@@ -18,6 +18,7 @@ mod pieces;
 mod prune;
 mod refusal;
 mod root;
+mod root_blocks;
 mod split;
 #[cfg(test)]
 mod tests;

@@ -29,7 +29,7 @@ impl<
     const WF: usize,
 > TreeOf<V, U, L, F, WU, WL, WF> {
     /// The one cell of all voxels of the leaf around p, where there is one.
-    fn leaf_constant(&self, leaf: u32, p: Coord, steps: &mut Steps) -> Option<Cell<V>>
+    pub(crate) fn leaf_constant(&self, leaf: u32, p: Coord, steps: &mut Steps) -> Option<Cell<V>>
         requires { lower_entry (bits_of U L F) self.now p ≡ Child leaf }
         ensures { (cell : Cell V) → (result ≡ Some cell) ↔ IsConstantBlock (bits_of U L F) Leaf self.now p cell }
     {
