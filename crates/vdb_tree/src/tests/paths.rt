@@ -1,0 +1,113 @@
+//! Paths of nodes, and what a descent from one costs.
+
+use super::{all, at, off, on};
+use crate::{PathOf, Tree, TreeRefusal, Write};
+use vdb_coord::Coord;
+use vdb_pool::Steps;
+use vdb_value::Cell;
+
+// In a tree of one root block: leaves around 0 and 9 of one lower node, and around 200 of another.
+fn write_leaves(tree: &mut Tree<i32>, steps: &mut Steps) -> Result<(), TreeRefusal> {
+    for x in [0, 9, 200] {
+        tree.write(at(x, 0, 0), Write::On(5), steps)?;
+    }
+    Ok(())
+}
+
+// The cell at the end of a descent from another coordinate's path.
+fn descended(tree: &Tree<i32>, from: Coord, to: Coord, steps: &mut Steps) -> Cell<i32> {
+    let mut path = tree.trace(from, steps);
+    tree.descend(&mut path, from, to, steps)
+}
+
+// As many visits as the first path has nodes, and then as there are on the way down from the lowest that both have.
+#[test]
+fn descents_from_what_is_shared(rt: HostRuntime) -> Result<(), TreeRefusal> {
+    let mut steps = Steps::new(&rt);
+    let mut tree = Tree::new(rt.alloc(), 0i32, 1);
+    write_leaves(&mut tree, &mut steps)?;
+    let absent = at(4096, 0, 0);
+    let empty = at(16, 0, 0);
+    let bare = at(0, 200, 0);
+    let turns = [
+        (absent, all(0), on(5), 0 + 3),
+        (all(0), at(1, 2, 3), off(0), 3 + 1),
+        (all(0), at(9, 0, 0), on(5), 3 + 2),
+        (at(9, 0, 0), at(200, 0, 0), on(5), 3 + 3),
+        (at(200, 0, 0), empty, off(0), 3 + 2),
+        (empty, at(17, 0, 0), off(0), 2 + 1),
+        (empty, all(0), on(5), 2 + 2),
+        (all(0), bare, off(0), 3 + 1),
+        (bare, at(0, 201, 0), off(0), 1 + 1),
+        (all(0), absent, off(0), 3 + 0),
+        (absent, at(4096, 1, 0), off(0), 0 + 0),
+    ];
+    for (from, to, cell, visits) in turns {
+        let before = steps.count();
+        assert_eq!(rt; descended(&tree, from, to, &mut steps), cell, "to {to:?}");
+        assert_eq!(rt; steps.count().wrapping_sub(before), visits, "to {to:?}");
+    }
+    Ok(())
+}
+
+// How many nodes a path has.
+fn length<A, B, C>(path: PathOf<A, B, C>) -> u32 {
+    match path {
+        PathOf::Empty => 0,
+        PathOf::ToUpper(_) => 1,
+        PathOf::ToLower(..) => 2,
+        PathOf::ToLeaf(..) => 3,
+    }
+}
+
+#[test]
+fn traces_end_where_the_nodes_end(rt: HostRuntime) -> Result<(), TreeRefusal> {
+    let mut steps = Steps::new(&rt);
+    let mut tree = Tree::new(rt.alloc(), 0i32, 1);
+    write_leaves(&mut tree, &mut steps)?;
+    let cases = [
+        (all(7), 3),
+        (at(15, 7, 7), 3),
+        (at(16, 0, 0), 2),
+        (at(0, 200, 0), 1),
+        (at(4096, 0, 0), 0),
+        (all(-1), 0),
+    ];
+    for (p, nodes) in cases {
+        assert_eq!(rt; length(tree.trace(p, &mut steps)), nodes, "at {p:?}");
+    }
+    Ok(())
+}
+
+// Whether a write of the value 9 is done near another coordinate's path.
+fn is_written_near(tree: &mut Tree<i32>, from: Coord, to: Coord, steps: &mut Steps) -> bool {
+    let path = tree.trace(from, steps);
+    tree.write_near(&path, from, to, Write::Value(9), steps)
+}
+
+#[test]
+fn writes_in_the_leaf_of_a_path(rt: HostRuntime) -> Result<(), TreeRefusal> {
+    let mut steps = Steps::new(&rt);
+    let mut tree = Tree::new(rt.alloc(), 0i32, 1);
+    write_leaves(&mut tree, &mut steps)?;
+    let cases = [
+        (all(0), all(7), true, off(9)),
+        (all(0), at(9, 0, 0), false, on(5)),
+        (all(0), at(16, 0, 0), false, off(0)),
+        (at(16, 0, 0), at(16, 0, 0), false, off(0)),
+        (at(16, 0, 0), all(0), false, on(5)),
+        (at(4096, 0, 0), all(0), false, on(5)),
+        (at(15, 7, 7), at(9, 0, 0), true, on(9)),
+        (all(7), all(0), true, on(9)),
+        (all(0), all(6), true, off(9)),
+    ];
+    for (from, to, near, cell) in cases {
+        assert_eq!(rt;
+            is_written_near(&mut tree, from, to, &mut steps),
+            near,
+            "to {to:?}"
+        );
+        assert_eq!(rt; tree.get(to, &mut steps), cell, "to {to:?}");
+    }
+    Ok(())
+}

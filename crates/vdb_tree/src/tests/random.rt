@@ -1,0 +1,242 @@
+//! Many changes, drawn by a linear congruential generator, beside a map of cells.
+
+ghost use Rattle.std.specs.Prelude.{◌<◌};
+
+use super::{Tiny, at, off};
+use crate::{Tree, Tree433, TreeOf, TreeRefusal, Write};
+use std::alloc::{AllocError, Global};
+use std::collections::BTreeMap;
+use std::process::Abort;
+use vdb_coord::Coord;
+use vdb_pool::Steps;
+use vdb_value::Cell;
+
+/// Knuth's generator of 64 bits, and the components that coordinates are drawn from.
+#[derive(Drop)]
+struct Draws {
+    state: u64,
+    components: [i32; 8],
+}
+
+impl Draws {
+    // A number below `bound`, by the upper bits.
+    fn below(&mut self, bound: u64) -> u64
+        requires { 0 < bound }
+        ensures { result < bound }
+    {
+        self.state = self
+            .state
+            .wrapping_mul(6364136223846793005)
+            .wrapping_add(1442695040888963407);
+        (self.state >> 33) % bound
+    }
+
+    fn component(&mut self) -> i32 {
+        let i = self.below(8);
+        self.components[i as usize]
+    }
+
+    fn coordinate(&mut self) -> Coord {
+        let x = self.component();
+        let y = self.component();
+        let z = self.component();
+        at(x, y, z)
+    }
+
+    // Often the background, so that blocks become plain again.
+    fn change(&mut self) -> Write<i32> {
+        let value = self.below(2) as i32;
+        match self.below(6) {
+            0 => Write::On(value),
+            1 => Write::Off(value),
+            2 => Write::State(value == 0),
+            3 => Write::Value(value),
+            _ => Write::Off(0),
+        }
+    }
+}
+
+/// What a tree with background 0 is to hold, and how many bits of a component lie below a root block's number.
+#[derive(Drop)]
+struct Wanted {
+    alloc: Global,
+    cells: BTreeMap<Coord, Cell<i32>>,
+    block_bits: u32,
+}
+
+impl Wanted {
+    fn cell(&self, p: Coord) -> Cell<i32> {
+        match self.cells.get(&p) {
+            Some(cell) => *cell,
+            None => off(0),
+        }
+    }
+
+    fn put(&mut self, p: Coord, cell: Cell<i32>) -> Result<(), AllocError> {
+        self.cells.insert(p, cell)?;
+        Ok(())
+    }
+
+    // How many root blocks hold something.
+    fn root_blocks(&self) -> Result<u64, AllocError> {
+        let mut keys = BTreeMap::new(self.alloc);
+        for (p, cell) in &self.cells {
+            if *cell != off(0) {
+                let x = p.x.wrapping_shr(self.block_bits);
+                let y = p.y.wrapping_shr(self.block_bits);
+                let z = p.z.wrapping_shr(self.block_bits);
+                keys.insert(at(x, y, z), ())?;
+            }
+        }
+        Ok(keys.len() as u64)
+    }
+}
+
+// Writes a voxel. Where the root limit refuses it, there would be a root block too many.
+fn change_one<
+    const U: u32,
+    const L: u32,
+    const F: u32,
+    const WU: usize,
+    const WL: usize,
+    const WF: usize,
+>(
+    rt: &impl Abort,
+    tree: &mut TreeOf<i32, U, L, F, WU, WL, WF>,
+    wanted: &mut Wanted,
+    p: Coord,
+    change: Write<i32>,
+    steps: &mut Steps,
+) -> Result<(), TreeRefusal> {
+    let old = wanted.cell(p);
+    let new = change.applied(old);
+    match tree.write(p, change, steps) {
+        Ok(()) => {
+            wanted.put(p, new)?;
+            assert_eq!(rt; tree.get(p, steps), new);
+        }
+        Err(TreeRefusal::RootLimit) => {
+            wanted.put(p, new)?;
+            assert!(rt; wanted.root_blocks()? > u64::from(tree.limit()));
+            wanted.put(p, old)?;
+        }
+        Err(TreeRefusal::Memory) => return Err(TreeRefusal::Memory),
+    }
+    Ok(())
+}
+
+fn expect_wanted<
+    const U: u32,
+    const L: u32,
+    const F: u32,
+    const WU: usize,
+    const WL: usize,
+    const WF: usize,
+>(
+    rt: &impl Abort,
+    tree: &TreeOf<i32, U, L, F, WU, WL, WF>,
+    wanted: &Wanted,
+    components: &[i32; 8],
+    steps: &mut Steps,
+) -> Result<(), TreeRefusal> {
+    for x in components {
+        for y in components {
+            for z in components {
+                let p = at(*x, *y, *z);
+                assert_eq!(rt; tree.get(p, steps), wanted.cell(p), "at {p:?}");
+            }
+        }
+    }
+    assert_eq!(rt; tree.root_blocks(steps), wanted.root_blocks()?);
+    Ok(())
+}
+
+// Changes of single voxels and of aligned cubes of eight, with a prune now and then.
+fn try_changes<
+    const U: u32,
+    const L: u32,
+    const F: u32,
+    const WU: usize,
+    const WL: usize,
+    const WF: usize,
+>(
+    rt: &impl Abort,
+    mut tree: TreeOf<i32, U, L, F, WU, WL, WF>,
+    wanted: &mut Wanted,
+    draws: &mut Draws,
+    steps: &mut Steps,
+) -> Result<(), TreeRefusal> {
+    for _ in 0..100 {
+        let p = draws.coordinate();
+        let change = draws.change();
+        if draws.below(2) == 0 {
+            change_one(rt, &mut tree, wanted, p, change, steps)?;
+        } else {
+            for i in 0..8 {
+                let q = at(
+                    (p.x & !1) | (i & 1),
+                    (p.y & !1) | ((i >> 1) & 1),
+                    (p.z & !1) | (i >> 2),
+                );
+                change_one(rt, &mut tree, wanted, q, change, steps)?;
+            }
+        }
+        if draws.below(10) == 0 {
+            tree.prune(steps);
+        }
+    }
+    let components = draws.components;
+    expect_wanted(rt, &tree, wanted, &components, steps)?;
+    tree.prune(steps);
+    expect_wanted(rt, &tree, wanted, &components, steps)?;
+    assert_eq!(rt; tree.node_counts().entries, wanted.root_blocks()?);
+    Ok(())
+}
+
+#[test]
+fn changes_beside_a_map(rt: HostRuntime) -> Result<(), TreeRefusal> {
+    let mut steps = Steps::new(&rt);
+    let alloc = rt.alloc();
+    let far = [-70, -10, -1, 0, 1, 7, 64, 1030];
+    let near = [-4, -3, -2, -1, 0, 1, 2, 3];
+    for (components, limit, state) in [(far, 4096, 1), (near, 3, 2)] {
+        let mut draws = Draws { state, components };
+        let mut wanted = Wanted {
+            alloc,
+            cells: BTreeMap::new(alloc),
+            block_bits: 12,
+        };
+        try_changes(
+            &rt,
+            Tree::new(alloc, 0, limit),
+            &mut wanted,
+            &mut draws,
+            &mut steps,
+        )?;
+        let mut wanted = Wanted {
+            alloc,
+            cells: BTreeMap::new(alloc),
+            block_bits: 10,
+        };
+        try_changes(
+            &rt,
+            Tree433::new(alloc, 0, limit),
+            &mut wanted,
+            &mut draws,
+            &mut steps,
+        )?;
+        let mut wanted = Wanted {
+            alloc,
+            cells: BTreeMap::new(alloc),
+            block_bits: 3,
+        };
+        try_changes(
+            &rt,
+            Tiny::new(alloc, 0, limit),
+            &mut wanted,
+            &mut draws,
+            &mut steps,
+        )?;
+    }
+    Ok(())
+}
