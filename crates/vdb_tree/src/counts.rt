@@ -11,9 +11,13 @@ use vdb_node::Stored;
 /// The number of entries of a tree's root table, and of its nodes level by level (OpenVDB's `Tree::nodeCount`).
 #[derive(Clone, Copy, Debug, PartialEq, Eq)]
 pub struct NodeCounts {
+    /// Entries of the root table, children and tiles.
     pub entries: u64,
+    /// Upper internal nodes.
     pub upper: u64,
+    /// Lower internal nodes.
     pub lower: u64,
+    /// Leaves.
     pub leaf: u64,
 }
 

@@ -11,9 +11,13 @@ use vdb_pool::Place;
 /// in it, and of a leaf in that. It can be copied and kept, and owns nothing (the nodes that OpenVDB's `ValueAccessor`
 /// caches).
 pub enum PathOf<Upper, Lower, Leaf> {
+    /// No node.
     Empty,
+    /// An upper node.
     ToUpper(Place<Upper>),
+    /// An upper node and a lower node in it.
     ToLower(Place<Upper>, Place<Lower>),
+    /// These and a leaf.
     ToLeaf(Place<Upper>, Place<Lower>, Place<Leaf>),
 }
 
