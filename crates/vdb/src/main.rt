@@ -4,6 +4,7 @@
 
 use std::process::ExitCode;
 use std::{env, io};
+use vdb_pool::Steps;
 use vdb_scene::Watched;
 use vdb_shell::session;
 
@@ -17,7 +18,8 @@ fn main(rt: HostRuntime) -> ExitCode {
     }
     let mut script = Watched::new(rt.stdin());
     let mut answers = Watched::new(io::writer(&rt));
-    let outcome = session(rt.alloc(), &mut script, &mut answers);
+    let mut steps = Steps::new(&rt);
+    let outcome = session(rt.alloc(), &mut script, &mut answers, &mut steps);
     if let Some(fault) = outcome.fault {
         let _ = eprintln!(rt; "{fault}");
     }

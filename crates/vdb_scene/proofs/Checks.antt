@@ -1,15 +1,15 @@
 -- Names, refusals, answers and scenes of worked examples, found by computing.
-use Rattle.std.proofs.Common.{◌≡◌, refl, ℕ, ℤ, pos, negsuc, ◌+◌, true, false, List, [], ◌∷◌, map, Some, None, codes, inl, inr}
+use Rattle.std.proofs.Common.{◌≡◌, refl, ℕ, ℤ, pos, negsuc, ◌+◌, true, false, List, [], ◌∷◌, map, Some, None, codes, inl, take}
 use Rattle.std.specs.List.{range_with_len}
 use Rattle.vdb_coord.specs.Space.{coord}
 use Rattle.vdb_value.specs.declared.Cell.{Cell}
 use Rattle.vdb_value.specs.declared.Kind.TheVariants as kinds
 use Rattle.vdb_scene.specs.Names.{is_name}
 use Rattle.vdb_scene.specs.Scene.{Scene, field_at, new_grid}
-use Rattle.vdb_scene.specs.Step.{Done, Refused, Step, after, refusal, takes_memory}
+use Rattle.vdb_scene.specs.Step.{Refused, Step, after, first_of_all, refusal, takes_memory, tried}
 use Rattle.vdb_scene.specs.declared.answer.Refusal.TheVariants as refusals
-use Rattle.vdb_scene.specs.declared.answer.Scalar.{Scalar}
-use Rattle.vdb_scene.specs.declared.answer.Scalar.TheVariants.{Bool as truth, I32}
+use Rattle.vdb_scene.specs.declared.scalar.Scalar.{Scalar}
+use Rattle.vdb_scene.specs.declared.scalar.Scalar.TheVariants.{Bool as truth, I32}
 use Rattle.vdb_scene.specs.declared.command.Command.{Command}
 use Rattle.vdb_scene.specs.declared.command.Command.TheVariants as commands
 use Rattle.vdb_scene.specs.declared.command.Literal.{Literal}
@@ -69,7 +69,7 @@ far_accessor = refl
 past_the_range : refusal with_a (commands.Set a None (point (pos 0) (pos 0) (pos 2147483648)) (near (pos 1))) ≡ Some refusals.ValueRange
 past_the_range = refl
 
-at_the_ends : refusal with_a (commands.Set a None (point (negsuc 2147483647) (pos 2147483647) (pos 0)) (near (negsuc 2147483647))) ≡ None
+at_the_ends : first_of_all (take 4 (tried with_a (commands.Set a None (point (negsuc 2147483647) (pos 2147483647) (pos 0)) (near (negsuc 2147483647))))) ≡ None
 at_the_ends = refl
 
 missing : refusal with_a (commands.Get (codes "b") None (point (pos 0) (pos 0) (pos 0))) ≡ Some refusals.NoGrid
@@ -110,15 +110,9 @@ seven = refl
 beside : cell_after (pos 0) ≡ record { value = I32 (pos 0); on = false }
 beside = refl
 
-takes_some : takes_memory with_a set_seven ≡ true
-takes_some = refl
-
 takes_none : takes_memory (after with_a set_seven) set_seven ≡ false
 takes_none = refl
 
--- a step that is refused, and one that isn't
+-- a step that is refused
 stays : Step with_a make_a (Refused refusals.NameTaken) with_a
 stays = inl (refusals.NameTaken, refl, refl, refl)
-
-moves : Step with_a set_seven Done (after with_a set_seven)
-moves = inr (inl (refl, refl, refl))

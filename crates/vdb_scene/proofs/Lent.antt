@@ -3,13 +3,17 @@ use Rattle.std.proofs.Common.{◌≡◌, sym, ap, ◌∙◌, ℕ, List, Some, No
 use Rattle.std.specs.Map.{lookup, set_value}
 use Rattle.std.specs.Option.{option_map}
 use Rattle.vdb_tree.specs.Field.{Field}
-use Rattle.vdb_scene.specs.Grids.{grid_field, grid_of, scene_over}
+use Rattle.vdb_scene.specs.Grids.{grid_field, grid_limit, grid_of, scene_over}
 use Rattle.vdb_scene.specs.Scene.{Grid, grid_at, is_named}
 use Rattle.vdb_scene.specs.Step.{changed}
-use Rattle.vdb_scene.specs.declared.answer.Scalar.{Scalar}
+use Rattle.vdb_scene.specs.declared.scalar.Scalar.{Scalar}
 use Rattle.vdb_scene.specs.declared.any_grid.AnyGrid.{AnyGrid}
 use Rattle.vdb_scene.proofs.Entries.{lookup-over, set_value-found, set_value-over}
-use Rattle.vdb_scene.proofs.Steps.{field_found}
+use Rattle.vdb_scene.proofs.Steps.{grid_found}
+
+-- a grid of this field and this limit
+one_grid : (given : AnyGrid) (f : Field Scalar) (limit : ℕ) → grid_field given ≡ f → grid_limit given ≡ limit → grid_of given ≡ record { field = f; limit = limit }
+one_grid given f limit field is = λ i. record { field = field i; limit = is i }
 
 module _ (grids : List (List ℕ × AnyGrid)) (name : List ℕ) where
   -- a name that no grid has
@@ -24,17 +28,15 @@ module _ (grids : List (List ℕ × AnyGrid)) (name : List ℕ) where
     back_over : scene_over after ≡ set_value (is_named name) (scene_over grids) (grid_of given)
     back_over = ap scene_over back ∙ sym (set_value-over grid_of (is_named name) grids given)
 
-    grid_with : Field Scalar → Grid
-    grid_with f = record { field = f }
-
-    -- its field is as it was
-    pub unchanged : grid_field given ≡ grid_field grid → scene_over after ≡ scene_over grids
-    unfolding grid_with
-    unchanged same =
-        back_over ∙ ap (λ f. set_value (is_named name) (scene_over grids) (grid_with f)) same ∙ set_value-found (is_named name) (scene_over grids) (grid_of grid) (found grid there)
+    -- it is as it was
+    pub unchanged : grid_field given ≡ grid_field grid → grid_limit given ≡ grid_limit grid → scene_over after ≡ scene_over grids
+    unchanged field limit =
+        back_over ∙ ap (set_value (is_named name) (scene_over grids)) (one_grid given (grid_field grid) (grid_limit grid) field limit)
+        ∙ set_value-found (is_named name) (scene_over grids) (grid_of grid) (found grid there)
 
     -- its field was changed
-    pub changed_field : (change : Field Scalar → Field Scalar) → grid_field given ≡ change (grid_field grid) → scene_over after ≡ changed (scene_over grids) name change
-    unfolding grid_with
-    changed_field change is =
-        back_over ∙ ap (λ f. set_value (is_named name) (scene_over grids) (grid_with f)) (is ∙ ap change (sym (field_found (scene_over grids) name (grid_of grid) (found grid there))))
+    pub changed_field : (change : Field Scalar → Field Scalar) → grid_field given ≡ change (grid_field grid) → grid_limit given ≡ grid_limit grid → scene_over after ≡ changed (scene_over grids) name change
+    changed_field change field limit =
+        back_over ∙ ap (set_value (is_named name) (scene_over grids)) (one_grid given (change (grid_field grid)) (grid_limit grid) field limit)
+        ∙ ap (λ (g : Grid). set_value (is_named name) (scene_over grids) (record { field = change g.field; limit = g.limit }))
+        (sym (grid_found (scene_over grids) name (grid_of grid) (found grid there)))

@@ -2,6 +2,5 @@
 mod Checks
 pub mod Entries
 pub mod Lent
-pub mod Setting
 pub mod Steps
-pub mod Voxels
+pub mod Writing

@@ -1,17 +1,18 @@
 -- Steps of the abstract scene, from what was found out about a command.
 use Rattle.std.proofs.Common.{◌≡◌, refl, ap, ◌∙◌, ℕ, Bool, true, false, cond, ◌&&◌, not, List, [], ◌∷◌, Option, Some, None, unwrap_or, Ok, Err, inl, inr}
 use Rattle.vdb_scene.specs.Doing.{AppliesTo, CarriesOut}
-use Rattle.vdb_scene.specs.Scalars.{has_form, has_value}
-use Rattle.vdb_scene.specs.Scene.{Grid, Scene, field_at, grid_at, kind_at, new_grid}
-use Rattle.vdb_scene.specs.declared.answer.Scalar.TheVariants.{Bool as truth}
-use Rattle.vdb_scene.specs.Step.{Refused, first_of_all, is_accessor, is_place, other_form, out_of_range, place, refusal}
+use Rattle.vdb_tree.specs.Field.{Field}
+use Rattle.vdb_scene.specs.Scalars.{kind_of}
+use Rattle.vdb_scene.specs.Scene.{Grid, Scene, field_at, grid_at, kind_at, new_grid, the_grid}
+use Rattle.vdb_scene.specs.declared.scalar.Scalar.{Scalar}
+use Rattle.vdb_scene.specs.declared.scalar.Scalar.TheVariants.{Bool as truth}
+use Rattle.vdb_scene.specs.Step.{Refused, first_of_all, is_accessor, is_place, refusal}
 use Rattle.vdb_scene.specs.declared.answer.Answer.{Answer}
 use Rattle.vdb_scene.specs.declared.answer.Answer.TheVariants as answers
 use Rattle.vdb_scene.specs.declared.answer.Refusal.{Refusal}
 use Rattle.vdb_scene.specs.declared.answer.Refusal.TheVariants as refusals
 use Rattle.vdb_scene.specs.declared.command.Command.{Command}
 use Rattle.vdb_scene.specs.declared.command.Command.TheVariants as commands
-use Rattle.vdb_scene.specs.declared.command.Literal.{Literal}
 use Rattle.vdb_scene.specs.declared.command.Num.{Num}
 use Rattle.vdb_scene.specs.declared.command.Point.{Point}
 
@@ -24,18 +25,19 @@ test_passes false x y h = absurd (none_some y h)
     none_some y h = cc
 
 module _ (s : Scene) (name : List ℕ) (g : Grid) (found : grid_at s name ≡ Some g) where
-  -- the field of a grid that was found
+  -- a grid that was found
+  pub grid_found : the_grid s name ≡ g
+  grid_found = ap (λ (o : Option Grid). unwrap_or o (new_grid (truth false))) found
+
   pub field_found : field_at s name ≡ g.field
-  field_found = ap (λ (o : Option Grid). (unwrap_or o (new_grid (truth false))).field) found
+  field_found = ap (λ (h : Grid). h.field) grid_found
+
+  pub kind_found : kind_at s name ≡ kind_of g.field.background
+  kind_found = ap (λ (f : Field Scalar). kind_of f.background) field_found
 
   -- no refusal of a look-up is left
   pub get_accepted : (k : Option Num) (p : Point) → is_place p ≡ true → is_accessor k ≡ true → refusal s (commands.Get name k p) ≡ None
   get_accepted k p there accessor = rw (found, there, accessor) refl
-
-  -- nor of a write
-  pub set_accepted : (k : Option Num) (p : Point) (v : Literal) → has_form (kind_at s name) v ≡ true → is_place p ≡ true → has_value (kind_at s name) v ≡ true → is_accessor k ≡ true
-      → refusal s (commands.Set name k p v) ≡ None
-  set_accepted k p v form there value accessor = rw (found, form, there, value, accessor) refl
 
 -- a refusal that isn't want of memory
 pub refused : (s : Scene) (c : Command) (r : Refusal) (next : Scene) → refusal s c ≡ Some r → (r ≡ refusals.Memory → ⊥) → next ≡ s → CarriesOut s c (Err r) next
@@ -55,20 +57,13 @@ range_memory : refusals.ValueRange ≡ refusals.Memory → ⊥
 range_memory h = cc
 
 -- a value that is refused by itself is refused beside a place
-value_first : (form value place : Bool) (rest : List (Option Refusal)) (r : Refusal)
+pub value_first : (form value place : Bool) (rest : List (Option Refusal)) (r : Refusal)
     → first_of_all (cond (not form) (Some refusals.Kind) None ∷ cond (not value) (Some refusals.ValueRange) None ∷ []) ≡ Some r
     → (first_of_all (cond (not form) (Some refusals.Kind) None ∷ cond (not (place && value)) (Some refusals.ValueRange) None ∷ rest) ≡ Some r) × (r ≡ refusals.Memory → ⊥)
 value_first false value place rest r h = (h, λ e. kind_memory (some_exact _ _ h ∙ e))
 value_first true false true rest r h = (h, λ e. range_memory (some_exact _ _ h ∙ e))
 value_first true false false rest r h = (h, λ e. range_memory (some_exact _ _ h ∙ e))
 value_first true true place rest r h = absurd (none_some r h)
-
--- a write of a value that is refused
-pub set_refused : (s : Scene) (name : List ℕ) (g : Grid) → grid_at s name ≡ Some g → (k : Option Num) (p : Point) (v : Literal) (r : Refusal) (next : Scene)
-    → first_of_all (other_form (kind_at s name) v ∷ out_of_range (has_value (kind_at s name) v) ∷ []) ≡ Some r → next ≡ s → CarriesOut s (commands.Set name k p v) (Err r) next
-set_refused s name g found k p v r next is same =
-    let h = value_first (has_form (kind_at s name) v) (has_value (kind_at s name) v) (is_place p) _ r is in
-    refused s (commands.Set name k p v) r next (rw found h.0) h.1 same
 
 -- a value that isn't there where a test fails
 pub test_fails : {A : Type 0} (b : Bool) (x : A) → cond b (Some x) None ≡ None → b ≡ false

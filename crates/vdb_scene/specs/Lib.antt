@@ -3,7 +3,6 @@ pub mod Names
 pub mod Scalars
 pub mod Scene
 pub mod Step
-pub mod VoxelMap
 pub mod Grids
 pub mod Shown
 pub mod Doing

@@ -10,8 +10,8 @@ use Rattle.vdb_scene.specs.declared.command.Literal.{Literal}
 use Rattle.vdb_scene.specs.declared.command.Literal.TheVariants.{Number, Truth}
 use Rattle.vdb_scene.specs.declared.command.Num.{Num}
 use Rattle.vdb_scene.specs.declared.command.Num.TheVariants.{Near, Far}
-use Rattle.vdb_scene.specs.declared.answer.Scalar.{Scalar}
-use Rattle.vdb_scene.specs.declared.answer.Scalar.TheVariants.{Bool as truth, I32, I64}
+use Rattle.vdb_scene.specs.declared.scalar.Scalar.{Scalar}
+use Rattle.vdb_scene.specs.declared.scalar.Scalar.TheVariants.{Bool as truth, I32, I64}
 
 -- the kind of a value
 abbrev pub kind_of : Scalar → Kind
@@ -25,6 +25,10 @@ kind_eq kinds.Bool kinds.Bool = true
 kind_eq kinds.I32 kinds.I32 = true
 kind_eq kinds.I64 kinds.I64 = true
 kind_eq _ _ = false
+
+-- whether a value is of the kind
+abbrev pub is_of : Kind → Scalar → Bool
+is_of kind v = kind_eq (kind_of v) kind
 
 -- whether two values are one
 abbrev pub scalar_eq : Scalar → Scalar → Bool

@@ -7,12 +7,14 @@ use Rattle.std.specs.BTreeMap.{insert_entry, is_at}
 use Rattle.vdb_value.specs.declared.Kind.{Kind}
 use Rattle.vdb_tree.specs.Field.{Field, new}
 use Rattle.vdb_scene.specs.Scalars.{kind_of}
-use Rattle.vdb_scene.specs.declared.answer.Scalar.{Scalar}
-use Rattle.vdb_scene.specs.declared.answer.Scalar.TheVariants.{Bool as truth}
+use Rattle.vdb_scene.specs.declared.scalar.Scalar.{Scalar}
+use Rattle.vdb_scene.specs.declared.scalar.Scalar.TheVariants.{Bool as truth}
 
--- what a name stands for: one total function from coordinates to cells, whose background tells its kind
+-- what a name stands for: one total function from coordinates to cells, whose background tells its kind, and how many of its
+-- root blocks may not be plain
 pub record Grid : Type 0 where
   pub field : Field Scalar
+  pub limit : ℕ
 
 -- the grids, each under its name, by rising bytes of the names
 abbrev pub Scene : Type 0
@@ -26,9 +28,9 @@ is_named name = is_at (slice_cmp nat_cmp name)
 abbrev pub grid_at : Scene → List ℕ → Option Grid
 grid_at s name = lookup (is_named name) s
 
--- a grid that was never written
+-- a grid that was never written, with the limit of every grid that a command makes
 abbrev pub new_grid : Scalar → Grid
-new_grid background = record { field = new background }
+new_grid background = record { field = new background; limit = 4096 }
 
 -- the grid of a name that is there; any other stands for one that isn't, which is refused before
 abbrev pub the_grid : Scene → List ℕ → Grid
@@ -37,6 +39,10 @@ the_grid s name = unwrap_or (grid_at s name) (new_grid (truth false))
 -- its field
 abbrev pub field_at : Scene → List ℕ → Field Scalar
 field_at s name = (the_grid s name).field
+
+-- its limit
+abbrev pub limit_at : Scene → List ℕ → ℕ
+limit_at s name = (the_grid s name).limit
 
 -- its kind
 abbrev pub kind_at : Scene → List ℕ → Kind

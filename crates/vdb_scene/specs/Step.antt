@@ -1,15 +1,19 @@
 -- What a command makes of a scene: when it is refused, what it answers, and the scene after it.
-use Rattle.std.specs.Prelude.{◌≡◌, ◌⊎◌, ℕ, ℤ, pos, Bool, true, false, not, ◌&&◌, if◌then◌else◌, List, [], ◌∷◌, length, Option, Some, None, is_some, is_none, IsTrue, nat_le, Result, Ok, Err}
+use Rattle.std.specs.Prelude.{◌≡◌, ◌⊎◌, ℕ, ℤ, pos, Bool, true, false, not, ◌&&◌, if◌then◌else◌, List, [], ◌∷◌, length, Option, Some, None, is_some, is_none, IsTrue, nat_le, nat_lt, Result, Ok, Err}
+use Rattle.vdb_coord.specs.Blocks.{block_around, vdb}
 use Rattle.vdb_coord.specs.Space.{coord, everywhere, is_between}
+use Rattle.vdb_coord.specs.declared.Level.TheVariants.{Leaf}
 use Rattle.vdb_coord.specs.declared.Coord.{Coord}
 use Rattle.vdb_value.specs.declared.Cell.{Cell}
 use Rattle.vdb_value.specs.declared.Kind.{Kind}
 use Rattle.vdb_tree.specs.declared.Write.{Write}
-use Rattle.vdb_tree.specs.declared.Write.TheVariants.{On}
-use Rattle.vdb_tree.specs.Field.{Field, write, written}
-use Rattle.vdb_tree.specs.Plain.{cell_eq}
+use Rattle.vdb_tree.specs.declared.Write.TheVariants as writes
+use Rattle.vdb_tree.specs.declared.refusal.TreeRefusal.{TreeRefusal}
+use Rattle.vdb_tree.specs.declared.refusal.TreeRefusal.TheVariants.{Memory, RootLimit}
+use Rattle.vdb_tree.specs.Field.{Field, as_write_of, write, written}
+use Rattle.vdb_tree.specs.Plain.{cell_eq, is_constant, roots}
 use Rattle.vdb_scene.specs.Scalars.{has_form, has_value, is_near, number, scalar, scalar_eq}
-use Rattle.vdb_scene.specs.Scene.{Grid, Scene, field_at, grid_at, kind_at, new_grid, the_grid, with_changed, with_grid}
+use Rattle.vdb_scene.specs.Scene.{Grid, Scene, field_at, grid_at, kind_at, limit_at, new_grid, the_grid, with_changed, with_grid}
 use Rattle.vdb_scene.specs.declared.command.Command.{Command}
 use Rattle.vdb_scene.specs.declared.command.Command.TheVariants as commands
 use Rattle.vdb_scene.specs.declared.command.Literal.{Literal}
@@ -17,7 +21,7 @@ use Rattle.vdb_scene.specs.declared.command.Num.{Num}
 use Rattle.vdb_scene.specs.declared.command.Point.{Point}
 use Rattle.vdb_scene.specs.declared.answer.Refusal.{Refusal}
 use Rattle.vdb_scene.specs.declared.answer.Refusal.TheVariants as refusals
-use Rattle.vdb_scene.specs.declared.answer.Scalar.{Scalar}
+use Rattle.vdb_scene.specs.declared.scalar.Scalar.{Scalar}
 
 -- ---- places of a line
 
@@ -42,23 +46,52 @@ abbrev pub is_accessor : Option Num → Bool
 is_accessor None = true
 is_accessor (Some k) = is_from (pos 0) (pos 7) k
 
+-- ---- writes of voxels
+
+-- the command that asks for a write
+abbrev pub write_command : List ℕ → Option Num → Point → Write Literal → Command
+write_command name k p (writes.On v) = commands.Set name k p v
+write_command name k p (writes.Off v) = commands.Unset name k p v
+write_command name k p (writes.Value v) = commands.Only name k p v
+write_command name k p (writes.State on) = commands.State name k p on
+
+-- whether the value that is written, if one is, passes a test
+abbrev pub passes : {V : Type 0} → (V → Bool) → Write V → Bool
+passes test (writes.On v) = test v
+passes test (writes.Off v) = test v
+passes test (writes.State on) = true
+passes test (writes.Value v) = test v
+
 -- ---- the scene after a command that isn't refused
 
 -- the scene with the field of a name changed
 abbrev pub changed : Scene → List ℕ → (Field Scalar → Field Scalar) → Scene
 changed s name change = with_changed s name (record (the_grid s name) { field = change (field_at s name) })
 
--- what a line writes to a grid
-abbrev pub value_at : Scene → List ℕ → Literal → Scalar
-value_at s name v = scalar (kind_at s name) v
+-- what a line writes to a voxel of a grid
+abbrev pub write_at : Scene → List ℕ → Write Literal → Write Scalar
+write_at s name w = as_write_of (scalar (kind_at s name)) w
+
+-- the scene with one voxel of a grid written
+abbrev pub after_write : Scene → List ℕ → Point → Write Literal → Scene
+after_write s name p w = changed s name (write (place p) (write_at s name w))
 
 -- the scene after each command
 abbrev pub after : Scene → Command → Scene
 after s (commands.Grid name kind background) = with_grid s name (new_grid (scalar kind background))
 after s (commands.Get name k p) = s
-after s (commands.Set name k p v) = changed s name (write (place p) (On (value_at s name v)))
+after s (commands.Set name k p v) = after_write s name p (writes.On v)
+after s (commands.Unset name k p v) = after_write s name p (writes.Off v)
+after s (commands.Only name k p v) = after_write s name p (writes.Value v)
+after s (commands.State name k p on) = after_write s name p (writes.State on)
+after s (commands.Prune name) = s
 
 -- ---- when a command is refused
+
+-- why a grid's tree refuses a change
+abbrev pub of_tree : TreeRefusal → Refusal
+of_tree RootLimit = refusals.RootLimit
+of_tree Memory = refusals.Memory
 
 -- the refusal where a test holds
 abbrev pub refused_if : Bool → Refusal → Option Refusal
@@ -77,9 +110,13 @@ module _ (s : Scene) where
   abbrev pub grid_limit : Option Refusal
   grid_limit = refused_if (nat_le 64 (length s)) refusals.GridLimit
 
--- a value of another form than the kind's
-abbrev pub other_form : Kind → Literal → Option Refusal
-other_form kind v = refused_if (not (has_form kind v)) refusals.Kind
+  -- more root blocks than the grid's limit wouldn't be plain after this change
+  abbrev pub root_limit : List ℕ → (Field Scalar → Field Scalar) → Option Refusal
+  root_limit name change = refused_if (nat_lt (limit_at s name) (roots scalar_eq vdb (change (field_at s name)))) refusals.RootLimit
+
+-- something has another form than the kind's values
+abbrev pub other_form : Bool → Option Refusal
+other_form fits = refused_if (not fits) refusals.Kind
 
 -- something doesn't fit its range
 abbrev pub out_of_range : Bool → Option Refusal
@@ -89,12 +126,21 @@ out_of_range fits = refused_if (not fits) refusals.ValueRange
 abbrev pub no_accessor : Option Num → Option Refusal
 no_accessor k = refused_if (not (is_accessor k)) refusals.NoAccessor
 
+-- what a write of a voxel may be refused for
+abbrev pub tried_write : Scene → List ℕ → Option Num → Point → Write Literal → List (Option Refusal)
+tried_write s name k p w =
+    no_grid s name ∷ other_form (passes (has_form (kind_at s name)) w) ∷ out_of_range (is_place p && passes (has_value (kind_at s name)) w)
+    ∷ no_accessor k ∷ root_limit s name (write (place p) (write_at s name w)) ∷ []
+
 -- what each command may be refused for, in the one order of all refusals
 abbrev pub tried : Scene → Command → List (Option Refusal)
-tried s (commands.Grid name kind v) = name_taken s name ∷ grid_limit s ∷ other_form kind v ∷ out_of_range (has_value kind v) ∷ []
+tried s (commands.Grid name kind v) = name_taken s name ∷ grid_limit s ∷ other_form (has_form kind v) ∷ out_of_range (has_value kind v) ∷ []
 tried s (commands.Get name k p) = no_grid s name ∷ out_of_range (is_place p) ∷ no_accessor k ∷ []
-tried s (commands.Set name k p v) =
-    no_grid s name ∷ other_form (kind_at s name) v ∷ out_of_range (is_place p && has_value (kind_at s name) v) ∷ no_accessor k ∷ []
+tried s (commands.Set name k p v) = tried_write s name k p (writes.On v)
+tried s (commands.Unset name k p v) = tried_write s name k p (writes.Off v)
+tried s (commands.Only name k p v) = tried_write s name k p (writes.Value v)
+tried s (commands.State name k p on) = tried_write s name k p (writes.State on)
+tried s (commands.Prune name) = no_grid s name ∷ []
 
 -- the first refusal of a list, if there is one
 abbrev pub first_of_all : List (Option Refusal) → Option Refusal
@@ -119,18 +165,30 @@ abbrev pub Answers : Scene → Command → Reply → Type 0
 Answers s (commands.Grid name kind v) reply = reply ≡ Done
 Answers s (commands.Get name k p) reply = reply ≡ Value ((field_at s name).cell (place p))
 Answers s (commands.Set name k p v) reply = reply ≡ Done
+Answers s (commands.Unset name k p v) reply = reply ≡ Done
+Answers s (commands.Only name k p v) reply = reply ≡ Done
+Answers s (commands.State name k p on) reply = reply ≡ Done
+Answers s (commands.Prune name) reply = reply ≡ Done
 
 -- ---- want of memory
 
--- whether a write changes the cell
-abbrev pub write_changes : Field Scalar → Coord → Write Scalar → Bool
-write_changes f p w = not (cell_eq scalar_eq (written w (f.cell p)) (f.cell p))
+-- whether a write may take memory: where the cell changes, and the cells of the leaf block around it are all equal
+abbrev pub write_takes_memory : Field Scalar → Coord → Write Scalar → Bool
+write_takes_memory f p w = not (cell_eq scalar_eq (written w (f.cell p)) (f.cell p)) && is_constant scalar_eq f (block_around vdb Leaf p)
 
--- whether a command may take memory: to make a grid, and to write what doesn't stand yet
+-- whether that of a line may
+abbrev pub line_takes_memory : Scene → List ℕ → Point → Write Literal → Bool
+line_takes_memory s name p w = write_takes_memory (field_at s name) (place p) (write_at s name w)
+
+-- whether a command may take memory: to make a grid, and for such a write
 abbrev pub takes_memory : Scene → Command → Bool
 takes_memory s (commands.Grid name kind v) = true
 takes_memory s (commands.Get name k p) = false
-takes_memory s (commands.Set name k p v) = write_changes (field_at s name) (place p) (On (value_at s name v))
+takes_memory s (commands.Set name k p v) = line_takes_memory s name p (writes.On v)
+takes_memory s (commands.Unset name k p v) = line_takes_memory s name p (writes.Off v)
+takes_memory s (commands.Only name k p v) = line_takes_memory s name p (writes.Value v)
+takes_memory s (commands.State name k p on) = line_takes_memory s name p (writes.State on)
+takes_memory s (commands.Prune name) = false
 
 -- ---- one step
 

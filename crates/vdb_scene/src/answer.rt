@@ -1,12 +1,10 @@
 //! What a command answers.
 
-/// A value of one of the three kinds.
-#[derive(Clone, Copy, Debug, PartialEq, Eq)]
-pub enum Scalar {
-    Bool(bool),
-    I32(i32),
-    I64(i64),
-}
+ghost use Rattle.std.specs.Prelude.{◌≡◌};
+ghost use Rattle.vdb_scene.specs.Step.{of_tree};
+
+use crate::Scalar;
+use vdb_tree::TreeRefusal;
 
 /// Why a line is refused, in the order in which the reasons are tried.
 #[derive(Clone, Copy, Debug, PartialEq, Eq)]
@@ -52,4 +50,15 @@ pub enum Answer {
     Refused(Refusal),
     /// The value of a voxel, and whether it is active.
     Value(Scalar, bool),
+}
+
+impl From<TreeRefusal> for Refusal {
+    ghost from_gives = { λ given refusal. refusal ≡ of_tree given };
+
+    fn from(refusal: TreeRefusal) -> Refusal {
+        match refusal {
+            TreeRefusal::RootLimit => Refusal::RootLimit,
+            TreeRefusal::Memory => Refusal::Memory,
+        }
+    }
 }

@@ -1,34 +1,38 @@
 //! A grid of any kind.
-ghost use Rattle.std.specs.Prelude.{◌≡◌, IsOk, IsTrue, OnOk, OnErr};
-ghost use Rattle.vdb_tree.specs.Field.{new, write, written};
-ghost use Rattle.vdb_tree.specs.Plain.{cell_eq};
-ghost use Rattle.vdb_tree.specs.declared.Write.TheVariants.{On};
-ghost use Rattle.vdb_scene.specs.Scalars.{kind_of, scalar_eq};
-ghost use Rattle.vdb_scene.specs.Grids.{grid_field};
+ghost use Rattle.std.specs.Prelude.{◌≡◌, false, IsOk, IsTrue};
+ghost use Rattle.vdb_coord.specs.Blocks.{vdb};
+ghost use Rattle.vdb_tree.specs.Field.{new, write};
+ghost use Rattle.vdb_tree.specs.Outcome.{IsOutcome};
+ghost use Rattle.vdb_scene.specs.Scalars.{is_of, kind_of, scalar_eq};
+ghost use Rattle.vdb_scene.specs.Grids.{grid_field, grid_limit};
+ghost use Rattle.vdb_scene.specs.Step.{passes, write_takes_memory};
 
-use crate::{Scalar, VoxelMap};
-use std::alloc::{AllocError, Global};
+use crate::{Scalar, grid_tree};
+use std::alloc::Global;
 use vdb_coord::Coord;
-use vdb_tree::Write;
+use vdb_pool::Steps;
+use vdb_tree::{Tree, TreeRefusal, Write};
 use vdb_value::{Cell, Kind};
 
 /// A grid of one of the three kinds.
 #[derive(Drop)]
 pub enum AnyGrid {
-    Bool(VoxelMap<bool>),
-    I32(VoxelMap<i32>),
-    I64(VoxelMap<i64>),
+    Bool(Tree<bool>),
+    I32(Tree<i32>),
+    I64(Tree<i64>),
 }
 
 impl AnyGrid {
-    /// A grid that was never written, of the background's kind. It takes no memory.
-    pub fn new(alloc: Global, background: Scalar) -> AnyGrid
-        ensures { grid_field result ≡ new background }
+    /// A grid that was never written, of the background's kind, of which `limit` root blocks at most may have a cell that isn't
+    /// the background, inactive. It takes no memory.
+    pub fn new(alloc: Global, background: Scalar, limit: u32) -> AnyGrid
+        ensures field { grid_field result ≡ new background }
+        ensures limit { grid_limit result ≡ limit }
     {
         match background {
-            Scalar::Bool(value) => AnyGrid::Bool(VoxelMap::new(alloc, value)),
-            Scalar::I32(value) => AnyGrid::I32(VoxelMap::new(alloc, value)),
-            Scalar::I64(value) => AnyGrid::I64(VoxelMap::new(alloc, value)),
+            Scalar::Bool(value) => AnyGrid::Bool(Tree::new(alloc, value, limit)),
+            Scalar::I32(value) => AnyGrid::I32(Tree::new(alloc, value, limit)),
+            Scalar::I64(value) => AnyGrid::I64(Tree::new(alloc, value, limit)),
         }
     }
 
@@ -44,55 +48,46 @@ impl AnyGrid {
     }
 
     /// The cell of a voxel.
-    pub fn get(&self, at: Coord) -> Cell<Scalar>
+    pub fn get(&self, at: Coord, steps: &mut Steps) -> Cell<Scalar>
         ensures { result ≡ (grid_field self.now).cell at }
     {
         match self {
-            AnyGrid::Bool(map) => {
-                let cell = map.get(at);
-                Cell {
-                    value: Scalar::Bool(cell.value),
-                    on: cell.on,
-                }
-            }
-            AnyGrid::I32(map) => {
-                let cell = map.get(at);
-                Cell {
-                    value: Scalar::I32(cell.value),
-                    on: cell.on,
-                }
-            }
-            AnyGrid::I64(map) => {
-                let cell = map.get(at);
-                Cell {
-                    value: Scalar::I64(cell.value),
-                    on: cell.on,
-                }
-            }
+            AnyGrid::Bool(tree) => grid_tree::get(tree, at, steps),
+            AnyGrid::I32(tree) => grid_tree::get(tree, at, steps),
+            AnyGrid::I64(tree) => grid_tree::get(tree, at, steps),
         }
     }
 
-    /// Sets a voxel to a value of the grid's kind, and makes it active. Want of memory leaves each cell as it was; it
-    /// never comes where the cell stands already.
-    pub fn set(&mut self, at: Coord, value: Scalar) -> Result<(), AllocError>
-        requires { kind_of value ≡ kind_of (grid_field self.old).background }
-        ensures ok { OnOk result (grid_field self.new ≡ write at (On value) (grid_field self.old)) }
-        ensures err { OnErr result (grid_field self.new ≡ grid_field self.old) }
-        ensures stands { IsTrue (cell_eq scalar_eq (written (On value) ((grid_field self.old).cell at)) ((grid_field self.old).cell at)) → IsOk result }
+    /// Writes a voxel, with a value of the grid's kind. `RootLimit` says that too many root blocks would have a cell that isn't
+    /// the background, inactive; `Memory` that a growth was refused. Both leave every cell as it was. `Memory` comes only where
+    /// the cell changes and the cells of its leaf block are all equal.
+    pub fn write(
+        &mut self,
+        at: Coord,
+        change: Write<Scalar>,
+        steps: &mut Steps,
+    ) -> Result<(), TreeRefusal>
+        requires { IsTrue (passes (is_of (kind_of (grid_field self.old).background)) change) }
+        ensures outcome { IsOutcome scalar_eq vdb (grid_limit self.old) (grid_field self.old) (write at change (grid_field self.old)) (grid_field self.new) result }
+        ensures limit { grid_limit self.new ≡ grid_limit self.old }
+        ensures memory { write_takes_memory (grid_field self.old) at change ≡ false → IsOk result }
     {
         match self {
-            AnyGrid::Bool(map) => match value {
-                Scalar::Bool(value) => map.write(at, Write::On(value)),
-                _ => unreachable!(),
-            },
-            AnyGrid::I32(map) => match value {
-                Scalar::I32(value) => map.write(at, Write::On(value)),
-                _ => unreachable!(),
-            },
-            AnyGrid::I64(map) => match value {
-                Scalar::I64(value) => map.write(at, Write::On(value)),
-                _ => unreachable!(),
-            },
+            AnyGrid::Bool(tree) => grid_tree::write(tree, at, change, steps),
+            AnyGrid::I32(tree) => grid_tree::write(tree, at, change, steps),
+            AnyGrid::I64(tree) => grid_tree::write(tree, at, change, steps),
+        }
+    }
+
+    /// Makes the tree as small as its field allows. No cell changes, and it takes no memory.
+    pub fn prune(&mut self, steps: &mut Steps)
+        ensures field { grid_field self.new ≡ grid_field self.old }
+        ensures limit { grid_limit self.new ≡ grid_limit self.old }
+    {
+        match self {
+            AnyGrid::Bool(tree) => tree.prune(steps),
+            AnyGrid::I32(tree) => tree.prune(steps),
+            AnyGrid::I64(tree) => tree.prune(steps),
         }
     }
 }

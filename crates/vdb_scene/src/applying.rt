@@ -3,11 +3,16 @@ ghost use Rattle.std.specs.Prelude.{◌≡◌, IfOk, IfErr, Some, None, ◌∷�
 ghost use Rattle.vdb_scene.specs.Doing.{AppliesTo, CarriesOut};
 ghost use Rattle.vdb_scene.specs.Grids.{scene_of};
 ghost use Rattle.vdb_scene.specs.Scalars.{has_form, has_value, number, scalar};
-ghost use Rattle.vdb_scene.specs.Step.{first_of_all, is_accessor, is_component, is_place, other_form, out_of_range, place};
+ghost use Rattle.vdb_scene.specs.Step.{first_of_all, is_accessor, is_component, is_place, other_form, out_of_range, passes, place, write_command};
+ghost use Rattle.vdb_tree.specs.Field.{as_write_of};
 ghost use Rattle.vdb_scene.specs.declared.command.Command.TheVariants as commands;
 
-use crate::{Answer, AnyGrid, Command, Literal, Name, Num, Point, Refusal, Scalar, Scene};
+use crate::{
+    Answer, AnyGrid, Command, Literal, Name, Num, Point, ROOT_LIMIT, Refusal, Scalar, Scene,
+};
 use vdb_coord::Coord;
+use vdb_pool::Steps;
+use vdb_tree::Write;
 use vdb_value::Kind;
 
 /// The 32-bit number that a line writes, if it is one.
@@ -35,7 +40,7 @@ fn scalar_of(kind: Kind, literal: Literal) -> Result<Scalar, Refusal>
     ensures form { IfOk result (λ value. has_form kind literal ≡ true) }
     ensures range { IfOk result (λ value. has_value kind literal ≡ true) }
     ensures value { IfOk result (λ value. value ≡ scalar kind literal) }
-    ensures refusal { IfErr result (λ refusal. first_of_all (other_form kind literal ∷ out_of_range (has_value kind literal) ∷ []) ≡ Some refusal) }
+    ensures refusal { IfErr result (λ refusal. first_of_all (other_form (has_form kind literal) ∷ out_of_range (has_value kind literal) ∷ []) ≡ Some refusal) }
 {
     match literal {
         Literal::Truth(value) => match kind {
@@ -67,6 +72,22 @@ fn names_accessor(accessor: Option<Num>) -> bool
     }
 }
 
+/// The write that a line asks for, with a value of the kind. `Kind` refuses a value of another form, and `ValueRange` one
+/// outside the kind.
+fn write_of(kind: Kind, change: Write<Literal>) -> Result<Write<Scalar>, Refusal>
+    ensures form { IfOk result (λ write. passes (has_form kind) change ≡ true) }
+    ensures range { IfOk result (λ write. passes (has_value kind) change ≡ true) }
+    ensures value { IfOk result (λ write. write ≡ as_write_of (scalar kind) change) }
+    ensures refusal { IfErr result (λ refusal. first_of_all (other_form (passes (has_form kind) change) ∷ out_of_range (passes (has_value kind) change) ∷ []) ≡ Some refusal) }
+{
+    match change {
+        Write::On(value) => Ok(Write::On(scalar_of(kind, value)?)),
+        Write::Off(value) => Ok(Write::Off(scalar_of(kind, value)?)),
+        Write::State(on) => Ok(Write::State(on)),
+        Write::Value(value) => Ok(Write::Value(scalar_of(kind, value)?)),
+    }
+}
+
 impl Scene {
     /// Carries out a command that makes a grid.
     fn make(&mut self, name: Name, kind: Kind, background: Literal) -> Result<Answer, Refusal>
@@ -79,12 +100,18 @@ impl Scene {
             return Err(Refusal::GridLimit);
         }
         let background = scalar_of(kind, background)?;
-        self.put(name, AnyGrid::new(self.alloc, background))?;
+        self.put(name, AnyGrid::new(self.alloc, background, ROOT_LIMIT))?;
         Ok(Answer::Done)
     }
 
     /// Carries out a command that looks up a voxel.
-    fn look_up(&self, name: &Name, accessor: Option<Num>, at: &Point) -> Result<Answer, Refusal>
+    fn look_up(
+        &self,
+        name: &Name,
+        accessor: Option<Num>,
+        at: &Point,
+        steps: &mut Steps,
+    ) -> Result<Answer, Refusal>
         ensures { CarriesOut (scene_of self.now) (commands.Get name.now accessor at.now) result (scene_of self.now) }
     {
         let Some(grid) = self.get(name) else {
@@ -96,49 +123,59 @@ impl Scene {
         if !names_accessor(accessor) {
             return Err(Refusal::NoAccessor);
         }
-        let cell = grid.get(at);
+        let cell = grid.get(at, steps);
         Ok(Answer::Value(cell.value, cell.on))
     }
 
-    /// Carries out a command that sets a voxel.
-    fn set(
+    /// Carries out a command that writes a voxel.
+    fn write(
         &mut self,
         name: &Name,
         accessor: Option<Num>,
         at: &Point,
-        value: Literal,
+        change: Write<Literal>,
+        steps: &mut Steps,
     ) -> Result<Answer, Refusal>
-        ensures { CarriesOut (scene_of self.old) (commands.Set name.now accessor at.now value) result (scene_of self.new) }
+        ensures { CarriesOut (scene_of self.old) (write_command name.now accessor at.now change) result (scene_of self.new) }
     {
         let Some(grid) = self.grids.get_mut(name) else {
             return Err(Refusal::NoGrid);
         };
-        let value = scalar_of(grid.kind(), value)?;
+        let change = write_of(grid.kind(), change)?;
         let Some(at) = place_of(at) else {
             return Err(Refusal::ValueRange);
         };
         if !names_accessor(accessor) {
             return Err(Refusal::NoAccessor);
         }
-        match grid.set(at, value) {
-            Ok(()) => Ok(Answer::Done),
-            Err(_) => Err(Refusal::Memory),
-        }
+        grid.write(at, change, steps)?;
+        Ok(Answer::Done)
+    }
+
+    /// Carries out a command that prunes a grid.
+    fn prune(&mut self, name: &Name, steps: &mut Steps) -> Result<Answer, Refusal>
+        ensures { CarriesOut (scene_of self.old) (commands.Prune name.now) result (scene_of self.new) }
+    {
+        let Some(grid) = self.grids.get_mut(name) else {
+            return Err(Refusal::NoGrid);
+        };
+        grid.prune(steps);
+        Ok(Answer::Done)
     }
 
     /// Carries out a command and answers it. Refusals are tried in their one order, the first that applies is answered,
     /// and then the scene is as it was; so it is where the answer is want of memory, which comes in place of nothing else.
-    pub fn apply(&mut self, command: &Command) -> Answer
+    pub fn apply(&mut self, command: &Command, steps: &mut Steps) -> Answer
         ensures step { AppliesTo (scene_of self.old) command.now result (scene_of self.new) }
     {
-        match self.carry_out(command) {
+        match self.carry_out(command, steps) {
             Ok(answer) => answer,
             Err(refusal) => Answer::Refused(refusal),
         }
     }
 
     /// Carries out a command.
-    fn carry_out(&mut self, command: &Command) -> Result<Answer, Refusal>
+    fn carry_out(&mut self, command: &Command, steps: &mut Steps) -> Result<Answer, Refusal>
         ensures { CarriesOut (scene_of self.old) command.now result (scene_of self.new) }
     {
         match command {
@@ -147,13 +184,32 @@ impl Scene {
                 kind,
                 background,
             } => self.make(*name, *kind, *background),
-            Command::Get { name, accessor, at } => self.look_up(name, *accessor, at),
+            Command::Get { name, accessor, at } => self.look_up(name, *accessor, at, steps),
             Command::Set {
                 name,
                 accessor,
                 at,
                 value,
-            } => self.set(name, *accessor, at, *value),
+            } => self.write(name, *accessor, at, Write::On(*value), steps),
+            Command::Unset {
+                name,
+                accessor,
+                at,
+                value,
+            } => self.write(name, *accessor, at, Write::Off(*value), steps),
+            Command::Only {
+                name,
+                accessor,
+                at,
+                value,
+            } => self.write(name, *accessor, at, Write::Value(*value), steps),
+            Command::State {
+                name,
+                accessor,
+                at,
+                on,
+            } => self.write(name, *accessor, at, Write::State(*on), steps),
+            Command::Prune { name } => self.prune(name, steps),
         }
     }
 }

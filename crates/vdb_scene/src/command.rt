@@ -49,4 +49,29 @@ pub enum Command {
         at: Point,
         value: Literal,
     },
+    /// Sets the value of a voxel, and makes it inactive.
+    Unset {
+        name: Name,
+        accessor: Option<Num>,
+        at: Point,
+        value: Literal,
+    },
+    /// Sets the value of a voxel, and keeps its state.
+    Only {
+        name: Name,
+        accessor: Option<Num>,
+        at: Point,
+        value: Literal,
+    },
+    /// Makes a voxel active or inactive, and keeps its value.
+    State {
+        name: Name,
+        accessor: Option<Num>,
+        at: Point,
+        on: bool,
+    },
+    /// Makes the tree of a grid as small as its cells allow. No cell changes.
+    Prune {
+        name: Name,
+    },
 }

@@ -5,17 +5,18 @@ mod answer;
 mod any_grid;
 mod applying;
 mod command;
+mod grid_tree;
 mod name;
+mod scalar;
 mod scene;
-mod voxel_map;
 mod watched;
 
-pub use answer::{Answer, Refusal, Scalar};
+pub use answer::{Answer, Refusal};
 pub use any_grid::AnyGrid;
 pub use command::{Command, Literal, Num, Point};
 pub use name::{NAME_LIMIT, Name};
-pub use scene::{GRID_LIMIT, Scene};
-pub use voxel_map::VoxelMap;
+pub use scalar::Scalar;
+pub use scene::{GRID_LIMIT, ROOT_LIMIT, Scene};
 pub use watched::Watched;
 
 #[cfg(test)]

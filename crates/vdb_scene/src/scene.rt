@@ -13,6 +13,9 @@ use std::collections::btree_map::Keys;
 /// The most grids of a scene.
 pub const GRID_LIMIT: usize = 64;
 
+/// The most root blocks of a grid with a cell that isn't the background, inactive.
+pub const ROOT_LIMIT: u32 = 4096;
+
 /// Grids under names: at most `GRID_LIMIT` of them.
 #[derive(Drop)]
 pub struct Scene {

@@ -7,7 +7,7 @@ use Rattle.vdb_scene.specs.declared.command.Command.TheVariants as commands
 use Rattle.vdb_scene.specs.declared.command.Literal.TheVariants.{Number, Truth}
 use Rattle.vdb_scene.specs.declared.command.Num.TheVariants.{Near, Far}
 use Rattle.vdb_scene.specs.declared.answer.Refusal.TheVariants as refusals
-use Rattle.vdb_scene.specs.declared.answer.Scalar.TheVariants.{I32, I64}
+use Rattle.vdb_scene.specs.declared.scalar.Scalar.TheVariants.{I32, I64}
 use Rattle.vdb_scene.specs.Step.{Done, Refused, Value}
 use Rattle.vdb_script.specs.Lines.{lines, tokens}
 use Rattle.vdb_script.specs.Grammar.{number_of, parse}
@@ -78,7 +78,7 @@ grid_number = refl
 grid_truth : parse (codes "grid a i32 true") ≡ Ok (Some (commands.Grid (codes "a") kinds.I32 (Truth true)))
 grid_truth = refl
 
-other_kind : parse (codes "grid a bool 0") ≡ Err refusals.Syntax
+other_kind : parse (codes "grid a f32 0") ≡ Err refusals.Syntax
 other_kind = refl
 
 capital : parse (codes "grid A i32 0") ≡ Err refusals.Syntax
@@ -101,7 +101,28 @@ set_with_accessor = refl
 get_without_accessor : parse (codes "get b - 0 0 0") ≡ Ok (Some (commands.Get (codes "b") None (record { x = Near (pos 0); y = Near (pos 0); z = Near (pos 0) })))
 get_without_accessor = refl
 
-other_word : parse (codes "prune a") ≡ Err refusals.Syntax
+kinds_read : parse (codes "grid a bool true") ≡ Ok (Some (commands.Grid (codes "a") kinds.Bool (Truth true)))
+kinds_read = refl
+
+wide_kind_read : parse (codes "grid a i64 -1") ≡ Ok (Some (commands.Grid (codes "a") kinds.I64 (Number (Near (negsuc 0)))))
+wide_kind_read = refl
+
+unset_read : parse (codes "unset a - 0 0 0 1") ≡ Ok (Some (commands.Unset (codes "a") None (record { x = Near (pos 0); y = Near (pos 0); z = Near (pos 0) }) (Number (Near (pos 1)))))
+unset_read = refl
+
+only_read : parse (codes "only a - 0 0 0 1") ≡ Ok (Some (commands.Only (codes "a") None (record { x = Near (pos 0); y = Near (pos 0); z = Near (pos 0) }) (Number (Near (pos 1)))))
+only_read = refl
+
+state_read : parse (codes "state a - 0 0 0 off") ≡ Ok (Some (commands.State (codes "a") None (record { x = Near (pos 0); y = Near (pos 0); z = Near (pos 0) }) false))
+state_read = refl
+
+state_by_number : parse (codes "state a - 0 0 0 1") ≡ Err refusals.Syntax
+state_by_number = refl
+
+prune_read : parse (codes "prune a") ≡ Ok (Some (commands.Prune (codes "a")))
+prune_read = refl
+
+other_word : parse (codes "pruned a") ≡ Err refusals.Syntax
 other_word = refl
 
 token_too_few : parse (codes "get b - 0 0") ≡ Err refusals.Syntax

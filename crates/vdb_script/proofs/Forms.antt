@@ -4,9 +4,13 @@ use Rattle.std.specs.Prelude.{option_map, option_and_then, if◌then◌else◌}
 use Rattle.std.specs.List.{AllByRecursion}
 use Rattle.std.proofs.lemmas.Option.{option_and_then_some}
 use Rattle.vdb_scene.specs.declared.command.Command.{Command}
+use Rattle.vdb_scene.specs.declared.command.Command.TheVariants as commands
+use Rattle.vdb_scene.specs.declared.command.Literal.{Literal}
+use Rattle.vdb_scene.specs.declared.command.Num.{Num}
+use Rattle.vdb_scene.specs.declared.command.Point.{Point}
 use Rattle.vdb_scene.specs.declared.answer.Refusal.TheVariants as refusals
 use Rattle.vdb_script.specs.Lines.{tokens}
-use Rattle.vdb_script.specs.Grammar.{Form, ◌>>=◌, give, one, point, grid, get, set, whole, command_forms, command_of, word_of, is_comment, meaning, parse, name_of, kind_of, literal_of, accessor_of, number_of}
+use Rattle.vdb_script.specs.Grammar.{Form, ◌>>=◌, give, one, point, grid, get, voxel_value, state, prune, whole, command_forms, command_of, word_of, is_comment, meaning, parse, name_of, kind_of, state_of, literal_of, accessor_of, number_of}
 
 -- where a form is there, it takes so many tokens
 pub record Takes {A : Type 0} (n : ℕ) (form : Form A) : Type 0 where
@@ -54,9 +58,17 @@ grid_takes = then_takes 1 2 _ _ (one_takes name_of) (λ name. then_takes 1 1 _ _
 pub get_takes : Takes 5 get
 get_takes = then_takes 1 4 _ _ (one_takes name_of) (λ name. then_takes 1 3 _ _ (one_takes accessor_of) (λ k. then_takes 3 0 _ _ point_takes (λ at. give_takes _)))
 
--- set NAME ACCESSOR X Y Z VALUE
-pub set_takes : Takes 6 set
-set_takes = then_takes 1 5 _ _ (one_takes name_of) (λ name. then_takes 1 4 _ _ (one_takes accessor_of) (λ k. then_takes 3 1 _ _ point_takes (λ at. then_takes 1 0 _ _ (one_takes literal_of) (λ v. give_takes _))))
+-- NAME ACCESSOR X Y Z VALUE
+pub voxel_value_takes : (make : List ℕ → Option Num → Point → Literal → Command) → Takes 6 (voxel_value make)
+voxel_value_takes make = then_takes 1 5 _ _ (one_takes name_of) (λ name. then_takes 1 4 _ _ (one_takes accessor_of) (λ k. then_takes 3 1 _ _ point_takes (λ at. then_takes 1 0 _ _ (one_takes literal_of) (λ v. give_takes _))))
+
+-- state NAME ACCESSOR X Y Z STATE
+pub state_takes : Takes 6 state
+state_takes = then_takes 1 5 _ _ (one_takes name_of) (λ name. then_takes 1 4 _ _ (one_takes accessor_of) (λ k. then_takes 3 1 _ _ point_takes (λ at. then_takes 1 0 _ _ (one_takes state_of) (λ on. give_takes _))))
+
+-- prune NAME
+pub prune_takes : Takes 1 prune
+prune_takes = then_takes 1 0 _ _ (one_takes name_of) (λ name. give_takes _)
 
 no_whole : (found : Option (Command × List (List ℕ))) → ((c : Command) → found ≡ Some (c, []) → ⊥) → Err refusals.Syntax ≡ whole found
 no_whole None other = refl
@@ -84,7 +96,22 @@ commands_take_few = (
   record { n = 3; few = omega arith; takes = grid_takes },
   (
     record { n = 5; few = omega arith; takes = get_takes },
-    (record { n = 6; few = omega arith; takes = set_takes }, tt),
+    (
+      record { n = 6; few = omega arith; takes = voxel_value_takes commands.Set },
+      (
+        record { n = 6; few = omega arith; takes = voxel_value_takes commands.Unset },
+        (
+          record { n = 6; few = omega arith; takes = voxel_value_takes commands.Only },
+          (
+            record { n = 6; few = omega arith; takes = state_takes },
+            (
+              record { n = 1; few = omega arith; takes = prune_takes },
+              tt,
+            ),
+          ),
+        ),
+      ),
+    ),
   ),
 )
 

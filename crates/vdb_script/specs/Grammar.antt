@@ -51,7 +51,11 @@ word_of words token = lookup (bytes_eq token) words
 
 -- a kind
 abbrev pub kind_of : List ℕ → Option Kind
-kind_of token = word_of ((codes "i32", kinds.I32) ∷ []) token
+kind_of token = word_of ((codes "bool", kinds.Bool) ∷ (codes "i32", kinds.I32) ∷ (codes "i64", kinds.I64) ∷ []) token
+
+-- a state
+abbrev pub state_of : List ℕ → Option Bool
+state_of token = word_of ((codes "on", true) ∷ (codes "off", false) ∷ []) token
 
 -- the first, or else the other
 abbrev pub or_else : {A : Type 0} → Option A → Option A → Option A
@@ -110,20 +114,47 @@ get = do
   p ← point
   give (commands.Get name k p)
 
--- set NAME ACCESSOR X Y Z VALUE
-abbrev pub set : Form Command
-set = do
+-- NAME ACCESSOR X Y Z VALUE, behind the word of a command that writes a value to a voxel
+abbrev pub voxel_value : (List ℕ → Option Num → Point → Literal → Command) → Form Command
+voxel_value make = do
   name ← one name_of
   k ← one accessor_of
   p ← point
   v ← one literal_of
-  give (commands.Set name k p v)
+  give (make name k p v)
+
+-- set, unset and only
+abbrev pub set : Form Command
+set = voxel_value commands.Set
+
+abbrev pub unset : Form Command
+unset = voxel_value commands.Unset
+
+abbrev pub only : Form Command
+only = voxel_value commands.Only
+
+-- state NAME ACCESSOR X Y Z STATE
+abbrev pub state : Form Command
+state = do
+  name ← one name_of
+  k ← one accessor_of
+  p ← point
+  on ← one state_of
+  give (commands.State name k p on)
+
+-- prune NAME
+abbrev pub prune : Form Command
+prune = do
+  name ← one name_of
+  give (commands.Prune name)
 
 -- ---- the commands
 
 -- each command's word, and the form of what stands behind it
 abbrev pub command_forms : List (List ℕ × Form Command)
-command_forms = (codes "grid", grid) ∷ (codes "get", get) ∷ (codes "set", set) ∷ []
+command_forms =
+    (codes "grid", grid) ∷ (codes "get", get) ∷ (codes "set", set) ∷ (codes "unset", unset) ∷ (codes "only", only) ∷ (codes "state", state)
+    ∷ (codes "prune", prune) ∷ []
 
 -- a command with no token left, or a syntax error
 abbrev pub whole : Option (Command × List (List ℕ)) → Result (Option Command) Refusal

@@ -1,7 +1,11 @@
 //! Lines as commands.
-ghost use Rattle.std.specs.Prelude.{◌≡◌, ℕ, List, [], ◌∷◌, map, MatchOption, Some, None, option_map};
+ghost use Rattle.std.specs.Prelude.{◌≡◌, bytes_eq, ℕ, List, [], ◌∷◌, map, MatchOption, Option, Some, None, option_map};
 ghost use Rattle.std.specs.Option.{ok_or};
-ghost use Rattle.vdb_script.specs.Grammar.{name_of, kind_of, literal_of, accessor_of, point, grid, get, set, whole, command_of, is_comment, parse};
+ghost use Rattle.vdb_scene.specs.declared.command.Command.{Command};
+ghost use Rattle.vdb_scene.specs.declared.command.Literal.{Literal};
+ghost use Rattle.vdb_scene.specs.declared.command.Num.{Num};
+ghost use Rattle.vdb_scene.specs.declared.command.Point.{Point};
+ghost use Rattle.vdb_script.specs.Grammar.{name_of, kind_of, state_of, literal_of, accessor_of, point, grid, get, voxel_value, set, unset, only, state, prune, whole, command_of, is_comment, parse};
 
 use crate::numbers::number_of;
 use crate::tokens::{first_token, split_tokens};
@@ -21,7 +25,9 @@ fn kind_of(token: &[u8]) -> Option<Kind>
     ensures { result ≡ kind_of token.now }
 {
     match token {
+        b"bool" => Some(Kind::Bool),
         b"i32" => Some(Kind::I32),
+        b"i64" => Some(Kind::I64),
         _ => None,
     }
 }
@@ -34,6 +40,17 @@ fn literal_of(token: &[u8]) -> Option<Literal>
         b"true" => Some(Literal::Truth(true)),
         b"false" => Some(Literal::Truth(false)),
         _ => Some(Literal::Number(number_of(token)?)),
+    }
+}
+
+/// The state that a token names.
+fn state_of(token: &[u8]) -> Option<bool>
+    ensures { result ≡ state_of token.now }
+{
+    match token {
+        b"on" => Some(true),
+        b"off" => Some(false),
+        _ => None,
     }
 }
 
@@ -86,30 +103,115 @@ fn get_command(tokens: &[&[u8]]) -> Option<Command>
     }
 }
 
+/// The parts `NAME ACCESSOR X Y Z VALUE` of a command that writes a value to a voxel.
+fn voxel_value(tokens: &[&[u8]]) -> Option<(Name, Option<Num>, Point, Literal)>
+    ensures { (make : List ℕ → Option Num → Point → Literal → Command)
+        → ok_or (option_map (λ parts. Some (make parts.0 parts.1 parts.2 parts.3)) result) Refusal.Syntax ≡ whole (voxel_value make (map (λ t. t.now) tokens.now)) }
+{
+    match tokens {
+        [name, accessor, x, y, z, value] => Some((
+            name_of(name)?,
+            accessor_of(accessor)?,
+            point_of(x, y, z)?,
+            literal_of(value)?,
+        )),
+        _ => None,
+    }
+}
+
 /// The command `set NAME ACCESSOR X Y Z VALUE`, from the tokens behind its word.
 fn set_command(tokens: &[&[u8]]) -> Option<Command>
     ensures { ok_or (option_map Some result) Refusal.Syntax ≡ whole (set (map (λ t. t.now) tokens.now)) }
 {
+    let (name, accessor, at, value) = voxel_value(tokens)?;
+    Some(Command::Set {
+        name,
+        accessor,
+        at,
+        value,
+    })
+}
+
+/// The command `unset NAME ACCESSOR X Y Z VALUE`, from the tokens behind its word.
+fn unset_command(tokens: &[&[u8]]) -> Option<Command>
+    ensures { ok_or (option_map Some result) Refusal.Syntax ≡ whole (unset (map (λ t. t.now) tokens.now)) }
+{
+    let (name, accessor, at, value) = voxel_value(tokens)?;
+    Some(Command::Unset {
+        name,
+        accessor,
+        at,
+        value,
+    })
+}
+
+/// The command `only NAME ACCESSOR X Y Z VALUE`, from the tokens behind its word.
+fn only_command(tokens: &[&[u8]]) -> Option<Command>
+    ensures { ok_or (option_map Some result) Refusal.Syntax ≡ whole (only (map (λ t. t.now) tokens.now)) }
+{
+    let (name, accessor, at, value) = voxel_value(tokens)?;
+    Some(Command::Only {
+        name,
+        accessor,
+        at,
+        value,
+    })
+}
+
+/// The command `state NAME ACCESSOR X Y Z STATE`, from the tokens behind its word.
+fn state_command(tokens: &[&[u8]]) -> Option<Command>
+    ensures { ok_or (option_map Some result) Refusal.Syntax ≡ whole (state (map (λ t. t.now) tokens.now)) }
+{
     match tokens {
-        [name, accessor, x, y, z, value] => Some(Command::Set {
+        [name, accessor, x, y, z, on] => Some(Command::State {
             name: name_of(name)?,
             accessor: accessor_of(accessor)?,
             at: point_of(x, y, z)?,
-            value: literal_of(value)?,
+            on: state_of(on)?,
         }),
         _ => None,
     }
+}
+
+/// The command `prune NAME`, from the tokens behind its word.
+fn prune_command(tokens: &[&[u8]]) -> Option<Command>
+    ensures { ok_or (option_map Some result) Refusal.Syntax ≡ whole (prune (map (λ t. t.now) tokens.now)) }
+{
+    match tokens {
+        [name] => Some(Command::Prune {
+            name: name_of(name)?,
+        }),
+        _ => None,
+    }
+}
+
+/// Whether a token is this word.
+fn is_word(token: &[u8], word: &[u8]) -> bool
+    ensures { result ≡ bytes_eq token.now word.now }
+{
+    token == word
 }
 
 /// The command of a word and the tokens behind it.
 fn command_of(word: &[u8], tokens: &[&[u8]]) -> Option<Command>
     ensures { ok_or (option_map Some result) Refusal.Syntax ≡ command_of word.now (map (λ t. t.now) tokens.now) }
 {
-    match word {
-        b"grid" => grid_command(tokens),
-        b"get" => get_command(tokens),
-        b"set" => set_command(tokens),
-        _ => None,
+    if is_word(word, b"grid") {
+        grid_command(tokens)
+    } else if is_word(word, b"get") {
+        get_command(tokens)
+    } else if is_word(word, b"set") {
+        set_command(tokens)
+    } else if is_word(word, b"unset") {
+        unset_command(tokens)
+    } else if is_word(word, b"only") {
+        only_command(tokens)
+    } else if is_word(word, b"state") {
+        state_command(tokens)
+    } else if is_word(word, b"prune") {
+        prune_command(tokens)
+    } else {
+        None
     }
 }
 

@@ -4,7 +4,7 @@ use Rattle.std.specs.Fmt.{digits}
 use Rattle.vdb_value.specs.declared.Kind.TheVariants as kinds
 use Rattle.vdb_scene.specs.Scene.{Scene}
 use Rattle.vdb_scene.specs.Step.{Reply, Done, Value, after}
-use Rattle.vdb_scene.specs.declared.answer.Scalar.TheVariants.{I32}
+use Rattle.vdb_scene.specs.declared.scalar.Scalar.TheVariants.{I32}
 use Rattle.vdb_scene.specs.declared.command.Command.TheVariants as commands
 use Rattle.vdb_scene.specs.declared.command.Literal.TheVariants.{Number}
 use Rattle.vdb_scene.specs.declared.command.Num.TheVariants.{Near}

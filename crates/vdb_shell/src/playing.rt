@@ -13,6 +13,7 @@ ghost use Rattle.vdb_shell.specs.Session.{PlaysFrom, is_refused};
 use crate::Fault;
 use std::alloc::Global;
 use std::io::{Read, Write};
+use vdb_pool::Steps;
 use vdb_scene::{Answer, Refusal, Scene, Watched};
 use vdb_script::{Line, Lines, ScriptFault, parse, print, read_line};
 
@@ -34,6 +35,7 @@ pub fn play<R: Read, W: Write>(
     scene: &mut Scene,
     script: &mut Watched<R>,
     answers: &mut Watched<W>,
+    steps: &mut Steps,
 ) -> Played
     requires script_fresh { has_failed script.old ≡ false }
     requires answers_fresh { has_failed answers.old ≡ false }
@@ -50,7 +52,7 @@ pub fn play<R: Read, W: Write>(
     let mut lines = Lines::new();
     let mut refused = false;
     'lines: loop {
-        match next_answer(alloc, scene, &mut lines, script) {
+        match next_answer(alloc, scene, &mut lines, script, steps) {
             Err(None) => {
                 return Played {
                     refused,
@@ -84,6 +86,7 @@ fn next_answer<R: Read>(
     scene: &mut Scene,
     lines: &mut Lines,
     script: &mut Watched<R>,
+    steps: &mut Steps,
 ) -> Result<Option<Answer>, Option<ScriptFault>>
     requires unended { lines.old.ending ≡ None }
     requires ends { EndsWith lines.old.source (R.remaining (source script.old)) }
@@ -101,7 +104,7 @@ fn next_answer<R: Read>(
     ensures progress { OnOk result (budget lines.new.source < budget lines.old.source) }
 {
     match read_line(lines, script) {
-        Ok(Line::Text) => Ok(answer_line(alloc, scene, lines.text())),
+        Ok(Line::Text) => Ok(answer_line(alloc, scene, lines.text(), steps)),
         Ok(Line::TooLong) => Ok(Some(Answer::Refused(Refusal::LineTooLong))),
         Ok(Line::End) => Err(None),
         Err(fault) => Err(Some(fault)),
@@ -109,14 +112,14 @@ fn next_answer<R: Read>(
 }
 
 /// Carries out a line of at most 256 bytes: its answer, if it has one.
-fn answer_line(alloc: Global, scene: &mut Scene, line: &[u8]) -> Option<Answer>
+fn answer_line(alloc: Global, scene: &mut Scene, line: &[u8], steps: &mut Steps) -> Option<Answer>
     requires { length line.now < 257 }
     ensures { (replies : List Reply) × ShowsAll result replies × TakesLine (scene_of scene.old) (read line.now) replies (scene_of scene.new) }
 {
     match parse(alloc, line) {
         Ok(command) => {
             let command = command?;
-            Some(scene.apply(&command))
+            Some(scene.apply(&command, steps))
         }
         Err(refusal) => Some(Answer::Refused(refusal)),
     }

@@ -7,6 +7,7 @@ ghost use Rattle.vdb_shell.specs.Session.{IsSession};
 use crate::{Fault, play, status};
 use std::alloc::Global;
 use std::io::{Read, Write};
+use vdb_pool::Steps;
 use vdb_scene::{Scene, Watched};
 use vdb_script::ScriptFault;
 
@@ -24,6 +25,7 @@ pub fn session<R: Read, W: Write>(
     alloc: Global,
     script: &mut Watched<R>,
     answers: &mut Watched<W>,
+    steps: &mut Steps,
 ) -> Outcome
     requires script_fresh { has_failed script.old ≡ false }
     requires answers_fresh { has_failed answers.old ≡ false }
@@ -38,7 +40,7 @@ pub fn session<R: Read, W: Write>(
     ensures answers { (result.fault ≡ Some Fault.Answers) ↔ IsTrue (has_failed answers.new) }
 {
     let mut scene = Scene::new(alloc);
-    let played = play(alloc, &mut scene, script, answers);
+    let played = play(alloc, &mut scene, script, answers, steps);
     Outcome {
         status: status(played.refused, played.fault.as_ref()),
         fault: played.fault,

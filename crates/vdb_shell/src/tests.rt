@@ -1,9 +1,13 @@
 //! Sessions over memory, over readers and writers that fail, and over readers that never end.
 ghost use Rattle.std.specs.Prelude.{Some};
 
+mod random;
+
 use super::*;
+use std::alloc::AllocError;
 use std::io::{self, Read, Write};
 use std::process::Abort;
+use vdb_pool::Steps;
 use vdb_scene::Watched;
 use vdb_script::ScriptFault;
 
@@ -76,7 +80,14 @@ impl Write for Picky {
 }
 
 /// Plays a script that is given in pieces of `step` bytes, and checks its answers and its status.
-fn expect(rt: &(impl Abort + AllocGlobal), script: &[u8], step: usize, answers: &[u8], status: u8) {
+fn expect(
+    rt: &(impl Abort + AllocGlobal),
+    script: &[u8],
+    step: usize,
+    answers: &[u8],
+    status: u8,
+    steps: &mut Steps,
+) {
     let mut reader = Watched::new(Slow {
         bytes: script,
         step,
@@ -84,7 +95,7 @@ fn expect(rt: &(impl Abort + AllocGlobal), script: &[u8], step: usize, answers: 
         fails_at: 0,
     });
     let mut writer = Watched::new(Vec::new(rt.alloc()));
-    let outcome = session(rt.alloc(), &mut reader, &mut writer);
+    let outcome = session(rt.alloc(), &mut reader, &mut writer, steps);
     assert_eq!(rt; outcome.status, status);
     assert!(rt; outcome.fault.is_none());
     assert_eq!(rt; writer.get_ref().as_slice(), answers);
@@ -94,6 +105,7 @@ const FIRST: &[u8] = b"grid a i32 0\nset a - -1 -1 -1 7\nget a - -1 -1 -1";
 
 #[test]
 fn scripts_are_answered(rt: HostRuntime) {
+    let mut steps = Steps::new(&rt);
     for (script, answers, status) in [
         (b"".as_slice(), b"".as_slice(), 0),
         (FIRST, b"ok\nok\nvalue 7 on\n".as_slice(), 0),
@@ -109,12 +121,37 @@ fn scripts_are_answered(rt: HostRuntime) {
         ),
         (
             b"grid a i32 2147483648\ngrid a i32 true\ngrid a i32 0\ngrid a i32 0\nset a 8 0 0 0 1\nset a - 0 0 2147483648 1\nget b - 0 0 0\nprune a".as_slice(),
-            b"error value-range\nerror kind\nok\nerror name-taken\nerror no-accessor\nerror value-range\nerror no-grid\nerror syntax\n".as_slice(),
+            b"error value-range\nerror kind\nok\nerror name-taken\nerror no-accessor\nerror value-range\nerror no-grid\nok\n".as_slice(),
             1,
         ),
         (
-            b"grid a bool true\ngrid b i64 0\ngrid c i32 true\n".as_slice(),
-            b"error syntax\nerror syntax\nerror kind\n".as_slice(),
+            b"grid a i64 -3\nonly a - 0 0 0 9223372036854775807\nget a - 0 0 0\nstate a - 0 0 0 on\nget a - 0 0 0\nunset a - 0 0 0 -9223372036854775808\nget a - 0 0 0".as_slice(),
+            b"ok\nok\nvalue 9223372036854775807 off\nok\nvalue 9223372036854775807 on\nok\nvalue -9223372036854775808 off\n".as_slice(),
+            0,
+        ),
+        (
+            b"grid a i64 -3\nset a - 0 0 0 9223372036854775808\nset a - 0 0 2147483648 1\nset a - 0 0 2147483648 true\nset a - 0 0 0 01\nget a - 0 0 0".as_slice(),
+            b"ok\nerror value-range\nerror value-range\nerror kind\nerror syntax\nvalue -3 off\n".as_slice(),
+            1,
+        ),
+        (
+            b"grid a i32 0\nset a - 0 0 0 2147483647\nstate a - 0 0 0 off\nget a - 0 0 0\nunset a - 0 0 0 -2147483648\nget a - 0 0 0\nonly a - 0 0 0 2147483648\nunset a - 0 0 0 true\nget a - 0 0 0".as_slice(),
+            b"ok\nok\nok\nvalue 2147483647 off\nok\nvalue -2147483648 off\nerror value-range\nerror kind\nvalue -2147483648 off\n".as_slice(),
+            1,
+        ),
+        (
+            b"grid a bool true\nget a - 0 0 0\nset a - 0 0 0 true\nonly a - 0 0 0 false\nget a - 0 0 0\nstate a - 1 0 0 on\nget a - 1 0 0\nset a - 0 0 0 0\nprune a\nget a - 0 0 0".as_slice(),
+            b"ok\nvalue true off\nok\nok\nvalue false on\nok\nvalue true on\nerror kind\nok\nvalue false on\n".as_slice(),
+            1,
+        ),
+        (
+            b"grid a f32 0\ngrid a bool 0\ngrid a i64 9223372036854775808\ngrid a i64 false\nstate a - 0 0 0 on\nprune a\nstate a - 0 0 0 true\nprune a a".as_slice(),
+            b"error syntax\nerror kind\nerror value-range\nerror kind\nerror no-grid\nerror no-grid\nerror syntax\nerror syntax\n".as_slice(),
+            1,
+        ),
+        (
+            b"grid a i32 0\nstate a 9 0 0 2147483648 on\nstate a 9 0 0 0 on\nstate a - -2147483648 2147483647 -2147483648 on\nget a - -2147483648 2147483647 -2147483648\nget a - -2147483648 2147483647 -2147483647".as_slice(),
+            b"ok\nerror value-range\nerror no-accessor\nok\nvalue 0 on\nvalue 0 off\n".as_slice(),
             1,
         ),
         (
@@ -123,20 +160,91 @@ fn scripts_are_answered(rt: HostRuntime) {
             0,
         ),
     ] {
-        expect(&rt, script, 4096, answers, status);
+        expect(&rt, script, 4096, answers, status, &mut steps);
     }
+}
+
+/// Adds a line of these parts to a text, with a space between each two.
+fn add_line(text: &mut Vec<u8>, parts: &[&[u8]]) -> Result<(), AllocError> {
+    for (i, part) in parts.iter().enumerate() {
+        if i > 0 {
+            text.push(b' ')?;
+        }
+        text.extend_from_slice(part)?;
+    }
+    text.push(b'\n')?;
+    Ok(())
+}
+
+#[test]
+fn a_full_leaf_is_pruned_between_its_writes_and_a_look_up(
+    rt: HostRuntime,
+) -> Result<(), AllocError> {
+    let mut steps = Steps::new(&rt);
+    let mut script = Vec::new(rt.alloc());
+    let mut answers = Vec::new(rt.alloc());
+    add_line(
+        &mut script,
+        [
+            b"grid".as_slice(),
+            b"a".as_slice(),
+            b"i32".as_slice(),
+            b"0".as_slice(),
+        ]
+        .as_slice(),
+    )?;
+    for x in b'0'..b'8' {
+        for y in b'0'..b'8' {
+            for z in b'0'..b'8' {
+                let (x, y, z) = ([x], [y], [z]);
+                let parts = [
+                    b"set".as_slice(),
+                    b"a".as_slice(),
+                    b"0".as_slice(),
+                    x.as_slice(),
+                    y.as_slice(),
+                    z.as_slice(),
+                    b"3".as_slice(),
+                ];
+                add_line(&mut script, parts.as_slice())?;
+            }
+        }
+    }
+    script.extend_from_slice(b"prune a\nset a 1 5000 0 0 1\nget a 0 0 0 0")?;
+    for _ in 0..515 {
+        answers.extend_from_slice(b"ok\n")?;
+    }
+    answers.extend_from_slice(b"value 3 on\n")?;
+    expect(
+        &rt,
+        script.as_slice(),
+        4096,
+        answers.as_slice(),
+        0,
+        &mut steps,
+    );
+    Ok(())
 }
 
 #[test]
 fn long_lines_are_refused(rt: HostRuntime) {
+    let mut steps = Steps::new(&rt);
     let fits = [b'#'; 256];
     let too_long = [b'#'; 257];
-    expect(&rt, &fits, 4096, b"", 0);
-    expect(&rt, &too_long, 4096, b"error line-too-long\n", 1);
+    expect(&rt, &fits, 4096, b"", 0, &mut steps);
+    expect(
+        &rt,
+        &too_long,
+        4096,
+        b"error line-too-long\n",
+        1,
+        &mut steps,
+    );
 }
 
 #[test]
 fn a_sixty_fifth_grid_is_refused(rt: HostRuntime) {
+    let mut steps = Steps::new(&rt);
     let mut script: Vec<u8> = Vec::new(rt.alloc());
     let mut answers: Vec<u8> = Vec::new(rt.alloc());
     for first in b'a'..b'i' {
@@ -155,18 +263,27 @@ fn a_sixty_fifth_grid_is_refused(rt: HostRuntime) {
     answers
         .extend_from_slice(b"error grid-limit\nerror name-taken\n")
         .expect(&rt, "memory");
-    expect(&rt, script.as_slice(), 4096, answers.as_slice(), 1);
+    expect(
+        &rt,
+        script.as_slice(),
+        4096,
+        answers.as_slice(),
+        1,
+        &mut steps,
+    );
 }
 
 #[test]
 fn pieces_of_any_size_give_the_same_answers(rt: HostRuntime) {
+    let mut steps = Steps::new(&rt);
     for step in 1..301usize {
-        expect(&rt, FIRST, step, b"ok\nok\nvalue 7 on\n", 0);
+        expect(&rt, FIRST, step, b"ok\nok\nvalue 7 on\n", 0, &mut steps);
     }
 }
 
 #[test]
 fn a_reader_that_fails_ends_the_script(rt: HostRuntime) {
+    let mut steps = Steps::new(&rt);
     // pieces of five bytes: 13 bytes end the first line, 32 the second, and the third needs the end at the eleventh call
     for fails_at in 1..13u64 {
         let mut reader = Watched::new(Slow {
@@ -176,7 +293,7 @@ fn a_reader_that_fails_ends_the_script(rt: HostRuntime) {
             fails_at,
         });
         let mut writer = Watched::new(Vec::new(rt.alloc()));
-        let outcome = session(rt.alloc(), &mut reader, &mut writer);
+        let outcome = session(rt.alloc(), &mut reader, &mut writer, &mut steps);
         let answers = if fails_at <= 3 {
             b"".as_slice()
         } else if fails_at <= 7 {
@@ -198,6 +315,7 @@ fn a_reader_that_fails_ends_the_script(rt: HostRuntime) {
 
 #[test]
 fn a_writer_that_fails_ends_the_script(rt: HostRuntime) {
+    let mut steps = Steps::new(&rt);
     let all = b"ok\nok\nvalue 7 on\n".as_slice();
     for fails in [true, false] {
         for fails_at in 1..5u64 {
@@ -209,7 +327,7 @@ fn a_writer_that_fails_ends_the_script(rt: HostRuntime) {
                 fails_at,
                 fails,
             });
-            let outcome = session(rt.alloc(), &mut reader, &mut writer);
+            let outcome = session(rt.alloc(), &mut reader, &mut writer, &mut steps);
             let went_out = match fails_at {
                 1 => 0,
                 2 => 3,
@@ -233,6 +351,7 @@ fn a_writer_that_fails_ends_the_script(rt: HostRuntime) {
 
 #[test]
 fn a_writer_may_take_one_byte_at_once(rt: HostRuntime) {
+    let mut steps = Steps::new(&rt);
     let mut reader = Watched::new(FIRST);
     let mut writer = Watched::new(Picky {
         taken: Vec::new(rt.alloc()),
@@ -241,7 +360,7 @@ fn a_writer_may_take_one_byte_at_once(rt: HostRuntime) {
         fails_at: 0,
         fails: true,
     });
-    let outcome = session(rt.alloc(), &mut reader, &mut writer);
+    let outcome = session(rt.alloc(), &mut reader, &mut writer, &mut steps);
     assert_eq!(rt; outcome.status, 0);
     assert_eq!(rt;
         writer.get_ref().taken.as_slice(),
@@ -251,13 +370,14 @@ fn a_writer_may_take_one_byte_at_once(rt: HostRuntime) {
 
 #[test]
 fn a_script_without_end_is_stopped(rt: HostRuntime) {
+    let mut steps = Steps::new(&rt);
     for (bytes, then, answers) in [
         (b"".as_slice(), b'#', b"".as_slice()),
         (b"grid a i32 0\n".as_slice(), b'\n', b"ok\n".as_slice()),
     ] {
         let mut reader = Watched::new(Endless { bytes, then });
         let mut writer = Watched::new(Vec::new(rt.alloc()));
-        let outcome = session(rt.alloc(), &mut reader, &mut writer);
+        let outcome = session(rt.alloc(), &mut reader, &mut writer, &mut steps);
         assert_eq!(rt; outcome.status, 4);
         assert!(rt; outcome.fault == Some(Fault::Script(ScriptFault::TooLong)));
         assert_eq!(rt; writer.get_ref().as_slice(), answers);

@@ -1,46 +1,103 @@
--- Operations before and after each value of a field is made another.
-use Rattle.std.proofs.Common.{refl, ◌≡◌, ap, ◌∙◌, Bool, true, false, cond}
-use Rattle.vdb_coord.specs.Space.{Box, coord_eq, is_inside}
+-- Operations, blocks and outcomes before and after each value of a field is made another.
+use Rattle.std.proofs.Common.{refl, ◌≡◌, ap, sym, subst, ◌∙◌, Bool, true, false, cond, not, ◌&&◌, ℕ, ◌<◌, ◌≤◌, Result, Ok, Err, filter, length, IsTrue}
+use Rattle.std.specs.List.{list_all}
+use Rattle.std.proofs.Math.Bool.{beq}
+use Rattle.std.proofs.Math.Path.{fun_ext}
+use Rattle.vdb_coord.specs.Blocks.{block, block_numbers}
+use Rattle.vdb_coord.specs.Space.{Box, coord_eq, coordinates, everywhere, is_inside}
+use Rattle.vdb_coord.specs.declared.Bits.{Bits}
 use Rattle.vdb_coord.specs.declared.Coord.{Coord}
+use Rattle.vdb_coord.specs.declared.Level.TheVariants.{Upper}
 use Rattle.vdb_value.specs.declared.Cell.{Cell}
 use Rattle.vdb_tree.specs.declared.Write.{Write}
 use Rattle.vdb_tree.specs.declared.Write.TheVariants.{On, Off, State, Value}
-use Rattle.vdb_tree.specs.Field.{Field, as_field_of, combine, fill, new, write, written}
+use Rattle.vdb_tree.specs.declared.refusal.TreeRefusal.{TreeRefusal}
+use Rattle.vdb_tree.specs.declared.refusal.TreeRefusal.TheVariants.{Memory, RootLimit}
+use Rattle.vdb_tree.specs.Field.{Field, as_cell_of, as_field_of, as_write_of, combine, field, fill, new, off, write, written}
+use Rattle.vdb_tree.specs.Outcome.{IsOutcome}
+use Rattle.vdb_tree.specs.Plain.{cell_eq, is_constant, is_plain, is_uniform, roots}
 use Rattle.vdb_tree.proofs.Fields.{same_cells}
 
--- a cell with its value made another
-abbrev pub made : {V U : Type 0} → (V → U) → Cell V → Cell U
-made make c = record { value = make c.value; on = c.on }
-
--- a write with its value made another
-abbrev pub made_write : {V U : Type 0} → (V → U) → Write V → Write U
-made_write make (On v) = On (make v)
-made_write make (Off v) = Off (make v)
-made_write make (State s) = State s
-made_write make (Value v) = Value (make v)
-
-made_cond : {V U : Type 0} (make : V → U) (b : Bool) (x y : Cell V) → made make (cond b x y) ≡ cond b (made make x) (made make y)
+made_cond : {V U : Type 0} (make : V → U) (b : Bool) (x y : Cell V) → as_cell_of make (cond b x y) ≡ cond b (as_cell_of make x) (as_cell_of make y)
 made_cond make true x y = refl
 made_cond make false x y = refl
 
-made_written : {V U : Type 0} (make : V → U) (w : Write V) (c : Cell V) → made make (written w c) ≡ written (made_write make w) (made make c)
-made_written make (On v) c = refl
-made_written make (Off v) c = refl
-made_written make (State s) c = refl
-made_written make (Value v) c = refl
+pub as_cell_of_written : {V U : Type 0} (make : V → U) (w : Write V) (c : Cell V) → as_cell_of make (written w c) ≡ written (as_write_of make w) (as_cell_of make c)
+as_cell_of_written make (On v) c = refl
+as_cell_of_written make (Off v) c = refl
+as_cell_of_written make (State s) c = refl
+as_cell_of_written make (Value v) c = refl
 
 pub as_field_of_new : {V U : Type 0} (make : V → U) (background : V) → as_field_of make (new background) ≡ new (make background)
 as_field_of_new make background = same_cells (make background) _ _ (λ p inside. rw inside refl)
 
 pub as_field_of_write : {V U : Type 0} (make : V → U) (q : Coord) (w : Write V) (f : Field V)
-    → as_field_of make (write q w f) ≡ write q (made_write make w) (as_field_of make f)
+    → as_field_of make (write q w f) ≡ write q (as_write_of make w) (as_field_of make f)
 as_field_of_write make q w f = same_cells (make f.background) _ _ (λ p inside.
-    rw inside (made_cond make (coord_eq q p) (written w (f.cell p)) (f.cell p) ∙ ap (λ c. cond (coord_eq q p) c (made make (f.cell p))) (made_written make w (f.cell p))))
+    rw inside (made_cond make (coord_eq q p) (written w (f.cell p)) (f.cell p) ∙ ap (λ c. cond (coord_eq q p) c (as_cell_of make (f.cell p))) (as_cell_of_written make w (f.cell p))))
 
-pub as_field_of_fill : {V U : Type 0} (make : V → U) (box : Box) (c : Cell V) (f : Field V) → as_field_of make (fill box c f) ≡ fill box (made make c) (as_field_of make f)
+pub as_field_of_fill : {V U : Type 0} (make : V → U) (box : Box) (c : Cell V) (f : Field V) → as_field_of make (fill box c f) ≡ fill box (as_cell_of make c) (as_field_of make f)
 as_field_of_fill make box c f = same_cells _ _ _ (λ p h. rw h (made_cond make (is_inside box p) c (f.cell p)))
 
 pub as_field_of_combine : {V U : Type 0} (make : V → U) (both : V → V → V) (both_made : U → U → U) (f g : Field V)
     → ((v w : V) → make (both v w) ≡ both_made (make v) (make w))
     → as_field_of make (combine both f g) ≡ combine both_made (as_field_of make f) (as_field_of make g)
 as_field_of_combine make both both_made f g h = rw (h f.background g.background) (same_cells _ _ _ (λ p in_range. rw in_range (rw (h (f.cell p).value (g.cell p).value) refl)))
+
+-- outside the range of coordinates both are the background
+outside : {V U : Type 0} (make : V → U) (b : Bool) (x : Cell V) (v : V) → cond b (as_cell_of make (cond b x (off v))) (off (make v)) ≡ as_cell_of make (cond b x (off v))
+outside make true x v = refl
+outside make false x v = refl
+
+module _ {V U : Type 0} (make : V → U) (background : V) (cells : Coord → Cell V) where
+  -- each cell of the field is made another
+  pub as_field_of_cell : (p : Coord) → (as_field_of make (field background cells)).cell p ≡ as_cell_of make ((field background cells).cell p)
+  as_field_of_cell p = outside make (is_inside everywhere p) (cells p) background
+
+  module _ (eq : V → V → Bool) (made_eq : U → U → Bool) (same : (v w : V) → made_eq (make v) (make w) ≡ eq v w) where
+    same_cell_eq : (c d : Cell V) → cell_eq made_eq (as_cell_of make c) (as_cell_of make d) ≡ cell_eq eq c d
+    same_cell_eq c d = ap (λ (t : Bool). t && beq c.on d.on) (same c.value d.value)
+
+    -- whether a write leaves a cell as it is
+    pub as_field_of_stands : (w : Write V) (p : Coord)
+        → cell_eq made_eq (written (as_write_of make w) ((as_field_of make (field background cells)).cell p)) ((as_field_of make (field background cells)).cell p)
+        ≡ cell_eq eq (written w ((field background cells).cell p)) ((field background cells).cell p)
+    as_field_of_stands w p =
+        ap (λ c. cell_eq made_eq (written (as_write_of make w) c) c) (as_field_of_cell p)
+        ∙ ap (λ c. cell_eq made_eq c (as_cell_of make ((field background cells).cell p))) (sym (as_cell_of_written make w ((field background cells).cell p)))
+        ∙ same_cell_eq (written w ((field background cells).cell p)) ((field background cells).cell p)
+
+    -- whether a box has this cell all over
+    pub as_field_of_uniform : (box : Box) (c : Cell V) → is_uniform made_eq (as_field_of make (field background cells)) box (as_cell_of make c) ≡ is_uniform eq (field background cells) box c
+    as_field_of_uniform box c =
+        ap (λ test. list_all test (coordinates box)) (fun_ext (λ p.
+        ap (λ d. cell_eq made_eq d (as_cell_of make c)) (as_field_of_cell p) ∙ same_cell_eq ((field background cells).cell p) c))
+
+    pub as_field_of_constant : (box : Box) → is_constant made_eq (as_field_of make (field background cells)) box ≡ is_constant eq (field background cells) box
+    as_field_of_constant box =
+        ap (λ c. is_uniform made_eq (as_field_of make (field background cells)) box c) (as_field_of_cell box.min) ∙ as_field_of_uniform box ((field background cells).cell box.min)
+
+    -- how many root blocks aren't plain
+    pub as_field_of_roots : (bits : Bits) → roots made_eq bits (as_field_of make (field background cells)) ≡ roots eq bits (field background cells)
+    as_field_of_roots bits =
+        ap (λ (test : Coord → Bool). length (filter test (coordinates (block_numbers bits Upper)))) (fun_ext (λ n. ap not (as_field_of_uniform (block bits Upper n) (off background))))
+
+    -- the outcome of a call whose changed field this is
+    pub as_outcome_of : (bits : Bits) (limit : ℕ) (old after : Field V) (changed : Field U) (result : Result (Unit {0}) TreeRefusal)
+        → as_field_of make (field background cells) ≡ changed
+        → IsOutcome eq bits limit old (field background cells) after result → IsOutcome made_eq bits limit (as_field_of make old) changed (as_field_of make after) result
+    as_outcome_of bits limit old after changed (Ok u) is h =
+        (ap (as_field_of make) h.0 ∙ is, subst (λ (n : ℕ). n ≤ limit) (sym (as_field_of_roots bits) ∙ ap (roots made_eq bits) is) h.1)
+    as_outcome_of bits limit old after changed (Err RootLimit) is h =
+        (ap (as_field_of make) h.0, subst (λ (n : ℕ). limit < n) (sym (as_field_of_roots bits) ∙ ap (roots made_eq bits) is) h.1)
+    as_outcome_of bits limit old after changed (Err Memory) is h =
+        (ap (as_field_of make) h.0, subst (λ (n : ℕ). n ≤ limit) (sym (as_field_of_roots bits) ∙ ap (roots made_eq bits) is) h.1)
+
+-- the outcome of a write
+pub as_outcome_of_write : {V U : Type 0} (make : V → U) (eq : V → V → Bool) (made_eq : U → U → Bool) (same : (v w : V) → made_eq (make v) (make w) ≡ eq v w)
+    (bits : Bits) (limit : ℕ) (p : Coord) (w : Write V) (f after : Field V) (result : Result (Unit {0}) TreeRefusal)
+    → IsOutcome eq bits limit f (write p w f) after result
+    → IsOutcome made_eq bits limit (as_field_of make f) (write p (as_write_of make w) (as_field_of make f)) (as_field_of make after) result
+as_outcome_of_write make eq made_eq same bits limit p w f after result h =
+    as_outcome_of make f.background (λ q. cond (coord_eq p q) (written w (f.cell q)) (f.cell q)) eq made_eq same bits limit f after
+    (write p (as_write_of make w) (as_field_of make f)) result (as_field_of_write make p w f) h

@@ -89,6 +89,19 @@ module _ {V : Type 0} where
   turns zero turn f = f
   turns (suc n) turn f = turns n turn (turn f)
 
--- the field with each value made another: a grid of one type as one of any
+-- ---- values made others: what a tree of one type is among grids of any
+
+-- a cell with its value made another
+abbrev pub as_cell_of : {V U : Type 0} → (V → U) → Cell V → Cell U
+as_cell_of make c = record { value = make c.value; on = c.on }
+
+-- a write with its value made another
+abbrev pub as_write_of : {V U : Type 0} → (V → U) → Write V → Write U
+as_write_of make (On v) = On (make v)
+as_write_of make (Off v) = Off (make v)
+as_write_of make (State s) = State s
+as_write_of make (Value v) = Value (make v)
+
+-- the field with each value made another
 abbrev pub as_field_of : {V U : Type 0} → (V → U) → Field V → Field U
-as_field_of make f = field (make f.background) (λ p. record { value = make (f.cell p).value; on = (f.cell p).on })
+as_field_of make f = field (make f.background) (λ p. as_cell_of make (f.cell p))

@@ -1,14 +1,15 @@
 //! Writes of voxels.
 
-ghost use Rattle.std.specs.Prelude.{◌≡◌, ◌≢◌, ◌+◌, ◌<◌, ◌≤◌, ◌⊎◌, ◌↔◌, ℕ, Ok, IfOk, IfErr, IsOk, IsTrue, OnOk};
-ghost use Rattle.vdb_coord.specs.Blocks.{key};
+ghost use Rattle.std.specs.Prelude.{◌≡◌, ◌≢◌, ◌+◌, ◌<◌, ◌≤◌, ◌⊎◌, ◌↔◌, false, ℕ, Ok, IfOk, IfErr, IsOk, IsTrue, OnOk};
+ghost use Rattle.vdb_coord.specs.Blocks.{block_around, key};
+ghost use Rattle.vdb_coord.specs.declared.Level.TheVariants.{Leaf};
 ghost use Rattle.vdb_node.specs.declared.Entry.TheVariants.{Child};
 ghost use Rattle.vdb_tree.specs.Changes.{IsSwept, Keeps};
 ghost use Rattle.vdb_tree.specs.Field.{write, written};
 ghost use Rattle.vdb_tree.specs.Layout.{bits_of, cell_at, field_of, lower_entry, root_entry, upper_entry};
 ghost use Rattle.vdb_tree.specs.Outcome.{IsOutcome};
 ghost use Rattle.vdb_tree.specs.Paths.{in_leaf};
-ghost use Rattle.vdb_tree.specs.Plain.{roots};
+ghost use Rattle.vdb_tree.specs.Plain.{is_constant, roots};
 ghost use Rattle.vdb_tree.specs.Table.{HasRoom};
 ghost use Rattle.vdb_tree.specs.declared.Write.{Write};
 ghost use Rattle.vdb_tree.specs.declared.refusal.TreeRefusal.TheVariants.{Memory, RootLimit};
@@ -31,8 +32,8 @@ impl<
     ///
     /// Where a full root table would need one entry more, plain entries are swept out first. `RootLimit` says that even then
     /// there are more root blocks with a cell that isn't plain than the limit, `Memory` that a growth was refused; both leave
-    /// every cell as it was. Neither comes where the cell stands already or where it lies in a leaf. A write visits at most 7
-    /// nodes, unless it sweeps.
+    /// every cell as it was. Neither comes where the cell stands already or where it lies in a leaf, as it does
+    /// wherever the cells of its leaf block aren't all equal. A write visits at most 7 nodes, unless it sweeps.
     pub fn write(
         &mut self,
         p: Coord,
@@ -44,11 +45,13 @@ impl<
         ensures limit { self.new.limit ≡ self.old.limit }
         ensures stands { written change ((field_of (bits_of U L F) self.old).cell p) ≡ (field_of (bits_of U L F) self.old).cell p → IsOk result }
         ensures leaf { IsTrue (in_leaf (bits_of U L F) self.old p) → IsOk result }
+        ensures mixed { is_constant V.eq (field_of (bits_of U L F) self.old) (block_around (bits_of U L F) Leaf p) ≡ false → IsOk result }
         ensures steps { HasRoom self.old (key (bits_of U L F) p)
             ⊎ (written change ((field_of (bits_of U L F) self.old).cell p) ≡ (field_of (bits_of U L F) self.old).cell p)
             → steps.new ≤ steps.old + 7 }
     {
         self.keeps_to_limit(p);
+        self.has_leaf_if_mixed(p);
         let cell = match self.leaf_entry(p, steps) {
             Entry::Child(leaf) => {
                 self.write_voxel(leaf, p, change, steps);
@@ -90,6 +93,13 @@ impl<
         ensures full { (HasRoom self.now (key (bits_of U L F) p) → ⊥) → IsSwept (bits_of U L F) self.now → (change : Write V)
             → written change ((field_of (bits_of U L F) self.now).cell p) ≢ (field_of (bits_of U L F) self.now).cell p
             → self.now.limit < roots V.eq (bits_of U L F) (write p change (field_of (bits_of U L F) self.now)) }
+    {
+        let _ = &self.root;
+    }
+
+    /// A law of every tree, which takes no work: around p stands a leaf where the cells of its leaf block aren't all equal.
+    fn has_leaf_if_mixed(&self, p: Coord)
+        ensures { is_constant V.eq (field_of (bits_of U L F) self.now) (block_around (bits_of U L F) Leaf p) ≡ false → IsTrue (in_leaf (bits_of U L F) self.now p) }
     {
         let _ = &self.root;
     }

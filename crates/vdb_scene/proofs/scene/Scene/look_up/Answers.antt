@@ -3,7 +3,7 @@ use Rattle.vdb_tree.specs.Field.{Field}
 use Rattle.vdb_scene.specs.Grids.{grid_field, grid_of, scene_of}
 use Rattle.vdb_scene.specs.Scene.{field_at, grid_at}
 use Rattle.vdb_scene.specs.Step.{Value, is_accessor, place}
-use Rattle.vdb_scene.specs.declared.answer.Scalar.{Scalar}
+use Rattle.vdb_scene.specs.declared.scalar.Scalar.{Scalar}
 use Rattle.vdb_scene.proofs.Steps.{field_found, get_accepted, test_passes}
 use Rattle.vdb_scene.proofs.scene.Scene.look_up.Goals as goal
 

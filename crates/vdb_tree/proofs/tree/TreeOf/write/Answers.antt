@@ -2,6 +2,7 @@ use Rattle.std.proofs.Common.{◌≤◌, ◌∙◌, ap, arith, inl, inr, rules, 
 use Rattle.vdb_coord.proofs.Meeting.{fits_everywhere}
 use Rattle.vdb_tree.specs.Field.{Field, written}
 use Rattle.vdb_tree.specs.Layout.{bits_of}
+use Rattle.vdb_tree.specs.Paths.{is_child}
 use Rattle.vdb_tree.specs.Plain.{roots}
 use Rattle.vdb_tree.proofs.Blocks.{never}
 use Rattle.vdb_tree.proofs.Equations.{changes_field}
@@ -57,3 +58,6 @@ returns-clause-outcome g c =
     c.write_tile.ensures.outcome (λ stands.
     let same = c.applied.ensures ∙ ap (written c.args.change) (sym at) ∙ stands ∙ at in
     never c.if-eq.false (c.eq.ensures ∙ cell_same g.V.PartialEq.eq exact g.met.V.Eq.laws.refl c.applied.result c.in-Tile.cell same))
+
+pub returns-clause-mixed : goal.returns-clause-mixed
+returns-clause-mixed g c = λ h. absurd (never (ap is_child (c.leaf_entry.ensures.value ∙ c.in-Tile.is)) (c.has_leaf_if_mixed.ensures h))

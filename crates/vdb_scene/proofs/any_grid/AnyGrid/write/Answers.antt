@@ -1,0 +1,19 @@
+use Rattle.vdb_scene.proofs.any_grid.AnyGrid.write.Goals as goal
+
+pub returns-in-Bool-clause-outcome : goal.returns-in-Bool-clause-outcome
+returns-in-Bool-clause-outcome c = rw c.in-Bool.is c.write.ensures.outcome
+
+pub returns-in-Bool-clause-memory : goal.returns-in-Bool-clause-memory
+returns-in-Bool-clause-memory c = rw c.in-Bool.is c.write.ensures.memory
+
+pub returns-in-I32-clause-outcome : goal.returns-in-I32-clause-outcome
+returns-in-I32-clause-outcome c = rw c.in-I32.is c.write-in-I32.ensures.outcome
+
+pub returns-in-I32-clause-memory : goal.returns-in-I32-clause-memory
+returns-in-I32-clause-memory c = rw c.in-I32.is c.write-in-I32.ensures.memory
+
+pub returns-in-I64-clause-outcome : goal.returns-in-I64-clause-outcome
+returns-in-I64-clause-outcome c = rw c.in-I64.is c.write-in-I64.ensures.outcome
+
+pub returns-in-I64-clause-memory : goal.returns-in-I64-clause-memory
+returns-in-I64-clause-memory c = rw c.in-I64.is c.write-in-I64.ensures.memory

@@ -1,0 +1,22 @@
+use Rattle.std.proofs.Common.{refl, sym}
+use Rattle.std.proofs.Common.{ap}
+use Rattle.std.specs.Prelude.{is_none}
+use Rattle.vdb_scene.specs.Grids.{grid_of, scene_over}
+use Rattle.vdb_scene.specs.Step as replies
+use Rattle.vdb_scene.proofs.Lent.{found, missing, unchanged}
+use Rattle.vdb_scene.proofs.scene.Scene.prune.Goals as goal
+
+pub returns-in_default : goal.returns-in_default
+returns-in_default c =
+    let grids = c.args.self.now.grids.entries in
+    (rw (missing grids c.args.name.now (sym c.in_default.ensures.value)) refl, rw c.get_mut.follows.holds-at-none refl)
+
+pub returns : goal.returns
+returns c =
+    let grids = c.args.self.now.grids.entries in
+    let grid = c.in-Some.grid.now in
+    let there = sym c.in-Some.ensures.value in (
+      rw (found grids c.args.name.now grid there) refl,
+      (replies.Done, refl, refl),
+      unchanged grids c.args.name.now _ grid c.prune.new.self there (c.get_mut.follows.holds c.prune.new.self).0 c.prune.ensures.field c.prune.ensures.limit,
+    )

@@ -1,0 +1,56 @@
+//! Calls on a tree of one type of values as a grid of any kind.
+
+ghost use Rattle.std.specs.Prelude.{◌≡◌, false, IsOk, IsTrue};
+ghost use Rattle.vdb_coord.specs.Blocks.{vdb};
+ghost use Rattle.vdb_tree.specs.Field.{as_field_of, as_write_of, write};
+ghost use Rattle.vdb_tree.specs.Layout.{field_of};
+ghost use Rattle.vdb_tree.specs.Outcome.{IsOutcome};
+ghost use Rattle.vdb_scene.specs.Scalars.{is_of, scalar_eq};
+ghost use Rattle.vdb_scene.specs.Step.{passes, write_takes_memory};
+
+use crate::Scalar;
+use crate::scalar::GridValue;
+use vdb_coord::Coord;
+use vdb_pool::Steps;
+use vdb_tree::{Tree, TreeRefusal, Write};
+use vdb_value::Cell;
+
+/// The cell of a voxel.
+pub fn get<V: GridValue>(tree: &Tree<V>, at: Coord, steps: &mut Steps) -> Cell<Scalar>
+    ensures { result ≡ (as_field_of V.as_scalar (field_of vdb tree.now)).cell at }
+{
+    let cell = tree.get(at, steps);
+    Cell {
+        value: cell.value.scalar(),
+        on: cell.on,
+    }
+}
+
+/// Writes a voxel, with a value of the tree's kind.
+pub fn write<V: GridValue>(
+    tree: &mut Tree<V>,
+    at: Coord,
+    change: Write<Scalar>,
+    steps: &mut Steps,
+) -> Result<(), TreeRefusal>
+    requires { IsTrue (passes (is_of V.KIND) change) }
+    ensures outcome { IsOutcome scalar_eq vdb tree.old.limit (as_field_of V.as_scalar (field_of vdb tree.old))
+        (write at change (as_field_of V.as_scalar (field_of vdb tree.old))) (as_field_of V.as_scalar (field_of vdb tree.new)) result }
+    ensures limit { tree.new.limit ≡ tree.old.limit }
+    ensures memory { write_takes_memory (as_field_of V.as_scalar (field_of vdb tree.old)) at change ≡ false → IsOk result }
+{
+    tree.write(at, of_kind(change), steps)
+}
+
+/// The write of a value of one kind that one of any is.
+fn of_kind<V: GridValue>(change: Write<Scalar>) -> Write<V>
+    requires { IsTrue (passes (is_of V.KIND) change) }
+    ensures { as_write_of V.as_scalar result ≡ change }
+{
+    match change {
+        Write::On(value) => Write::On(V::from_scalar(value)),
+        Write::Off(value) => Write::Off(V::from_scalar(value)),
+        Write::State(on) => Write::State(on),
+        Write::Value(value) => Write::Value(V::from_scalar(value)),
+    }
+}

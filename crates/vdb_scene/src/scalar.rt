@@ -1,0 +1,94 @@
+//! Values of any kind.
+
+ghost use Rattle.std.specs.Prelude.{◌≡◌, refl};
+ghost use Rattle.vdb_scene.specs.Scalars.{kind_of, scalar_eq};
+ghost use Rattle.vdb_scene.specs.declared.scalar.Scalar.{Scalar};
+ghost use Rattle.vdb_scene.specs.declared.scalar.Scalar.TheVariants as scalars;
+
+use vdb_node::Stored;
+
+/// A value of one of the three kinds.
+#[derive(Clone, Copy, Debug, PartialEq, Eq)]
+pub enum Scalar {
+    Bool(bool),
+    I32(i32),
+    I64(i64),
+}
+
+/// A type of values that a grid may have.
+pub trait GridValue: Stored<512> + Stored<64> + Stored<8> {
+    /// A value as one of any kind.
+    ghost as_scalar: { Self → Scalar };
+
+    /// The value as one of any kind.
+    fn scalar(self) -> Scalar
+        ensures { result ≡ as_scalar self };
+
+    /// The value that one of the type's kind is.
+    fn from_scalar(scalar: Scalar) -> Self
+        requires { kind_of scalar ≡ Self.KIND }
+        ensures { as_scalar result ≡ scalar };
+
+    /// All values of the type are of its kind.
+    ghost same_kind: { (x : Self) → kind_of (as_scalar x) ≡ Self.KIND };
+
+    /// Values are equal where they are so as values of any kind.
+    ghost same_eq: { (x y : Self) → scalar_eq (as_scalar x) (as_scalar y) ≡ Self.eq x y };
+}
+
+impl GridValue for bool {
+    ghost as_scalar = { scalars.Bool };
+
+    fn scalar(self) -> Scalar {
+        Scalar::Bool(self)
+    }
+
+    fn from_scalar(scalar: Scalar) -> bool {
+        match scalar {
+            Scalar::Bool(value) => value,
+            _ => unreachable!(),
+        }
+    }
+
+    ghost same_kind = { λ x. refl };
+
+    ghost same_eq = { λ x y. refl };
+}
+
+impl GridValue for i32 {
+    ghost as_scalar = { scalars.I32 };
+
+    fn scalar(self) -> Scalar {
+        Scalar::I32(self)
+    }
+
+    fn from_scalar(scalar: Scalar) -> i32 {
+        match scalar {
+            Scalar::I32(value) => value,
+            _ => unreachable!(),
+        }
+    }
+
+    ghost same_kind = { λ x. refl };
+
+    ghost same_eq = { λ x y. refl };
+}
+
+impl GridValue for i64 {
+    ghost as_scalar = { scalars.I64 };
+
+    fn scalar(self) -> Scalar {
+        Scalar::I64(self)
+    }
+
+    fn from_scalar(scalar: Scalar) -> i64 {
+        match scalar {
+            Scalar::I64(value) => value,
+            _ => unreachable!(),
+        }
+    }
+
+    ghost same_kind = { λ x. refl };
+
+    ghost same_eq = { λ x y. refl };
+}

@@ -1,0 +1,162 @@
+//! Random scripts on a few blocks, beside a plain map of voxels.
+
+ghost use Rattle.std.specs.Prelude.{◌<◌};
+
+use super::{add_line, expect};
+use std::alloc::AllocError;
+use vdb_pool::Steps;
+
+/// What is drawn next: numbers by Knuth's generator of 64 bits.
+#[derive(Drop)]
+struct Draws {
+    state: u64,
+}
+
+impl Draws {
+    /// A number below the bound, by the upper bits.
+    fn below(&mut self, bound: u64) -> usize
+        requires { 0 < bound }
+        ensures { result < bound }
+    {
+        self.state = self
+            .state
+            .wrapping_mul(6364136223846793005)
+            .wrapping_add(1442695040888963407);
+        ((self.state >> 33) % bound) as usize
+    }
+}
+
+/// What a voxel is to hold: one of the texts of values, and a state.
+#[derive(Clone, Copy)]
+struct Wanted {
+    value: usize,
+    on: bool,
+}
+
+/// A script, the answers that are wanted, and the voxels.
+#[derive(Drop)]
+struct Trial<'a> {
+    accessors: [&'a [u8]; 3],
+    components: [&'a [u8]; 4],
+    values: [&'a [u8]; 3],
+    voxels: [Wanted; 64],
+    script: Vec<u8>,
+    answers: Vec<u8>,
+}
+
+impl<'a> Trial<'a> {
+    /// Adds a command on a voxel, and its answer. Commands 0 to 4 write, any other looks up.
+    fn turn(&mut self, command: usize, draws: &mut Draws) -> Result<(), AllocError> {
+        let accessor = self.accessors[draws.below(3)];
+        let (x, y, z) = (draws.below(4), draws.below(4), draws.below(4));
+        let value = draws.below(3);
+        let old = self.voxels[x * 16 + y * 4 + z];
+        let (word, new) = match command {
+            0 => (b"set".as_slice(), Wanted { value, on: true }),
+            1 => (b"unset".as_slice(), Wanted { value, on: false }),
+            2 => (b"only".as_slice(), Wanted { value, on: old.on }),
+            3 => (
+                b"state".as_slice(),
+                Wanted {
+                    value: old.value,
+                    on: true,
+                },
+            ),
+            4 => (
+                b"state".as_slice(),
+                Wanted {
+                    value: old.value,
+                    on: false,
+                },
+            ),
+            _ => (b"get".as_slice(), old),
+        };
+        self.voxels[x * 16 + y * 4 + z] = new;
+        let state = if new.on {
+            b"on".as_slice()
+        } else {
+            b"off".as_slice()
+        };
+        let written = self.values[new.value % 3];
+        let last = if command < 3 { written } else { state };
+        let parts = [
+            word,
+            b"a".as_slice(),
+            accessor,
+            self.components[x],
+            self.components[y],
+            self.components[z],
+            last,
+        ];
+        if command < 5 {
+            add_line(&mut self.script, parts.as_slice())?;
+            add_line(&mut self.answers, [b"ok".as_slice()].as_slice())
+        } else {
+            add_line(&mut self.script, &parts[..6])?;
+            let answer = [b"value".as_slice(), written, state];
+            add_line(&mut self.answers, answer.as_slice())
+        }
+    }
+}
+
+#[test]
+fn random_scripts_beside_a_map(rt: HostRuntime) -> Result<(), AllocError> {
+    let mut steps = Steps::new(&rt);
+    let accessors = [b"-".as_slice(), b"0".as_slice(), b"7".as_slice()];
+    // two leaf blocks, two lower nodes' blocks and two root blocks, at both sides of 0
+    let components = [
+        b"-1".as_slice(),
+        b"0".as_slice(),
+        b"7".as_slice(),
+        b"4096".as_slice(),
+    ];
+    let bools = [b"false".as_slice(), b"true".as_slice(), b"true".as_slice()];
+    let small = [b"0".as_slice(), b"7".as_slice(), b"-2147483648".as_slice()];
+    let wide = [
+        b"-9223372036854775808".as_slice(),
+        b"0".as_slice(),
+        b"9223372036854775807".as_slice(),
+    ];
+    for (kind, values) in [
+        (b"bool".as_slice(), bools),
+        (b"i32".as_slice(), small),
+        (b"i64".as_slice(), wide),
+    ] {
+        for turns_of_a_prune in [0, 1, 2, 20] {
+            let mut draws = Draws {
+                state: turns_of_a_prune,
+            };
+            let mut trial = Trial {
+                accessors,
+                components,
+                values,
+                voxels: [Wanted {
+                    value: 0,
+                    on: false,
+                }; 64],
+                script: Vec::new(rt.alloc()),
+                answers: Vec::new(rt.alloc()),
+            };
+            let made = [b"grid".as_slice(), b"a".as_slice(), kind, values[0]];
+            add_line(&mut trial.script, made.as_slice())?;
+            add_line(&mut trial.answers, [b"ok".as_slice()].as_slice())?;
+            for turn in 0..2000u64 {
+                let command = draws.below(8);
+                trial.turn(command, &mut draws)?;
+                if turns_of_a_prune > 0 && turn % turns_of_a_prune == 0 {
+                    trial.script.extend_from_slice(b"prune a\n")?;
+                    trial.answers.extend_from_slice(b"ok\n")?;
+                }
+            }
+            expect(
+                &rt,
+                trial.script.as_slice(),
+                4096,
+                trial.answers.as_slice(),
+                0,
+                &mut steps,
+            );
+        }
+    }
+    Ok(())
+}
