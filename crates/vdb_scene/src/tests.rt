@@ -1,6 +1,7 @@
 //! Scenes with ample memory, and names.
 use super::*;
 use std::process::Abort;
+use vdb_pool::Steps;
 use vdb_value::Kind;
 
 /// A number of a line.
@@ -38,6 +39,16 @@ fn set(name: Name, at: Point, value: Literal) -> Command {
         accessor: None,
         at,
         value,
+    }
+}
+
+/// A command that sets the state of a voxel.
+fn state(name: Name, at: Point, on: bool) -> Command {
+    Command::State {
+        name,
+        accessor: None,
+        at,
+        on,
     }
 }
 
@@ -94,6 +105,7 @@ fn a_name_has_its_form(rt: HostRuntime) {
 
 #[test]
 fn grids_of_each_kind_hold_their_cells(rt: HostRuntime) {
+    let mut steps = Steps::new(&rt);
     let mut scene = Scene::new(rt.alloc());
     let minus = point(-1, -1, -1);
     for (byte, kind, background, value) in [
@@ -107,8 +119,8 @@ fn grids_of_each_kind_hold_their_cells(rt: HostRuntime) {
         (b'l', Kind::I64, near(-3), near(9223372036854775807)),
     ] {
         let name = letter(&rt, byte);
-        assert!(rt; is_done(&scene.apply(&grid(name, kind, background))));
-        assert!(rt; is_done(&scene.apply(&set(name, minus, value))));
+        assert!(rt; is_done(&scene.apply(&grid(name, kind, background), &mut steps)));
+        assert!(rt; is_done(&scene.apply(&set(name, minus, value), &mut steps)));
     }
     for (byte, there, elsewhere) in [
         (b'b', Scalar::Bool(true), Scalar::Bool(false)),
@@ -116,8 +128,14 @@ fn grids_of_each_kind_hold_their_cells(rt: HostRuntime) {
         (b'l', Scalar::I64(9223372036854775807), Scalar::I64(-3)),
     ] {
         let name = letter(&rt, byte);
-        assert!(rt; is_value(&scene.apply(&get(name, minus)), there, true));
-        assert!(rt; is_value(&scene.apply(&get(name, point(0, 0, 0))), elsewhere, false));
+        assert!(rt; is_value(&scene.apply(&get(name, minus), &mut steps), there, true));
+        assert!(rt;
+            is_value(
+                &scene.apply(&get(name, point(0, 0, 0)), &mut steps),
+                elsewhere,
+                false
+            )
+        );
     }
     let mut names = scene.names();
     for byte in [b'b', b'i', b'l'] {
@@ -128,6 +146,7 @@ fn grids_of_each_kind_hold_their_cells(rt: HostRuntime) {
 
 #[test]
 fn refusals_come_in_their_order(rt: HostRuntime) {
+    let mut steps = Steps::new(&rt);
     let mut scene = Scene::new(rt.alloc());
     let a = letter(&rt, b'a');
     let far = Point {
@@ -140,9 +159,9 @@ fn refusals_come_in_their_order(rt: HostRuntime) {
         (grid(a, Kind::I32, Literal::Truth(true)), Refusal::Kind),
         (set(a, far, Literal::Truth(true)), Refusal::NoGrid),
     ] {
-        assert!(rt; is_refused(&scene.apply(&command), refusal));
+        assert!(rt; is_refused(&scene.apply(&command, &mut steps), refusal));
     }
-    assert!(rt; is_done(&scene.apply(&grid(a, Kind::I32, near(0)))));
+    assert!(rt; is_done(&scene.apply(&grid(a, Kind::I32, near(0)), &mut steps)));
     let eighth = Command::Set {
         name: a,
         accessor: Some(Num::Near(8)),
@@ -163,32 +182,39 @@ fn refusals_come_in_their_order(rt: HostRuntime) {
         (eighth, Refusal::NoAccessor),
         (get(letter(&rt, b'b'), far), Refusal::NoGrid),
     ] {
-        assert!(rt; is_refused(&scene.apply(&command), refusal));
+        assert!(rt; is_refused(&scene.apply(&command, &mut steps), refusal));
     }
-    assert!(rt; is_value(&scene.apply(&get(a, point(0, 0, 0))), Scalar::I32(0), false));
+    assert!(rt;
+        is_value(
+            &scene.apply(&get(a, point(0, 0, 0)), &mut steps),
+            Scalar::I32(0),
+            false
+        )
+    );
 }
 
 #[test]
 fn a_scene_has_at_most_64_grids(rt: HostRuntime) {
+    let mut steps = Steps::new(&rt);
     let mut scene = Scene::new(rt.alloc());
     for first in b'a'..b'i' {
         for second in b'a'..b'i' {
             let name = Name::new(&[first, second]).expect(&rt, "two letters are a name");
-            let made = AnyGrid::new(rt.alloc(), Scalar::I32(1));
+            let made = AnyGrid::new(rt.alloc(), Scalar::I32(1), ROOT_LIMIT);
             assert!(rt; scene.insert(name, made) == Ok(()));
         }
     }
     let a = letter(&rt, b'a');
     assert!(rt;
         is_refused(
-            &scene.apply(&grid(a, Kind::I32, near(0))),
+            &scene.apply(&grid(a, Kind::I32, near(0)), &mut steps),
             Refusal::GridLimit
         )
     );
-    let again = AnyGrid::new(rt.alloc(), Scalar::Bool(true));
+    let again = AnyGrid::new(rt.alloc(), Scalar::Bool(true), ROOT_LIMIT);
     assert!(rt; scene.insert(a, again) == Err(Refusal::GridLimit));
     let first = Name::new(b"aa").expect(&rt, "two letters are a name");
-    let taken = AnyGrid::new(rt.alloc(), Scalar::Bool(true));
+    let taken = AnyGrid::new(rt.alloc(), Scalar::Bool(true), ROOT_LIMIT);
     assert!(rt; scene.insert(first, taken) == Err(Refusal::NameTaken));
     assert!(rt;
         scene
@@ -196,4 +222,90 @@ fn a_scene_has_at_most_64_grids(rt: HostRuntime) {
             .is_some_and(|grid| grid.kind() == Kind::I32)
     );
     assert!(rt; scene.get(&a).is_none());
+}
+
+#[test]
+fn each_write_changes_its_part_of_a_cell(rt: HostRuntime) {
+    let mut steps = Steps::new(&rt);
+    let mut scene = Scene::new(rt.alloc());
+    let a = letter(&rt, b'a');
+    let at = point(7, -8, 4096);
+    assert!(rt; is_done(&scene.apply(&grid(a, Kind::I64, near(-3)), &mut steps)));
+    let only = Command::Only {
+        name: a,
+        accessor: None,
+        at,
+        value: near(i64::MAX),
+    };
+    let unset = Command::Unset {
+        name: a,
+        accessor: Some(Num::Near(0)),
+        at,
+        value: near(i64::MIN),
+    };
+    for (command, value, on) in [
+        (only, i64::MAX, false),
+        (state(a, at, true), i64::MAX, true),
+        (Command::Prune { name: a }, i64::MAX, true),
+        (unset, i64::MIN, false),
+        (set(a, at, near(4)), 4, true),
+        (state(a, at, false), 4, false),
+        (Command::Prune { name: a }, 4, false),
+    ] {
+        assert!(rt; is_done(&scene.apply(&command, &mut steps)));
+        assert!(rt;
+            is_value(
+                &scene.apply(&get(a, at), &mut steps),
+                Scalar::I64(value),
+                on
+            )
+        );
+    }
+    let prune = Command::Prune {
+        name: letter(&rt, b'b'),
+    };
+    assert!(rt; is_refused(&scene.apply(&prune, &mut steps), Refusal::NoGrid));
+    assert!(rt;
+        is_refused(
+            &scene.apply(&state(letter(&rt, b'b'), at, true), &mut steps),
+            Refusal::NoGrid
+        )
+    );
+}
+
+#[test]
+fn a_grid_has_at_most_4096_root_blocks(rt: HostRuntime) {
+    let mut steps = Steps::new(&rt);
+    let mut scene = Scene::new(rt.alloc());
+    let a = letter(&rt, b'a');
+    assert!(rt; is_done(&scene.apply(&grid(a, Kind::Bool, Literal::Truth(false)), &mut steps)));
+    for x in 0..64i64 {
+        for y in 0..64i64 {
+            let at = point(x.wrapping_mul(4096), y.wrapping_mul(-4096), 0);
+            assert!(rt; is_done(&scene.apply(&state(a, at, true), &mut steps)));
+        }
+    }
+    let further = point(-1, 0, 0);
+    assert!(rt;
+        is_refused(
+            &scene.apply(&state(a, further, true), &mut steps),
+            Refusal::RootLimit
+        )
+    );
+    assert!(rt;
+        is_value(
+            &scene.apply(&get(a, further), &mut steps),
+            Scalar::Bool(false),
+            false
+        )
+    );
+    assert!(rt; is_done(&scene.apply(&state(a, further, false), &mut steps)));
+    assert!(rt; is_done(&scene.apply(&state(a, point(0, 0, 0), false), &mut steps)));
+    assert!(rt; is_done(&scene.apply(&state(a, further, true), &mut steps)));
+    assert!(rt;
+        is_refused(
+            &scene.apply(&state(a, point(0, 0, 0), true), &mut steps),
+            Refusal::RootLimit
+        )
+    );
 }

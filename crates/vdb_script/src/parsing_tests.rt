@@ -35,6 +35,15 @@ fn set(name: Name, value: Literal) -> Command {
     }
 }
 
+fn state(name: Name, on: bool) -> Command {
+    Command::State {
+        name,
+        accessor: None,
+        at: AT,
+        on,
+    }
+}
+
 #[test]
 fn commands_are_read(rt: HostRuntime) {
     let a = Name::new(b"a").expect(&rt, "one letter");
@@ -70,6 +79,43 @@ fn commands_are_read(rt: HostRuntime) {
         (
             b"set a 8 -1 0 2147483648 true".as_slice(),
             set(a, Literal::Truth(true)),
+        ),
+        (
+            b"unset a - -1 0 2147483648 -5".as_slice(),
+            Command::Unset {
+                name: a,
+                accessor: None,
+                at: AT,
+                value: minus_five,
+            },
+        ),
+        (
+            b"only a - -1 0 2147483648 0".as_slice(),
+            Command::Only {
+                name: a,
+                accessor: None,
+                at: AT,
+                value: zero,
+            },
+        ),
+        (b"state a - -1 0 2147483648 on".as_slice(), state(a, true)),
+        (b"state a - -1 0 2147483648 off".as_slice(), state(a, false)),
+        (b"prune a".as_slice(), Command::Prune { name: a }),
+        (
+            b"grid a bool true".as_slice(),
+            Command::Grid {
+                name: a,
+                kind: Kind::Bool,
+                background: Literal::Truth(true),
+            },
+        ),
+        (
+            b"grid a i64 0".as_slice(),
+            Command::Grid {
+                name: a,
+                kind: Kind::I64,
+                background: zero,
+            },
         ),
     ] {
         assert!(rt; parse(rt.alloc(), line) == Ok(Some(want)));
@@ -110,7 +156,7 @@ fn other_lines_are_no_commands(rt: HostRuntime) {
         b"grid a i32".as_slice(),
         b"grid a i32 0 0".as_slice(),
         b"grid a i32 0 # with a zero".as_slice(),
-        b"grid a bool 0".as_slice(),
+        b"grid a f32 0".as_slice(),
         b"grid A i32 0".as_slice(),
         b"grid 1a i32 0".as_slice(),
         b"grid z_0123456789_abcd i32 0".as_slice(),
@@ -135,7 +181,16 @@ fn other_lines_are_no_commands(rt: HostRuntime) {
         b"set a - 0 0 0".as_slice(),
         b"set a - 0 0 0 1 1".as_slice(),
         b"set a - 0 0 0 -".as_slice(),
-        b"prune a".as_slice(),
+        b"prune".as_slice(),
+        b"prune a a".as_slice(),
+        b"prune -".as_slice(),
+        b"unset a - 0 0 0".as_slice(),
+        b"unset a - 0 0 0 on".as_slice(),
+        b"only a - 0 0 0 1 1".as_slice(),
+        b"state a - 0 0 0".as_slice(),
+        b"state a - 0 0 0 true".as_slice(),
+        b"state a - 0 0 0 on on".as_slice(),
+        b"fill a".as_slice(),
         b"get a - 0 0 0 1 2 3 4 5 6 7 8 9 10 11 12".as_slice(),
     ] {
         assert!(rt; parse(rt.alloc(), line) == Err(Refusal::Syntax));
