@@ -11,6 +11,7 @@ use crate::{Entry, Stored};
 use std::alloc::{AllocError, Global};
 use std::marker::Model;
 use vdb_mask::Mask;
+use vdb_pool::TryCopy;
 use vdb_value::Cell;
 
 /// A node whose 8 to the power `LOG2` entries are children or tiles. It is a mask of the children, a
@@ -62,6 +63,21 @@ impl<V: Stored<W>, const LOG2: u32, const W: usize> Internal<V, LOG2, W> {
             states,
             values,
             slots,
+        })
+    }
+
+    /// A node of its own with the same entry at every index; this one stays. A child keeps its slot,
+    /// and so it is a child of both nodes: no node below is copied. The error says that the memory
+    /// for the values or the slots was refused. The copy constructor of `InternalNode`, which copies
+    /// the nodes below too.
+    pub fn try_copy(&self, alloc: Global) -> Result<Self, AllocError>
+        ensures { IfOk result (λ copy. copy ≡ self.now) }
+    {
+        Ok(Internal {
+            children: self.children.copied(),
+            states: self.states.copied(),
+            values: V::copied_row(&self.values, alloc)?,
+            slots: Vec::from_slice(alloc, &self.slots)?,
         })
     }
 
@@ -127,5 +143,11 @@ impl<V: Stored<W>, const LOG2: u32, const W: usize> Internal<V, LOG2, W> {
         ensures { IsNextChild self.now (entry_count LOG2) from result }
     {
         self.children.next_on(from)
+    }
+}
+
+impl<V: Stored<W>, const LOG2: u32, const W: usize> TryCopy for Internal<V, LOG2, W> {
+    fn try_copy(&self, alloc: Global) -> Result<Internal<V, LOG2, W>, AllocError> {
+        self.try_copy(alloc)
     }
 }

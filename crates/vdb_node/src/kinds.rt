@@ -31,6 +31,10 @@ impl<const W: usize> Stored<W> for bool {
         Ok(Mask::filled(self))
     }
 
+    fn copied_row(row: &Mask<W>, _alloc: Global) -> Result<Mask<W>, AllocError> {
+        Ok(row.copied())
+    }
+
     fn value_at(row: &Mask<W>, i: u32) -> bool {
         row.test(i)
     }
@@ -57,6 +61,10 @@ impl<const W: usize> Stored<W> for i32 {
         vec![in alloc; self; count as usize]
     }
 
+    fn copied_row(row: &Vec<i32>, alloc: Global) -> Result<Vec<i32>, AllocError> {
+        Vec::from_slice(alloc, row)
+    }
+
     fn value_at(row: &Vec<i32>, i: u32) -> i32 {
         row[i as usize]
     }
@@ -81,6 +89,10 @@ impl<const W: usize> Stored<W> for i64 {
 
     fn filled_row(self, alloc: Global, count: u32) -> Result<Vec<i64>, AllocError> {
         vec![in alloc; self; count as usize]
+    }
+
+    fn copied_row(row: &Vec<i64>, alloc: Global) -> Result<Vec<i64>, AllocError> {
+        Vec::from_slice(alloc, row)
     }
 
     fn value_at(row: &Vec<i64>, i: u32) -> i64 {

@@ -11,6 +11,7 @@ use crate::uniform::{cut, entries, is_uniform, put};
 use std::alloc::{AllocError, Global};
 use std::marker::Model;
 use vdb_mask::Mask;
+use vdb_pool::TryCopy;
 use vdb_value::Cell;
 
 /// A node whose 8 to the power `LOG2` entries are cells of single voxels. It is a row of values and a
@@ -58,6 +59,19 @@ impl<V: Stored<W>, const LOG2: u32, const W: usize> Leaf<V, LOG2, W> {
         let mut states = Mask::filled(cell.on);
         cut(&mut states, entries(LOG2));
         Ok(Leaf { row, states })
+    }
+
+    /// A leaf of its own with the same cell at every entry; this one stays. The error says that the
+    /// memory for the values was refused; a leaf of truth values takes none beyond its place. The
+    /// copy constructor of `LeafNode`.
+    pub fn try_copy(&self, alloc: Global) -> Result<Self, AllocError>
+        ensures same { IfOk result (λ copy. copy ≡ self.now) }
+        ensures in_place { V.KIND ≡ truths → IsOk result }
+    {
+        Ok(Leaf {
+            row: V::copied_row(&self.row, alloc)?,
+            states: self.states.copied(),
+        })
     }
 
     /// The cell at index `i`. `LeafNode::getValue(i)` with `LeafNode::isValueOn(i)`.
@@ -121,5 +135,11 @@ impl<V: Stored<W>, const LOG2: u32, const W: usize> Leaf<V, LOG2, W> {
         ensures { result ≡ on_count self.now.states (entry_count LOG2) }
     {
         self.states.count()
+    }
+}
+
+impl<V: Stored<W>, const LOG2: u32, const W: usize> TryCopy for Leaf<V, LOG2, W> {
+    fn try_copy(&self, alloc: Global) -> Result<Leaf<V, LOG2, W>, AllocError> {
+        self.try_copy(alloc)
     }
 }

@@ -28,6 +28,13 @@ pub trait Stored<const W: usize>: Voxel {
         ensures values { IfOk result (λ row. (i : ℕ) → i < count → value_in row i ≡ self) }
         ensures in_place { Self.KIND ≡ truths → IsOk result };
 
+    /// A row of its own with as much room and the same values; this one stays. The error says that
+    /// the memory for them was refused; truth values take none beyond the row's place.
+    fn copied_row(row: &Self::Row, alloc: Global) -> Result<Self::Row, AllocError>
+        ensures room { IfOk result (λ copy. row_len copy ≡ row_len row.now) }
+        ensures values { IfOk result (λ copy. value_in copy ≡ value_in row.now) }
+        ensures in_place { Self.KIND ≡ truths → IsOk result };
+
     /// The value at an index.
     fn value_at(row: &Self::Row, i: u32) -> Self
         requires { i < row_len row.now }

@@ -168,8 +168,63 @@ fn internal_nodes_of_every_kind(rt: HostRuntime) -> Result<(), AllocError> {
     try_internal::<i64, 5, 512>(&rt, rt.alloc(), 7, 8, 32768)
 }
 
-// A leaf of truth values is made with no memory: that its maker cannot fail is proved here, and it
-// passes with every allocation refused.
+// A leaf of 512 entries with two cells set has a copy with the same cells, and a change of the copy
+// leaves the leaf as it was.
+fn try_leaf_copy<V: Stored<8>>(
+    rt: &impl Abort,
+    alloc: Global,
+    one: V,
+    other: V,
+) -> Result<(), AllocError> {
+    let mut leaf: Leaf<V, 3, 8> = Leaf::new_constant(alloc, off(one))?;
+    leaf.set(5, on(other));
+    leaf.set(511, on(one));
+    let mut copy = leaf.try_copy(alloc)?;
+    for i in 0..512 {
+        assert!(rt; copy.entry(i) == leaf.entry(i));
+    }
+    expect_leaf(rt, &copy, 5, on(other), false, 2);
+    copy.set(5, off(one));
+    expect_leaf(rt, &copy, 5, off(one), false, 1);
+    expect_leaf(rt, &leaf, 5, on(other), false, 2);
+    Ok(())
+}
+
+// The same for an internal node with a tile and a child set.
+fn try_internal_copy<V: Stored<8>>(
+    rt: &impl Abort,
+    alloc: Global,
+    one: V,
+    other: V,
+) -> Result<(), AllocError> {
+    let mut node: Internal<V, 3, 8> = Internal::new_constant(alloc, on(one))?;
+    node.set_tile(5, off(other));
+    node.set_child(511, 7);
+    let mut copy = node.try_copy(alloc)?;
+    for i in 0..512 {
+        assert!(rt; copy.entry(i) == node.entry(i));
+    }
+    expect_node(rt, &copy, 511, Entry::Child(7), None, Some(511));
+    copy.set_child(5, 9);
+    copy.set_tile(511, on(one));
+    expect_node(rt, &copy, 5, Entry::Child(9), None, Some(5));
+    expect_node(rt, &node, 5, Entry::Tile(off(other)), None, Some(511));
+    expect_node(rt, &node, 511, Entry::Child(7), None, Some(511));
+    Ok(())
+}
+
+#[test]
+fn a_change_of_a_copy_leaves_its_source(rt: HostRuntime) -> Result<(), AllocError> {
+    try_leaf_copy(&rt, rt.alloc(), false, true)?;
+    try_leaf_copy(&rt, rt.alloc(), 3, i32::MIN)?;
+    try_leaf_copy(&rt, rt.alloc(), 3, i64::MIN)?;
+    try_internal_copy(&rt, rt.alloc(), false, true)?;
+    try_internal_copy(&rt, rt.alloc(), 3, i32::MIN)?;
+    try_internal_copy(&rt, rt.alloc(), 3, i64::MIN)
+}
+
+// A leaf of truth values is made and copied with no memory: that neither can fail is proved here, and
+// it passes with every allocation refused.
 #[test]
 fn a_leaf_of_truth_values_takes_no_memory(rt: HostRuntime) {
     let yes = Cell {
@@ -182,8 +237,12 @@ fn a_leaf_of_truth_values_takes_no_memory(rt: HostRuntime) {
     let Ok(large) = Leaf::<bool, 5, 512>::new_constant(rt.alloc(), yes) else {
         unreachable!()
     };
+    let Ok(copy) = large.try_copy(rt.alloc()) else {
+        unreachable!()
+    };
     assert_eq!(rt; small.constant(), Some(yes));
     assert_eq!(rt; large.constant(), Some(yes));
+    assert_eq!(rt; copy.constant(), Some(yes));
 }
 
 // The bytes of a node's place: 8 for each word of a mask, and 24 for each vector.

@@ -11,7 +11,7 @@ use Rattle.vdb_pool.specs.Pool.{IsSound}
 use Rattle.vdb_pool.specs.declared.chunk.Chunk.{Chunk}
 use Rattle.vdb_pool.specs.declared.slot.Slot.{Slot}
 use Rattle.vdb_pool.specs.declared.slot.Slot.TheVariants.{Vacant, Held}
-use Rattle.vdb_pool.proofs.Links.{get_set_same, kept, linked_top, off_held, none_of, top_of, listed_held, listed_vacant, listed_refilled, listed_pushed}
+use Rattle.vdb_pool.proofs.Links.{get_set_same, get_pushed_last, kept, pushed, linked_top, on_stack, off_held, top_of, listed_held, listed_vacant, listed_refilled, listed_pushed, listed_pushed_vacant}
 
 module _ {T : Type 0} where
   -- how many slots are held after a write, and after one more
@@ -23,8 +23,8 @@ module _ {T : Type 0} where
       let counted = sum_by-set (λ o. cond (is_some o) 1 0) (map node_of xs) i (node_of new) None (omega (arith, length-map xs node_of)) in
       rw (map-set node_of xs i new, ← read) counted
 
-  count-push : (xs : List (Slot T)) (x : T) → count_by is_some (map node_of (xs ++ Held x ∷ [])) ≡ count_by is_some (map node_of xs) + 1
-  count-push xs x = ap (count_by is_some) (map_push node_of xs (Held x)) ∙ sum_by_push (λ o. cond (is_some o) 1 0) (map node_of xs) (Some x)
+  count-push : (xs : List (Slot T)) (new : Slot T) → count_by is_some (map node_of (xs ++ new ∷ [])) ≡ count_by is_some (map node_of xs) + cond (is_some (node_of new)) 1 0
+  count-push xs new = ap (count_by is_some) (map_push node_of xs new) ∙ sum_by_push (λ o. cond (is_some o) 1 0) (map node_of xs) (node_of new)
 
   module _ (cs : List (Chunk T)) (ps : List Ptr) (xs : List (Slot T)) (used total held : ℕ) (top : Option ℕ) (ok : IsSound cs ps xs used total held top) where
     abbrev stack : List ℕ
@@ -108,16 +108,16 @@ module _ {T : Type 0} where
           t.2 ∙ ap (λ l. i ∷ l) rest,
         )
 
-    -- a slot is held for the first time
-    pub extended : (x : T) → top ≡ None → used < total
-        → IsSound cs ps (xs ++ Held x ∷ []) (used + 1) total (held + 1) top × (stack ≡ []) × (linked ((used + 1) - (held + 1)) top (xs ++ Held x ∷ []) ≡ [])
-    extended x e lt =
+    -- a slot is held for the first time, which leaves the stack as it is
+    pub extended : (x : T) → used < total
+        → IsSound cs ps (xs ++ Held x ∷ []) (used + 1) total (held + 1) top × (linked ((used + 1) - (held + 1)) top (xs ++ Held x ∷ []) ≡ stack)
+    extended x lt =
         let xs' : List (Slot T) = xs ++ Held x ∷ [] in
-        let none : used - held ≡ 0 = none_of (used - held) top xs ok.stack e in
+        let k = pushed (used - held) top xs (Held x) ok.stack in
+        let counted : count_by is_some (map node_of xs') ≡ count_by is_some (map node_of xs) + 1 = count-push xs (Held x) in
         let used_is = ok.used_is in let held_is = ok.held_is in let held_within = ok.held_within in
-        let still : 0 ≡ (used + 1) - (held + 1) = omega arith in
-        let empty : stack ≡ [] = ap (λ j. linked j top xs) none in
-        let empty' : linked ((used + 1) - (held + 1)) top xs' ≡ [] = ap (λ j. linked j top xs') (sym still) in (
+        let still : used - held ≡ (used + 1) - (held + 1) = omega arith in
+        let list : linked ((used + 1) - (held + 1)) top xs' ≡ stack = ap (λ j. linked j top xs') (sym still) ∙ k.0 in (
           record {
             used_is = omega (arith, length-append xs (Held x ∷ []));
             total_is = ok.total_is;
@@ -125,11 +125,39 @@ module _ {T : Type 0} where
             within = omega arith;
             rows = ok.rows;
             whole = ok.whole;
-            held_is = omega (arith, count-push xs x);
+            held_is = omega arith;
             held_within = omega arith;
-            stack = subst (λ j. IsStack j top xs') still e;
-            listed = subst (AreListed xs') (sym empty') (listed_pushed xs [] x (subst (AreListed xs) empty ok.listed));
+            stack = subst (λ j. IsStack j top xs') still k.1;
+            listed = subst (AreListed xs') (sym list) (listed_pushed xs stack x ok.listed);
           },
-          empty,
-          empty',
+          list,
+        )
+
+    -- a slot that was never held is vacant, and on top of the stack
+    pub extended_vacant : used < total
+        → IsSound cs ps (xs ++ Vacant top ∷ []) (used + 1) total held (Some used) × (linked ((used + 1) - held) (Some used) (xs ++ Vacant top ∷ []) ≡ used ∷ stack)
+    extended_vacant lt =
+        let xs' : List (Slot T) = xs ++ Vacant top ∷ [] in
+        let n : ℕ = used - held in
+        let k = pushed n top xs (Vacant top) ok.stack in
+        let counted : count_by is_some (map node_of xs') ≡ count_by is_some (map node_of xs) + 0 = count-push xs (Vacant top) in
+        let used_is = ok.used_is in let held_is = ok.held_is in let held_within = ok.held_within in
+        let there : slice_get xs' used ≡ Some (Vacant top) = get_pushed_last xs (Vacant top) used used_is in
+        let off : IsAmong used stack → ⊥ = λ m. let old = on_stack n top xs used ok.stack m in absurd (omega (arith, used_is, slice_get_within xs used (Vacant old.0) old.1)) in
+        let more : suc n ≡ (used + 1) - held = omega arith in
+        let on_top : IsStack (suc n) (Some used) xs' = (used, top, refl, there, (λ m. off (subst (IsAmong used) k.0 m)), k.1) in
+        let list : linked ((used + 1) - held) (Some used) xs' ≡ used ∷ stack = ap (λ m. linked m (Some used) xs') (sym more) ∙ linked_top n (Some used) xs' used top refl there ∙ ap (λ l. used ∷ l) k.0 in (
+          record {
+            used_is = omega (arith, length-append xs (Vacant top ∷ []));
+            total_is = ok.total_is;
+            total_fits = ok.total_fits;
+            within = omega arith;
+            rows = ok.rows;
+            whole = ok.whole;
+            held_is = omega arith;
+            held_within = omega arith;
+            stack = subst (λ m. IsStack m (Some used) xs') more on_top;
+            listed = subst (AreListed xs') (sym list) (listed_pushed_vacant xs stack used top used_is ok.listed);
+          },
+          list,
         )

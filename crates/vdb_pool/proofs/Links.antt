@@ -44,6 +44,21 @@ module _ {X : Type 0} where
   get_pushed_either (z ∷ xs) y x zero e = inr e
   get_pushed_either (z ∷ xs) y x (suc j) e = get_pushed_either xs y x j e
 
+  pub get_pushed_where : (xs : List X) (y x : X) (j : ℕ) → slice_get (xs ++ y ∷ []) j ≡ Some x → (j ≡ length xs) ⊎ (slice_get xs j ≡ Some x)
+  get_pushed_where [] y x zero e = inl refl
+  get_pushed_where [] y x (suc j) e = cc
+  get_pushed_where (z ∷ xs) y x zero e = inr e
+  get_pushed_where (z ∷ xs) y x (suc j) e =
+      elim (get_pushed_where xs y x j e) as (λ _. (suc j ≡ suc (length xs)) ⊎ (slice_get xs j ≡ Some x)) [
+        | inl last ↦ inl (ap suc last)
+        | inr old ↦ inr old
+      ]
+
+  pub get_pushed_last : (xs : List X) (y : X) (j : ℕ) → j ≡ length xs → slice_get (xs ++ y ∷ []) j ≡ Some y
+  get_pushed_last [] y j e = ap (λ k. slice_get (y ∷ []) k) e
+  get_pushed_last (z ∷ xs) y zero e = absurd (omega (arith, e))
+  get_pushed_last (z ∷ xs) y (suc j) e = get_pushed_last xs y j (omega (arith, e))
+
 module _ {T : Type 0} where
   -- a slot with a node is held, and one without is vacant
   pub held_at : (xs : List (Slot T)) (i : ℕ) → IsSome (get_or (map node_of xs) i None) → (x : T) × (slice_get xs i ≡ Some (Held x))
@@ -162,4 +177,11 @@ module _ {T : Type 0} where
       elim (get_pushed_either xs (Held x) (Vacant next) slot found) as (λ _. IsAmong slot list) [
         | inl same ↦ absurd cc
         | inr old ↦ all slot next old
+      ]
+
+  pub listed_pushed_vacant : (xs : List (Slot T)) (list : List ℕ) (used : ℕ) (link : Option ℕ) → used ≡ length xs → AreListed xs list → AreListed (xs ++ Vacant link ∷ []) (used ∷ list)
+  listed_pushed_vacant xs list used link e all slot next found =
+      elim (get_pushed_where xs (Vacant link) (Vacant next) slot found) as (λ _. IsAmong slot (used ∷ list)) [
+        | inl last ↦ inl (last ∙ sym e)
+        | inr old ↦ inr (all slot next old)
       ]

@@ -30,6 +30,11 @@ abbrev pub AreDistinct : List ℕ → Type 0
 AreDistinct [] = Unit {0}
 AreDistinct (n ∷ ns) = (IsAmong n ns → ⊥) × AreDistinct ns
 
+-- each number is above those after it
+abbrev pub IsFalling : List ℕ → Type 0
+IsFalling [] = Unit {0}
+IsFalling (n ∷ ns) = ((m : ℕ) → IsAmong m ns → m < n) × IsFalling ns
+
 module _ {T : Type 0} where
   -- the node in a slot, if the slot is held
   abbrev pub node_at : Contents T → ℕ → Option T

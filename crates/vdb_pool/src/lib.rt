@@ -9,6 +9,7 @@
 #![tactic(auto)]
 
 mod chunk;
+mod copying;
 mod place;
 mod pool;
 mod refusal;
@@ -18,6 +19,7 @@ mod storage;
 #[cfg(test)]
 mod tests;
 
+pub use copying::TryCopy;
 pub use place::Place;
 pub use pool::Pool;
 pub use refusal::Memory;

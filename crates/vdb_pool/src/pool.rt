@@ -1,17 +1,18 @@
 //! The pool.
-ghost use Rattle.std.specs.Prelude.{◌≡◌, ◌+◌, ◌*◌, ◌^◌, ◌-◌, ◌<◌, ◌≤◌, ℕ, [], ◌++◌, length, get_or, min, Some, None, IsSome, MatchOption, IsOk, IsErr, OnOk};
+ghost use Rattle.std.specs.Prelude.{◌≡◌, ◌+◌, ◌*◌, ◌^◌, ◌-◌, ◌<◌, ◌≤◌, ℕ, [], ◌∷◌, ◌++◌, length, get_or, min, Some, None, IsSome, MatchOption, IsOk, IsErr, IfOk, OnOk};
 ghost use Rattle.std.specs.Borrow.{sem};
 ghost use denote.RawPtr.{null_ptr};
-ghost use Rattle.vdb_pool.specs.Contents.{node_at, count_of, spare_of, next_slot, with_inserted, without_node, Grows, IsOrderly};
+ghost use Rattle.vdb_pool.specs.Contents.{node_at, count_of, spare_of, next_slot, with_inserted, without_node, Grows, IsFalling, IsOrderly};
 ghost use Rattle.vdb_pool.specs.Chunks.{chunk_len};
 
 use crate::chunk::{CHUNK_LEN, Chunk, address_in};
+use crate::copying::TryCopy;
 use crate::place::Place;
 use crate::refusal::Memory;
 use crate::slot::Slot;
 use crate::steps::Steps;
 use crate::storage::{Address, Storage, allocate, deallocate};
-use std::alloc::Global;
+use std::alloc::{AllocError, Global};
 use std::marker::Model;
 use std::mem;
 use std_alloc::room::may_hold;
@@ -232,6 +233,76 @@ impl<T> Pool<T> {
                 node
             }
             Slot::Vacant(_) => unreachable!(),
+        }
+    }
+
+    /// How many slots were ever held.
+    fn used(&self) -> u32
+        ensures { result ≡ length self.now.nodes }
+    {
+        self.used
+    }
+
+    /// Puts a node into the lowest slot that was never held, also where other slots are vacant.
+    fn append_held(&mut self, node: T)
+        requires { length self.old.nodes < length self.old.places }
+        ensures nodes { self.new.nodes ≡ self.old.nodes ++ Some node ∷ [] }
+        ensures vacant { self.new.vacant ≡ self.old.vacant }
+        ensures places { self.new.places ≡ self.old.places }
+    {
+        let address = self.address(self.used);
+        self.storage.push(address, Slot::Held(node));
+        self.used += 1;
+        self.held += 1;
+    }
+
+    /// Makes the lowest slot that was never held a vacant one, as if a node was just taken out of it.
+    fn append_vacant(&mut self)
+        requires { length self.old.nodes < length self.old.places }
+        ensures nodes { self.new.nodes ≡ self.old.nodes ++ None ∷ [] }
+        ensures vacant { self.new.vacant ≡ length self.old.nodes ∷ self.old.vacant }
+        ensures places { self.new.places ≡ self.old.places }
+    {
+        let slot = self.used;
+        let address = self.address(slot);
+        self.storage.push(address, Slot::Vacant(self.top));
+        self.used += 1;
+        self.top = Some(slot);
+    }
+}
+
+impl<T: TryCopy> Pool<T> {
+    /// A pool with the same slots: each that was ever held here has a copy of its node there, or is vacant as it is
+    /// here. It counts no step.
+    ///
+    /// The copy uses its vacant slots from the highest number down, in whatever order they were vacated here. Places
+    /// of one pool are not places of the other: `place` gives them by number. The error comes where the allocator has
+    /// no memory, and what was copied is then dropped. Where no slot was ever held, the copy allocates nothing.
+    pub fn try_copy(&self) -> Result<Pool<T>, Memory>
+        ensures nodes { IfOk result (λ copy. copy.nodes ≡ self.now.nodes) }
+        ensures order { IfOk result (λ copy. IsFalling copy.vacant) }
+        ensures empty { self.now.nodes ≡ [] → IsOk result }
+    {
+        let used = self.used();
+        let mut copy = Pool::new(self.alloc);
+        copy.reserve(used as u64)?;
+        for slot in 0..used {
+            match self.copied_node(slot)? {
+                Some(node) => copy.append_held(node),
+                None => copy.append_vacant(),
+            }
+        }
+        Ok(copy)
+    }
+
+    /// A copy of the node in a slot, and `None` for a vacant slot.
+    fn copied_node(&self, slot: u32) -> Result<Option<T>, AllocError>
+        requires { slot < length self.now.nodes }
+        ensures { IfOk result (λ node. node ≡ node_at self.now slot) }
+    {
+        match self.storage.get(self.address(slot), slot) {
+            Slot::Held(node) => Ok(Some(node.try_copy(self.alloc)?)),
+            Slot::Vacant(_) => Ok(None),
         }
     }
 }

@@ -1,4 +1,5 @@
 //! Slots are given back and used again, places outlast growth, and each node is dropped once.
+mod copied_pool;
 mod kept_path;
 
 use crate::slot::Slot;

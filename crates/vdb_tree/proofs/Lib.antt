@@ -31,3 +31,4 @@ pub mod NextLeaf
 pub mod Seeking
 pub mod BlockTests
 pub mod RootCounts
+pub mod Voxels

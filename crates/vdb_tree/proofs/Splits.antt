@@ -1,5 +1,5 @@
 -- A tile becomes a node with its cell all over, and no cell changes.
-use Rattle.std.proofs.Common.{◌≡◌, ◌≤◌, ◌<◌, ℕ, List, refl, sym, ◌∙◌, length, inl, inr, IsTrue}
+use Rattle.std.proofs.Common.{ap, ◌≡◌, ◌≤◌, ◌<◌, ℕ, List, refl, sym, ◌∙◌, length, inl, inr, IsTrue}
 use Rattle.std.specs.Prelude.{Some, None, IsSome, slice_index_or, if◌then◌else◌}
 use Rattle.std.specs.List.{IsDistinct}
 use Rattle.std.specs.Map.{keys_of}
@@ -18,8 +18,9 @@ use Rattle.vdb_node.specs.declared.Entry.{Entry}
 use Rattle.vdb_node.specs.declared.Entry.TheVariants.{Child, Tile}
 use Rattle.vdb_pool.specs.Contents.{Contents, node_at}
 use Rattle.vdb_value.specs.declared.Cell.{Cell}
-use Rattle.vdb_tree.specs.Changes.{Keeps, Turns}
+use Rattle.vdb_tree.specs.Changes.{Keeps, KeepsLeaves, Turns}
 use Rattle.vdb_tree.specs.Layout.{Layout, cell_at, lower_entry, plain, root_at, root_entry, upper_entry}
+use Rattle.vdb_tree.specs.Paths.{is_child}
 use Rattle.vdb_tree.specs.Sound.{IsSound}
 use Rattle.vdb_tree.proofs.Descents.{lower_by_block, root_by_block, upper_by_block}
 use Rattle.vdb_tree.proofs.Levels.{Puts, bool_cases, coord_cases, like_coords, node_turns, owned_after, owned_as, owned_nodes, split_below, split_owned, unlike_coords}
@@ -75,6 +76,16 @@ module _ {V : Type 0} (bits : Bits) where
   unfolding cell_at
   cells_from old new b l same q = let e = same q in rw (e, b, l) refl
 
+  -- what lies in leaves does so where the entries of lower nodes stay
+  leaves_from : (old new : Layout V) → ((q : Coord) → lower_entry bits new q ≡ lower_entry bits old q) → KeepsLeaves bits old new
+  leaves_from old new same = record { inside = λ q h. ap is_child (same q) ∙ h }
+
+  pub leaves_themselves : (t : Layout V) → KeepsLeaves bits t t
+  leaves_themselves t = record { inside = λ q h. h }
+
+  pub leaves_twice : (s t n : Layout V) → KeepsLeaves bits s t → KeepsLeaves bits t n → KeepsLeaves bits s n
+  leaves_twice s t n a b = record { inside = λ q h. b.inside q (a.inside q h) }
+
   -- the root's tile becomes an upper node
   module _ (t : Layout V) (sound : IsSound bits t) (p : Coord) (s : ℕ) (c : Cell V) (k : List (Entry V)) (root : List (Coord × Entry V)) (uppers : Contents (List (Entry V)))
       (tiled : root_entry bits t p ≡ Tile c)
@@ -96,6 +107,9 @@ module _ {V : Type 0} (bits : Bits) where
 
     pub with_upper_keeps : Keeps bits t with_upper
     with_upper_keeps = record { head = record { background = refl; limit = refl }; cells = cells_from t with_upper refl refl lower_stays }
+
+    pub with_upper_leaves : KeepsLeaves bits t with_upper
+    with_upper_leaves = leaves_from t with_upper lower_stays
 
     pub with_upper_sound : IsSome (root_at t.root (key bits p)) → length root ≡ length t.root → IsDistinct coord_eq (keys_of root) → IsSound bits with_upper
     with_upper_sound entered size apart = record {
@@ -131,6 +145,9 @@ module _ {V : Type 0} (bits : Bits) where
     pub with_lower_keeps : Keeps bits t with_lower
     with_lower_keeps = record { head = record { background = refl; limit = refl }; cells = cells_from t with_lower refl refl lowers_stay }
 
+    pub with_lower_leaves : KeepsLeaves bits t with_lower
+    with_lower_leaves = leaves_from t with_lower lowers_stay
+
     pub with_lower_sound : IsSound bits with_lower
     with_lower_sound = record {
       limit = sound.limit;
@@ -165,6 +182,15 @@ module _ {V : Type 0} (bits : Bits) where
 
     pub with_leaf_keeps : Keeps bits t with_leaf
     with_leaf_keeps = record { head = record { background = refl; limit = refl }; cells = cells_stay }
+
+    pub with_leaf_leaves : KeepsLeaves bits t with_leaf
+    with_leaf_leaves = record {
+      inside = λ q h.
+          elim (coord_cases (block_number bits Leaf q) (block_number bits Leaf p)) [
+            | inl e ↦ ap is_child (leaf_turns.here q e)
+            | inr d ↦ ap is_child (leaf_turns.there q d) ∙ h
+          ];
+    }
 
     pub with_leaf_sound : IsSound bits with_leaf
     with_leaf_sound = record {
@@ -205,6 +231,9 @@ module _ {V : Type 0} (bits : Bits) where
     pub with_entry_keeps : Keeps bits t with_entry
     with_entry_keeps = record { head = record { background = refl; limit = refl }; cells = cells_from t with_entry refl refl lower_too }
 
+    pub with_entry_leaves : KeepsLeaves bits t with_entry
+    with_entry_leaves = leaves_from t with_entry lower_too
+
     pub with_entry_sound : IsTrue (is_inside (block_numbers bits Upper) (key bits p)) → length root ≤ t.limit → IsDistinct coord_eq (keys_of root) → IsSound bits with_entry
     with_entry_sound inside room apart = record {
       limit = room;
@@ -235,6 +264,9 @@ module _ {V : Type 0} (bits : Bits) where
 
     pub room_keeps : Keeps bits t n
     room_keeps = record { head = record { background = b; limit = m }; cells = same_cells }
+
+    pub room_leaves : KeepsLeaves bits t n
+    room_leaves = leaves_from t n same_lowers
 
     pub room_sound : IsSound bits t → IsSound bits n
     room_sound sound = record {

@@ -1,8 +1,8 @@
 -- Leaves as the tools see them: the cells of a leaf block, its states as words, and the leaves in block order.
-use Rattle.std.specs.Prelude.{◌≡◌, ◌≢◌, ℕ, Bool, false, if◌then◌else◌, List, Option, Some, None, IsTrue}
+use Rattle.std.specs.Prelude.{◌≡◌, ◌≢◌, ℕ, Bool, true, false, if◌then◌else◌, List, Option, Some, None, IsTrue}
 use Rattle.std.specs.Ordering.{is_lt}
 use Rattle.vdb_coord.specs.Blocks.{block_cmp, block_number, is_past, offset}
-use Rattle.vdb_coord.specs.Space.{coord_eq, everywhere, is_inside}
+use Rattle.vdb_coord.specs.Space.{Box, coord_eq, everywhere, is_inside}
 use Rattle.vdb_coord.specs.declared.Bits.{Bits}
 use Rattle.vdb_coord.specs.declared.Coord.{Coord}
 use Rattle.vdb_coord.specs.declared.Level.TheVariants.{Leaf}
@@ -12,7 +12,7 @@ use Rattle.vdb_node.specs.declared.Entry.TheVariants.{Child}
 use Rattle.vdb_pool.specs.Contents.{node_at, with_node}
 use Rattle.vdb_value.specs.declared.Cell.{Cell}
 use Rattle.vdb_tree.specs.Field.{Field, field, off}
-use Rattle.vdb_tree.specs.Layout.{Layout, lower_entry}
+use Rattle.vdb_tree.specs.Layout.{Layout, field_of, lower_entry}
 use Rattle.vdb_tree.specs.Paths.{in_leaf}
 
 module _ {V : Type 0} (bits : Bits) where
@@ -49,3 +49,7 @@ module _ {V : Type 0} (bits : Bits) where
   abbrev pub IsNextLeaf : Layout V → Option Coord → Option Coord → Type 0
   IsNextLeaf t after (Some p) = IsLeafPast t after p × ((q : Coord) → IsLeafPast t after q → is_lt (block_cmp bits q p) ≡ false)
   IsNextLeaf t after None = (q : Coord) → IsLeafPast t after q → ⊥
+
+  -- each active voxel of the box lies in a leaf
+  abbrev pub HasLeaves : Layout V → Box → Type 0
+  HasLeaves t box = (p : Coord) → IsTrue (is_inside box p) → ((field_of bits t).cell p).on ≡ true → IsTrue (in_leaf bits t p)

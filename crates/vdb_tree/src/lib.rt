@@ -25,6 +25,7 @@ mod tests;
 mod tiles;
 mod trace;
 mod tree;
+mod voxelise;
 mod writing;
 
 pub use counts::NodeCounts;

@@ -47,7 +47,7 @@ invariant_of-self-in-None g c =
     let none = none_of n p.top xs ok.stack c.in-None.is in
     let spare = subst (λ v. 0 < spare_of v) (sym c.self.view_is) c.requires in
     let free : p.used < p.total = omega (arith, length-linked n p.top xs ok.stack, none, ok.used_is, ok.total_is, length-map xs node_of) in
-    let done = extended p.chunks.items p.storage.places xs p.used p.total p.held p.top ok c.args.node c.in-None.is free in
+    let done = extended p.chunks.items p.storage.places xs p.used p.total p.held p.top ok c.args.node free in
     rw (c.push.ensures.0, c.push.ensures.1) done.0
 
 pub returns-in-None-clause-slot : goal.returns-in-None-clause-slot
@@ -62,10 +62,11 @@ returns-in-None-clause-after g c =
     let none = none_of n p.top xs ok.stack c.in-None.is in
     let spare = subst (λ v. 0 < spare_of v) (sym c.self.view_is) c.requires in
     let free : p.used < p.total = omega (arith, length-linked n p.top xs ok.stack, none, ok.used_is, ok.total_is, length-map xs node_of) in
-    let done = extended p.chunks.items p.storage.places xs p.used p.total p.held p.top ok c.args.node c.in-None.is free in
+    let done = extended p.chunks.items p.storage.places xs p.used p.total p.held p.top ok c.args.node free in
+    let empty : linked n p.top xs ≡ [] = ap (λ k. linked k p.top xs) none in
     let same : map node_of (xs ++ Held c.args.node ∷ []) ≡ map node_of xs ++ Some c.args.node ∷ [] = map_push node_of xs (Held c.args.node) in
     rw (c.push.ensures.0, c.push.ensures.1)
-    ((λ i. record { nodes = same i; vacant = done.2 i; places = p.storage.places }) ∙ sym (extends (map node_of xs) (linked n p.top xs) p.storage.places c.args.node done.1) ∙ ap (λ v. with_inserted v c.args.node) c.self.view_is)
+    ((λ i. record { nodes = same i; vacant = (done.1 ∙ empty) i; places = p.storage.places }) ∙ sym (extends (map node_of xs) (linked n p.top xs) p.storage.places c.args.node empty) ∙ ap (λ v. with_inserted v c.args.node) c.self.view_is)
 
 pub returns-in-Vacant-clause-others_live : goal.returns-in-Vacant-clause-others_live
 returns-in-Vacant-clause-others_live g c = subst (λ v. KeepsLive c.args.self.now v) (sym (returns-in-Vacant-clause-after g c)) (live_inserted c.args.self.now c.args.node)
