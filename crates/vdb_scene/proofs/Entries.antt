@@ -3,7 +3,7 @@ use Rattle.std.proofs.Common.{◌≡◌, refl, sym, ap, Bool, true, false, cond,
 use Rattle.std.specs.Option.{option_map}
 use Rattle.std.specs.declared.cmp.Ordering.{Ordering}
 use Rattle.std.specs.declared.cmp.Ordering.TheVariants.{Less, Equal, Greater}
-use Rattle.std.specs.Map.{lookup, set_value}
+use Rattle.std.specs.Map.{lookup, remove_entry, set_value}
 use Rattle.std.specs.BTreeMap.{insert_entry}
 use Rattle.std.specs.Ordering.{match_ordering}
 
@@ -43,6 +43,15 @@ module _ {K X Y : Type 0} (make : X → Y) where
   pub keys-over : (entries : List (K × X)) → map (λ e. e.0) (over entries) ≡ map (λ e. e.0) entries
   keys-over [] = refl
   keys-over (e ∷ es) = ap (λ ks. e.0 ∷ ks) (keys-over es)
+
+module _ {K X Y : Type 0} (make : X → Y) where
+  left : (b : Bool) (k : K) (x : X) (es fs : List (K × X)) (gs : List (K × Y)) → gs ≡ over make fs → cond b (over make es) ((k, make x) ∷ gs) ≡ over make (cond b es ((k, x) ∷ fs))
+  left true k x es fs gs h = refl
+  left false k x es fs gs h = ap (λ l. (k, make x) ∷ l) h
+
+  pub remove_entry-over : (t : K → Bool) (entries : List (K × X)) → remove_entry t (over make entries) ≡ over make (remove_entry t entries)
+  remove_entry-over t [] = refl
+  remove_entry-over t (e ∷ es) = left (t e.0) e.0 e.1 es (remove_entry t es) (remove_entry t (over make es)) (remove_entry-over t es)
 
 some_exact : {X : Type 0} (x y : X) → Some x ≡ Some y → x ≡ y
 some_exact x y h = cc

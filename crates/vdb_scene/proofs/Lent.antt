@@ -1,5 +1,5 @@
 -- The scene after the grid of a name was lent and given back.
-use Rattle.std.proofs.Common.{◌≡◌, sym, ap, ◌∙◌, ℕ, List, Some, None}
+use Rattle.std.proofs.Common.{◌≡◌, refl, sym, ap, ◌∙◌, ℕ, List, Option, Some, None, is_none}
 use Rattle.std.specs.Map.{lookup, set_value}
 use Rattle.std.specs.Option.{option_map}
 use Rattle.vdb_tree.specs.Field.{Field}
@@ -15,10 +15,18 @@ use Rattle.vdb_scene.proofs.Steps.{grid_found}
 one_grid : (given : AnyGrid) (f : Field Scalar) (limit : ℕ) → grid_field given ≡ f → grid_limit given ≡ limit → grid_of given ≡ record { field = f; limit = limit }
 one_grid given f limit field is = λ i. record { field = field i; limit = is i }
 
+none_map : {X Y : Type 0} (f : X → Y) (o : Option X) → is_none (option_map f o) ≡ is_none o
+none_map f None = refl
+none_map f (Some x) = refl
+
 module _ (grids : List (List ℕ × AnyGrid)) (name : List ℕ) where
   -- a name that no grid has
   pub missing : lookup (is_named name) grids ≡ None → grid_at (scene_over grids) name ≡ None
   missing none = lookup-over grid_of (is_named name) grids ∙ ap (option_map grid_of) none
+
+  -- whether a grid has a name
+  pub absent_is : is_none (grid_at (scene_over grids) name) ≡ is_none (lookup (is_named name) grids)
+  absent_is = ap is_none (lookup-over grid_of (is_named name) grids) ∙ none_map grid_of (lookup (is_named name) grids)
 
   -- a name that a grid has
   pub found : (grid : AnyGrid) → lookup (is_named name) grids ≡ Some grid → grid_at (scene_over grids) name ≡ Some (grid_of grid)

@@ -65,6 +65,17 @@ value_first true false true rest r h = (h, λ e. range_memory (some_exact _ _ h 
 value_first true false false rest r h = (h, λ e. range_memory (some_exact _ _ h ∙ e))
 value_first true true place rest r h = absurd (none_some r h)
 
+box_memory : refusals.Box ≡ refusals.Memory → ⊥
+box_memory h = cc
+
+-- a box that is refused by itself is refused before anything behind it
+pub corners_first : (placed ordered : Bool) (rest : List (Option Refusal)) (r : Refusal)
+    → first_of_all (cond (not placed) (Some refusals.ValueRange) None ∷ cond (not ordered) (Some refusals.Box) None ∷ []) ≡ Some r
+    → (first_of_all (cond (not placed) (Some refusals.ValueRange) None ∷ cond (not ordered) (Some refusals.Box) None ∷ rest) ≡ Some r) × (r ≡ refusals.Memory → ⊥)
+corners_first false ordered rest r h = (h, λ e. range_memory (some_exact _ _ h ∙ e))
+corners_first true false rest r h = (h, λ e. box_memory (some_exact _ _ h ∙ e))
+corners_first true true rest r h = absurd (none_some r h)
+
 -- a value that isn't there where a test fails
 pub test_fails : {A : Type 0} (b : Bool) (x : A) → cond b (Some x) None ≡ None → b ≡ false
 test_fails true x h = absurd (some_none x h)

@@ -1,8 +1,13 @@
 -- The field of a grid of any kind, and the abstract scene that a scene is.
 use Rattle.std.specs.Prelude.{ℕ, List, map}
+use Rattle.std.proofs.Math.Bool.{beq}
+use Rattle.std.specs.Ordering.{int_eq}
 use Rattle.vdb_coord.specs.Blocks.{vdb}
+use Rattle.vdb_coord.specs.Space.{Box}
 use Rattle.vdb_tree.specs.Field.{Field, as_field_of}
 use Rattle.vdb_tree.specs.Layout.{field_of}
+use Rattle.vdb_tree.specs.Leaves.{HasLeaves}
+use Rattle.vdb_tree.specs.Smallest.{IsLeast}
 use Rattle.vdb_scene.specs.Scene as abstract_scene
 use Rattle.vdb_scene.specs.declared.scalar.Scalar.{Scalar}
 use Rattle.vdb_scene.specs.declared.scalar.Scalar.TheVariants as scalars
@@ -21,6 +26,18 @@ abbrev pub grid_limit : AnyGrid → ℕ
 grid_limit (Bool t) = t.limit
 grid_limit (I32 t) = t.limit
 grid_limit (I64 t) = t.limit
+
+-- its tree has no entry and no node that its field doesn't make it have
+abbrev pub IsPruned : AnyGrid → Type 0
+IsPruned (Bool t) = IsLeast beq vdb t
+IsPruned (I32 t) = IsLeast int_eq vdb t
+IsPruned (I64 t) = IsLeast int_eq vdb t
+
+-- each active voxel of the box lies in a leaf of its tree
+abbrev pub IsVoxelised : AnyGrid → Box → Type 0
+IsVoxelised (Bool t) box = HasLeaves vdb t box
+IsVoxelised (I32 t) box = HasLeaves vdb t box
+IsVoxelised (I64 t) box = HasLeaves vdb t box
 
 -- what a grid is in the abstract scene
 abbrev pub grid_of : AnyGrid → abstract_scene.Grid

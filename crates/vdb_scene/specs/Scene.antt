@@ -2,7 +2,7 @@
 use Rattle.std.specs.Prelude.{ℕ, Bool, false, List, Option, unwrap_or}
 use Rattle.std.specs.Ordering.{nat_cmp}
 use Rattle.std.specs.Cmp.Lexicographic.{slice_cmp}
-use Rattle.std.specs.Map.{lookup, set_value}
+use Rattle.std.specs.Map.{lookup, remove_entry, set_value}
 use Rattle.std.specs.BTreeMap.{insert_entry, is_at}
 use Rattle.vdb_value.specs.declared.Kind.{Kind}
 use Rattle.vdb_tree.specs.Field.{Field, new}
@@ -55,3 +55,7 @@ with_grid s name g = insert_entry (slice_cmp nat_cmp) s name g
 -- the scene with another grid under a name that is there
 abbrev pub with_changed : Scene → List ℕ → Grid → Scene
 with_changed s name g = set_value (is_named name) s g
+
+-- the scene without the grid of a name
+abbrev pub without_grid : Scene → List ℕ → Scene
+without_grid s name = remove_entry (is_named name) s

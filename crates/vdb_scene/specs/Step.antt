@@ -1,7 +1,7 @@
 -- What a command makes of a scene: when it is refused, what it answers, and the scene after it.
 use Rattle.std.specs.Prelude.{◌≡◌, ◌⊎◌, ℕ, ℤ, pos, Bool, true, false, not, ◌&&◌, if◌then◌else◌, List, [], ◌∷◌, length, Option, Some, None, is_some, is_none, IsTrue, nat_le, nat_lt, Result, Ok, Err}
 use Rattle.vdb_coord.specs.Blocks.{block_around, vdb}
-use Rattle.vdb_coord.specs.Space.{coord, everywhere, is_between}
+use Rattle.vdb_coord.specs.Space.{Box, coord, everywhere, is_between, is_box, volume}
 use Rattle.vdb_coord.specs.declared.Level.TheVariants.{Leaf}
 use Rattle.vdb_coord.specs.declared.Coord.{Coord}
 use Rattle.vdb_value.specs.declared.Cell.{Cell}
@@ -13,9 +13,10 @@ use Rattle.vdb_tree.specs.declared.refusal.TreeRefusal.TheVariants.{Memory, Root
 use Rattle.vdb_tree.specs.Field.{Field, as_write_of, write, written}
 use Rattle.vdb_tree.specs.Plain.{cell_eq, is_constant, roots}
 use Rattle.vdb_scene.specs.Scalars.{has_form, has_value, is_near, number, scalar, scalar_eq}
-use Rattle.vdb_scene.specs.Scene.{Grid, Scene, field_at, grid_at, kind_at, limit_at, new_grid, the_grid, with_changed, with_grid}
+use Rattle.vdb_scene.specs.Scene.{Grid, Scene, field_at, grid_at, kind_at, limit_at, new_grid, the_grid, with_changed, with_grid, without_grid}
 use Rattle.vdb_scene.specs.declared.command.Command.{Command}
 use Rattle.vdb_scene.specs.declared.command.Command.TheVariants as commands
+use Rattle.vdb_scene.specs.declared.command.Corners.{Corners}
 use Rattle.vdb_scene.specs.declared.command.Literal.{Literal}
 use Rattle.vdb_scene.specs.declared.command.Num.{Num}
 use Rattle.vdb_scene.specs.declared.command.Point.{Point}
@@ -40,6 +41,14 @@ is_component n = is_from everywhere.min.x everywhere.max.x n
 -- whether a line names a coordinate
 abbrev pub is_place : Point → Bool
 is_place p = is_component p.x && is_component p.y && is_component p.z
+
+-- the box between two corners of a line
+abbrev pub box_between : Corners → Box
+box_between c = record { min = place c.min; max = place c.max }
+
+-- whether both corners are coordinates
+abbrev pub are_places : Corners → Bool
+are_places c = is_place c.min && is_place c.max
 
 -- whether a line names an accessor, 0 to 7, or none
 abbrev pub is_accessor : Option Num → Bool
@@ -79,12 +88,14 @@ after_write s name p w = changed s name (write (place p) (write_at s name w))
 -- the scene after each command
 abbrev pub after : Scene → Command → Scene
 after s (commands.Grid name kind background) = with_grid s name (new_grid (scalar kind background))
+after s (commands.Drop name) = without_grid s name
 after s (commands.Get name k p) = s
 after s (commands.Set name k p v) = after_write s name p (writes.On v)
 after s (commands.Unset name k p v) = after_write s name p (writes.Off v)
 after s (commands.Only name k p v) = after_write s name p (writes.Value v)
 after s (commands.State name k p on) = after_write s name p (writes.State on)
 after s (commands.Prune name) = s
+after s (commands.Voxelise name c) = s
 
 -- ---- when a command is refused
 
@@ -126,6 +137,14 @@ out_of_range fits = refused_if (not fits) refusals.ValueRange
 abbrev pub no_accessor : Option Num → Option Refusal
 no_accessor k = refused_if (not (is_accessor k)) refusals.NoAccessor
 
+-- a minimum is greater than its maximum
+abbrev pub no_box : Corners → Option Refusal
+no_box c = refused_if (not (is_box (box_between c))) refusals.Box
+
+-- a box has more voxels than so many
+abbrev pub too_large : ℕ → Box → Option Refusal
+too_large most box = refused_if (nat_lt most (volume box)) refusals.TooLarge
+
 -- what a write of a voxel may be refused for
 abbrev pub tried_write : Scene → List ℕ → Option Num → Point → Write Literal → List (Option Refusal)
 tried_write s name k p w =
@@ -135,12 +154,14 @@ tried_write s name k p w =
 -- what each command may be refused for, in the one order of all refusals
 abbrev pub tried : Scene → Command → List (Option Refusal)
 tried s (commands.Grid name kind v) = name_taken s name ∷ grid_limit s ∷ other_form (has_form kind v) ∷ out_of_range (has_value kind v) ∷ []
+tried s (commands.Drop name) = no_grid s name ∷ []
 tried s (commands.Get name k p) = no_grid s name ∷ out_of_range (is_place p) ∷ no_accessor k ∷ []
 tried s (commands.Set name k p v) = tried_write s name k p (writes.On v)
 tried s (commands.Unset name k p v) = tried_write s name k p (writes.Off v)
 tried s (commands.Only name k p v) = tried_write s name k p (writes.Value v)
 tried s (commands.State name k p on) = tried_write s name k p (writes.State on)
 tried s (commands.Prune name) = no_grid s name ∷ []
+tried s (commands.Voxelise name c) = no_grid s name ∷ out_of_range (are_places c) ∷ no_box c ∷ too_large 2097152 (box_between c) ∷ []
 
 -- the first refusal of a list, if there is one
 abbrev pub first_of_all : List (Option Refusal) → Option Refusal
@@ -163,12 +184,14 @@ pub data Reply : Type 0 where
 -- the answer to a command that isn't refused
 abbrev pub Answers : Scene → Command → Reply → Type 0
 Answers s (commands.Grid name kind v) reply = reply ≡ Done
+Answers s (commands.Drop name) reply = reply ≡ Done
 Answers s (commands.Get name k p) reply = reply ≡ Value ((field_at s name).cell (place p))
 Answers s (commands.Set name k p v) reply = reply ≡ Done
 Answers s (commands.Unset name k p v) reply = reply ≡ Done
 Answers s (commands.Only name k p v) reply = reply ≡ Done
 Answers s (commands.State name k p on) reply = reply ≡ Done
 Answers s (commands.Prune name) reply = reply ≡ Done
+Answers s (commands.Voxelise name c) reply = reply ≡ Done
 
 -- ---- want of memory
 
@@ -180,15 +203,17 @@ write_takes_memory f p w = not (cell_eq scalar_eq (written w (f.cell p)) (f.cell
 abbrev pub line_takes_memory : Scene → List ℕ → Point → Write Literal → Bool
 line_takes_memory s name p w = write_takes_memory (field_at s name) (place p) (write_at s name w)
 
--- whether a command may take memory: to make a grid, and for such a write
+-- whether a command may take memory: to make a grid, for such a write, and for leaves in place of tiles
 abbrev pub takes_memory : Scene → Command → Bool
 takes_memory s (commands.Grid name kind v) = true
+takes_memory s (commands.Drop name) = false
 takes_memory s (commands.Get name k p) = false
 takes_memory s (commands.Set name k p v) = line_takes_memory s name p (writes.On v)
 takes_memory s (commands.Unset name k p v) = line_takes_memory s name p (writes.Off v)
 takes_memory s (commands.Only name k p v) = line_takes_memory s name p (writes.Value v)
 takes_memory s (commands.State name k p on) = line_takes_memory s name p (writes.State on)
 takes_memory s (commands.Prune name) = false
+takes_memory s (commands.Voxelise name c) = true
 
 -- ---- one step
 

@@ -1,15 +1,16 @@
 //! A grid of any kind.
-ghost use Rattle.std.specs.Prelude.{◌≡◌, false, IsOk, IsTrue};
+ghost use Rattle.std.specs.Prelude.{◌≡◌, false, IfErr, IsOk, IsTrue, OnOk};
 ghost use Rattle.vdb_coord.specs.Blocks.{vdb};
 ghost use Rattle.vdb_tree.specs.Field.{new, write};
 ghost use Rattle.vdb_tree.specs.Outcome.{IsOutcome};
+ghost use Rattle.vdb_tree.specs.declared.refusal.TreeRefusal.TheVariants.{Memory};
 ghost use Rattle.vdb_scene.specs.Scalars.{is_of, kind_of, scalar_eq};
-ghost use Rattle.vdb_scene.specs.Grids.{grid_field, grid_limit};
+ghost use Rattle.vdb_scene.specs.Grids.{IsPruned, IsVoxelised, grid_field, grid_limit};
 ghost use Rattle.vdb_scene.specs.Step.{passes, write_takes_memory};
 
 use crate::{Scalar, grid_tree};
 use std::alloc::Global;
-use vdb_coord::Coord;
+use vdb_coord::{Bounds, Coord};
 use vdb_pool::Steps;
 use vdb_tree::{Tree, TreeRefusal, Write};
 use vdb_value::{Cell, Kind};
@@ -83,11 +84,26 @@ impl AnyGrid {
     pub fn prune(&mut self, steps: &mut Steps)
         ensures field { grid_field self.new ≡ grid_field self.old }
         ensures limit { grid_limit self.new ≡ grid_limit self.old }
+        ensures least { IsPruned self.new }
     {
         match self {
             AnyGrid::Bool(tree) => tree.prune(steps),
             AnyGrid::I32(tree) => tree.prune(steps),
             AnyGrid::I64(tree) => tree.prune(steps),
+        }
+    }
+
+    /// Makes each active voxel of a box lie in a leaf. No cell changes. `Memory` says that a growth was refused.
+    pub fn voxelise(&mut self, bounds: Bounds, steps: &mut Steps) -> Result<(), TreeRefusal>
+        ensures field { grid_field self.new ≡ grid_field self.old }
+        ensures limit { grid_limit self.new ≡ grid_limit self.old }
+        ensures leaves { OnOk result (IsVoxelised self.new bounds) }
+        ensures memory { IfErr result (λ refusal. refusal ≡ Memory) }
+    {
+        match self {
+            AnyGrid::Bool(tree) => tree.voxelise(bounds, steps),
+            AnyGrid::I32(tree) => tree.voxelise(bounds, steps),
+            AnyGrid::I64(tree) => tree.voxelise(bounds, steps),
         }
     }
 }

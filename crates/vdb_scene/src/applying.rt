@@ -1,19 +1,24 @@
 //! The step of a scene by a command.
 ghost use Rattle.std.specs.Prelude.{◌≡◌, IfOk, IfErr, Some, None, ◌∷◌, [], true, if◌then◌else◌};
+ghost use Rattle.vdb_coord.specs.Space.{is_box};
 ghost use Rattle.vdb_scene.specs.Doing.{AppliesTo, CarriesOut};
 ghost use Rattle.vdb_scene.specs.Grids.{scene_of};
 ghost use Rattle.vdb_scene.specs.Scalars.{has_form, has_value, number, scalar};
-ghost use Rattle.vdb_scene.specs.Step.{first_of_all, is_accessor, is_component, is_place, other_form, out_of_range, passes, place, write_command};
+ghost use Rattle.vdb_scene.specs.Step.{are_places, box_between, first_of_all, is_accessor, is_component, is_place, no_box, other_form, out_of_range, passes, place, write_command};
 ghost use Rattle.vdb_tree.specs.Field.{as_write_of};
 ghost use Rattle.vdb_scene.specs.declared.command.Command.TheVariants as commands;
 
 use crate::{
-    Answer, AnyGrid, Command, Literal, Name, Num, Point, ROOT_LIMIT, Refusal, Scalar, Scene,
+    Answer, AnyGrid, Command, Corners, Literal, Name, Num, Point, ROOT_LIMIT, Refusal, Scalar,
+    Scene,
 };
-use vdb_coord::Coord;
+use vdb_coord::{Bounds, Coord};
 use vdb_pool::Steps;
 use vdb_tree::Write;
 use vdb_value::Kind;
+
+/// The most voxels of a box that is voxelised at once.
+const VOXELISE_LIMIT: u128 = 2_097_152;
 
 /// The 32-bit number that a line writes, if it is one.
 fn component_of(component: Num) -> Option<i32>
@@ -61,6 +66,26 @@ fn scalar_of(kind: Kind, literal: Literal) -> Result<Scalar, Refusal>
     }
 }
 
+/// The box that a line names. `ValueRange` refuses a corner that is no coordinate, and then `Box` a minimum that is greater
+/// than its maximum.
+fn bounds_of(corners: &Corners) -> Result<Bounds, Refusal>
+    ensures places { IfOk result (λ bounds. are_places corners.now ≡ true) }
+    ensures ordered { IfOk result (λ bounds. is_box (box_between corners.now) ≡ true) }
+    ensures bounds { IfOk result (λ bounds. bounds ≡ box_between corners.now) }
+    ensures refusal { IfErr result (λ refusal. first_of_all (out_of_range (are_places corners.now) ∷ no_box corners.now ∷ []) ≡ Some refusal) }
+{
+    let Some(min) = place_of(&corners.min) else {
+        return Err(Refusal::ValueRange);
+    };
+    let Some(max) = place_of(&corners.max) else {
+        return Err(Refusal::ValueRange);
+    };
+    let Some(bounds) = Bounds::new(min, max) else {
+        return Err(Refusal::Box);
+    };
+    Ok(bounds)
+}
+
 /// Whether a line names no accessor, or one of 0 to 7.
 fn names_accessor(accessor: Option<Num>) -> bool
     ensures { result ≡ is_accessor accessor }
@@ -101,6 +126,16 @@ impl Scene {
         }
         let background = scalar_of(kind, background)?;
         self.put(name, AnyGrid::new(self.alloc, background, ROOT_LIMIT))?;
+        Ok(Answer::Done)
+    }
+
+    /// Carries out a command that takes a grid away.
+    fn take(&mut self, name: &Name) -> Result<Answer, Refusal>
+        ensures { CarriesOut (scene_of self.old) (commands.Drop name.now) result (scene_of self.new) }
+    {
+        if self.grids.remove(name).is_none() {
+            return Err(Refusal::NoGrid);
+        }
         Ok(Answer::Done)
     }
 
@@ -163,6 +198,26 @@ impl Scene {
         Ok(Answer::Done)
     }
 
+    /// Carries out a command that makes leaves in a box.
+    fn voxelise(
+        &mut self,
+        name: &Name,
+        corners: &Corners,
+        steps: &mut Steps,
+    ) -> Result<Answer, Refusal>
+        ensures { CarriesOut (scene_of self.old) (commands.Voxelise name.now corners.now) result (scene_of self.new) }
+    {
+        let Some(grid) = self.grids.get_mut(name) else {
+            return Err(Refusal::NoGrid);
+        };
+        let bounds = bounds_of(corners)?;
+        if bounds.volume() > VOXELISE_LIMIT {
+            return Err(Refusal::TooLarge);
+        }
+        grid.voxelise(bounds, steps)?;
+        Ok(Answer::Done)
+    }
+
     /// Carries out a command and answers it. Refusals are tried in their one order, the first that applies is answered,
     /// and then the scene is as it was; so it is where the answer is want of memory, which comes in place of nothing else.
     pub fn apply(&mut self, command: &Command, steps: &mut Steps) -> Answer
@@ -184,6 +239,7 @@ impl Scene {
                 kind,
                 background,
             } => self.make(*name, *kind, *background),
+            Command::Drop { name } => self.take(name),
             Command::Get { name, accessor, at } => self.look_up(name, *accessor, at, steps),
             Command::Set {
                 name,
@@ -210,6 +266,7 @@ impl Scene {
                 on,
             } => self.write(name, *accessor, at, Write::State(*on), steps),
             Command::Prune { name } => self.prune(name, steps),
+            Command::Voxelise { name, corners } => self.voxelise(name, corners, steps),
         }
     }
 }

@@ -27,6 +27,13 @@ pub struct Point {
     pub z: Num,
 }
 
+/// The two corners of a box of a line: the minimum, then the maximum.
+#[derive(Clone, Copy, Debug, PartialEq, Eq)]
+pub struct Corners {
+    pub min: Point,
+    pub max: Point,
+}
+
 /// What a line asks for.
 #[derive(Clone, Copy, PartialEq, Eq)]
 pub enum Command {
@@ -35,6 +42,10 @@ pub enum Command {
         name: Name,
         kind: Kind,
         background: Literal,
+    },
+    /// Takes a grid away.
+    Drop {
+        name: Name,
     },
     /// Answers the cell of a voxel.
     Get {
@@ -73,5 +84,10 @@ pub enum Command {
     /// Makes the tree of a grid as small as its cells allow. No cell changes.
     Prune {
         name: Name,
+    },
+    /// Makes each active voxel of a box lie in a leaf of the grid's tree. No cell changes.
+    Voxelise {
+        name: Name,
+        corners: Corners,
     },
 }

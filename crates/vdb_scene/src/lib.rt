@@ -13,7 +13,7 @@ mod watched;
 
 pub use answer::{Answer, Refusal};
 pub use any_grid::AnyGrid;
-pub use command::{Command, Literal, Num, Point};
+pub use command::{Command, Corners, Literal, Num, Point};
 pub use name::{NAME_LIMIT, Name};
 pub use scalar::Scalar;
 pub use scene::{GRID_LIMIT, ROOT_LIMIT, Scene};

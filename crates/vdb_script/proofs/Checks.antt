@@ -122,6 +122,19 @@ state_by_number = refl
 prune_read : parse (codes "prune a") ≡ Ok (Some (commands.Prune (codes "a")))
 prune_read = refl
 
+drop_read : parse (codes "drop a") ≡ Ok (Some (commands.Drop (codes "a")))
+drop_read = refl
+
+voxelise_read : parse (codes "voxelise a 0 1 2 3 4 5")
+    ≡ Ok (Some (commands.Voxelise (codes "a") (record {
+      min = record { x = Near (pos 0); y = Near (pos 1); z = Near (pos 2) };
+      max = record { x = Near (pos 3); y = Near (pos 4); z = Near (pos 5) };
+    })))
+voxelise_read = refl
+
+voxelise_with_a_number_too_few : parse (codes "voxelise a 0 1 2 3 4") ≡ Err refusals.Syntax
+voxelise_with_a_number_too_few = refl
+
 other_word : parse (codes "pruned a") ≡ Err refusals.Syntax
 other_word = refl
 

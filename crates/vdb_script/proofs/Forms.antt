@@ -1,5 +1,5 @@
 -- Each form takes a number of tokens that is fixed.
-use Rattle.std.proofs.Common.{◌≡◌, ◌≢◌, ℕ, ◌+◌, ◌<◌, ◌≤◌, Bool, true, false, cond, List, [], ◌∷◌, Option, Some, None, Ok, Err, length, refl, ap, sym, ◌∙◌, arith, bytes_eq}
+use Rattle.std.proofs.Common.{◌≡◌, ◌≢◌, ℕ, ◌+◌, ◌<◌, ◌≤◌, Bool, true, false, cond, List, [], ◌∷◌, Option, Some, None, Ok, Err, length, refl, ap, sym, ◌∙◌, arith, bytes_eq, get_or, ◌⊎◌, inl, inr}
 use Rattle.std.specs.Prelude.{option_map, option_and_then, if◌then◌else◌}
 use Rattle.std.specs.List.{AllByRecursion}
 use Rattle.std.proofs.lemmas.Option.{option_and_then_some}
@@ -10,7 +10,7 @@ use Rattle.vdb_scene.specs.declared.command.Num.{Num}
 use Rattle.vdb_scene.specs.declared.command.Point.{Point}
 use Rattle.vdb_scene.specs.declared.answer.Refusal.TheVariants as refusals
 use Rattle.vdb_script.specs.Lines.{tokens}
-use Rattle.vdb_script.specs.Grammar.{Form, ◌>>=◌, give, one, point, grid, get, voxel_value, state, prune, whole, command_forms, command_of, word_of, is_comment, meaning, parse, name_of, kind_of, state_of, literal_of, accessor_of, number_of}
+use Rattle.vdb_script.specs.Grammar.{Form, ◌>>=◌, give, one, point, corners, grid, drop, get, voxel_value, state, prune, voxelise, whole, command_forms, command_of, word_of, is_comment, meaning, parse, name_of, kind_of, state_of, literal_of, accessor_of, number_of}
 
 -- where a form is there, it takes so many tokens
 pub record Takes {A : Type 0} (n : ℕ) (form : Form A) : Type 0 where
@@ -50,6 +50,38 @@ give_takes a = record { count = λ tokens b after e. omega (arith, ap length (ap
 point_takes : Takes 3 point
 point_takes = then_takes 1 2 _ _ (one_takes number_of) (λ x. then_takes 1 1 _ _ (one_takes number_of) (λ y. then_takes 1 0 _ _ (one_takes number_of) (λ z. give_takes _)))
 
+found_or_not : {A : Type 0} (o : Option A) → ((a : A) × (o ≡ Some a)) ⊎ (o ≡ None)
+found_or_not (Some a) = inl (a, refl)
+found_or_not None = inr refl
+
+some_none : {A : Type 0} (a : A) → Some a ≡ None → ⊥
+some_none a e = cc
+
+-- three tokens that write no coordinate do so whatever stands behind them
+pub point_none : (x y z : List ℕ) (rest : List (List ℕ)) → point (x ∷ y ∷ z ∷ []) ≡ None → point (x ∷ y ∷ z ∷ rest) ≡ None
+point_none x y z rest h = elim (found_or_not (number_of x)) [
+  | inr none ↦ rw none refl
+  | inl a ↦ elim (found_or_not (number_of y)) [
+    | inr none ↦ rw (a.1, none) refl
+    | inl b ↦ elim (found_or_not (number_of z)) [
+      | inr none ↦ rw (a.1, b.1, none) refl
+      | inl c ↦ absurd (some_none _ (rw (a.1, b.1, c.1) at h))
+    ]
+  ]
+]
+
+-- two corners
+corners_takes : Takes 6 corners
+corners_takes = then_takes 3 3 _ _ point_takes (λ min. then_takes 3 0 _ _ point_takes (λ max. give_takes _))
+
+-- drop NAME
+pub drop_takes : Takes 1 drop
+drop_takes = then_takes 1 0 _ _ (one_takes name_of) (λ name. give_takes _)
+
+-- voxelise NAME X0 Y0 Z0 X1 Y1 Z1
+pub voxelise_takes : Takes 7 voxelise
+voxelise_takes = then_takes 1 6 _ _ (one_takes name_of) (λ name. then_takes 6 0 _ _ corners_takes (λ c. give_takes _))
+
 -- grid NAME KIND BACKGROUND
 pub grid_takes : Takes 3 grid
 grid_takes = then_takes 1 2 _ _ (one_takes name_of) (λ name. then_takes 1 1 _ _ (one_takes kind_of) (λ kind. then_takes 1 0 _ _ (one_takes literal_of) (λ background. give_takes _)))
@@ -75,6 +107,19 @@ no_whole None other = refl
 no_whole (Some (c, [])) other = absurd (other c refl)
 no_whole (Some (c, token ∷ tokens)) other = refl
 
+-- seven items, one by one
+pub seven : {A : Type 0} (ts : List A) (d : A) → length ts ≡ 7
+    → ts ≡ get_or ts 0 d ∷ get_or ts 1 d ∷ get_or ts 2 d ∷ get_or ts 3 d ∷ get_or ts 4 d ∷ get_or ts 5 d ∷ get_or ts 6 d ∷ []
+seven (a ∷ b ∷ c ∷ e ∷ f ∷ g ∷ h ∷ []) d l = refl
+seven [] d l = absurd (let n : 0 ≡ 7 = l in omega (arith, n))
+seven (a ∷ []) d l = absurd (let n : 1 ≡ 7 = l in omega (arith, n))
+seven (a ∷ b ∷ []) d l = absurd (let n : 2 ≡ 7 = l in omega (arith, n))
+seven (a ∷ b ∷ c ∷ []) d l = absurd (let n : 3 ≡ 7 = l in omega (arith, n))
+seven (a ∷ b ∷ c ∷ e ∷ []) d l = absurd (let n : 4 ≡ 7 = l in omega (arith, n))
+seven (a ∷ b ∷ c ∷ e ∷ f ∷ []) d l = absurd (let n : 5 ≡ 7 = l in omega (arith, n))
+seven (a ∷ b ∷ c ∷ e ∷ f ∷ g ∷ []) d l = absurd (let n : 6 ≡ 7 = l in omega (arith, n))
+seven (a ∷ b ∷ c ∷ e ∷ f ∷ g ∷ h ∷ i ∷ more) d l = absurd (omega (arith, l))
+
 -- any other number of tokens is no command
 pub whole_takes : (n : ℕ) (form : Form Command) (tokens : List (List ℕ)) → Takes n form → length tokens ≢ n → Err refusals.Syntax ≡ whole (form tokens)
 whole_takes n form tokens takes other = no_whole (form tokens) (λ c e. other (let count : length tokens ≡ n + 0 = takes.count tokens c [] e in omega arith))
@@ -90,30 +135,12 @@ record TakesFew (command : List ℕ × Form Command) : Type 0 where
   few : n ≤ 9
   takes : Takes n command.1
 
+few : {command : List ℕ × Form Command} (n : ℕ) → n ≤ 9 → Takes n command.1 → TakesFew command
+few n bound takes = record { n = n; few = bound; takes = takes }
+
 -- each command's form does
 commands_take_few : AllByRecursion TakesFew command_forms
-commands_take_few = (
-  record { n = 3; few = omega arith; takes = grid_takes },
-  (
-    record { n = 5; few = omega arith; takes = get_takes },
-    (
-      record { n = 6; few = omega arith; takes = voxel_value_takes commands.Set },
-      (
-        record { n = 6; few = omega arith; takes = voxel_value_takes commands.Unset },
-        (
-          record { n = 6; few = omega arith; takes = voxel_value_takes commands.Only },
-          (
-            record { n = 6; few = omega arith; takes = state_takes },
-            (
-              record { n = 1; few = omega arith; takes = prune_takes },
-              tt,
-            ),
-          ),
-        ),
-      ),
-    ),
-  ),
-)
+commands_take_few = (few 3 (omega arith) grid_takes, (few 1 (omega arith) drop_takes, (few 5 (omega arith) get_takes, (few 6 (omega arith) (voxel_value_takes commands.Set), (few 6 (omega arith) (voxel_value_takes commands.Unset), (few 6 (omega arith) (voxel_value_takes commands.Only), (few 6 (omega arith) state_takes, (few 1 (omega arith) prune_takes, (few 7 (omega arith) voxelise_takes, tt)))))))))
 
 too_many_for : (commands : List (List ℕ × Form Command)) (word : List ℕ) (tokens : List (List ℕ)) → AllByRecursion TakesFew commands → 9 < length tokens
     → Err refusals.Syntax ≡ whole (option_and_then (λ form. form tokens) (word_of commands word))

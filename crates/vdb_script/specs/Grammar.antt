@@ -9,6 +9,7 @@ use Rattle.vdb_value.specs.declared.Kind.TheVariants as kinds
 use Rattle.vdb_scene.specs.Names.{is_name}
 use Rattle.vdb_scene.specs.declared.command.Command.{Command}
 use Rattle.vdb_scene.specs.declared.command.Command.TheVariants as commands
+use Rattle.vdb_scene.specs.declared.command.Corners.{Corners}
 use Rattle.vdb_scene.specs.declared.command.Literal.{Literal}
 use Rattle.vdb_scene.specs.declared.command.Literal.TheVariants.{Number, Truth}
 use Rattle.vdb_scene.specs.declared.command.Num.{Num}
@@ -98,6 +99,13 @@ point = do
   z ← one number_of
   give (record { x = x; y = y; z = z })
 
+-- six numbers: the minimum, then the maximum
+abbrev pub corners : Form Corners
+corners = do
+  min ← point
+  max ← point
+  give (record { min = min; max = max })
+
 -- grid NAME KIND BACKGROUND
 abbrev pub grid : Form Command
 grid = do
@@ -105,6 +113,12 @@ grid = do
   kind ← one kind_of
   background ← one literal_of
   give (commands.Grid name kind background)
+
+-- drop NAME
+abbrev pub drop : Form Command
+drop = do
+  name ← one name_of
+  give (commands.Drop name)
 
 -- get NAME ACCESSOR X Y Z
 abbrev pub get : Form Command
@@ -148,13 +162,20 @@ prune = do
   name ← one name_of
   give (commands.Prune name)
 
+-- voxelise NAME X0 Y0 Z0 X1 Y1 Z1
+abbrev pub voxelise : Form Command
+voxelise = do
+  name ← one name_of
+  c ← corners
+  give (commands.Voxelise name c)
+
 -- ---- the commands
 
 -- each command's word, and the form of what stands behind it
 abbrev pub command_forms : List (List ℕ × Form Command)
 command_forms =
-    (codes "grid", grid) ∷ (codes "get", get) ∷ (codes "set", set) ∷ (codes "unset", unset) ∷ (codes "only", only) ∷ (codes "state", state)
-    ∷ (codes "prune", prune) ∷ []
+    (codes "grid", grid) ∷ (codes "drop", drop) ∷ (codes "get", get) ∷ (codes "set", set) ∷ (codes "unset", unset) ∷ (codes "only", only) ∷ (codes "state", state)
+    ∷ (codes "prune", prune) ∷ (codes "voxelise", voxelise) ∷ []
 
 -- a command with no token left, or a syntax error
 abbrev pub whole : Option (Command × List (List ℕ)) → Result (Option Command) Refusal

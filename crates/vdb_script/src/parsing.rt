@@ -5,12 +5,12 @@ ghost use Rattle.vdb_scene.specs.declared.command.Command.{Command};
 ghost use Rattle.vdb_scene.specs.declared.command.Literal.{Literal};
 ghost use Rattle.vdb_scene.specs.declared.command.Num.{Num};
 ghost use Rattle.vdb_scene.specs.declared.command.Point.{Point};
-ghost use Rattle.vdb_script.specs.Grammar.{name_of, kind_of, state_of, literal_of, accessor_of, point, grid, get, voxel_value, set, unset, only, state, prune, whole, command_of, is_comment, parse};
+ghost use Rattle.vdb_script.specs.Grammar.{name_of, kind_of, state_of, literal_of, accessor_of, point, corners, grid, drop, get, voxel_value, set, unset, only, state, prune, voxelise, whole, command_of, is_comment, parse};
 
 use crate::numbers::number_of;
 use crate::tokens::{first_token, split_tokens};
 use std::alloc::Global;
-use vdb_scene::{Command, Literal, Name, Num, Point, Refusal};
+use vdb_scene::{Command, Corners, Literal, Name, Num, Point, Refusal};
 use vdb_value::Kind;
 
 /// The name that a token is.
@@ -75,6 +75,16 @@ fn point_of(x: &[u8], y: &[u8], z: &[u8]) -> Option<Point>
     })
 }
 
+/// The corners that six tokens write: the minimum, then the maximum.
+fn corners_of(x0: &[u8], y0: &[u8], z0: &[u8], x1: &[u8], y1: &[u8], z1: &[u8]) -> Option<Corners>
+    ensures { MatchOption result (corners (x0.now ∷ y0.now ∷ z0.now ∷ x1.now ∷ y1.now ∷ z1.now ∷ []) ≡ None)
+        (λ c. (rest : List (List ℕ)) → corners (x0.now ∷ y0.now ∷ z0.now ∷ x1.now ∷ y1.now ∷ z1.now ∷ rest) ≡ Some (c, rest)) }
+{
+    let min = point_of(x0, y0, z0)?;
+    let max = point_of(x1, y1, z1)?;
+    Some(Corners { min, max })
+}
+
 /// The command `grid NAME KIND BACKGROUND`, from the tokens behind its word.
 fn grid_command(tokens: &[&[u8]]) -> Option<Command>
     ensures { ok_or (option_map Some result) Refusal.Syntax ≡ whole (grid (map (λ t. t.now) tokens.now)) }
@@ -84,6 +94,18 @@ fn grid_command(tokens: &[&[u8]]) -> Option<Command>
             name: name_of(name)?,
             kind: kind_of(kind)?,
             background: literal_of(background)?,
+        }),
+        _ => None,
+    }
+}
+
+/// The command `drop NAME`, from the tokens behind its word.
+fn drop_command(tokens: &[&[u8]]) -> Option<Command>
+    ensures { ok_or (option_map Some result) Refusal.Syntax ≡ whole (drop (map (λ t. t.now) tokens.now)) }
+{
+    match tokens {
+        [name] => Some(Command::Drop {
+            name: name_of(name)?,
         }),
         _ => None,
     }
@@ -185,6 +207,19 @@ fn prune_command(tokens: &[&[u8]]) -> Option<Command>
     }
 }
 
+/// The command `voxelise NAME X0 Y0 Z0 X1 Y1 Z1`, from the tokens behind its word.
+fn voxelise_command(tokens: &[&[u8]]) -> Option<Command>
+    ensures { ok_or (option_map Some result) Refusal.Syntax ≡ whole (voxelise (map (λ t. t.now) tokens.now)) }
+{
+    match tokens {
+        [name, x0, y0, z0, x1, y1, z1] => Some(Command::Voxelise {
+            name: name_of(name)?,
+            corners: corners_of(x0, y0, z0, x1, y1, z1)?,
+        }),
+        _ => None,
+    }
+}
+
 /// Whether a token is this word.
 fn is_word(token: &[u8], word: &[u8]) -> bool
     ensures { result ≡ bytes_eq token.now word.now }
@@ -198,6 +233,8 @@ fn command_of(word: &[u8], tokens: &[&[u8]]) -> Option<Command>
 {
     if is_word(word, b"grid") {
         grid_command(tokens)
+    } else if is_word(word, b"drop") {
+        drop_command(tokens)
     } else if is_word(word, b"get") {
         get_command(tokens)
     } else if is_word(word, b"set") {
@@ -210,6 +247,8 @@ fn command_of(word: &[u8], tokens: &[&[u8]]) -> Option<Command>
         state_command(tokens)
     } else if is_word(word, b"prune") {
         prune_command(tokens)
+    } else if is_word(word, b"voxelise") {
+        voxelise_command(tokens)
     } else {
         None
     }

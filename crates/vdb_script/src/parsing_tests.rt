@@ -1,6 +1,6 @@
 //! Lines and the commands that they are.
 use crate::parse;
-use vdb_scene::{Command, Literal, Name, Num, Point, Refusal};
+use vdb_scene::{Command, Corners, Literal, Name, Num, Point, Refusal};
 use vdb_value::Kind;
 
 /// The coordinate of the lines below.
@@ -101,6 +101,21 @@ fn commands_are_read(rt: HostRuntime) {
         (b"state a - -1 0 2147483648 on".as_slice(), state(a, true)),
         (b"state a - -1 0 2147483648 off".as_slice(), state(a, false)),
         (b"prune a".as_slice(), Command::Prune { name: a }),
+        (b"drop a".as_slice(), Command::Drop { name: a }),
+        (
+            b"voxelise a -1 0 2147483648 0 0 0".as_slice(),
+            Command::Voxelise {
+                name: a,
+                corners: Corners {
+                    min: AT,
+                    max: Point {
+                        x: Num::Near(0),
+                        y: Num::Near(0),
+                        z: Num::Near(0),
+                    },
+                },
+            },
+        ),
         (
             b"grid a bool true".as_slice(),
             Command::Grid {
@@ -182,6 +197,11 @@ fn other_lines_are_no_commands(rt: HostRuntime) {
         b"set a - 0 0 0 1 1".as_slice(),
         b"set a - 0 0 0 -".as_slice(),
         b"prune".as_slice(),
+        b"drop".as_slice(),
+        b"drop a b".as_slice(),
+        b"voxelise a 0 0 0 0 0".as_slice(),
+        b"voxelise a 0 0 0 0 0 0 0".as_slice(),
+        b"voxelise a - 0 0 0 0 0".as_slice(),
         b"prune a a".as_slice(),
         b"prune -".as_slice(),
         b"unset a - 0 0 0".as_slice(),

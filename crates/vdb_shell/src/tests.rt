@@ -150,6 +150,16 @@ fn scripts_are_answered(rt: HostRuntime) {
             1,
         ),
         (
+            b"grid a i32 0\nset a - 0 0 0 5\ngrid b bool false\ndrop a\nget a - 0 0 0\ndrop a\ngrid a i64 1\nget a - 0 0 0\nget b - 0 0 0".as_slice(),
+            b"ok\nok\nok\nok\nerror no-grid\nerror no-grid\nok\nvalue 1 off\nvalue false off\n".as_slice(),
+            1,
+        ),
+        (
+            b"grid a i32 0\nset a - 1 2 3 5\nvoxelise a 0 0 0 127 127 127\nvoxelise a 0 0 0 128 127 127\nvoxelise a 1 0 0 0 0 0\nvoxelise a 0 0 0 0 0 2147483648\nvoxelise b 1 0 0 0 0 0\nget a - 1 2 3\nprune a\nvoxelise a -2147483648 -2147483648 -2147483648 -2147483648 -2147483648 -2147483648\nget a - 1 2 3\nget a - 1 2 4".as_slice(),
+            b"ok\nok\nok\nerror too-large\nerror box\nerror value-range\nerror no-grid\nvalue 5 on\nok\nok\nvalue 5 on\nvalue 0 off\n".as_slice(),
+            1,
+        ),
+        (
             b"grid a i32 0\nstate a 9 0 0 2147483648 on\nstate a 9 0 0 0 on\nstate a - -2147483648 2147483647 -2147483648 on\nget a - -2147483648 2147483647 -2147483648\nget a - -2147483648 2147483647 -2147483647".as_slice(),
             b"ok\nerror value-range\nerror no-accessor\nok\nvalue 0 on\nvalue 0 off\n".as_slice(),
             1,
