@@ -213,7 +213,7 @@ none_before bits level b q inside before =
     elim before [
       | inl x ↦ no_less (number_mono k b.min.x q.x at.0.0) x
       | inr r ↦ elim r.1 [
-          | inl y ↦ no_less (number_mono k b.min.y q.y at.1.0) y
-          | inr s ↦ no_less (number_mono k b.min.z q.z at.2.0) s.1
-        ]
+        | inl y ↦ no_less (number_mono k b.min.y q.y at.1.0) y
+        | inr s ↦ no_less (number_mono k b.min.z q.z at.2.0) s.1
+      ]
     ]

@@ -143,6 +143,38 @@ fn entries_that_meet_a_box(rt: HostRuntime) -> Result<(), Fail> {
 }
 
 #[test]
+fn blocks_that_meet_a_box_one_by_one(rt: HostRuntime) -> Result<(), Fail> {
+    let bounds = Bounds::new(at(-1, 7, 6), at(0, 8, 16)).expect(&rt, "a box");
+    let mut next = Some(bounds.min());
+    for (x, y, z) in [
+        (-1, 7, 6),
+        (-1, 7, 8),
+        (-1, 7, 16),
+        (-1, 8, 6),
+        (-1, 8, 8),
+        (-1, 8, 16),
+        (0, 7, 6),
+        (0, 7, 8),
+        (0, 7, 16),
+        (0, 8, 6),
+        (0, 8, 8),
+        (0, 8, 16),
+    ] {
+        let p = at(x, y, z);
+        assert_eq!(rt; next, Some(p));
+        assert!(rt; bounds.contains(p));
+        next = bounds.next_block_in(Bits::VDB, Level::Leaf, p);
+    }
+    assert_eq!(rt; next, None);
+    let corner = Bounds::new(all(i32::MAX), all(i32::MAX)).expect(&rt, "a box");
+    assert_eq!(rt;
+        corner.next_block_in(Bits::VDB, Level::Upper, all(i32::MAX)),
+        None
+    );
+    Ok(())
+}
+
+#[test]
 fn neighbours(rt: HostRuntime) -> Result<(), Fail> {
     let p = at(i32::MAX, 5, i32::MIN);
     let cases = [

@@ -7,6 +7,7 @@ mod pieces;
 mod pruning;
 mod random;
 mod union;
+mod voxels;
 mod writes;
 
 use crate::{NodeCounts, TreeOf};

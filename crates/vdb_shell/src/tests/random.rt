@@ -147,6 +147,12 @@ fn random_scripts_beside_a_map(rt: HostRuntime) -> Result<(), AllocError> {
                     trial.script.extend_from_slice(b"prune a\n")?;
                     trial.answers.extend_from_slice(b"ok\n")?;
                 }
+                if turn % 100 == 99 {
+                    trial
+                        .script
+                        .extend_from_slice(b"voxelise a -1 -1 -1 8 8 8\n")?;
+                    trial.answers.extend_from_slice(b"ok\n")?;
+                }
             }
             expect(
                 &rt,
