@@ -142,6 +142,14 @@ fn entries_that_meet_a_box(rt: HostRuntime) -> Result<(), Fail> {
     Ok(())
 }
 
+// The next leaf block that meets the box, from one of its coordinates on.
+fn next_leaf_block(bounds: Bounds, p: Coord) -> Option<Coord> {
+    if !bounds.contains(p) {
+        return None;
+    }
+    bounds.next_block_in(Bits::VDB, Level::Leaf, p)
+}
+
 #[test]
 fn blocks_that_meet_a_box_one_by_one(rt: HostRuntime) -> Result<(), Fail> {
     let bounds = Bounds::new(at(-1, 7, 6), at(0, 8, 16)).expect(&rt, "a box");
@@ -162,15 +170,11 @@ fn blocks_that_meet_a_box_one_by_one(rt: HostRuntime) -> Result<(), Fail> {
     ] {
         let p = at(x, y, z);
         assert_eq!(rt; next, Some(p));
-        assert!(rt; bounds.contains(p));
-        next = bounds.next_block_in(Bits::VDB, Level::Leaf, p);
+        next = next_leaf_block(bounds, p);
     }
     assert_eq!(rt; next, None);
     let corner = Bounds::new(all(i32::MAX), all(i32::MAX)).expect(&rt, "a box");
-    assert_eq!(rt;
-        corner.next_block_in(Bits::VDB, Level::Upper, all(i32::MAX)),
-        None
-    );
+    assert_eq!(rt; next_leaf_block(corner, all(i32::MAX)), None);
     Ok(())
 }
 
