@@ -21,8 +21,7 @@ pub returns : goal.returns
 returns c =
     let grids = c.args.self.now.grids.entries in
     let name = c.args.name.now in
-    let some : is_none c.remove.result ≡ false = search rules in
-    (
+    let some : is_none c.remove.result ≡ false = search rules in (
       rw (absent_is grids name ∙ ap is_none (sym c.remove.ensures.value) ∙ some) refl,
       (replies.Done, refl, refl),
       ap (over grid_of) c.remove.ensures.entries ∙ sym (remove_entry-over grid_of (is_named name) grids),

@@ -30,8 +30,7 @@ returns-then-volume-gt-VOXELISE_LIMIT c =
     let grids = c.args.self.now.grids.entries in
     let grid = c.in-Some.grid.now in
     let there = sym c.in-Some.ensures.value in
-    let many : 2097152 < volume (box_between c.args.corners.now) = rw (c.volume.ensures.value ∙ ap volume c.in_ok-bounds.ensures.bounds) at c.if-volume-gt-VOXELISE_LIMIT.true in
-    (
+    let many : 2097152 < volume (box_between c.args.corners.now) = rw (c.volume.ensures.value ∙ ap volume c.in_ok-bounds.ensures.bounds) at c.if-volume-gt-VOXELISE_LIMIT.true in (
       rw (found grids c.args.name.now grid there, c.in_ok-bounds.ensures.places, c.in_ok-bounds.ensures.ordered, lt-ltb 2097152 (volume (box_between c.args.corners.now)) many) refl,
       unchanged grids c.args.name.now _ grid grid there (c.get_mut.follows.holds grid).0 refl refl,
     )
@@ -54,8 +53,7 @@ returns c =
     let grids = c.args.self.now.grids.entries in
     let grid = c.in-Some.grid.now in
     let there = sym c.in-Some.ensures.value in
-    let few : volume (box_between c.args.corners.now) ≤ 2097152 = rw (c.volume.ensures.value ∙ ap volume c.in_ok-bounds.ensures.bounds) at c.if-volume-gt-VOXELISE_LIMIT.false in
-    (
+    let few : volume (box_between c.args.corners.now) ≤ 2097152 = rw (c.volume.ensures.value ∙ ap volume c.in_ok-bounds.ensures.bounds) at c.if-volume-gt-VOXELISE_LIMIT.false in (
       rw (found grids c.args.name.now grid there, c.in_ok-bounds.ensures.places, c.in_ok-bounds.ensures.ordered, le-ltb 2097152 (volume (box_between c.args.corners.now)) few) refl,
       (replies.Done, refl, refl),
       unchanged grids c.args.name.now _ grid c.voxelise.new.self there (c.get_mut.follows.holds c.voxelise.new.self).0 c.in_ok-voxelise.ensures.field c.in_ok-voxelise.ensures.limit,
