@@ -18,12 +18,13 @@ use Rattle.vdb_node.specs.declared.Entry.{Entry}
 use Rattle.vdb_node.specs.declared.Entry.TheVariants.{Child, Tile}
 use Rattle.vdb_pool.specs.Contents.{Contents, node_at}
 use Rattle.vdb_value.specs.declared.Cell.{Cell}
-use Rattle.vdb_tree.specs.Changes.{Keeps, KeepsLeaves, Turns}
-use Rattle.vdb_tree.specs.Layout.{Layout, cell_at, lower_entry, plain, root_at, root_entry, upper_entry}
-use Rattle.vdb_tree.specs.Paths.{is_child}
+use Rattle.vdb_tree.specs.Changes.{AddsNodes, Keeps, Turns}
+use Rattle.vdb_tree.specs.Layout.{Layout, cell_at, entry_over, lower_entry, plain, root_at, root_entry, upper_entry}
+use Rattle.vdb_tree.specs.Paths.{in_leaf, is_child}
 use Rattle.vdb_tree.specs.Sound.{IsSound}
+use Rattle.vdb_tree.proofs.Blocks.{never}
 use Rattle.vdb_tree.proofs.Descents.{lower_by_block, root_by_block, upper_by_block}
-use Rattle.vdb_tree.proofs.Levels.{Puts, bool_cases, coord_cases, like_coords, node_turns, owned_after, owned_as, owned_nodes, split_below, split_owned, unlike_coords}
+use Rattle.vdb_tree.proofs.Levels.{Puts, bool_cases, coord_cases, like_coords, node_turns, owned_after, owned_as, owned_nodes, split_below, split_owned, tile_no_child, tile_or_child, unlike_coords}
 
 -- an offset is an index of the node
 pub index_below : (bits : Bits) (level : Level) (p : Coord) → offset bits level p < entry_count (node_bits bits level)
@@ -76,15 +77,47 @@ module _ {V : Type 0} (bits : Bits) where
   unfolding cell_at
   cells_from old new b l same q = let e = same q in rw (e, b, l) refl
 
-  -- what lies in leaves does so where the entries of lower nodes stay
-  leaves_from : (old new : Layout V) → ((q : Coord) → lower_entry bits new q ≡ lower_entry bits old q) → KeepsLeaves bits old new
-  leaves_from old new same = record { inside = λ q h. ap is_child (same q) ∙ h }
+  -- whose tiles were such before
+  abbrev IsFewerTiles : (Coord → Entry V) → (Coord → Entry V) → Type 0
+  IsFewerTiles f g = (q : Coord) (cell : Cell V) → g q ≡ Tile cell → f q ≡ Tile cell
 
-  pub leaves_themselves : (t : Layout V) → KeepsLeaves bits t t
-  leaves_themselves t = record { inside = λ q h. h }
+  same_tiles : (f g : Coord → Entry V) → ((q : Coord) → g q ≡ f q) → IsFewerTiles f g
+  same_tiles f g same q cell e = sym (same q) ∙ e
 
-  pub leaves_twice : (s t n : Layout V) → KeepsLeaves bits s t → KeepsLeaves bits t n → KeepsLeaves bits s n
-  leaves_twice s t n a b = record { inside = λ q h. b.inside q (a.inside q h) }
+  turned_tiles : (number : Coord → Coord) (p : Coord) (s : ℕ) (f g : Coord → Entry V) → Turns number p f g (Child s) → IsFewerTiles f g
+  turned_tiles number p s f g turns q cell e = elim (coord_cases (number q) (number p)) [
+    | inl b ↦ absurd (tile_no_child cell s (sym e ∙ turns.here q b))
+    | inr d ↦ sym (turns.there q d) ∙ e
+  ]
+
+  adds : (old new : Layout V) → IsFewerTiles (root_entry bits old) (root_entry bits new) → IsFewerTiles (upper_entry bits old) (upper_entry bits new)
+      → IsFewerTiles (lower_entry bits old) (lower_entry bits new) → ((k : Coord) → IsSome (root_at old.root k) → IsSome (root_at new.root k)) → AddsNodes bits old new
+  adds old new roots uppers lowers keys = record { tiles = each; keys = keys }
+    where
+      each : (level : Level) (q : Coord) (cell : Cell V) → entry_over bits level new q ≡ Tile cell → entry_over bits level old q ≡ Tile cell
+      each Upper = roots
+      each Lower = uppers
+      each Leaf = lowers
+
+  put_keys : (t : Layout V) (root : List (Coord × Entry V)) (at : Coord) (x : Entry V) → ((k : Coord) → root_at root k ≡ (if coord_eq at k then Some x else root_at t.root k))
+      → (k : Coord) → IsSome (root_at t.root k) → IsSome (root_at root k)
+  put_keys t root at x changed k h = elim (bool_cases (coord_eq at k)) [
+    | inl e ↦ let c = changed k in rw (c, e) refl
+    | inr e ↦ let c = changed k in rw (c, e) h
+  ]
+
+  pub adds_itself : (t : Layout V) → AddsNodes bits t t
+  adds_itself t = record { tiles = λ level q cell e. e; keys = λ k h. h }
+
+  pub adds_twice : (s t n : Layout V) → AddsNodes bits s t → AddsNodes bits t n → AddsNodes bits s n
+  adds_twice s t n a b = record { tiles = λ level q cell e. a.tiles level q cell (b.tiles level q cell e); keys = λ k h. b.keys k (a.keys k h) }
+
+  -- what lies in a leaf still does
+  pub adds_leaves : (s t : Layout V) → AddsNodes bits s t → (q : Coord) → IsTrue (in_leaf bits s q) → IsTrue (in_leaf bits t q)
+  adds_leaves s t a q h = elim (tile_or_child (lower_entry bits t q)) [
+    | inl e ↦ absurd (never (ap is_child (a.tiles Leaf q e.0 e.1)) h)
+    | inr e ↦ ap is_child e.1
+  ]
 
   -- the root's tile becomes an upper node
   module _ (t : Layout V) (sound : IsSound bits t) (p : Coord) (s : ℕ) (c : Cell V) (k : List (Entry V)) (root : List (Coord × Entry V)) (uppers : Contents (List (Entry V)))
@@ -108,8 +141,8 @@ module _ {V : Type 0} (bits : Bits) where
     pub with_upper_keeps : Keeps bits t with_upper
     with_upper_keeps = record { head = record { background = refl; limit = refl }; cells = cells_from t with_upper refl refl lower_stays }
 
-    pub with_upper_leaves : KeepsLeaves bits t with_upper
-    with_upper_leaves = leaves_from t with_upper lower_stays
+    pub with_upper_adds : AddsNodes bits t with_upper
+    with_upper_adds = adds t with_upper (turned_tiles (block_number bits Upper) p s _ _ upper_turns) (same_tiles _ _ upper_stays) (same_tiles _ _ lower_stays) (put_keys t root (key bits p) (Child s) changed)
 
     pub with_upper_sound : IsSome (root_at t.root (key bits p)) → length root ≡ length t.root → IsDistinct coord_eq (keys_of root) → IsSound bits with_upper
     with_upper_sound entered size apart = record {
@@ -145,8 +178,8 @@ module _ {V : Type 0} (bits : Bits) where
     pub with_lower_keeps : Keeps bits t with_lower
     with_lower_keeps = record { head = record { background = refl; limit = refl }; cells = cells_from t with_lower refl refl lowers_stay }
 
-    pub with_lower_leaves : KeepsLeaves bits t with_lower
-    with_lower_leaves = leaves_from t with_lower lowers_stay
+    pub with_lower_adds : AddsNodes bits t with_lower
+    with_lower_adds = adds t with_lower (λ q cell e. e) (turned_tiles (block_number bits Lower) p s _ _ lower_turns) (same_tiles _ _ lowers_stay) (λ k h. h)
 
     pub with_lower_sound : IsSound bits with_lower
     with_lower_sound = record {
@@ -183,14 +216,8 @@ module _ {V : Type 0} (bits : Bits) where
     pub with_leaf_keeps : Keeps bits t with_leaf
     with_leaf_keeps = record { head = record { background = refl; limit = refl }; cells = cells_stay }
 
-    pub with_leaf_leaves : KeepsLeaves bits t with_leaf
-    with_leaf_leaves = record {
-      inside = λ q h.
-          elim (coord_cases (block_number bits Leaf q) (block_number bits Leaf p)) [
-            | inl e ↦ ap is_child (leaf_turns.here q e)
-            | inr d ↦ ap is_child (leaf_turns.there q d) ∙ h
-          ];
-    }
+    pub with_leaf_adds : AddsNodes bits t with_leaf
+    with_leaf_adds = adds t with_leaf (λ q cell e. e) (λ q cell e. e) (turned_tiles (block_number bits Leaf) p s _ _ leaf_turns) (λ k h. h)
 
     pub with_leaf_sound : IsSound bits with_leaf
     with_leaf_sound = record {
@@ -231,8 +258,8 @@ module _ {V : Type 0} (bits : Bits) where
     pub with_entry_keeps : Keeps bits t with_entry
     with_entry_keeps = record { head = record { background = refl; limit = refl }; cells = cells_from t with_entry refl refl lower_too }
 
-    pub with_entry_leaves : KeepsLeaves bits t with_entry
-    with_entry_leaves = leaves_from t with_entry lower_too
+    pub with_entry_adds : AddsNodes bits t with_entry
+    with_entry_adds = adds t with_entry (same_tiles _ _ entries_stay) (same_tiles _ _ upper_too) (same_tiles _ _ lower_too) (put_keys t root (key bits p) (Tile c) changed)
 
     pub with_entry_sound : IsTrue (is_inside (block_numbers bits Upper) (key bits p)) → length root ≤ t.limit → IsDistinct coord_eq (keys_of root) → IsSound bits with_entry
     with_entry_sound inside room apart = record {
@@ -265,8 +292,8 @@ module _ {V : Type 0} (bits : Bits) where
     pub room_keeps : Keeps bits t n
     room_keeps = record { head = record { background = b; limit = m }; cells = same_cells }
 
-    pub room_leaves : KeepsLeaves bits t n
-    room_leaves = leaves_from t n same_lowers
+    pub room_adds : AddsNodes bits t n
+    room_adds = adds t n (same_tiles _ _ same_root) (same_tiles _ _ same_uppers) (same_tiles _ _ same_lowers) (λ k h. rw r h)
 
     pub room_sound : IsSound bits t → IsSound bits n
     room_sound sound = record {

@@ -11,7 +11,7 @@ use Rattle.vdb_coord.proofs.Walk.{min_inside, none_before}
 use Rattle.vdb_node.specs.declared.Entry.{Entry}
 use Rattle.vdb_node.specs.declared.Entry.TheVariants.{Child, Tile}
 use Rattle.vdb_value.specs.declared.Cell.{Cell}
-use Rattle.vdb_tree.specs.Changes.{Keeps, KeepsLeaves}
+use Rattle.vdb_tree.specs.Changes.{AddsNodes, Keeps}
 use Rattle.vdb_tree.specs.Layout.{Layout, cell_at, lower_entry, plain, root_at}
 use Rattle.vdb_tree.specs.Paths.{in_leaf}
 use Rattle.vdb_tree.specs.Table.{HasRoom}
@@ -19,7 +19,7 @@ use Rattle.vdb_tree.proofs.Blocks.{never}
 use Rattle.vdb_tree.proofs.Descents.{lower_by_block, tile_cell, tile_lower, tile_upper}
 use Rattle.vdb_tree.proofs.Levels.{same_tile}
 use Rattle.vdb_tree.proofs.Needed.{absent_entry, is_some_from, some_or_none}
-use Rattle.vdb_tree.proofs.Splits.{keeps_itself, keeps_twice}
+use Rattle.vdb_tree.proofs.Splits.{adds_leaves, keeps_itself, keeps_twice}
 
 module _ {V : Type 0} (bits : Bits) where
   -- an active tile lies under an entry of the table
@@ -53,11 +53,11 @@ module _ {V : Type 0} (bits : Bits) where
     pub begins : (t : Layout V) → is_box box ≡ true → VoxelisesTo t t box (Some box.min)
     begins t is = record { keeps = keeps_itself bits t; done = (min_inside box is, λ q inside before. absurd (none_before bits Leaf box q inside before)) }
 
-    module _ (old t n : Layout V) (p : Coord) (so_far : VoxelisesTo old t box (Some p)) (keeps : Keeps bits t n) (leaves : KeepsLeaves bits t n)
+    module _ (old t n : Layout V) (p : Coord) (so_far : VoxelisesTo old t box (Some p)) (keeps : Keeps bits t n) (adds : AddsNodes bits t n)
         (done : (q : Coord) → block_number bits Leaf q ≡ block_number bits Leaf p → (cell_at bits n q).on ≡ true → IsTrue (in_leaf bits n q)) where
       up_to : (q : Coord) → IsTrue (is_inside box q) → IsBlockBefore bits Leaf q p ⊎ (block_number bits Leaf q ≡ block_number bits Leaf p) → (cell_at bits n q).on ≡ true → IsTrue (in_leaf bits n q)
       up_to q inside h on = elim h [
-        | inl before ↦ leaves.inside q (so_far.done.1 q inside before (ap (λ (c : Cell V). c.on) (sym (keeps.cells q)) ∙ on))
+        | inl before ↦ adds_leaves bits t n adds q (so_far.done.1 q inside before (ap (λ (c : Cell V). c.on) (sym (keeps.cells q)) ∙ on))
         | inr same ↦ done q same on
       ]
 

@@ -1,5 +1,5 @@
 -- How a call changes what the descents meet. The calls of this crate alone speak of it: above, a change is an equation of fields.
-use Rattle.std.specs.Prelude.{IsTrue, ◌≡◌, ◌≢◌, ◌+◌, ◌^◌, ◌<◌, ◌≤◌, ℕ, Option, Some, None}
+use Rattle.std.specs.Prelude.{IsSome, ◌≡◌, ◌≢◌, ◌+◌, ◌^◌, ◌<◌, ◌≤◌, ℕ, Option, Some, None}
 use Rattle.vdb_coord.specs.Blocks.{block_number, entries, key, offset}
 use Rattle.vdb_coord.specs.declared.Bits.{Bits}
 use Rattle.vdb_coord.specs.declared.Coord.{Coord}
@@ -8,8 +8,7 @@ use Rattle.vdb_coord.specs.declared.Level.TheVariants.{Leaf, Lower, Upper}
 use Rattle.vdb_node.specs.declared.Entry.{Entry}
 use Rattle.vdb_value.specs.declared.Cell.{Cell}
 use Rattle.vdb_tree.specs.Layout.{Layout, cell_at, entry_over, plain, root_at}
-use Rattle.vdb_node.specs.declared.Entry.TheVariants.{Child}
-use Rattle.vdb_tree.specs.Paths.{in_leaf}
+use Rattle.vdb_node.specs.declared.Entry.TheVariants.{Child, Tile}
 
 -- g has e wherever the number is p's, and elsewhere what f has
 pub record Turns {E : Type 0} (number : Coord → Coord) (p : Coord) (f g : Coord → E) (e : E) : Type 0 where
@@ -33,9 +32,10 @@ module _ {V : Type 0} (bits : Bits) where
     pub head : KeepsHead old new
     pub cells : (q : Coord) → cell_at bits new q ≡ cell_at bits old q
 
-  -- what lies in a leaf still does
-  pub record KeepsLeaves (old new : Layout V) : Type 0 where
-    pub inside : (q : Coord) → IsTrue (in_leaf bits old q) → IsTrue (in_leaf bits new q)
+  -- nodes came in place of tiles, or keys of tiles that stood already: no other tile came, and no key went
+  pub record AddsNodes (old new : Layout V) : Type 0 where
+    pub tiles : (level : Level) (q : Coord) (cell : Cell V) → entry_over bits level new q ≡ Tile cell → entry_over bits level old q ≡ Tile cell
+    pub keys : (k : Coord) → IsSome (root_at old.root k) → IsSome (root_at new.root k)
 
   -- the cell at p becomes this, and every other stays
   pub record Changes (old new : Layout V) (p : Coord) (cell : Cell V) : Type 0 where

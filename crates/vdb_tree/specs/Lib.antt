@@ -8,6 +8,7 @@ pub mod Paths
 pub mod Pieces
 pub mod Leaves
 pub mod Outcome
+pub mod Ready
 pub mod Smallest
 pub mod Changes
 pub mod Corners

@@ -3,7 +3,7 @@
 ghost use Rattle.std.specs.Prelude.{◌≡◌, ◌+◌, ◌<◌, ◌≤◌, IfErr, IfOk, IsSome, OnOk, length};
 ghost use Rattle.vdb_coord.specs.Blocks.{key};
 ghost use Rattle.vdb_node.specs.declared.Entry.TheVariants.{Child, Tile};
-ghost use Rattle.vdb_tree.specs.Changes.{Keeps, KeepsLeaves};
+ghost use Rattle.vdb_tree.specs.Changes.{AddsNodes, Keeps};
 ghost use Rattle.vdb_tree.specs.Layout.{bits_of, lower_entry, root_at, root_entry, upper_entry};
 ghost use Rattle.vdb_tree.specs.declared.refusal.TreeRefusal.TheVariants.{Memory};
 
@@ -29,7 +29,7 @@ impl<
         requires tiled { root_entry (bits_of U L F) self.old p ≡ Tile cell }
         requires room { length self.old.root < self.old.limit }
         ensures keeps { Keeps (bits_of U L F) self.old self.new }
-        ensures leaves { KeepsLeaves (bits_of U L F) self.old self.new }
+        ensures adds { AddsNodes (bits_of U L F) self.old self.new }
         ensures tiled { root_entry (bits_of U L F) self.new p ≡ Tile cell }
         ensures entered { OnOk result (IsSome (root_at self.new.root (key (bits_of U L F) p))) }
     {
@@ -43,7 +43,7 @@ impl<
         requires tiled { root_entry (bits_of U L F) self.old p ≡ Tile cell }
         requires entered { IsSome (root_at self.old.root (key (bits_of U L F) p)) }
         ensures keeps { Keeps (bits_of U L F) self.old self.new }
-        ensures leaves { KeepsLeaves (bits_of U L F) self.old self.new }
+        ensures adds { AddsNodes (bits_of U L F) self.old self.new }
         ensures ok { IfOk result (λ slot. root_entry (bits_of U L F) self.new p ≡ Child slot) }
         ensures memory { IfErr result (λ refusal. refusal ≡ Memory) }
     {
@@ -65,7 +65,7 @@ impl<
         requires node { root_entry (bits_of U L F) self.old p ≡ Child upper }
         requires tiled { upper_entry (bits_of U L F) self.old p ≡ Tile cell }
         ensures keeps { Keeps (bits_of U L F) self.old self.new }
-        ensures leaves { KeepsLeaves (bits_of U L F) self.old self.new }
+        ensures adds { AddsNodes (bits_of U L F) self.old self.new }
         ensures ok { IfOk result (λ slot. upper_entry (bits_of U L F) self.new p ≡ Child slot) }
         ensures memory { IfErr result (λ refusal. refusal ≡ Memory) }
         ensures steps { steps.new ≤ steps.old + 1 }
@@ -89,7 +89,7 @@ impl<
         requires node { upper_entry (bits_of U L F) self.old p ≡ Child lower }
         requires tiled { lower_entry (bits_of U L F) self.old p ≡ Tile cell }
         ensures keeps { Keeps (bits_of U L F) self.old self.new }
-        ensures leaves { KeepsLeaves (bits_of U L F) self.old self.new }
+        ensures adds { AddsNodes (bits_of U L F) self.old self.new }
         ensures ok { IfOk result (λ slot. lower_entry (bits_of U L F) self.new p ≡ Child slot) }
         ensures memory { IfErr result (λ refusal. refusal ≡ Memory) }
         ensures steps { steps.new ≤ steps.old + 1 }

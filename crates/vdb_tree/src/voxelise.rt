@@ -6,7 +6,7 @@ ghost use Rattle.vdb_coord.specs.declared.Coord.{Coord};
 ghost use Rattle.vdb_coord.specs.declared.Level.TheVariants.{Leaf};
 ghost use Rattle.vdb_node.specs.declared.Entry.TheVariants.{Tile};
 ghost use Rattle.vdb_value.specs.declared.Cell.{Cell};
-ghost use Rattle.vdb_tree.specs.Changes.{Keeps, KeepsLeaves};
+ghost use Rattle.vdb_tree.specs.Changes.{AddsNodes, Keeps};
 ghost use Rattle.vdb_tree.specs.Layout.{bits_of, cell_at, field_of, lower_entry};
 ghost use Rattle.vdb_tree.specs.Leaves.{HasLeaves};
 ghost use Rattle.vdb_tree.specs.Paths.{in_leaf};
@@ -47,7 +47,7 @@ impl<
     /// Makes a leaf of the leaf block around p where that is an active tile.
     fn voxelise_block(&mut self, p: Coord, steps: &mut Steps) -> Result<(), TreeRefusal>
         ensures keeps { Keeps (bits_of U L F) self.old self.new }
-        ensures leaves { KeepsLeaves (bits_of U L F) self.old self.new }
+        ensures adds { AddsNodes (bits_of U L F) self.old self.new }
         ensures done { OnOk result ((q : Coord) → block_number (bits_of U L F) Leaf q ≡ block_number (bits_of U L F) Leaf p
             → (cell_at (bits_of U L F) self.new q).on ≡ true → IsTrue (in_leaf (bits_of U L F) self.new q)) }
         ensures memory { IfErr result (λ refusal. refusal ≡ Memory) }

@@ -4,7 +4,7 @@ ghost use Rattle.std.specs.Prelude.{◌≡◌, ◌≢◌, ◌+◌, ◌<◌, ◌�
 ghost use Rattle.vdb_coord.specs.Blocks.{block_around, key};
 ghost use Rattle.vdb_coord.specs.declared.Level.TheVariants.{Leaf};
 ghost use Rattle.vdb_node.specs.declared.Entry.TheVariants.{Child};
-ghost use Rattle.vdb_tree.specs.Changes.{IsSwept, Keeps, KeepsLeaves};
+ghost use Rattle.vdb_tree.specs.Changes.{AddsNodes, IsSwept, Keeps};
 ghost use Rattle.vdb_tree.specs.Field.{write, written};
 ghost use Rattle.vdb_tree.specs.Layout.{bits_of, cell_at, field_of, lower_entry, root_entry, upper_entry};
 ghost use Rattle.vdb_tree.specs.Outcome.{IsOutcome};
@@ -138,7 +138,7 @@ impl<
     pub(crate) fn leaf_around(&mut self, p: Coord, steps: &mut Steps) -> Result<u32, TreeRefusal>
         requires room { HasRoom self.old (key (bits_of U L F) p) }
         ensures keeps { Keeps (bits_of U L F) self.old self.new }
-        ensures leaves { KeepsLeaves (bits_of U L F) self.old self.new }
+        ensures adds { AddsNodes (bits_of U L F) self.old self.new }
         ensures ok { IfOk result (λ slot. lower_entry (bits_of U L F) self.new p ≡ Child slot) }
         ensures there { IsTrue (in_leaf (bits_of U L F) self.old p) → IsOk result }
         ensures memory { IfErr result (λ refusal. refusal ≡ Memory) }
@@ -153,7 +153,7 @@ impl<
     fn upper_around(&mut self, p: Coord) -> Result<u32, TreeRefusal>
         requires room { HasRoom self.old (key (bits_of U L F) p) }
         ensures keeps { Keeps (bits_of U L F) self.old self.new }
-        ensures leaves { KeepsLeaves (bits_of U L F) self.old self.new }
+        ensures adds { AddsNodes (bits_of U L F) self.old self.new }
         ensures ok { IfOk result (λ slot. root_entry (bits_of U L F) self.new p ≡ Child slot) }
         ensures there { (slot : ℕ) → root_entry (bits_of U L F) self.old p ≡ Child slot → (result ≡ Ok slot) × (self.new ≡ self.old) }
         ensures memory { IfErr result (λ refusal. refusal ≡ Memory) }
@@ -172,7 +172,7 @@ impl<
     fn lower_in(&mut self, upper: u32, p: Coord, steps: &mut Steps) -> Result<u32, TreeRefusal>
         requires { root_entry (bits_of U L F) self.old p ≡ Child upper }
         ensures keeps { Keeps (bits_of U L F) self.old self.new }
-        ensures leaves { KeepsLeaves (bits_of U L F) self.old self.new }
+        ensures adds { AddsNodes (bits_of U L F) self.old self.new }
         ensures ok { IfOk result (λ slot. upper_entry (bits_of U L F) self.new p ≡ Child slot) }
         ensures there { (slot : ℕ) → upper_entry (bits_of U L F) self.old p ≡ Child slot → (result ≡ Ok slot) × (self.new ≡ self.old) }
         ensures memory { IfErr result (λ refusal. refusal ≡ Memory) }
@@ -188,7 +188,7 @@ impl<
     fn leaf_in(&mut self, lower: u32, p: Coord, steps: &mut Steps) -> Result<u32, TreeRefusal>
         requires { upper_entry (bits_of U L F) self.old p ≡ Child lower }
         ensures keeps { Keeps (bits_of U L F) self.old self.new }
-        ensures leaves { KeepsLeaves (bits_of U L F) self.old self.new }
+        ensures adds { AddsNodes (bits_of U L F) self.old self.new }
         ensures ok { IfOk result (λ slot. lower_entry (bits_of U L F) self.new p ≡ Child slot) }
         ensures there { (slot : ℕ) → lower_entry (bits_of U L F) self.old p ≡ Child slot → (result ≡ Ok slot) × (self.new ≡ self.old) }
         ensures memory { IfErr result (λ refusal. refusal ≡ Memory) }

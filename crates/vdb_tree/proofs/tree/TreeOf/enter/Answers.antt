@@ -1,5 +1,5 @@
 use Rattle.std.proofs.Common.{ℕ, ◌+◌, ◌<◌, ◌≤◌, arith}
-use Rattle.vdb_tree.proofs.Splits.{with_entry_keeps, with_entry_leaves, with_entry_sound}
+use Rattle.vdb_tree.proofs.Splits.{with_entry_keeps, with_entry_adds, with_entry_sound}
 use Rattle.vdb_tree.proofs.tree.TreeOf.enter.Goals as goal
 
 one_more : (n o l : ℕ) → n ≤ o + 1 → o < l → n ≤ l
@@ -17,7 +17,7 @@ returns-clause-keeps g c =
     rw (← c.self.view_is)
     (with_entry_keeps _ _ c.self.invariant.1 c.args.p _ _ (rw (← c.self.view_is) at c.requires.tiled) (rw c.key-key.ensures.value at c.in_ok-put.ensures.ok))
 
-pub returns-clause-leaves : goal.returns-clause-leaves
-returns-clause-leaves g c =
+pub returns-clause-adds : goal.returns-clause-adds
+returns-clause-adds g c =
     rw (← c.self.view_is)
-    (with_entry_leaves _ _ c.self.invariant.1 c.args.p _ _ (rw (← c.self.view_is) at c.requires.tiled) (rw c.key-key.ensures.value at c.in_ok-put.ensures.ok))
+    (with_entry_adds _ _ c.self.invariant.1 c.args.p _ _ (rw (← c.self.view_is) at c.requires.tiled) (rw c.key-key.ensures.value at c.in_ok-put.ensures.ok))

@@ -1,5 +1,5 @@
 use Rattle.std.proofs.Common.{refl}
-use Rattle.vdb_tree.proofs.Splits.{room_keeps, room_leaves, room_sound, with_upper_at, with_upper_keeps, with_upper_leaves, with_upper_sound}
+use Rattle.vdb_tree.proofs.Splits.{room_keeps, room_adds, room_sound, with_upper_at, with_upper_keeps, with_upper_adds, with_upper_sound}
 use Rattle.vdb_tree.proofs.tree.TreeOf.split_root.Goals as goal
 
 pub invariant_of-self : goal.invariant_of-self
@@ -32,13 +32,13 @@ returns-clause-ok g c =
     (rw (← c.self.view_is) at c.requires.tiled) (rw c.key-key.ensures.value at c.set.ensures.updates)
     c.in_ok-slot.ensures.vacant c.in_ok-node.ensures (record { here = c.in_ok-slot.ensures.node; others = c.in_ok-slot.ensures.others })
 
-pub returns-in_err-slot-clause-leaves : goal.returns-in_err-slot-clause-leaves
-returns-in_err-slot-clause-leaves g c =
-    rw (← c.self.view_is) (room_leaves _ _ _ refl refl c.in_err-slot.ensures.err refl refl refl)
+pub returns-in_err-slot-clause-adds : goal.returns-in_err-slot-clause-adds
+returns-in_err-slot-clause-adds g c =
+    rw (← c.self.view_is) (room_adds _ _ _ refl refl c.in_err-slot.ensures.err refl refl refl)
 
-pub returns-clause-leaves : goal.returns-clause-leaves
-returns-clause-leaves g c =
+pub returns-clause-adds : goal.returns-clause-adds
+returns-clause-adds g c =
     rw (← c.self.view_is)
-    (with_upper_leaves _ _ c.self.invariant.1 c.args.p _ _ _ _ _
+    (with_upper_adds _ _ c.self.invariant.1 c.args.p _ _ _ _ _
     (rw (← c.self.view_is) at c.requires.tiled) (rw c.key-key.ensures.value at c.set.ensures.updates)
     c.in_ok-slot.ensures.vacant c.in_ok-node.ensures (record { here = c.in_ok-slot.ensures.node; others = c.in_ok-slot.ensures.others }))

@@ -16,7 +16,7 @@ loop-next-preserved g c =
     let bits = bits_of g.row.U g.row.L g.row.F in
     goes_on bits c.args.bounds c.args.self.now c.loop-next.self c.voxelise_block.new.self c.in-Some.p
     (subst (λ (next : Option Coord). VoxelisesTo bits c.args.self.now c.loop-next.self c.args.bounds next) c.in-Some.is c.loop-next.invariant)
-    c.in_ok-voxelise_block.ensures.keeps c.in_ok-voxelise_block.ensures.leaves c.in_ok-voxelise_block.ensures.done
+    c.in_ok-voxelise_block.ensures.keeps c.in_ok-voxelise_block.ensures.adds c.in_ok-voxelise_block.ensures.done
     c.next_block_in-next.result (rw c.bits.ensures.value at c.next_block_in-next.ensures.next)
 
 pub returns-in_err-voxelise_block-clause-field : goal.returns-in_err-voxelise_block-clause-field

@@ -1,0 +1,14 @@
+use Rattle.vdb_tree.specs.Changes.{AddsNodes}
+use Rattle.vdb_tree.specs.Layout.{bits_of}
+use Rattle.vdb_tree.proofs.Splits.{adds_itself, adds_twice}
+use Rattle.vdb_tree.proofs.tree.TreeOf.upper_around.Goals as goal
+use Rattle.vdb_tree.proofs.tree.TreeOf.upper_around.Goals.{then-is_none+in_ok-enter, else-is_none}
+
+pub returns-clause-adds : goal.returns-clause-adds
+returns-clause-adds g c =
+    let bits = bits_of g.row.U g.row.L g.row.F in
+    let entered : AddsNodes bits c.args.self.now c.if-is_none.self = elim c.if-is_none.branch [
+      | then-is_none+in_ok-enter w ↦ rw w.self-is w.in_ok-enter.ensures.adds
+      | else-is_none w ↦ rw w.self-is (adds_itself bits c.args.self.now)
+    ] in
+    adds_twice bits c.args.self.now c.if-is_none.self c.split_root.new.self entered c.split_root.ensures.adds
