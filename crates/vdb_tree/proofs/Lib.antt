@@ -8,6 +8,7 @@ pub mod Empty
 pub mod Sizes
 pub mod Descents
 pub mod Pools
+pub mod Readiness
 pub mod Splits
 pub mod Equations
 pub mod LeafWrites

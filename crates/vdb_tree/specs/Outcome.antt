@@ -11,3 +11,9 @@ abbrev pub IsOutcome : {V : Type 0} → (V → V → Bool) → Bits → ℕ → 
 IsOutcome eq bits limit old changed new (Ok _) = (new ≡ changed) × (roots eq bits changed ≤ limit)
 IsOutcome eq bits limit old changed new (Err RootLimit) = (new ≡ old) × (limit < roots eq bits changed)
 IsOutcome eq bits limit old changed new (Err Memory) = (new ≡ old) × (roots eq bits changed ≤ limit)
+
+-- RootLimit exactly where this field would exceed the limit
+abbrev pub ObeysLimit : {V : Type 0} → (V → V → Bool) → Bits → ℕ → Field V → Result (Unit {0}) TreeRefusal → Type 0
+ObeysLimit eq bits limit changed (Ok _) = roots eq bits changed ≤ limit
+ObeysLimit eq bits limit changed (Err RootLimit) = limit < roots eq bits changed
+ObeysLimit eq bits limit changed (Err Memory) = roots eq bits changed ≤ limit

@@ -16,6 +16,7 @@ mod nodes;
 mod path;
 mod pieces;
 mod prune;
+mod ready;
 mod refusal;
 mod root;
 mod root_blocks;

@@ -3,7 +3,7 @@
 ghost use Rattle.std.specs.Prelude.{◌≡◌, ◌+◌, ◌<◌, ◌≤◌, IfErr, IfOk, IsSome, OnOk, length};
 ghost use Rattle.vdb_coord.specs.Blocks.{key};
 ghost use Rattle.vdb_node.specs.declared.Entry.TheVariants.{Child, Tile};
-ghost use Rattle.vdb_tree.specs.Changes.{AddsNodes, Keeps};
+ghost use Rattle.vdb_tree.specs.Changes.{AddsNodes, Keeps, KeepsUppers};
 ghost use Rattle.vdb_tree.specs.Layout.{bits_of, lower_entry, root_at, root_entry, upper_entry};
 ghost use Rattle.vdb_tree.specs.declared.refusal.TreeRefusal.TheVariants.{Memory};
 
@@ -66,6 +66,7 @@ impl<
         requires tiled { upper_entry (bits_of U L F) self.old p ≡ Tile cell }
         ensures keeps { Keeps (bits_of U L F) self.old self.new }
         ensures adds { AddsNodes (bits_of U L F) self.old self.new }
+        ensures root { self.new.root ≡ self.old.root }
         ensures ok { IfOk result (λ slot. upper_entry (bits_of U L F) self.new p ≡ Child slot) }
         ensures memory { IfErr result (λ refusal. refusal ≡ Memory) }
         ensures steps { steps.new ≤ steps.old + 1 }
@@ -90,6 +91,7 @@ impl<
         requires tiled { lower_entry (bits_of U L F) self.old p ≡ Tile cell }
         ensures keeps { Keeps (bits_of U L F) self.old self.new }
         ensures adds { AddsNodes (bits_of U L F) self.old self.new }
+        ensures above { KeepsUppers self.old self.new }
         ensures ok { IfOk result (λ slot. lower_entry (bits_of U L F) self.new p ≡ Child slot) }
         ensures memory { IfErr result (λ refusal. refusal ≡ Memory) }
         ensures steps { steps.new ≤ steps.old + 1 }

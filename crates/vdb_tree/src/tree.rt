@@ -1,20 +1,23 @@
 //! The tree itself.
 
-ghost use Rattle.std.specs.Prelude.{◌≡◌, ◌<◌, ◌≤◌, [], IsTrue};
-ghost use Rattle.vdb_coord.specs.Blocks.{block_numbers, key, node_bits, offset};
+ghost use Rattle.std.specs.Prelude.{◌≡◌, ◌<◌, ◌≤◌, ◌↔◌, [], IfSome, IsTrue};
+ghost use Rattle.vdb_coord.specs.Blocks.{block_number, block_numbers, key, node_bits, offset};
 ghost use Rattle.vdb_coord.specs.Entries.{AreBits};
 ghost use Rattle.vdb_coord.specs.Space.{is_inside};
+ghost use Rattle.vdb_coord.specs.Walk.{IsNextBlock, coordinates_after};
+ghost use Rattle.vdb_coord.specs.declared.Coord.{Coord};
 ghost use Rattle.vdb_coord.specs.declared.Level.TheVariants.{Upper};
 ghost use Rattle.vdb_node.specs.Nodes.{entry_count};
 ghost use Rattle.vdb_tree.specs.Field.{new};
 ghost use Rattle.vdb_tree.specs.Layout.{bits_of, field_of};
 ghost use Rattle.vdb_tree.specs.Plain.{roots};
+ghost use Rattle.vdb_tree.specs.Ready.{IsCovered};
 ghost use Rattle.vdb_tree.specs.Sound.{IsConfigured};
 
 use crate::root::RootTable;
 use std::alloc::Global;
 use std::marker::Model;
-use vdb_coord::{Bits, Coord, Level};
+use vdb_coord::{Bits, Bounds, Coord, Level};
 use vdb_node::{Internal, Leaf, Stored};
 use vdb_pool::Pool;
 
@@ -152,5 +155,33 @@ impl<
         ensures within { result < entry_count (node_bits (bits_of U L F) level) }
     {
         u32::from(p.offset_in(self.bits(), level))
+    }
+
+    /// Whether the level's block around p lies within the box.
+    pub(crate) fn is_covered(&self, bounds: Bounds, level: Level, p: Coord) -> bool
+        ensures { IsTrue result ↔ IsCovered (bits_of U L F) bounds level p }
+    {
+        bounds.covers(p.block_in(self.bits(), level))
+    }
+
+    /// The coordinates of the box in the level's block around p, which is one of them.
+    pub(crate) fn part(&self, bounds: Bounds, level: Level, p: Coord) -> Bounds
+        requires { IsTrue (is_inside bounds p) }
+        ensures within { (q : Coord) → IsTrue (is_inside result q) → IsTrue (is_inside bounds q) × (block_number (bits_of U L F) level q ≡ block_number (bits_of U L F) level p) }
+        ensures all { (q : Coord) → IsTrue (is_inside bounds q) → block_number (bits_of U L F) level q ≡ block_number (bits_of U L F) level p → IsTrue (is_inside result q) }
+    {
+        match bounds.intersect(p.block_in(self.bits(), level)) {
+            Some(part) => part,
+            None => unreachable!(),
+        }
+    }
+
+    /// A coordinate of the box in the level's next block that meets it, past the block around p.
+    pub(crate) fn next_block(&self, bounds: Bounds, level: Level, p: Coord) -> Option<Coord>
+        requires { IsTrue (is_inside bounds p) }
+        ensures next { IsNextBlock (bits_of U L F) level bounds p result }
+        ensures nearer { IfSome result (λ next. coordinates_after next < coordinates_after p) }
+    {
+        bounds.next_block_in(self.bits(), level, p)
     }
 }

@@ -1,0 +1,42 @@
+use Rattle.std.proofs.Common.{◌∙◌, refl, sym}
+use Rattle.vdb_coord.specs.Space.{is_inside}
+use Rattle.vdb_coord.specs.declared.Level.TheVariants.{Leaf}
+use Rattle.vdb_coord.proofs.Boxes.{both}
+use Rattle.vdb_tree.specs.Layout.{bits_of}
+use Rattle.vdb_tree.proofs.Passes.{head_same, uppers_same, uppers_trans, upper_entry_same}
+use Rattle.vdb_tree.proofs.Readiness.{SplitsTo, split_all, split_next, split_none}
+use Rattle.vdb_tree.proofs.Splits.{adds_twice, keeps_twice}
+use Rattle.vdb_tree.proofs.tree.TreeOf.split_leaf_blocks.Goals as goal
+
+pub loop-self-init : goal.loop-self-init
+loop-self-init g c =
+    let bits = bits_of g.row.U g.row.L g.row.F in
+    let first : SplitsTo bits c.args.bounds c.args.cell Leaf c.args.part c.args.self.now c.args.self.now c.min-p.result =
+    rw c.min-p.ensures.corner (split_none bits c.args.bounds c.args.cell Leaf c.args.part c.args.self.now (both _ _ c.min-p.ensures.bounds).0) in
+    (first, uppers_same c.args.self.now, c.requires c.min-p.result first.inside)
+
+pub returns-in_err-split_leaf_block-clause-adds : goal.returns-in_err-split_leaf_block-clause-adds
+returns-in_err-split_leaf_block-clause-adds g c =
+    adds_twice (bits_of g.row.U g.row.L g.row.F) c.args.self.now c.loop-self.self c.split_leaf_block.new.self c.loop-self.invariant.0.adds c.in_err-split_leaf_block.ensures.adds
+
+pub loop-self-preserved : goal.loop-self-preserved
+loop-self-preserved g c =
+    let bits = bits_of g.row.U g.row.L g.row.F in
+    let next = c.in-Some.next in
+    let above = uppers_trans c.args.self.now c.loop-self.self c.split_leaf_block.new.self c.loop-self.invariant.1 c.in_ok-split_leaf_block.ensures.above in
+    let on = split_next bits c.args.bounds c.args.cell Leaf c.args.part c.args.self.now c.loop-self.self c.split_leaf_block.new.self c.loop-self.p c.loop-self.invariant.0
+    c.in_ok-split_leaf_block.ensures.keeps c.in_ok-split_leaf_block.ensures.adds c.in_ok-split_leaf_block.ensures.ready next c.in-Some.ensures.next in
+    (on, above, upper_entry_same bits c.args.self.now c.split_leaf_block.new.self above next ∙ c.requires next on.inside)
+
+pub returns-in-None-clause-keeps : goal.returns-in-None-clause-keeps
+returns-in-None-clause-keeps g c =
+    keeps_twice (bits_of g.row.U g.row.L g.row.F) c.args.self.now c.loop-self.self c.split_leaf_block.new.self c.loop-self.invariant.0.keeps c.in_ok-split_leaf_block.ensures.keeps
+
+pub returns-in-None-clause-adds : goal.returns-in-None-clause-adds
+returns-in-None-clause-adds g c =
+    adds_twice (bits_of g.row.U g.row.L g.row.F) c.args.self.now c.loop-self.self c.split_leaf_block.new.self c.loop-self.invariant.0.adds c.in_ok-split_leaf_block.ensures.adds
+
+pub returns-in-None-clause-ready : goal.returns-in-None-clause-ready
+returns-in-None-clause-ready g c =
+    split_all (bits_of g.row.U g.row.L g.row.F) c.args.bounds c.args.cell Leaf c.args.part c.args.self.now c.loop-self.self c.split_leaf_block.new.self c.loop-self.p c.loop-self.invariant.0
+    c.in_ok-split_leaf_block.ensures.keeps c.in_ok-split_leaf_block.ensures.adds c.in_ok-split_leaf_block.ensures.ready c.in-None.ensures.next
