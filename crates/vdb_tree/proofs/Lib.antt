@@ -8,7 +8,6 @@ pub mod Empty
 pub mod Sizes
 pub mod Descents
 pub mod Pools
-pub mod Readiness
 pub mod Splits
 pub mod Equations
 pub mod LeafWrites
@@ -26,6 +25,7 @@ pub mod Passes
 pub mod Sweeps
 pub mod BlockOrder
 pub mod KeysPast
+pub mod Readiness
 pub mod EntryCounts
 pub mod NextChild
 pub mod NextLeaf

@@ -1,35 +1,82 @@
 -- What is ready to be painted, and stays so while nodes come.
-use Rattle.std.proofs.Common.{◌≡◌, ◌⊎◌, inl, inr, ℕ, true, refl, sym, subst, ◌∙◌, IsTrue, Some, None}
-use Rattle.vdb_coord.specs.Blocks.{block, block_number}
-use Rattle.vdb_coord.specs.Space.{Box, is_box, is_inside, is_within}
+use Rattle.std.proofs.Common.{◌≡◌, ◌≢◌, ◌⊎◌, inl, inr, ℕ, true, refl, sym, ap, subst, ◌∙◌, IsTrue, Some, None, Option, Ok, Err}
+use Rattle.std.specs.Prelude.{IsSome, OnOk, Result}
+use Rattle.vdb_coord.specs.Blocks.{block, block_bits, block_number, key}
+use Rattle.vdb_coord.specs.Space.{Box, coord_cmp, is_box, is_inside, is_within}
 use Rattle.vdb_coord.specs.Walk.{IsBlockBefore, IsNextBlock}
 use Rattle.vdb_coord.specs.declared.Bits.{Bits}
 use Rattle.vdb_coord.specs.declared.Coord.{Coord}
 use Rattle.vdb_coord.specs.declared.Level.{Level}
 use Rattle.vdb_coord.specs.declared.Level.TheVariants.{Leaf, Lower, Upper}
+use Rattle.vdb_coord.proofs.Boxes.{and_true}
+use Rattle.vdb_coord.proofs.InRange.{number_of_corner}
+use Rattle.vdb_coord.proofs.Meeting.{number_of_last, within_each}
+use Rattle.vdb_coord.proofs.Nesting.{inside_numbered, lower_from_leaf, upper_from_lower}
 use Rattle.vdb_coord.proofs.Walk.{min_inside, none_before}
 use Rattle.vdb_node.specs.declared.Entry.{Entry}
 use Rattle.vdb_node.specs.declared.Entry.TheVariants.{Child, Tile}
 use Rattle.vdb_value.specs.declared.Cell.{Cell}
 use Rattle.vdb_tree.specs.Changes.{AddsNodes, Keeps}
-use Rattle.vdb_tree.specs.Layout.{Layout, entry_over}
+use Rattle.vdb_tree.specs.Layout.{Layout, entry_over, plain, root_at}
 use Rattle.vdb_tree.specs.Ready.{IsCovered, IsReadyAt, IsReadyTo}
-use Rattle.vdb_tree.proofs.Levels.{same_tile, tile_no_child}
+use Rattle.vdb_tree.specs.Table.{IsNextKey, IsPast}
+use Rattle.vdb_tree.proofs.Descents.{tile_lower, tile_upper}
+use Rattle.vdb_tree.proofs.KeysPast.{past_on}
+use Rattle.vdb_tree.proofs.Levels.{coord_cases, same_tile, some_held, tile_no_child}
+use Rattle.vdb_tree.proofs.Needed.{absent_entry, is_some_from, some_or_none}
 use Rattle.vdb_tree.proofs.Splits.{adds_itself, adds_twice, keeps_itself, keeps_twice}
+use Rattle.vdb_tree.proofs.Sweeps.{apart as later_apart, equal_left, past_or_not, same_keys}
 
-module _ {V : Type 0} (bits : Bits) (box : Box) (cell : Cell V) where
+-- what follows from a value where there is one
+pub on_ok : {A E : Type 0} {P Q : Type 0} (r : Result A E) → OnOk r P → (P → Q) → OnOk r Q
+on_ok (Ok x) h f = f h
+on_ok (Err e) h f = tt
+
+module _ (bits : Bits) (box : Box) where
   -- a block is covered with each of its coordinates
   pub covered_by_block : (level : Level) (p q : Coord) → block_number bits level q ≡ block_number bits level p → IsCovered bits box level p → IsCovered bits box level q
   covered_by_block level p q same h = subst (λ (n : Coord). IsTrue (is_within (block bits level n) box)) (sym same) h
 
-  pub ready_covered : (level : Level) (t : Layout V) (q : Coord) → IsCovered bits box level q → IsReadyAt bits box cell level t q
-  ready_covered level t q h = λ tile e. inl h
+  pub covered_each : (level : Level) (p q : Coord) → block_number bits level q ≡ block_number bits level p → IsCovered bits box level p → IsTrue (is_inside box q)
+  covered_each level p q same h = within_each (block bits level (block_number bits level p)) box q h (inside_numbered bits level (block_number bits level p) q same)
+
+  -- the last coordinate of a block has its number
+  number_of_end : (level : Level) (n : Coord) → block_number bits level (block bits level n).max ≡ n
+  number_of_end level n =
+      let k = block_bits bits level in
+      let x = number_of_last k n.x in
+      let y = number_of_last k n.y in
+      let z = number_of_last k n.z in
+      λ i. record { x = x i; y = y i; z = z i }
+
+  pub covered_from : (level : Level) (p : Coord) → ((q : Coord) → block_number bits level q ≡ block_number bits level p → IsTrue (is_inside box q)) → IsCovered bits box level p
+  covered_from level p all =
+      let n = block_number bits level p in
+      and_true (is_inside box (block bits level n).min) (is_inside box (block bits level n).max) (all (block bits level n).min (number_of_corner bits level n)) (all (block bits level n).max (number_of_end level n))
+
+  -- and with the blocks within it
+  pub covered_leaf : (p : Coord) → IsCovered bits box Lower p → IsCovered bits box Leaf p
+  covered_leaf p h = covered_from Leaf p (λ q same. covered_each Lower p q (lower_from_leaf bits q p same) h)
+
+  pub covered_lower : (p : Coord) → IsCovered bits box Upper p → IsCovered bits box Lower p
+  covered_lower p h = covered_from Lower p (λ q same. covered_each Upper p q (upper_from_lower bits q p same) h)
+
+module _ {V : Type 0} (bits : Bits) (box : Box) (cell : Cell V) where
+  -- what is covered is ready, and so is what lies in a tile of the cell
+  pub ready_within : (level : Level) (t : Layout V) (q : Coord) → IsCovered bits box level q → IsReadyTo bits box cell level t q
+  ready_within Leaf t q h = λ tile e. inl h
+  ready_within Lower t q h = (λ tile e. inl (covered_leaf bits box q h), λ tile e. inl h)
+  ready_within Upper t q h = let l = covered_lower bits box q h in (λ tile e. inl (covered_leaf bits box q l), λ tile e. inl l, λ tile e. inl h)
+
+  pub ready_tiled : (level : Level) (t : Layout V) (q : Coord) → entry_over bits level t q ≡ Tile cell → IsReadyTo bits box cell level t q
+  ready_tiled Leaf t q at = λ tile e. inr (same_tile tile cell (sym e ∙ at))
+  ready_tiled Lower t q at = (λ tile e. inr (same_tile tile cell (sym e ∙ tile_lower bits t cell q at)), λ tile e. inr (same_tile tile cell (sym e ∙ at)))
+  ready_tiled Upper t q at =
+      let below = tile_upper bits t cell q at in
+      (λ tile e. inr (same_tile tile cell (sym e ∙ tile_lower bits t cell q below)), λ tile e. inr (same_tile tile cell (sym e ∙ below)), λ tile e. inr (same_tile tile cell (sym e ∙ at)))
 
   pub ready_child : (level : Level) (t : Layout V) (q : Coord) (slot : ℕ) → entry_over bits level t q ≡ Child slot → IsReadyAt bits box cell level t q
   ready_child level t q slot child = λ tile e. absurd (tile_no_child tile slot (sym e ∙ child))
-
-  pub ready_cell : (level : Level) (t : Layout V) (q : Coord) → entry_over bits level t q ≡ Tile cell → IsReadyAt bits box cell level t q
-  ready_cell level t q at = λ tile e. inr (same_tile tile cell (sym e ∙ at))
 
   -- while nodes come
   pub ready_stays : (level : Level) (t n : Layout V) (q : Coord) → AddsNodes bits t n → IsReadyTo bits box cell level t q → IsReadyTo bits box cell level n q
@@ -50,11 +97,11 @@ module _ {V : Type 0} (bits : Bits) (box : Box) (cell : Cell V) where
     split_none t is = record { keeps = keeps_itself bits t; adds = adds_itself bits t; inside = min_inside part is; done = λ q inside before. absurd (none_before bits level part q inside before) }
 
     module _ (old t n : Layout V) (p : Coord) (so_far : SplitsTo level part old t p) (keeps : Keeps bits t n) (adds : AddsNodes bits t n)
-        (ready : (q : Coord) → block_number bits level q ≡ block_number bits level p → IsReadyTo bits box cell level n q) where
+        (ready : (q : Coord) → IsTrue (is_inside part q) → block_number bits level q ≡ block_number bits level p → IsReadyTo bits box cell level n q) where
       up_to : (q : Coord) → IsTrue (is_inside part q) → IsBlockBefore bits level q p ⊎ (block_number bits level q ≡ block_number bits level p) → IsReadyTo bits box cell level n q
       up_to q inside h = elim h [
         | inl before ↦ ready_stays level t n q adds (so_far.done q inside before)
-        | inr same ↦ ready q same
+        | inr same ↦ ready q inside same
       ]
 
       pub split_next : (next : Coord) → IsNextBlock bits level part p (Some next) → SplitsTo level part old n next
@@ -62,3 +109,53 @@ module _ {V : Type 0} (bits : Bits) (box : Box) (cell : Cell V) where
 
       pub split_all : IsNextBlock bits level part p None → (q : Coord) → IsTrue (is_inside part q) → IsReadyTo bits box cell level n q
       split_all h q inside = up_to q inside (h q inside)
+
+  -- ---- the root blocks in the order of keys
+
+  pub record SplitsRoots (old new : Layout V) (passed : Option Coord) : Type 0 where
+    pub keeps : Keeps bits old new
+    pub adds : AddsNodes bits old new
+    pub ahead : (k : Coord) → IsPast passed k → root_at new.root k ≡ root_at old.root k
+    pub done : (q : Coord) → IsTrue (is_inside box q) → (IsPast passed (key bits q) → ⊥) → IsSome (root_at new.root (key bits q)) → IsReadyTo bits box cell Upper new q
+
+  pub roots_none : (t : Layout V) → SplitsRoots t t None
+  roots_none t = record { keeps = keeps_itself bits t; adds = adds_itself bits t; ahead = λ k h. refl; done = λ q inside h. absurd (h tt) }
+
+  module _ (old t n : Layout V) (passed : Option Coord) (so_far : SplitsRoots old t passed) where
+    -- the next key of the table, as the table was at first
+    pub next_at_first : (next : Option Coord) → IsNextKey t.root passed next → IsNextKey old.root passed next
+    next_at_first None next = λ k past. sym (so_far.ahead k past) ∙ next k past
+    next_at_first (Some k) next = (rw (← so_far.ahead k next.1) next.0, next.1, λ j past some. next.2 j past (rw (so_far.ahead j past) some))
+
+    module _ (keeps : Keeps bits t n) (adds : AddsNodes bits t n) where
+      pub roots_next : (k : Coord) → IsNextKey t.root passed (Some k) → ((j : Coord) → j ≢ k → root_at n.root j ≡ root_at t.root j)
+          → ((q : Coord) → IsTrue (is_inside box q) → key bits q ≡ k → IsReadyTo bits box cell Upper n q) → SplitsRoots old n (Some k)
+      roots_next k next table ready = record {
+        keeps = keeps_twice bits old t n so_far.keeps keeps;
+        adds = adds_twice bits old t n so_far.adds adds;
+        ahead = λ j later. table j (later_apart k j later) ∙ so_far.ahead j (past_on passed k j next.1 later);
+        done = λ q inside not_past some.
+            elim (coord_cases (key bits q) k) [
+              | inl e ↦ ready q inside e
+              | inr d ↦
+                  let was : IsSome (root_at t.root (key bits q)) = rw (← table (key bits q) d) some in
+                  elim (past_or_not passed (key bits q)) [
+                    | inr before ↦ ready_stays Upper t n q adds (so_far.done q inside before was)
+                    | inl past ↦ absurd (d (sym (same_keys k (key bits q) (equal_left (coord_cmp k (key bits q)) (next.2 (key bits q) past was) not_past))))
+                  ]
+            ];
+      }
+
+      -- where no key is left, all of the box is ready
+      pub roots_end : IsNextKey t.root passed None → ((k : Coord) → root_at n.root k ≡ root_at t.root k) → (q : Coord) → IsTrue (is_inside box q) → (cell ≡ plain n) ⊎ IsSome (root_at n.root (key bits q)) → IsReadyTo bits box cell Upper n q
+      roots_end next same q inside entered =
+          elim (some_or_none (root_at n.root (key bits q))) [
+            | inl x ↦
+                let held = is_some_from (root_at n.root (key bits q)) x.0 x.1 in
+                let was : IsSome (root_at t.root (key bits q)) = rw (← same (key bits q)) held in
+                ready_stays Upper t n q adds (so_far.done q inside (λ past. some_held (root_at t.root (key bits q)) was (next (key bits q) past)) was)
+            | inr none ↦ elim entered [
+              | inl e ↦ ready_tiled Upper n q (absent_entry bits n q none ∙ ap Tile (sym e))
+              | inr some ↦ absurd (some_held (root_at n.root (key bits q)) some none)
+            ]
+          ]

@@ -34,19 +34,19 @@ less_or_not Less = inl refl
 less_or_not Equal = inr (λ e. cc)
 less_or_not Greater = inr (λ e. cc)
 
-past_or_not : (passed : Option Coord) (k : Coord) → (IsPast passed k) ⊎ (IsPast passed k → ⊥)
+pub past_or_not : (passed : Option Coord) (k : Coord) → (IsPast passed k) ⊎ (IsPast passed k → ⊥)
 past_or_not None k = inl tt
 past_or_not (Some a) k = less_or_not (coord_cmp a k)
 
-equal_left : (o : Ordering) → is_gt o ≡ false → (o ≡ Less → ⊥) → o ≡ Equal
+pub equal_left : (o : Ordering) → is_gt o ≡ false → (o ≡ Less → ⊥) → o ≡ Equal
 equal_left Less h n = absurd (n refl)
 equal_left Equal h n = refl
 equal_left Greater h n = cc
 
-same_keys : (p q : Coord) → coord_cmp p q ≡ Equal → p ≡ q
+pub same_keys : (p q : Coord) → coord_cmp p q ≡ Equal → p ≡ q
 same_keys p q e = coord_exact p q (rw e refl)
 
-apart : (p q : Coord) → coord_cmp p q ≡ Less → q ≢ p
+pub apart : (p q : Coord) → coord_cmp p q ≡ Less → q ≢ p
 apart p q less e = less_apart p q less (sym e)
 
 module _ {V : Type 0} (bits : Bits) where

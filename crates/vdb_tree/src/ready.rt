@@ -1,14 +1,17 @@
 //! Nodes where a box's edge crosses a tile, so that the box can be painted without memory.
 
-ghost use Rattle.std.specs.Prelude.{◌≡◌, IfErr, IsTrue, OnOk};
-ghost use Rattle.vdb_coord.specs.Blocks.{block_number};
-ghost use Rattle.vdb_coord.specs.Space.{is_inside};
+ghost use Rattle.std.specs.Prelude.{◌≡◌, ◌≢◌, ◌⊎◌, IfErr, IfOk, IfSome, IsNone, IsSome, IsTrue, OnOk, Some};
+ghost use Rattle.vdb_coord.specs.Blocks.{block_number, key};
+ghost use Rattle.vdb_coord.specs.Space.{Box, is_inside};
 ghost use Rattle.vdb_coord.specs.declared.Coord.{Coord};
-ghost use Rattle.vdb_coord.specs.declared.Level.TheVariants.{Leaf, Lower};
+ghost use Rattle.vdb_coord.specs.declared.Level.TheVariants.{Leaf, Lower, Upper};
 ghost use Rattle.vdb_node.specs.declared.Entry.TheVariants.{Child};
 ghost use Rattle.vdb_tree.specs.Changes.{AddsNodes, Keeps, KeepsUppers};
-ghost use Rattle.vdb_tree.specs.Layout.{bits_of, upper_entry};
-ghost use Rattle.vdb_tree.specs.Ready.{IsReadyTo};
+ghost use Rattle.vdb_tree.specs.Field.{fill};
+ghost use Rattle.vdb_tree.specs.Layout.{bits_of, field_of, plain, root_at, root_entry, upper_entry};
+ghost use Rattle.vdb_tree.specs.Outcome.{ObeysLimit};
+ghost use Rattle.vdb_tree.specs.Ready.{IsReady, IsReadyTo};
+ghost use Rattle.vdb_tree.specs.Table.{IsNextKey};
 ghost use Rattle.vdb_tree.specs.declared.refusal.TreeRefusal.TheVariants.{Memory};
 
 use crate::{TreeOf, TreeRefusal};
@@ -26,27 +29,178 @@ impl<
     const WL: usize,
     const WF: usize,
 > TreeOf<V, U, L, F, WU, WL, WF> {
-    /// Makes the leaf blocks of a lower node ready where they meet the box.
-    fn split_leaf_blocks(
+    /// Makes the root blocks ready that have an entry.
+    fn split_root_blocks(
         &mut self,
-        lower: u32,
         bounds: Bounds,
+        cell: Cell<V>,
+        steps: &mut Steps,
+    ) -> Result<(), TreeRefusal>
+        ensures keeps { Keeps (bits_of U L F) self.old self.new }
+        ensures adds { AddsNodes (bits_of U L F) self.old self.new }
+        ensures ready { OnOk result ((q : Coord) → IsTrue (is_inside bounds q) → (cell ≡ plain self.new) ⊎ IsSome (root_at self.new.root (key (bits_of U L F) q))
+            → IsReadyTo (bits_of U L F) bounds cell Upper self.new q) }
+        ensures memory { IfErr result (λ refusal. refusal ≡ Memory) }
+    {
+        let mut passed = None;
+        loop {
+            match self.split_next_root(bounds, cell, passed, steps)? {
+                Some(key) => passed = Some(key),
+                None => return Ok(()),
+            }
+        }
+    }
+
+    /// Makes the first root block past a key ready, or the first of all, where it meets the box. It gives the key.
+    fn split_next_root(
+        &mut self,
+        bounds: Bounds,
+        cell: Cell<V>,
+        after: Option<Coord>,
+        steps: &mut Steps,
+    ) -> Result<Option<Coord>, TreeRefusal>
+        ensures keeps { Keeps (bits_of U L F) self.old self.new }
+        ensures adds { AddsNodes (bits_of U L F) self.old self.new }
+        ensures next { IfOk result (λ next. IsNextKey self.old.root after next) }
+        ensures ready { IfOk result (λ next. IfSome next (λ k. (q : Coord) → IsTrue (is_inside bounds q) → key (bits_of U L F) q ≡ k
+            → IsReadyTo (bits_of U L F) bounds cell Upper self.new q)) }
+        ensures table { IfOk result (λ next. (k : Coord) → next ≢ Some k → root_at self.new.root k ≡ root_at self.old.root k) }
+        ensures memory { IfErr result (λ refusal. refusal ≡ Memory) }
+    {
+        let Some(key) = self.next_key(after) else {
+            return Ok(None);
+        };
+        if let Some(p) = self.root_block_in(bounds, key) {
+            self.split_upper_block(bounds, p, cell, steps)?;
+        }
+        Ok(Some(key))
+    }
+
+    /// A coordinate of the box in the root block with this key of the table.
+    fn root_block_in(&self, bounds: Bounds, at: Coord) -> Option<Coord>
+        requires { IsSome (root_at self.now.root at) }
+        ensures some { IfSome result (λ p. IsTrue (is_inside bounds p) × (key (bits_of U L F) p ≡ at) × IsSome (root_at self.now.root (key (bits_of U L F) p))) }
+        ensures none { IsNone result → (q : Coord) → IsTrue (is_inside bounds q) → key (bits_of U L F) q ≢ at }
+    {
+        let block = self.key_corner(at).block_in(self.bits(), Level::Upper);
+        match bounds.intersect(block) {
+            Some(part) => Some(part.min()),
+            None => None,
+        }
+    }
+
+    /// Makes p's root block, which has an entry, ready.
+    fn split_upper_block(
+        &mut self,
+        bounds: Bounds,
+        p: Coord,
+        cell: Cell<V>,
+        steps: &mut Steps,
+    ) -> Result<(), TreeRefusal>
+        requires inside { IsTrue (is_inside bounds p) }
+        requires entered { IsSome (root_at self.old.root (key (bits_of U L F) p)) }
+        ensures keeps { Keeps (bits_of U L F) self.old self.new }
+        ensures adds { AddsNodes (bits_of U L F) self.old self.new }
+        ensures table { (k : Coord) → k ≢ key (bits_of U L F) p → root_at self.new.root k ≡ root_at self.old.root k }
+        ensures ready { OnOk result ((q : Coord) → IsTrue (is_inside bounds q) → block_number (bits_of U L F) Upper q ≡ block_number (bits_of U L F) Upper p
+            → IsReadyTo (bits_of U L F) bounds cell Upper self.new q) }
+        ensures memory { IfErr result (λ refusal. refusal ≡ Memory) }
+    {
+        if self.is_covered(bounds, Level::Upper, p) {
+            return Ok(());
+        }
+        if let Entry::Tile(tile) = self.root_entry(p) {
+            if tile == cell {
+                return Ok(());
+            }
+        }
+        let upper = self.upper_around(p)?;
+        let part = self.part(bounds, Level::Upper, p);
+        self.split_lower_blocks(upper, bounds, p, part, cell, steps)
+    }
+
+    /// Makes the lower blocks of the upper node around p ready where they meet the box.
+    fn split_lower_blocks(
+        &mut self,
+        upper: u32,
+        bounds: Bounds,
+        p: Coord,
         part: Bounds,
         cell: Cell<V>,
         steps: &mut Steps,
     ) -> Result<(), TreeRefusal>
-        requires { (q : Coord) → IsTrue (is_inside part q) → upper_entry (bits_of U L F) self.old q ≡ Child lower }
+        requires part { (q : Coord) → IsTrue (is_inside part q) → IsTrue (is_inside bounds q) × (block_number (bits_of U L F) Upper q ≡ block_number (bits_of U L F) Upper p) }
+        requires node { root_entry (bits_of U L F) self.old p ≡ Child upper }
+        ensures keeps { Keeps (bits_of U L F) self.old self.new }
+        ensures adds { AddsNodes (bits_of U L F) self.old self.new }
+        ensures root { self.new.root ≡ self.old.root }
+        ensures ready { OnOk result ((q : Coord) → IsTrue (is_inside part q) → IsReadyTo (bits_of U L F) bounds cell Lower self.new q) }
+        ensures memory { IfErr result (λ refusal. refusal ≡ Memory) }
+    {
+        let mut at = part.min();
+        loop {
+            self.split_lower_block(upper, bounds, at, cell, steps)?;
+            match self.next_block(part, Level::Lower, at) {
+                Some(next) => at = next,
+                None => return Ok(()),
+            }
+        }
+    }
+
+    /// Makes the lower block around p ready.
+    fn split_lower_block(
+        &mut self,
+        upper: u32,
+        bounds: Bounds,
+        p: Coord,
+        cell: Cell<V>,
+        steps: &mut Steps,
+    ) -> Result<(), TreeRefusal>
+        requires inside { IsTrue (is_inside bounds p) }
+        requires node { root_entry (bits_of U L F) self.old p ≡ Child upper }
+        ensures keeps { Keeps (bits_of U L F) self.old self.new }
+        ensures adds { AddsNodes (bits_of U L F) self.old self.new }
+        ensures root { self.new.root ≡ self.old.root }
+        ensures ready { OnOk result ((q : Coord) → IsTrue (is_inside bounds q) → block_number (bits_of U L F) Lower q ≡ block_number (bits_of U L F) Lower p
+            → IsReadyTo (bits_of U L F) bounds cell Lower self.new q) }
+        ensures memory { IfErr result (λ refusal. refusal ≡ Memory) }
+    {
+        if self.is_covered(bounds, Level::Lower, p) {
+            return Ok(());
+        }
+        if let Entry::Tile(tile) = self.upper_entry(upper, p, steps) {
+            if tile == cell {
+                return Ok(());
+            }
+        }
+        let lower = self.lower_in(upper, p, steps)?;
+        let part = self.part(bounds, Level::Lower, p);
+        self.split_leaf_blocks(lower, bounds, p, part, cell, steps)
+    }
+
+    /// Makes the leaf blocks of the lower node around p ready where they meet the box.
+    fn split_leaf_blocks(
+        &mut self,
+        lower: u32,
+        bounds: Bounds,
+        p: Coord,
+        part: Bounds,
+        cell: Cell<V>,
+        steps: &mut Steps,
+    ) -> Result<(), TreeRefusal>
+        requires part { (q : Coord) → IsTrue (is_inside part q) → IsTrue (is_inside bounds q) × (block_number (bits_of U L F) Lower q ≡ block_number (bits_of U L F) Lower p) }
+        requires node { upper_entry (bits_of U L F) self.old p ≡ Child lower }
         ensures keeps { Keeps (bits_of U L F) self.old self.new }
         ensures adds { AddsNodes (bits_of U L F) self.old self.new }
         ensures above { KeepsUppers self.old self.new }
         ensures ready { OnOk result ((q : Coord) → IsTrue (is_inside part q) → IsReadyTo (bits_of U L F) bounds cell Leaf self.new q) }
         ensures memory { IfErr result (λ refusal. refusal ≡ Memory) }
     {
-        let mut p = part.min();
+        let mut at = part.min();
         loop {
-            self.split_leaf_block(lower, bounds, p, cell, steps)?;
-            match self.next_block(part, Level::Leaf, p) {
-                Some(next) => p = next,
+            self.split_leaf_block(lower, bounds, at, cell, steps)?;
+            match self.next_block(part, Level::Leaf, at) {
+                Some(next) => at = next,
                 None => return Ok(()),
             }
         }

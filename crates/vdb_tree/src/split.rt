@@ -1,7 +1,8 @@
 //! Nodes in place of tiles, which keep every cell.
 
-ghost use Rattle.std.specs.Prelude.{◌≡◌, ◌+◌, ◌<◌, ◌≤◌, IfErr, IfOk, IsSome, OnOk, length};
+ghost use Rattle.std.specs.Prelude.{◌≡◌, ◌≢◌, ◌+◌, ◌<◌, ◌≤◌, IfErr, IfOk, IsSome, OnOk, length};
 ghost use Rattle.vdb_coord.specs.Blocks.{key};
+ghost use Rattle.vdb_coord.specs.declared.Coord.{Coord};
 ghost use Rattle.vdb_node.specs.declared.Entry.TheVariants.{Child, Tile};
 ghost use Rattle.vdb_tree.specs.Changes.{AddsNodes, Keeps, KeepsUppers};
 ghost use Rattle.vdb_tree.specs.Layout.{bits_of, lower_entry, root_at, root_entry, upper_entry};
@@ -31,6 +32,7 @@ impl<
         ensures keeps { Keeps (bits_of U L F) self.old self.new }
         ensures adds { AddsNodes (bits_of U L F) self.old self.new }
         ensures tiled { root_entry (bits_of U L F) self.new p ≡ Tile cell }
+        ensures table { (k : Coord) → k ≢ key (bits_of U L F) p → root_at self.new.root k ≡ root_at self.old.root k }
         ensures entered { OnOk result (IsSome (root_at self.new.root (key (bits_of U L F) p))) }
     {
         let key = self.key(p);
@@ -44,6 +46,7 @@ impl<
         requires entered { IsSome (root_at self.old.root (key (bits_of U L F) p)) }
         ensures keeps { Keeps (bits_of U L F) self.old self.new }
         ensures adds { AddsNodes (bits_of U L F) self.old self.new }
+        ensures table { (k : Coord) → k ≢ key (bits_of U L F) p → root_at self.new.root k ≡ root_at self.old.root k }
         ensures ok { IfOk result (λ slot. root_entry (bits_of U L F) self.new p ≡ Child slot) }
         ensures memory { IfErr result (λ refusal. refusal ≡ Memory) }
     {

@@ -2,11 +2,12 @@
 
 ghost use Rattle.std.specs.Prelude.{◌≡◌, ◌≢◌, ◌+◌, ◌<◌, ◌≤◌, ◌⊎◌, ◌↔◌, false, ℕ, Ok, IfOk, IfErr, IsOk, IsTrue, OnOk};
 ghost use Rattle.vdb_coord.specs.Blocks.{block_around, key};
+ghost use Rattle.vdb_coord.specs.declared.Coord.{Coord};
 ghost use Rattle.vdb_coord.specs.declared.Level.TheVariants.{Leaf};
 ghost use Rattle.vdb_node.specs.declared.Entry.TheVariants.{Child};
 ghost use Rattle.vdb_tree.specs.Changes.{AddsNodes, IsSwept, Keeps};
 ghost use Rattle.vdb_tree.specs.Field.{write, written};
-ghost use Rattle.vdb_tree.specs.Layout.{bits_of, cell_at, field_of, lower_entry, root_entry, upper_entry};
+ghost use Rattle.vdb_tree.specs.Layout.{bits_of, cell_at, field_of, lower_entry, root_at, root_entry, upper_entry};
 ghost use Rattle.vdb_tree.specs.Outcome.{IsOutcome};
 ghost use Rattle.vdb_tree.specs.Paths.{in_leaf};
 ghost use Rattle.vdb_tree.specs.Plain.{is_constant, roots};
@@ -150,10 +151,11 @@ impl<
     }
 
     /// The slot of the upper node around p, which is made where there is none.
-    fn upper_around(&mut self, p: Coord) -> Result<u32, TreeRefusal>
+    pub(crate) fn upper_around(&mut self, p: Coord) -> Result<u32, TreeRefusal>
         requires room { HasRoom self.old (key (bits_of U L F) p) }
         ensures keeps { Keeps (bits_of U L F) self.old self.new }
         ensures adds { AddsNodes (bits_of U L F) self.old self.new }
+        ensures table { (k : Coord) → k ≢ key (bits_of U L F) p → root_at self.new.root k ≡ root_at self.old.root k }
         ensures ok { IfOk result (λ slot. root_entry (bits_of U L F) self.new p ≡ Child slot) }
         ensures there { (slot : ℕ) → root_entry (bits_of U L F) self.old p ≡ Child slot → (result ≡ Ok slot) × (self.new ≡ self.old) }
         ensures memory { IfErr result (λ refusal. refusal ≡ Memory) }
@@ -169,10 +171,16 @@ impl<
     }
 
     /// The slot of the lower node around p, which is made where there is none.
-    fn lower_in(&mut self, upper: u32, p: Coord, steps: &mut Steps) -> Result<u32, TreeRefusal>
+    pub(crate) fn lower_in(
+        &mut self,
+        upper: u32,
+        p: Coord,
+        steps: &mut Steps,
+    ) -> Result<u32, TreeRefusal>
         requires { root_entry (bits_of U L F) self.old p ≡ Child upper }
         ensures keeps { Keeps (bits_of U L F) self.old self.new }
         ensures adds { AddsNodes (bits_of U L F) self.old self.new }
+        ensures root { self.new.root ≡ self.old.root }
         ensures ok { IfOk result (λ slot. upper_entry (bits_of U L F) self.new p ≡ Child slot) }
         ensures there { (slot : ℕ) → upper_entry (bits_of U L F) self.old p ≡ Child slot → (result ≡ Ok slot) × (self.new ≡ self.old) }
         ensures memory { IfErr result (λ refusal. refusal ≡ Memory) }

@@ -3,7 +3,7 @@ use Rattle.vdb_coord.specs.declared.Level.TheVariants.{Leaf}
 use Rattle.vdb_node.specs.declared.Entry.TheVariants.{Tile}
 use Rattle.vdb_tree.specs.Layout.{bits_of}
 use Rattle.vdb_tree.proofs.Descents.{lower_by_block}
-use Rattle.vdb_tree.proofs.Readiness.{covered_by_block, ready_cell, ready_child, ready_covered}
+use Rattle.vdb_tree.proofs.Readiness.{ready_child, ready_tiled}
 use Rattle.vdb_tree.proofs.Uniform.{cell_exact, exact_by}
 use Rattle.vdb_tree.proofs.tree.TreeOf.split_leaf_block.Goals as goal
 
@@ -12,7 +12,7 @@ returns-then-eq-clause-ready g c = λ q same.
     let bits = bits_of g.row.U g.row.L g.row.F in
     let exact = exact_by g.V.PartialEq.eq g.V.Ord.cmp g.met.V.Ord.matches_eq g.met.V.Voxel.exact in
     let is = cell_exact g.V.PartialEq.eq exact g.met.V.Eq.laws.refl c.in-Tile.tile c.args.cell (sym c.eq.ensures ∙ c.if-eq.true) in
-    ready_cell bits c.args.bounds c.args.cell Leaf c.args.self.now q (lower_by_block bits c.args.self.now q c.args.p same ∙ c.lower_entry.ensures.value ∙ c.in-Tile.is ∙ ap Tile is)
+    ready_tiled bits c.args.bounds c.args.cell Leaf c.args.self.now q (lower_by_block bits c.args.self.now q c.args.p same ∙ c.lower_entry.ensures.value ∙ c.in-Tile.is ∙ ap Tile is)
 
 pub returns-in-Child-clause-ready : goal.returns-in-Child-clause-ready
 returns-in-Child-clause-ready g c = λ q same.

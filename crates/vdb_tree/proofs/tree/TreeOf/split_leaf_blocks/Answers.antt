@@ -1,9 +1,9 @@
-use Rattle.std.proofs.Common.{◌∙◌, refl, sym}
-use Rattle.vdb_coord.specs.Space.{is_inside}
+use Rattle.std.proofs.Common.{◌∙◌}
 use Rattle.vdb_coord.specs.declared.Level.TheVariants.{Leaf}
 use Rattle.vdb_coord.proofs.Boxes.{both}
 use Rattle.vdb_tree.specs.Layout.{bits_of}
-use Rattle.vdb_tree.proofs.Passes.{head_same, uppers_same, uppers_trans, upper_entry_same}
+use Rattle.vdb_tree.proofs.Descents.{upper_by_block}
+use Rattle.vdb_tree.proofs.Passes.{upper_entry_same, uppers_same, uppers_trans}
 use Rattle.vdb_tree.proofs.Readiness.{SplitsTo, split_all, split_next, split_none}
 use Rattle.vdb_tree.proofs.Splits.{adds_twice, keeps_twice}
 use Rattle.vdb_tree.proofs.tree.TreeOf.split_leaf_blocks.Goals as goal
@@ -11,9 +11,9 @@ use Rattle.vdb_tree.proofs.tree.TreeOf.split_leaf_blocks.Goals as goal
 pub loop-self-init : goal.loop-self-init
 loop-self-init g c =
     let bits = bits_of g.row.U g.row.L g.row.F in
-    let first : SplitsTo bits c.args.bounds c.args.cell Leaf c.args.part c.args.self.now c.args.self.now c.min-p.result =
-    rw c.min-p.ensures.corner (split_none bits c.args.bounds c.args.cell Leaf c.args.part c.args.self.now (both _ _ c.min-p.ensures.bounds).0) in
-    (first, uppers_same c.args.self.now, c.requires c.min-p.result first.inside)
+    let first : SplitsTo bits c.args.bounds c.args.cell Leaf c.args.part c.args.self.now c.args.self.now c.min-at.result =
+    rw c.min-at.ensures.corner (split_none bits c.args.bounds c.args.cell Leaf c.args.part c.args.self.now (both _ _ c.min-at.ensures.bounds).0) in
+    (first, uppers_same c.args.self.now, upper_by_block bits c.args.self.now c.min-at.result c.args.p (c.requires.part c.min-at.result first.inside).1 ∙ c.requires.node)
 
 pub returns-in_err-split_leaf_block-clause-adds : goal.returns-in_err-split_leaf_block-clause-adds
 returns-in_err-split_leaf_block-clause-adds g c =
@@ -24,9 +24,9 @@ loop-self-preserved g c =
     let bits = bits_of g.row.U g.row.L g.row.F in
     let next = c.in-Some.next in
     let above = uppers_trans c.args.self.now c.loop-self.self c.split_leaf_block.new.self c.loop-self.invariant.1 c.in_ok-split_leaf_block.ensures.above in
-    let on = split_next bits c.args.bounds c.args.cell Leaf c.args.part c.args.self.now c.loop-self.self c.split_leaf_block.new.self c.loop-self.p c.loop-self.invariant.0
-    c.in_ok-split_leaf_block.ensures.keeps c.in_ok-split_leaf_block.ensures.adds c.in_ok-split_leaf_block.ensures.ready next c.in-Some.ensures.next in
-    (on, above, upper_entry_same bits c.args.self.now c.split_leaf_block.new.self above next ∙ c.requires next on.inside)
+    let on = split_next bits c.args.bounds c.args.cell Leaf c.args.part c.args.self.now c.loop-self.self c.split_leaf_block.new.self c.loop-self.at c.loop-self.invariant.0
+    c.in_ok-split_leaf_block.ensures.keeps c.in_ok-split_leaf_block.ensures.adds (λ q _ same. c.in_ok-split_leaf_block.ensures.ready q same) next c.in-Some.ensures.next in
+    (on, above, upper_entry_same bits c.args.self.now c.split_leaf_block.new.self above next ∙ upper_by_block bits c.args.self.now next c.args.p (c.requires.part next on.inside).1 ∙ c.requires.node)
 
 pub returns-in-None-clause-keeps : goal.returns-in-None-clause-keeps
 returns-in-None-clause-keeps g c =
@@ -38,5 +38,5 @@ returns-in-None-clause-adds g c =
 
 pub returns-in-None-clause-ready : goal.returns-in-None-clause-ready
 returns-in-None-clause-ready g c =
-    split_all (bits_of g.row.U g.row.L g.row.F) c.args.bounds c.args.cell Leaf c.args.part c.args.self.now c.loop-self.self c.split_leaf_block.new.self c.loop-self.p c.loop-self.invariant.0
-    c.in_ok-split_leaf_block.ensures.keeps c.in_ok-split_leaf_block.ensures.adds c.in_ok-split_leaf_block.ensures.ready c.in-None.ensures.next
+    split_all (bits_of g.row.U g.row.L g.row.F) c.args.bounds c.args.cell Leaf c.args.part c.args.self.now c.loop-self.self c.split_leaf_block.new.self c.loop-self.at c.loop-self.invariant.0
+    c.in_ok-split_leaf_block.ensures.keeps c.in_ok-split_leaf_block.ensures.adds (λ q _ same. c.in_ok-split_leaf_block.ensures.ready q same) c.in-None.ensures.next

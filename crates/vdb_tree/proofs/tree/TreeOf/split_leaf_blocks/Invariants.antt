@@ -1,6 +1,6 @@
 use Rattle.std.proofs.Common.{◌≡◌}
-use Rattle.vdb_coord.specs.declared.Level.TheVariants.{Leaf}
 use Rattle.vdb_coord.specs.Walk.{coordinates_after}
+use Rattle.vdb_coord.specs.declared.Level.TheVariants.{Leaf}
 use Rattle.vdb_node.specs.declared.Entry.TheVariants.{Child}
 use Rattle.vdb_tree.specs.Changes.{KeepsUppers}
 use Rattle.vdb_tree.specs.Layout.{bits_of, upper_entry}
@@ -10,7 +10,7 @@ use Rattle.vdb_tree.proofs.tree.TreeOf.split_leaf_blocks.Given as goal
 abbrev pub invariant-loop-self : goal.invariant-loop-self
 invariant-loop-self g l =
     let bits = bits_of g.row.U g.row.L g.row.F in
-    SplitsTo bits l.fn.bounds l.fn.cell Leaf l.fn.part l.fn.self l.self l.p × KeepsUppers l.fn.self l.self × (upper_entry bits l.self l.p ≡ Child l.fn.lower)
+    SplitsTo bits l.fn.bounds l.fn.cell Leaf l.fn.part l.fn.self l.self l.at × KeepsUppers l.fn.self l.self × (upper_entry bits l.self l.at ≡ Child l.fn.lower)
 
 abbrev pub decreases-loop-self : goal.decreases-loop-self
-decreases-loop-self g l = coordinates_after l.p
+decreases-loop-self g l = coordinates_after l.at

@@ -1,5 +1,10 @@
 use Rattle.std.proofs.Common.{refl}
+use Rattle.std.specs.Prelude.{Some}
+use Rattle.vdb_coord.specs.Blocks.{key}
+use Rattle.vdb_node.specs.declared.Entry.TheVariants.{Child}
+use Rattle.vdb_tree.specs.Layout.{bits_of}
 use Rattle.vdb_tree.proofs.Splits.{room_keeps, room_adds, room_sound, with_upper_at, with_upper_keeps, with_upper_adds, with_upper_sound}
+use Rattle.vdb_tree.proofs.Sweeps.{other_key}
 use Rattle.vdb_tree.proofs.tree.TreeOf.split_root.Goals as goal
 
 pub invariant_of-self : goal.invariant_of-self
@@ -42,3 +47,7 @@ returns-clause-adds g c =
     (with_upper_adds _ _ c.self.invariant.1 c.args.p _ _ _ _ _
     (rw (← c.self.view_is) at c.requires.tiled) (rw c.key-key.ensures.value at c.set.ensures.updates)
     c.in_ok-slot.ensures.vacant c.in_ok-node.ensures (record { here = c.in_ok-slot.ensures.node; others = c.in_ok-slot.ensures.others }))
+
+pub returns-clause-table : goal.returns-clause-table
+returns-clause-table g c =
+    rw (← c.self.view_is) (λ k d. other_key c.self.inside.root c.set.new.self (key (bits_of g.row.U g.row.L g.row.F) c.args.p) k (Some (Child c.in_ok-slot.slot)) (rw c.key-key.ensures.value at c.set.ensures.updates) d)

@@ -1,5 +1,6 @@
+use Rattle.std.proofs.Common.{◌≡◌, ◌∙◌, refl}
 use Rattle.vdb_tree.specs.Changes.{AddsNodes}
-use Rattle.vdb_tree.specs.Layout.{bits_of}
+use Rattle.vdb_tree.specs.Layout.{bits_of, root_at}
 use Rattle.vdb_tree.proofs.Splits.{adds_itself, adds_twice}
 use Rattle.vdb_tree.proofs.tree.TreeOf.upper_around.Goals as goal
 use Rattle.vdb_tree.proofs.tree.TreeOf.upper_around.Goals.{then-is_none+in_ok-enter, else-is_none}
@@ -12,3 +13,11 @@ returns-clause-adds g c =
       | else-is_none w ↦ rw w.self-is (adds_itself bits c.args.self.now)
     ] in
     adds_twice bits c.args.self.now c.if-is_none.self c.split_root.new.self entered c.split_root.ensures.adds
+
+pub returns-clause-table : goal.returns-clause-table
+returns-clause-table g c = λ k d.
+    let entered : root_at c.if-is_none.self.root k ≡ root_at c.args.self.now.root k = elim c.if-is_none.branch [
+      | then-is_none+in_ok-enter w ↦ rw w.self-is (w.in_ok-enter.ensures.table k d)
+      | else-is_none w ↦ rw w.self-is refl
+    ] in
+    c.split_root.ensures.table k d ∙ entered

@@ -1,0 +1,42 @@
+use Rattle.std.proofs.Common.{◌∙◌, refl}
+use Rattle.vdb_coord.specs.declared.Level.TheVariants.{Lower}
+use Rattle.vdb_coord.proofs.Boxes.{both}
+use Rattle.vdb_tree.specs.Layout.{bits_of}
+use Rattle.vdb_tree.proofs.Descents.{root_by_block}
+use Rattle.vdb_tree.proofs.Passes.{root_entry_same}
+use Rattle.vdb_tree.proofs.Readiness.{SplitsTo, split_all, split_next, split_none}
+use Rattle.vdb_tree.proofs.Splits.{adds_twice, keeps_twice}
+use Rattle.vdb_tree.proofs.tree.TreeOf.split_lower_blocks.Goals as goal
+
+pub loop-self-init : goal.loop-self-init
+loop-self-init g c =
+    let bits = bits_of g.row.U g.row.L g.row.F in
+    let first : SplitsTo bits c.args.bounds c.args.cell Lower c.args.part c.args.self.now c.args.self.now c.min-at.result =
+    rw c.min-at.ensures.corner (split_none bits c.args.bounds c.args.cell Lower c.args.part c.args.self.now (both _ _ c.min-at.ensures.bounds).0) in
+    (first, refl, root_by_block bits c.args.self.now c.min-at.result c.args.p (c.requires.part c.min-at.result first.inside).1 ∙ c.requires.node)
+
+pub returns-in_err-split_lower_block-clause-adds : goal.returns-in_err-split_lower_block-clause-adds
+returns-in_err-split_lower_block-clause-adds g c =
+    adds_twice (bits_of g.row.U g.row.L g.row.F) c.args.self.now c.loop-self.self c.split_lower_block.new.self c.loop-self.invariant.0.adds c.in_err-split_lower_block.ensures.adds
+
+pub loop-self-preserved : goal.loop-self-preserved
+loop-self-preserved g c =
+    let bits = bits_of g.row.U g.row.L g.row.F in
+    let next = c.in-Some.next in
+    let root = c.in_ok-split_lower_block.ensures.root ∙ c.loop-self.invariant.1 in
+    let on = split_next bits c.args.bounds c.args.cell Lower c.args.part c.args.self.now c.loop-self.self c.split_lower_block.new.self c.loop-self.at c.loop-self.invariant.0
+    c.in_ok-split_lower_block.ensures.keeps c.in_ok-split_lower_block.ensures.adds (λ q inside same. c.in_ok-split_lower_block.ensures.ready q (c.requires.part q inside).0 same) next c.in-Some.ensures.next in
+    (on, root, root_entry_same bits c.args.self.now c.split_lower_block.new.self on.keeps.head root next ∙ root_by_block bits c.args.self.now next c.args.p (c.requires.part next on.inside).1 ∙ c.requires.node)
+
+pub returns-in-None-clause-keeps : goal.returns-in-None-clause-keeps
+returns-in-None-clause-keeps g c =
+    keeps_twice (bits_of g.row.U g.row.L g.row.F) c.args.self.now c.loop-self.self c.split_lower_block.new.self c.loop-self.invariant.0.keeps c.in_ok-split_lower_block.ensures.keeps
+
+pub returns-in-None-clause-adds : goal.returns-in-None-clause-adds
+returns-in-None-clause-adds g c =
+    adds_twice (bits_of g.row.U g.row.L g.row.F) c.args.self.now c.loop-self.self c.split_lower_block.new.self c.loop-self.invariant.0.adds c.in_ok-split_lower_block.ensures.adds
+
+pub returns-in-None-clause-ready : goal.returns-in-None-clause-ready
+returns-in-None-clause-ready g c =
+    split_all (bits_of g.row.U g.row.L g.row.F) c.args.bounds c.args.cell Lower c.args.part c.args.self.now c.loop-self.self c.split_lower_block.new.self c.loop-self.at c.loop-self.invariant.0
+    c.in_ok-split_lower_block.ensures.keeps c.in_ok-split_lower_block.ensures.adds (λ q inside same. c.in_ok-split_lower_block.ensures.ready q (c.requires.part q inside).0 same) c.in-None.ensures.next

@@ -1,0 +1,58 @@
+use Rattle.std.proofs.Common.{◌≡◌, ◌≢◌, ◌∙◌, IsTrue, Some, None, Option, refl, subst, sym}
+use Rattle.std.specs.Prelude.{IfSome}
+use Rattle.vdb_coord.specs.Blocks.{key}
+use Rattle.vdb_coord.specs.Space.{is_inside}
+use Rattle.vdb_coord.specs.declared.Coord.{Coord}
+use Rattle.vdb_coord.specs.declared.Level.TheVariants.{Upper}
+use Rattle.vdb_tree.specs.Layout.{bits_of, root_at}
+use Rattle.vdb_tree.specs.Ready.{IsReadyTo}
+use Rattle.vdb_tree.specs.Table.{IsNextKey}
+use Rattle.vdb_tree.proofs.KeysPast.{fewer_past}
+use Rattle.vdb_tree.proofs.Readiness.{next_at_first, roots_end, roots_next, roots_none}
+use Rattle.vdb_tree.proofs.Splits.{adds_twice}
+use Rattle.vdb_tree.proofs.tree.TreeOf.split_root_blocks.Goals as goal
+
+pub loop-key-init : goal.loop-key-init
+loop-key-init g c = roots_none (bits_of g.row.U g.row.L g.row.F) c.args.bounds c.args.cell c.args.self.now
+
+pub returns-in_err-key-clause-adds : goal.returns-in_err-key-clause-adds
+returns-in_err-key-clause-adds g c =
+    adds_twice (bits_of g.row.U g.row.L g.row.F) c.args.self.now c.loop-key.self c.split_next_root.new.self c.loop-key.invariant.adds c.in_err-key.ensures.adds
+
+pub loop-key-smaller : goal.loop-key-smaller
+loop-key-smaller g c =
+    let bits = bits_of g.row.U g.row.L g.row.F in
+    let next = subst (λ (o : Option Coord). IsNextKey c.loop-key.self.root c.loop-key.passed o) c.in-Some.is c.in_ok-key.ensures.next in
+    fewer_past c.args.self.now.root c.loop-key.passed c.in-Some.key
+    (next_at_first bits c.args.bounds c.args.cell c.args.self.now c.loop-key.self c.loop-key.self c.loop-key.passed c.loop-key.invariant (Some c.in-Some.key) next)
+
+some_same : (j k : Coord) → ◌≡◌ {A = Option Coord} (Some k) (Some j) → j ≡ k
+some_same j k e = cc
+
+pub loop-key-preserved : goal.loop-key-preserved
+loop-key-preserved g c =
+    let bits = bits_of g.row.U g.row.L g.row.F in
+    let k = c.in-Some.key in
+    let t = c.loop-key.self in
+    let n = c.split_next_root.new.self in
+    let next = subst (λ (o : Option Coord). IsNextKey t.root c.loop-key.passed o) c.in-Some.is c.in_ok-key.ensures.next in
+    let table = subst (λ (o : Option Coord). (j : Coord) → o ≢ Some j → root_at n.root j ≡ root_at t.root j) c.in-Some.is c.in_ok-key.ensures.table in
+    let ready = subst (λ (o : Option Coord). IfSome o (λ l. (q : Coord) → IsTrue (is_inside c.args.bounds q) → key bits q ≡ l → IsReadyTo bits c.args.bounds c.args.cell Upper n q)) c.in-Some.is c.in_ok-key.ensures.ready in
+    roots_next bits c.args.bounds c.args.cell c.args.self.now t n c.loop-key.passed c.loop-key.invariant c.in_ok-key.ensures.keeps c.in_ok-key.ensures.adds k next
+    (λ j d. table j (λ e. d (some_same j k e))) ready
+
+pub returns-in-None-clause-adds : goal.returns-in-None-clause-adds
+returns-in-None-clause-adds g c =
+    adds_twice (bits_of g.row.U g.row.L g.row.F) c.args.self.now c.loop-key.self c.split_next_root.new.self c.loop-key.invariant.adds c.in_ok-key.ensures.adds
+
+none_some : (k : Coord) → ◌≡◌ {A = Option Coord} None (Some k) → ⊥
+none_some k e = cc
+
+pub returns-in-None-clause-ready : goal.returns-in-None-clause-ready
+returns-in-None-clause-ready g c =
+    let bits = bits_of g.row.U g.row.L g.row.F in
+    let t = c.loop-key.self in
+    let n = c.split_next_root.new.self in
+    let next = subst (λ (o : Option Coord). IsNextKey t.root c.loop-key.passed o) c.in-None.is c.in_ok-key.ensures.next in
+    let table = subst (λ (o : Option Coord). (j : Coord) → o ≢ Some j → root_at n.root j ≡ root_at t.root j) c.in-None.is c.in_ok-key.ensures.table in
+    roots_end bits c.args.bounds c.args.cell c.args.self.now t n c.loop-key.passed c.loop-key.invariant c.in_ok-key.ensures.keeps c.in_ok-key.ensures.adds next (λ k. table k (none_some k))

@@ -1,0 +1,10 @@
+use Rattle.vdb_tree.specs.Layout.{bits_of}
+use Rattle.vdb_tree.proofs.KeysPast.{keys_past}
+use Rattle.vdb_tree.proofs.Readiness.{SplitsRoots}
+use Rattle.vdb_tree.proofs.tree.TreeOf.split_root_blocks.Given as goal
+
+abbrev pub invariant-loop-key : goal.invariant-loop-key
+invariant-loop-key g l = SplitsRoots (bits_of g.row.U g.row.L g.row.F) l.fn.bounds l.fn.cell l.fn.self l.self l.passed
+
+abbrev pub decreases-loop-key : goal.decreases-loop-key
+decreases-loop-key g l = keys_past l.passed l.fn.self.root
