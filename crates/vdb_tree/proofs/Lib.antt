@@ -33,3 +33,6 @@ pub mod Seeking
 pub mod BlockTests
 pub mod RootCounts
 pub mod Voxels
+pub mod Erasing
+pub mod Rooms
+pub mod RoomWalks

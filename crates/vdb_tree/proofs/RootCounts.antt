@@ -1,7 +1,7 @@
 -- A walk over the keys of the table that counts the root blocks that aren't plain.
 use Rattle.std.proofs.Common.{◌≡◌, ◌⊎◌, inl, inr, ℕ, ◌+◌, ◌≤◌, Bool, true, false, List, [], ◌∷◌, length, arith, refl, sym, ap, subst, IsTrue}
 use Rattle.std.specs.Prelude.{◌↔◌, Option, Some, None, IsSome}
-use Rattle.std.specs.List.{AllByRecursion, IsDistinct}
+use Rattle.std.specs.List.{IsDistinct}
 use Rattle.std.specs.Ordering.{is_gt}
 use Rattle.std.specs.declared.cmp.Ordering.{Ordering}
 use Rattle.std.specs.declared.cmp.Ordering.TheVariants.{Less, Equal, Greater}
@@ -23,25 +23,14 @@ use Rattle.vdb_tree.specs.Table.{IsNextKey, IsPast}
 use Rattle.vdb_tree.proofs.BlockOrder.{key_equal, less_apart}
 use Rattle.vdb_tree.proofs.Blocks.{never, plain_from, unplain_from}
 use Rattle.vdb_tree.proofs.KeysPast.{fewer_past, keys_past, past_on}
-use Rattle.vdb_tree.proofs.Rooted.{or_cases, or_first, or_second, rooted, roots_at_least, roots_at_most}
-
--- a key that a list doesn't have, before it, leaves it distinct
-all_apart : (k : Coord) (keys : List Coord) → is_member coord_eq keys k ≡ false → AllByRecursion (λ j. coord_eq k j ≡ false) keys
-all_apart k [] h = tt
-all_apart k (j ∷ keys) h =
-    let first : coord_eq k j ≡ false = not_true (coord_eq k j) (λ e. never h (or_first (coord_eq k j) (is_member coord_eq keys k) e)) in
-    let rest : is_member coord_eq keys k ≡ false = not_true (is_member coord_eq keys k) (λ e. never h (or_second (coord_eq k j) (is_member coord_eq keys k) e)) in
-    (first, all_apart k keys rest)
-
-one_more : (k : Coord) (keys : List Coord) → IsDistinct coord_eq keys → is_member coord_eq keys k ≡ false → IsDistinct coord_eq (k ∷ keys)
-unfolding IsDistinct
-one_more k keys distinct h = (all_apart k keys h, distinct)
+use Rattle.vdb_tree.proofs.Rooted.{one_more, or_cases, or_first, or_second, rooted, roots_at_least, roots_at_most}
 
 nothing_apart : IsDistinct coord_eq []
 unfolding IsDistinct
 nothing_apart = tt
 
-unheld : {A : Type 0} (o : Option A) → IsSome o → o ≡ None → ⊥
+-- what is there isn't absent
+pub unheld : {A : Type 0} (o : Option A) → IsSome o → o ≡ None → ⊥
 unheld (Some x) h e = cc
 unheld None h e = never refl h
 

@@ -57,7 +57,7 @@ all_apart k (j ∷ keys) h =
     let rest : is_member coord_eq keys k ≡ false = not_true (is_member coord_eq keys k) (λ e. never h (or_second (coord_eq k j) (is_member coord_eq keys k) e)) in
     (first, all_apart k keys rest)
 
-one_more : (k : Coord) (keys : List Coord) → IsDistinct coord_eq keys → is_member coord_eq keys k ≡ false → IsDistinct coord_eq (k ∷ keys)
+pub one_more : (k : Coord) (keys : List Coord) → IsDistinct coord_eq keys → is_member coord_eq keys k ≡ false → IsDistinct coord_eq (k ∷ keys)
 unfolding IsDistinct
 one_more k keys distinct h = (all_apart k keys h, distinct)
 
@@ -92,7 +92,7 @@ module _ {V : Type 0} (t : Layout V) where
   pub member_entry : (k : Coord) → is_member coord_eq (keys_of t.root) k ≡ true → IsSome (root_at t.root k)
   member_entry k h = is_some-lookup (coord_eq k) t.root ∙ h
 
-  absent_key : (k : Coord) → root_at t.root k ≡ None → is_member coord_eq (keys_of t.root) k ≡ false
+  pub absent_key : (k : Coord) → root_at t.root k ≡ None → is_member coord_eq (keys_of t.root) k ≡ false
   absent_key k h = sym (is_some-lookup (coord_eq k) t.root) ∙ rw h refl
 
 module _ {V : Type 0} (eq : V → V → Bool) (exact : (x y : V) → eq x y ≡ true → x ≡ y) (itself : (x : V) → eq x x ≡ true) (bits : Bits) (configured : AreBits bits) where

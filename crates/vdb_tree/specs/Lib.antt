@@ -9,6 +9,8 @@ pub mod Pieces
 pub mod Leaves
 pub mod Outcome
 pub mod Ready
+pub mod Erase
+pub mod Room
 pub mod Smallest
 pub mod Changes
 pub mod Corners

@@ -9,6 +9,7 @@ ghost use Rattle.vdb_tree.specs.Field.{written};
 
 mod counts;
 mod descent;
+mod erase;
 mod keys;
 mod leaves;
 mod next_leaf;
@@ -18,6 +19,7 @@ mod pieces;
 mod prune;
 mod ready;
 mod refusal;
+mod room;
 mod root;
 mod root_blocks;
 mod split;

@@ -256,7 +256,7 @@ impl<
 
     /// Makes a tile of the upper node around p, if there is one, where its cells are all one after its lower nodes were
     /// pruned.
-    fn prune_upper(&mut self, p: Coord, steps: &mut Steps)
+    pub(crate) fn prune_upper(&mut self, p: Coord, steps: &mut Steps)
         ensures keeps { Keeps (bits_of U L F) self.old self.new }
         ensures others { (q : Coord) → block_number (bits_of U L F) Upper q ≢ block_number (bits_of U L F) Upper p → SameDescent (bits_of U L F) self.old self.new q }
         ensures table { (k : Coord) → k ≢ key (bits_of U L F) p → root_at self.new.root k ≡ root_at self.old.root k }
@@ -273,7 +273,7 @@ impl<
     }
 
     /// Takes the entry of p's root block away if it is a tile of the background, inactive.
-    fn drop_plain(&mut self, p: Coord)
+    pub(crate) fn drop_plain(&mut self, p: Coord)
         ensures keeps { Keeps (bits_of U L F) self.old self.new }
         ensures same { (q : Coord) → SameDescent (bits_of U L F) self.old self.new q }
         ensures table { (k : Coord) → k ≢ key (bits_of U L F) p → root_at self.new.root k ≡ root_at self.old.root k }
@@ -303,7 +303,7 @@ impl<
     }
 
     /// Prunes each root block, in the order of keys, and takes the entries of plain ones away.
-    pub(crate) fn sweep(&mut self, steps: &mut Steps)
+    fn sweep(&mut self, steps: &mut Steps)
         ensures keeps { Keeps (bits_of U L F) self.old self.new }
         ensures needed { (p : Coord) → IsNeededTo (bits_of U L F) Upper self.new p }
         ensures swept { IsSwept (bits_of U L F) self.new }

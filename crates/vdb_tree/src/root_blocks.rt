@@ -46,7 +46,7 @@ impl<
     }
 
     /// Whether each voxel of the root block around p is this cell.
-    fn root_block_is(&self, p: Coord, cell: Cell<V>, steps: &mut Steps) -> bool
+    pub(crate) fn root_block_is(&self, p: Coord, cell: Cell<V>, steps: &mut Steps) -> bool
         ensures { IsTrue result ↔ IsConstantBlock (bits_of U L F) Upper self.now p cell }
     {
         match self.root_entry(p) {

@@ -120,7 +120,7 @@ impl<
         if self.has_room(p) {
             return Ok(());
         }
-        self.sweep(steps);
+        self.erase_plain(steps);
         self.keeps_to_limit(p);
         if self.has_room(p) {
             return Ok(());

@@ -1,8 +1,4 @@
 use Rattle.std.proofs.Common.{ℕ, ◌+◌, ◌<◌, ◌≤◌, arith}
-use Rattle.std.specs.Prelude.{Some}
-use Rattle.vdb_coord.specs.Blocks.{key}
-use Rattle.vdb_node.specs.declared.Entry.TheVariants.{Tile}
-use Rattle.vdb_tree.specs.Layout.{bits_of}
 use Rattle.vdb_tree.proofs.Splits.{with_entry_keeps, with_entry_adds, with_entry_sound}
 use Rattle.vdb_tree.proofs.Sweeps.{other_key}
 use Rattle.vdb_tree.proofs.tree.TreeOf.enter.Goals as goal
@@ -28,5 +24,4 @@ returns-clause-adds g c =
     (with_entry_adds _ _ c.self.invariant.1 c.args.p _ _ (rw (← c.self.view_is) at c.requires.tiled) (rw c.key-key.ensures.value at c.in_ok-put.ensures.ok))
 
 pub returns-clause-table : goal.returns-clause-table
-returns-clause-table g c =
-    rw (← c.self.view_is) (λ k d. other_key c.self.inside.root c.put.new.self (key (bits_of g.row.U g.row.L g.row.F) c.args.p) k (Some (Tile c.args.cell)) (rw c.key-key.ensures.value at c.in_ok-put.ensures.ok) d)
+returns-clause-table g c = rw (← c.self.view_is) (λ k d. other_key _ _ _ k _ (rw c.key-key.ensures.value at c.in_ok-put.ensures.ok) d)

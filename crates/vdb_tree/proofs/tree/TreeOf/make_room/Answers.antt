@@ -12,21 +12,21 @@ returns-then-has_room-clause-within g c = c.keeps_to_limit.ensures.within (c.has
 pub returns-then-has_room-2-clause-within : goal.returns-then-has_room-2-clause-within
 returns-then-has_room-2-clause-within g c = λ change.
     let bits = bits_of g.row.U g.row.L g.row.F in
-    let swept = field_of bits c.sweep.new.self in
-    let same : swept ≡ field_of bits c.args.self.now = keeps_field bits c.args.self.now c.sweep.new.self c.sweep.ensures.keeps in
+    let swept = field_of bits c.erase_plain.new.self in
+    let same : swept ≡ field_of bits c.args.self.now = keeps_field bits c.args.self.now c.erase_plain.new.self c.erase_plain.ensures.keeps in
     let h = c.keeps_to_limit-2.ensures.within (c.has_room-2.ensures.0 c.if-has_room-2.true) change in
     subst (λ (f : Field g.row.V.Denot). roots g.V.PartialEq.eq bits (write c.args.p change f) ≤ c.args.self.now.limit) same
-    (subst (λ n. roots g.V.PartialEq.eq bits (write c.args.p change swept) ≤ n) c.sweep.ensures.keeps.head.limit h)
+    (subst (λ n. roots g.V.PartialEq.eq bits (write c.args.p change swept) ≤ n) c.erase_plain.ensures.keeps.head.limit h)
 
 pub returns-clause-full : goal.returns-clause-full
 returns-clause-full g c =
     let bits = bits_of g.row.U g.row.L g.row.F in
-    let swept = field_of bits c.sweep.new.self in
-    let same : swept ≡ field_of bits c.args.self.now = keeps_field bits c.args.self.now c.sweep.new.self c.sweep.ensures.keeps in (
+    let swept = field_of bits c.erase_plain.new.self in
+    let same : swept ≡ field_of bits c.args.self.now = keeps_field bits c.args.self.now c.erase_plain.new.self c.erase_plain.ensures.keeps in (
       refl,
       λ change differs.
-          let h = c.keeps_to_limit-2.ensures.full (λ room. never c.if-has_room-2.false (c.has_room-2.ensures.1 room)) c.sweep.ensures.swept change
+          let h = c.keeps_to_limit-2.ensures.full (λ room. never c.if-has_room-2.false (c.has_room-2.ensures.1 room)) c.erase_plain.ensures.swept change
           (subst (λ (f : Field g.row.V.Denot). written change (f.cell c.args.p) ≢ f.cell c.args.p) (sym same) differs) in
           subst (λ (f : Field g.row.V.Denot). c.args.self.now.limit < roots g.V.PartialEq.eq bits (write c.args.p change f)) same
-          (subst (λ n. n < roots g.V.PartialEq.eq bits (write c.args.p change swept)) c.sweep.ensures.keeps.head.limit h),
+          (subst (λ n. n < roots g.V.PartialEq.eq bits (write c.args.p change swept)) c.erase_plain.ensures.keeps.head.limit h),
     )

@@ -1,0 +1,120 @@
+-- Entries of plain root blocks are taken away, in the order of keys.
+use Rattle.std.proofs.Common.{◌≡◌, inl, inr, refl, sym, ◌∙◌}
+use Rattle.std.specs.Prelude.{Option, Some, None}
+use Rattle.vdb_coord.specs.Blocks.{key}
+use Rattle.vdb_coord.specs.Space.{Box, coord_cmp}
+use Rattle.vdb_coord.specs.declared.Bits.{Bits}
+use Rattle.vdb_coord.specs.declared.Coord.{Coord}
+use Rattle.vdb_coord.specs.declared.Level.TheVariants.{Upper}
+use Rattle.vdb_tree.specs.Changes.{AddsNodes, IsConstantBlock, IsNoPlainRoot, Keeps, PrunesRoot}
+use Rattle.vdb_tree.specs.Layout.{Layout, plain, root_at}
+use Rattle.vdb_tree.specs.Ready.{IsReady}
+use Rattle.vdb_tree.specs.Erase.{AddsPlainTiles, ErasesRoot}
+use Rattle.vdb_tree.specs.Table.{IsNextKey, IsPast}
+use Rattle.vdb_tree.proofs.KeysPast.{past_on}
+use Rattle.vdb_tree.proofs.Levels.{coord_cases}
+use Rattle.vdb_tree.proofs.Needed.{is_some_from, some_or_none}
+use Rattle.vdb_tree.proofs.Passes.{keeps_same, keeps_trans, tile_gives}
+use Rattle.vdb_tree.proofs.Sweeps.{apart, equal_left, past_or_not, same_keys}
+
+module _ {V : Type 0} (bits : Bits) where
+  -- the background stays
+  pub plain_stays : (old new : Layout V) → Keeps bits old new → plain new ≡ plain old
+  plain_stays old new keeps = let b = keeps.head.background in rw b refl
+
+  pub adds_plain_itself : (t : Layout V) → AddsPlainTiles bits t t
+  adds_plain_itself t = record { keeps = keeps_same bits t; tiles = λ level q tile e. inl e }
+
+  -- nodes alone came
+  pub adds_plain_nodes : (old new : Layout V) → Keeps bits old new → AddsNodes bits old new → AddsPlainTiles bits old new
+  adds_plain_nodes old new keeps adds = record { keeps = keeps; tiles = λ level q tile e. inl (adds.tiles level q tile e) }
+
+  pub adds_plain_twice : (old mid new : Layout V) → AddsPlainTiles bits old mid → AddsPlainTiles bits mid new → AddsPlainTiles bits old new
+  adds_plain_twice old mid new a b = record {
+    keeps = keeps_trans bits old mid new a.keeps b.keeps;
+    tiles = λ level q tile e. elim (b.tiles level q tile e) [ inl f ↦ a.tiles level q tile f | inr p ↦ inr (p ∙ plain_stays old mid a.keeps) ];
+  }
+
+  -- what is ready to be painted with the plain cell stays so
+  pub ready_plain : (old new : Layout V) → AddsPlainTiles bits old new → (box : Box) → IsReady bits box (plain old) old → IsReady bits box (plain old) new
+  ready_plain old new adds box ready = record {
+    tiles = λ level p inside tile e. elim (adds.tiles level p tile e) [ inl f ↦ ready.tiles level p inside tile f | inr same ↦ inr same ];
+    entered = λ p inside. inl (sym (plain_stays old new adds.keeps));
+  }
+
+  -- ---- one root block
+
+  module _ (t : Layout V) (p k : Coord) (number : key bits p ≡ k) where
+    -- a block that isn't plain keeps its entry
+    pub erases_none : (IsConstantBlock bits Upper t p (plain t) → ⊥) → ErasesRoot bits t t k
+    erases_none other = record {
+      adds = adds_plain_itself t;
+      table = λ j d. refl;
+      here = λ q e entry some const. other (λ r same. const r (same ∙ number ∙ sym e));
+    }
+
+    -- a plain block is pruned: a tile of its is plain
+    pub erases_pruned : (n : Layout V) → IsConstantBlock bits Upper t p (plain t) → PrunesRoot bits t n k → ErasesRoot bits t n k
+    erases_pruned n const prunes = record {
+      adds = record {
+        keeps = prunes.keeps;
+        tiles = λ level q tile e.
+            elim (coord_cases (key bits q) k) [
+              | inl at ↦ inr (sym (tile_gives bits level n q tile e) ∙ prunes.keeps.cells q ∙ const q (at ∙ sym number))
+              | inr d ↦ inl (sym (prunes.others q d level) ∙ e)
+            ];
+      };
+      table = prunes.table;
+      here = λ q e. (prunes.here q e).1;
+    }
+
+  -- ---- one after another
+
+  -- no root block up to this key has the entry of a plain one, and the table past it stands
+  pub record ErasesTo (old new : Layout V) (passed : Option Coord) : Type 0 where
+    pub adds : AddsPlainTiles bits old new
+    pub ahead : (k : Coord) → IsPast passed k → root_at new.root k ≡ root_at old.root k
+    pub done : (q : Coord) → (IsPast passed (key bits q) → ⊥) → IsNoPlainRoot bits new q
+
+  pub erased_none : (t : Layout V) → ErasesTo t t None
+  erased_none t = record { adds = adds_plain_itself t; ahead = λ k h. refl; done = λ q h. absurd (h tt) }
+
+  -- the next key of the table, as the table was at first
+  pub next_of_old : (old mid : Layout V) (passed : Option Coord) (k : Coord) → ErasesTo old mid passed → IsNextKey mid.root passed (Some k) → IsNextKey old.root passed (Some k)
+  next_of_old old mid passed k erases next =
+      (rw (← erases.ahead k next.1) next.0, next.1, λ j past some. next.2 j past (rw (erases.ahead j past) some))
+
+  -- a root block without an entry hasn't that of a plain one
+  absent_erased : (t : Layout V) (q : Coord) → root_at t.root (key bits q) ≡ None → IsNoPlainRoot bits t q
+  absent_erased t q none = λ entry some const. none_some entry (sym none ∙ some)
+    where
+      none_some : {A : Type 0} (x : A) → ◌≡◌ {A = Option A} None (Some x) → ⊥
+      none_some x e = cc
+
+  pub erased_next : (old mid new : Layout V) (passed : Option Coord) (k : Coord) → ErasesTo old mid passed → IsNextKey mid.root passed (Some k) → ErasesRoot bits mid new k → ErasesTo old new (Some k)
+  erased_next old mid new passed k so_far next erases = record {
+    adds = adds_plain_twice old mid new so_far.adds erases.adds;
+    ahead = λ j later. erases.table j (apart k j later) ∙ so_far.ahead j (past_on passed k j next.1 later);
+    done = λ q not_past.
+        elim (coord_cases (key bits q) k) [
+          | inl e ↦ erases.here q e
+          | inr d ↦ elim (past_or_not passed (key bits q)) [
+            | inr before ↦ λ entry some const.
+                so_far.done q before entry (sym (erases.table (key bits q) d) ∙ some)
+                (λ r b. sym (erases.adds.keeps.cells r) ∙ const r b ∙ plain_stays mid new erases.adds.keeps)
+            | inl past ↦
+                elim (some_or_none (root_at mid.root (key bits q))) [
+                  | inl x ↦ absurd (d (sym (same_keys k (key bits q) (equal_left (coord_cmp k (key bits q)) (next.2 (key bits q) past (is_some_from _ x.0 x.1)) not_past))))
+                  | inr none ↦ absent_erased new q (erases.table (key bits q) d ∙ none)
+                ]
+          ]
+        ];
+  }
+
+  -- where no key is left, the table is swept
+  pub erased_end : (old new : Layout V) (passed : Option Coord) → ErasesTo old new passed → IsNextKey new.root passed None → (q : Coord) → IsNoPlainRoot bits new q
+  erased_end old new passed so_far next q =
+      elim (past_or_not passed (key bits q)) [
+        | inr before ↦ so_far.done q before
+        | inl past ↦ absent_erased new q (next (key bits q) past)
+      ]

@@ -1,0 +1,13 @@
+use Rattle.vdb_tree.specs.Layout.{bits_of}
+use Rattle.vdb_tree.proofs.Rooms.{room_stays}
+use Rattle.vdb_tree.proofs.tree.TreeOf.enter_block.Goals as goal
+
+pub returns-in_err-enter-in-Tile-clause-room : goal.returns-in_err-enter-in-Tile-clause-room
+returns-in_err-enter-in-Tile-clause-room g c =
+    let call = c.in_err-enter-in-Tile.ensures in
+    room_stays (bits_of g.row.U g.row.L g.row.F) c.args.self.now c.args.bounds c.requires.room c.args.p c.requires.inside c.enter.new.self call.keeps.head.limit call.table
+
+pub returns-in_ok-enter-in-Tile-clause-room : goal.returns-in_ok-enter-in-Tile-clause-room
+returns-in_ok-enter-in-Tile-clause-room g c =
+    let call = c.in_ok-enter-in-Tile.ensures in
+    room_stays (bits_of g.row.U g.row.L g.row.F) c.args.self.now c.args.bounds c.requires.room c.args.p c.requires.inside c.enter.new.self call.keeps.head.limit call.table

@@ -1,0 +1,54 @@
+use Rattle.std.proofs.Common.{◌≡◌, ◌≢◌, ◌≤◌, arith, subst, sym, ◌∙◌, Err}
+use Rattle.std.specs.Prelude.{IsSome}
+use Rattle.std.proofs.lemmas.Grind.{common_steps}
+use Rattle.vdb_coord.specs.Blocks.{key}
+use Rattle.vdb_tree.specs.Field.{fill}
+use Rattle.vdb_tree.specs.Layout.{Layout, bits_of, field_of, plain, root_at}
+use Rattle.vdb_tree.specs.Plain.{roots}
+use Rattle.vdb_tree.specs.declared.refusal.TreeRefusal.TheVariants.{RootLimit}
+use Rattle.vdb_value.specs.declared.Cell.{Cell}
+use Rattle.vdb_tree.proofs.Blocks.{never}
+use Rattle.vdb_tree.proofs.Erasing.{adds_plain_nodes, adds_plain_twice, ready_plain}
+use Rattle.vdb_tree.proofs.Rooms.{obeys_full, obeys_within, or_entered}
+use Rattle.vdb_tree.proofs.Splits.{keeps_twice}
+use Rattle.vdb_tree.proofs.Uniform.{cell_exact, cell_same, exact_by}
+use Rattle.vdb_tree.proofs.tree.TreeOf.enter_box.Goals as goal
+
+pub returns-then-eq-clause-limit : goal.returns-then-eq-clause-limit
+returns-then-eq-clause-limit g c =
+    let bits = bits_of g.row.U g.row.L g.row.F in
+    let exact = exact_by g.V.PartialEq.eq g.V.Ord.cmp g.met.V.Ord.matches_eq g.met.V.Voxel.exact in
+    let is : c.args.cell ≡ plain c.args.self.now =
+    subst (λ (s : Layout g.row.V.Denot). c.args.cell ≡ plain s) c.self.view_is (cell_exact g.V.PartialEq.eq exact g.met.V.Eq.laws.refl c.args.cell _ (sym c.eq.ensures ∙ c.if-eq.true)) in
+    subst (λ (d : Cell g.row.V.Denot). roots g.V.PartialEq.eq bits (fill c.args.bounds d (field_of bits c.args.self.now)) ≤ c.args.self.now.limit) (sym is) c.keeps_fills_to_limit.ensures.plain
+
+pub returns-in_err-make_room_for-clause-limit : goal.returns-in_err-make_room_for-clause-limit
+returns-in_err-make_room_for-clause-limit g c =
+    let bits = bits_of g.row.U g.row.L g.row.F in
+    let exact = exact_by g.V.PartialEq.eq g.V.Ord.cmp g.met.V.Ord.matches_eq g.met.V.Voxel.exact in
+    let full = c.in_err-make_room_for.ensures.full in
+    let refused : c.from_residual.result ≡ Err RootLimit = grind (arith, common_steps, c.from_residual.ensures, full.0) in
+    let other : c.args.cell ≢ plain c.args.self.now = λ same.
+    never c.if-eq.false (c.eq.ensures ∙ cell_same g.V.PartialEq.eq exact g.met.V.Eq.laws.refl c.args.cell _ (subst (λ (s : Layout g.row.V.Denot). c.args.cell ≡ plain s) (sym c.self.view_is) same)) in
+    obeys_full g.V.PartialEq.eq bits c.args.self.now.limit _ c.from_residual.result refused (full.1 c.args.cell other)
+
+pub returns-in_err-make_room_for-clause-ready : goal.returns-in_err-make_room_for-clause-ready
+returns-in_err-make_room_for-clause-ready g c = ready_plain (bits_of g.row.U g.row.L g.row.F) c.args.self.now c.make_room_for.new.self c.in_err-make_room_for.ensures.adds
+
+pub returns-clause-keeps : goal.returns-clause-keeps
+returns-clause-keeps g c = keeps_twice (bits_of g.row.U g.row.L g.row.F) c.args.self.now c.make_room_for.new.self c.enter_blocks.new.self c.in_ok-make_room_for.ensures.adds.keeps c.enter_blocks.ensures.keeps
+
+pub returns-clause-entered : goal.returns-clause-entered
+returns-clause-entered g c =
+    or_entered c.args.bounds (c.args.cell ≡ plain c.enter_blocks.new.self) (λ p. IsSome (root_at c.enter_blocks.new.self.root (key (bits_of g.row.U g.row.L g.row.F) p))) c.enter_blocks.result c.enter_blocks.ensures.entered
+
+pub returns-clause-limit : goal.returns-clause-limit
+returns-clause-limit g c =
+    obeys_within g.V.PartialEq.eq (bits_of g.row.U g.row.L g.row.F) c.args.self.now.limit _ c.enter_blocks.result c.enter_blocks.ensures.memory (c.in_ok-make_room_for.ensures.within c.args.cell)
+
+pub returns-clause-ready : goal.returns-clause-ready
+returns-clause-ready g c =
+    let bits = bits_of g.row.U g.row.L g.row.F in
+    ready_plain bits c.args.self.now c.enter_blocks.new.self
+    (adds_plain_twice bits c.args.self.now c.make_room_for.new.self c.enter_blocks.new.self c.in_ok-make_room_for.ensures.adds
+    (adds_plain_nodes bits c.make_room_for.new.self c.enter_blocks.new.self c.enter_blocks.ensures.keeps c.enter_blocks.ensures.adds))

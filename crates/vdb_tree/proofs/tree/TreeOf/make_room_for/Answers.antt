@@ -1,0 +1,40 @@
+use Rattle.std.proofs.Common.{◌≡◌, ◌≢◌, ◌<◌, ◌≤◌, refl, rules, subst, sym}
+use Rattle.vdb_coord.specs.Entries.{blocks_meeting}
+use Rattle.vdb_coord.specs.declared.Level.TheVariants.{Upper}
+use Rattle.vdb_tree.specs.Field.{Field, fill}
+use Rattle.vdb_tree.specs.Layout.{bits_of, field_of}
+use Rattle.vdb_tree.specs.Plain.{roots}
+use Rattle.vdb_tree.proofs.Equations.{keeps_field}
+use Rattle.vdb_tree.proofs.Erasing.{plain_stays}
+use Rattle.vdb_tree.proofs.tree.TreeOf.make_room_for.Goals as goal
+
+pub returns-then-blocks_meeting_in-from-clause-full : goal.returns-then-blocks_meeting_in-from-clause-full
+returns-then-blocks_meeting_in-from-clause-full g c =
+    let bits = bits_of g.row.U g.row.L g.row.F in
+    let wide : c.args.self.now.limit < blocks_meeting bits Upper c.args.bounds = search rules in
+    (refl, λ cell other. c.keeps_fills_to_limit.ensures.wide wide cell other)
+
+pub returns-then-has_room_for-clause-within : goal.returns-then-has_room_for-clause-within
+returns-then-has_room_for-clause-within g c = c.keeps_fills_to_limit.ensures.within (c.has_room_for.ensures.room c.if-has_room_for.true)
+
+pub returns-then-has_room_for-2-clause-within : goal.returns-then-has_room_for-2-clause-within
+returns-then-has_room_for-2-clause-within g c = λ cell.
+    let bits = bits_of g.row.U g.row.L g.row.F in
+    let swept = field_of bits c.erase_plain.new.self in
+    let same : swept ≡ field_of bits c.args.self.now = keeps_field bits c.args.self.now c.erase_plain.new.self c.erase_plain.ensures.keeps in
+    let h = c.keeps_fills_to_limit-2.ensures.within (c.has_room_for-2.ensures.room c.if-has_room_for-2.true) cell in
+    subst (λ (f : Field g.row.V.Denot). roots g.V.PartialEq.eq bits (fill c.args.bounds cell f) ≤ c.args.self.now.limit) same
+    (subst (λ n. roots g.V.PartialEq.eq bits (fill c.args.bounds cell swept) ≤ n) c.erase_plain.ensures.keeps.head.limit h)
+
+pub returns-clause-full : goal.returns-clause-full
+returns-clause-full g c =
+    let bits = bits_of g.row.U g.row.L g.row.F in
+    let swept = field_of bits c.erase_plain.new.self in
+    let same : swept ≡ field_of bits c.args.self.now = keeps_field bits c.args.self.now c.erase_plain.new.self c.erase_plain.ensures.keeps in (
+      refl,
+      λ cell other.
+          let h = c.keeps_fills_to_limit-2.ensures.full (c.has_room_for-2.ensures.full c.if-has_room_for-2.false) c.erase_plain.ensures.swept cell
+          (subst (λ d. cell ≢ d) (sym (plain_stays bits c.args.self.now c.erase_plain.new.self c.erase_plain.ensures.keeps)) other) in
+          subst (λ (f : Field g.row.V.Denot). c.args.self.now.limit < roots g.V.PartialEq.eq bits (fill c.args.bounds cell f)) same
+          (subst (λ n. n < roots g.V.PartialEq.eq bits (fill c.args.bounds cell swept)) c.erase_plain.ensures.keeps.head.limit h),
+    )

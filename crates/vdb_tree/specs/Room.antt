@@ -1,0 +1,28 @@
+-- Root blocks that have an entry, together with those that meet a box: whether the table has room for both.
+use Rattle.std.specs.Prelude.{◌≡◌, ◌⊎◌, ◌<◌, ◌≤◌, List, length, true, IsSome, IsTrue}
+use Rattle.std.specs.List.{IsDistinct}
+use Rattle.std.specs.Set.{is_member}
+use Rattle.vdb_coord.specs.Blocks.{key}
+use Rattle.vdb_coord.specs.Space.{Box, coord_eq, is_inside}
+use Rattle.vdb_coord.specs.declared.Bits.{Bits}
+use Rattle.vdb_coord.specs.declared.Coord.{Coord}
+use Rattle.vdb_tree.specs.Layout.{Layout, root_at}
+
+-- a coordinate of the box lies in the root block of this key
+abbrev pub MeetsRoot : Bits → Box → Coord → Type 0
+MeetsRoot bits box k = (p : Coord) × IsTrue (is_inside box p) × (key bits p ≡ k)
+
+module _ {V : Type 0} (bits : Bits) where
+  -- the keys of the table and of the box are among so many as the limit
+  pub record HasRoomFor (t : Layout V) (box : Box) : Type 0 where
+    pub keys : List Coord
+    pub few : length keys ≤ t.limit
+    pub entered : (k : Coord) → IsSome (root_at t.root k) → is_member coord_eq keys k ≡ true
+    pub met : (p : Coord) → IsTrue (is_inside box p) → is_member coord_eq keys (key bits p) ≡ true
+
+  -- there are more of them
+  pub record LacksRoomFor (t : Layout V) (box : Box) : Type 0 where
+    pub keys : List Coord
+    pub apart : IsDistinct coord_eq keys
+    pub many : t.limit < length keys
+    pub each : (k : Coord) → is_member coord_eq keys k ≡ true → IsSome (root_at t.root k) ⊎ MeetsRoot bits box k

@@ -1,0 +1,55 @@
+//! Root blocks that are plain: their entries are taken away.
+
+ghost use Rattle.std.specs.Prelude.{◌≡◌, IfSome, IsNone};
+ghost use Rattle.vdb_tree.specs.Changes.{IsSwept, Keeps};
+ghost use Rattle.vdb_tree.specs.Layout.{bits_of};
+ghost use Rattle.vdb_tree.specs.Erase.{AddsPlainTiles, ErasesRoot};
+ghost use Rattle.vdb_tree.specs.Table.{IsNextKey};
+
+use crate::TreeOf;
+use vdb_coord::Coord;
+use vdb_node::Stored;
+use vdb_pool::Steps;
+use vdb_value::Cell;
+
+impl<
+    V: Stored<WU> + Stored<WL> + Stored<WF>,
+    const U: u32,
+    const L: u32,
+    const F: u32,
+    const WU: usize,
+    const WL: usize,
+    const WF: usize,
+> TreeOf<V, U, L, F, WU, WL, WF> {
+    /// Takes the entry of each root block away whose cells are all the background, inactive, with the nodes below it. Other
+    /// nodes and tiles stay (OpenVDB's `RootNode::eraseBackgroundTiles`, where such blocks were pruned before).
+    pub(crate) fn erase_plain(&mut self, steps: &mut Steps)
+        ensures keeps { Keeps (bits_of U L F) self.old self.new }
+        ensures adds { AddsPlainTiles (bits_of U L F) self.old self.new }
+        ensures swept { IsSwept (bits_of U L F) self.new }
+    {
+        let mut passed = None;
+        while let Some(key) = self.erase_next_plain(passed, steps) {
+            passed = Some(key);
+        }
+    }
+
+    /// Does so for the first root block past a key, or the first of all, and gives the key.
+    fn erase_next_plain(&mut self, after: Option<Coord>, steps: &mut Steps) -> Option<Coord>
+        ensures next { IsNextKey self.old.root after result }
+        ensures none { IsNone result → self.new ≡ self.old }
+        ensures erased { IfSome result (λ k. ErasesRoot (bits_of U L F) self.old self.new k) }
+    {
+        let plain = Cell {
+            value: self.background,
+            on: false,
+        };
+        let key = self.next_key(after)?;
+        let corner = self.key_corner(key);
+        if self.root_block_is(corner, plain, steps) {
+            self.prune_upper(corner, steps);
+            self.drop_plain(corner);
+        }
+        Some(key)
+    }
+}
