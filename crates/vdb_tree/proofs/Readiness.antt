@@ -18,7 +18,7 @@ use Rattle.vdb_node.specs.declared.Entry.TheVariants.{Child, Tile}
 use Rattle.vdb_value.specs.declared.Cell.{Cell}
 use Rattle.vdb_tree.specs.Changes.{AddsNodes, Keeps}
 use Rattle.vdb_tree.specs.Layout.{Layout, entry_over, plain, root_at}
-use Rattle.vdb_tree.specs.Ready.{IsCovered, IsReadyAt, IsReadyTo}
+use Rattle.vdb_tree.specs.Ready.{IsCovered, IsReady, IsReadyAt, IsReadyTo}
 use Rattle.vdb_tree.specs.Table.{IsNextKey, IsPast}
 use Rattle.vdb_tree.proofs.Descents.{tile_lower, tile_upper}
 use Rattle.vdb_tree.proofs.KeysPast.{past_on}
@@ -159,3 +159,13 @@ module _ {V : Type 0} (bits : Bits) (box : Box) (cell : Cell V) where
               | inr some ↦ absurd (some_held (root_at n.root (key bits q)) some none)
             ]
           ]
+
+-- what was ready stays so while nodes come
+pub box_stays : {V : Type 0} (bits : Bits) (box : Box) (cell : Cell V) (t n : Layout V) → Keeps bits t n → AddsNodes bits t n → IsReady bits box cell t → IsReady bits box cell n
+box_stays bits box cell t n keeps adds ready = record {
+  tiles = λ level p inside tile e. ready.tiles level p inside tile (adds.tiles level p tile e);
+  entered = λ p inside. elim (ready.entered p inside) [
+    | inl e ↦ inl (let same = keeps.head.background in rw same e)
+    | inr some ↦ inr (adds.keys (key bits p) some)
+  ];
+}

@@ -29,6 +29,30 @@ impl<
     const WL: usize,
     const WF: usize,
 > TreeOf<V, U, L, F, WU, WL, WF> {
+    /// Makes a box ready to be painted with this cell: where the edge of the box crosses a tile of another cell, a node with
+    /// that cell all over stands in its place; and where the cell isn't plain, each root block that meets the box gets an
+    /// entry. No cell changes, and what was ready for a plain cell stays so.
+    ///
+    /// `RootLimit` says that the filled box would leave more root blocks with a cell that isn't plain than the limit,
+    /// `Memory` that a growth was refused; some nodes may have been made then. It visits the blocks that the box's edge
+    /// crosses, and none within the box or outside it.
+    pub fn split(
+        &mut self,
+        bounds: Bounds,
+        cell: Cell<V>,
+        steps: &mut Steps,
+    ) -> Result<(), TreeRefusal>
+        ensures field { field_of (bits_of U L F) self.new ≡ field_of (bits_of U L F) self.old }
+        ensures kept { self.new.limit ≡ self.old.limit }
+        ensures done { OnOk result (IsReady (bits_of U L F) bounds cell self.new) }
+        ensures limit { ObeysLimit V.eq (bits_of U L F) self.old.limit (fill bounds cell (field_of (bits_of U L F) self.old)) result }
+        ensures plain { cell ≡ plain self.old → IfErr result (λ refusal. refusal ≡ Memory) }
+        ensures ready { (box : Box) → IsReady (bits_of U L F) box (plain self.old) self.old → IsReady (bits_of U L F) box (plain self.old) self.new }
+    {
+        self.enter_box(bounds, cell, steps)?;
+        self.split_root_blocks(bounds, cell, steps)
+    }
+
     /// Makes the root blocks ready that have an entry.
     fn split_root_blocks(
         &mut self,
