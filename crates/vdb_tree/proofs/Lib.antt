@@ -32,6 +32,7 @@ pub mod NextLeaf
 pub mod Seeking
 pub mod BlockTests
 pub mod RootCounts
+pub mod CopiedTables
 pub mod Voxels
 pub mod Erasing
 pub mod Rooms

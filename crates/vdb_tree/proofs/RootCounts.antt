@@ -34,7 +34,7 @@ pub unheld : {A : Type 0} (o : Option A) → IsSome o → o ≡ None → ⊥
 unheld (Some x) h e = cc
 unheld None h e = never refl h
 
-at_least : (k l : Coord) → is_gt (coord_cmp k l) ≡ false → (l ≡ k) ⊎ (coord_cmp k l ≡ Less)
+pub at_least : (k l : Coord) → is_gt (coord_cmp k l) ≡ false → (l ≡ k) ⊎ (coord_cmp k l ≡ Less)
 at_least k l h = by (coord_cmp k l) refl
   where
     by : (o : Ordering) → coord_cmp k l ≡ o → (l ≡ k) ⊎ (coord_cmp k l ≡ Less)
@@ -43,7 +43,7 @@ at_least k l h = by (coord_cmp k l) refl
     by Greater e = absurd (never h (ap is_gt e))
 
 -- every key of a table comes past none
-all_past : {V : Type 0} (root : List (Coord × Entry V)) → keys_past None root ≡ length root
+pub all_past : {V : Type 0} (root : List (Coord × Entry V)) → keys_past None root ≡ length root
 all_past [] = refl
 all_past (e ∷ es) = omega (arith, all_past es)
 

@@ -1,5 +1,5 @@
 -- A tile becomes a node with its cell all over, and no cell changes.
-use Rattle.std.proofs.Common.{ap, ◌≡◌, ◌≤◌, ◌<◌, ℕ, List, refl, sym, ◌∙◌, length, inl, inr, IsTrue}
+use Rattle.std.proofs.Common.{ap, arith, ◌≡◌, ◌≤◌, ◌<◌, ℕ, List, refl, sym, ◌∙◌, length, inl, inr, IsTrue}
 use Rattle.std.specs.Prelude.{Some, None, IsSome, slice_index_or, if◌then◌else◌}
 use Rattle.std.specs.List.{IsDistinct}
 use Rattle.std.specs.Map.{keys_of}
@@ -274,10 +274,10 @@ module _ {V : Type 0} (bits : Bits) where
     pub with_entry_at : root_entry bits with_entry p ≡ Tile c
     with_entry_at = entries_stay p ∙ tiled
 
-  -- pools with other room, and the same nodes
-  module _ (t n : Layout V) (b : n.background ≡ t.background) (r : n.root ≡ t.root) (u : n.uppers.nodes ≡ t.uppers.nodes) (l : n.lowers.nodes ≡ t.lowers.nodes) (f : n.leaves.nodes ≡ t.leaves.nodes) (m : n.limit ≡ t.limit) where
+  -- a table with the same entries, and pools with the same nodes
+  module _ (t n : Layout V) (b : n.background ≡ t.background) (r : (k : Coord) → root_at n.root k ≡ root_at t.root k) (u : n.uppers.nodes ≡ t.uppers.nodes) (l : n.lowers.nodes ≡ t.lowers.nodes) (f : n.leaves.nodes ≡ t.leaves.nodes) (m : n.limit ≡ t.limit) where
     same_root : (q : Coord) → root_entry bits n q ≡ root_entry bits t q
-    same_root q = rw (b, r) refl
+    same_root q = let e = r (key bits q) in rw (b, e) refl
 
     same_uppers : (q : Coord) → upper_entry bits n q ≡ upper_entry bits t q
     same_uppers q = let e = same_root q in rw (e, u, b) refl
@@ -289,18 +289,32 @@ module _ {V : Type 0} (bits : Bits) where
     unfolding cell_at
     same_cells q = let e = same_lowers q in rw (e, f, b) refl
 
-    pub room_keeps : Keeps bits t n
-    room_keeps = record { head = record { background = b; limit = m }; cells = same_cells }
+    pub alike_keeps : Keeps bits t n
+    alike_keeps = record { head = record { background = b; limit = m }; cells = same_cells }
 
-    pub room_adds : AddsNodes bits t n
-    room_adds = adds t n (same_tiles _ _ same_root) (same_tiles _ _ same_uppers) (same_tiles _ _ same_lowers) (λ k h. rw r h)
+    pub alike_adds : AddsNodes bits t n
+    alike_adds = adds t n (same_tiles _ _ same_root) (same_tiles _ _ same_uppers) (same_tiles _ _ same_lowers) (λ k h. let e = r k in rw e h)
 
-    pub room_sound : IsSound bits t → IsSound bits n
-    room_sound sound = record {
-      limit = rw (r, m) sound.limit;
-      apart = rw r sound.apart;
-      keys = λ k h. sound.keys k (rw r at h);
+    pub alike_sound : IsSound bits t → length n.root ≤ length t.root → IsDistinct coord_eq (keys_of n.root) → IsSound bits n
+    alike_sound sound size apart = record {
+      limit = let within = sound.limit in rw m (omega (arith, size, within));
+      apart = apart;
+      keys = λ k h. let e = r k in sound.keys k (rw e at h);
       uppers = owned_as bits Upper _ _ _ same_root (owned_nodes bits Upper _ t.uppers n.uppers u sound.uppers);
       lowers = owned_as bits Lower _ _ _ same_uppers (owned_nodes bits Lower _ t.lowers n.lowers l sound.lowers);
       leaves = owned_as bits Leaf _ _ _ same_lowers (owned_nodes bits Leaf _ t.leaves n.leaves f sound.leaves);
     }
+
+  -- pools with other room, and the same nodes
+  module _ (t n : Layout V) (b : n.background ≡ t.background) (r : n.root ≡ t.root) (u : n.uppers.nodes ≡ t.uppers.nodes) (l : n.lowers.nodes ≡ t.lowers.nodes) (f : n.leaves.nodes ≡ t.leaves.nodes) (m : n.limit ≡ t.limit) where
+    same_entries : (k : Coord) → root_at n.root k ≡ root_at t.root k
+    same_entries k = rw r refl
+
+    pub room_keeps : Keeps bits t n
+    room_keeps = alike_keeps t n b same_entries u l f m
+
+    pub room_adds : AddsNodes bits t n
+    room_adds = alike_adds t n b same_entries u l f m
+
+    pub room_sound : IsSound bits t → IsSound bits n
+    room_sound sound = alike_sound t n b same_entries u l f m sound (rw r (omega arith)) (rw r sound.apart)
