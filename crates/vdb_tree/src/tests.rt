@@ -1,5 +1,6 @@
 //! Trees of each type of values, with the nodes of both layouts and with the smallest. Expected values are worked out by
 //! hand.
+mod copies;
 mod leaves;
 mod limits;
 mod paths;
