@@ -95,6 +95,16 @@ one_too_many = refl
 taken_first : refusal crowd (commands.Grid (codes "ab") kinds.I32 (near (pos 0))) ≡ Some refusals.NameTaken
 taken_first = refl
 
+-- a copy of a grid that isn't there, to a name that is taken, and to a free name, where there are 64 grids
+copy_of_none : refusal crowd (commands.Copy a (codes "ab")) ≡ Some refusals.NoGrid
+copy_of_none = refl
+
+copy_to_itself : refusal crowd (commands.Copy (codes "ab") (codes "ab")) ≡ Some refusals.NameTaken
+copy_to_itself = refl
+
+copy_too_many : refusal crowd (commands.Copy (codes "ab") a) ≡ Some refusals.GridLimit
+copy_too_many = refl
+
 -- ---- scenes
 
 -- one voxel is set, and no other
@@ -112,6 +122,10 @@ beside = refl
 
 takes_none : takes_memory (after with_a set_seven) set_seven ≡ false
 takes_none = refl
+
+-- the voxel is set in a copy, too
+copied : (field_at (after (after with_a set_seven) (commands.Copy a (codes "b"))) (codes "b")).cell (coord (negsuc 0) (negsuc 0) (negsuc 0)) ≡ record { value = I32 (pos 7); on = true }
+copied = refl
 
 -- a step that is refused
 stays : Step with_a make_a (Refused refusals.NameTaken) with_a

@@ -89,6 +89,7 @@ after_write s name p w = changed s name (write (place p) (write_at s name w))
 abbrev pub after : Scene → Command → Scene
 after s (commands.Grid name kind background) = with_grid s name (new_grid (scalar kind background))
 after s (commands.Drop name) = without_grid s name
+after s (commands.Copy from to) = with_grid s to (the_grid s from)
 after s (commands.Get name k p) = s
 after s (commands.Set name k p v) = after_write s name p (writes.On v)
 after s (commands.Unset name k p v) = after_write s name p (writes.Off v)
@@ -155,6 +156,7 @@ tried_write s name k p w =
 abbrev pub tried : Scene → Command → List (Option Refusal)
 tried s (commands.Grid name kind v) = name_taken s name ∷ grid_limit s ∷ other_form (has_form kind v) ∷ out_of_range (has_value kind v) ∷ []
 tried s (commands.Drop name) = no_grid s name ∷ []
+tried s (commands.Copy from to) = no_grid s from ∷ name_taken s to ∷ grid_limit s ∷ []
 tried s (commands.Get name k p) = no_grid s name ∷ out_of_range (is_place p) ∷ no_accessor k ∷ []
 tried s (commands.Set name k p v) = tried_write s name k p (writes.On v)
 tried s (commands.Unset name k p v) = tried_write s name k p (writes.Off v)
@@ -185,6 +187,7 @@ pub data Reply : Type 0 where
 abbrev pub Answers : Scene → Command → Reply → Type 0
 Answers s (commands.Grid name kind v) reply = reply ≡ Done
 Answers s (commands.Drop name) reply = reply ≡ Done
+Answers s (commands.Copy from to) reply = reply ≡ Done
 Answers s (commands.Get name k p) reply = reply ≡ Value ((field_at s name).cell (place p))
 Answers s (commands.Set name k p v) reply = reply ≡ Done
 Answers s (commands.Unset name k p v) reply = reply ≡ Done
@@ -203,10 +206,11 @@ write_takes_memory f p w = not (cell_eq scalar_eq (written w (f.cell p)) (f.cell
 abbrev pub line_takes_memory : Scene → List ℕ → Point → Write Literal → Bool
 line_takes_memory s name p w = write_takes_memory (field_at s name) (place p) (write_at s name w)
 
--- whether a command may take memory: to make a grid, for such a write, and for leaves in place of tiles
+-- whether a command may take memory: to make or copy a grid, for such a write, and for leaves in place of tiles
 abbrev pub takes_memory : Scene → Command → Bool
 takes_memory s (commands.Grid name kind v) = true
 takes_memory s (commands.Drop name) = false
+takes_memory s (commands.Copy from to) = true
 takes_memory s (commands.Get name k p) = false
 takes_memory s (commands.Set name k p v) = line_takes_memory s name p (writes.On v)
 takes_memory s (commands.Unset name k p v) = line_takes_memory s name p (writes.Off v)

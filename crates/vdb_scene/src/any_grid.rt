@@ -1,5 +1,5 @@
 //! A grid of any kind.
-ghost use Rattle.std.specs.Prelude.{◌≡◌, false, IfErr, IsOk, IsTrue, OnOk};
+ghost use Rattle.std.specs.Prelude.{◌≡◌, false, IfErr, IfOk, IsOk, IsTrue, OnOk};
 ghost use Rattle.vdb_coord.specs.Blocks.{vdb};
 ghost use Rattle.vdb_tree.specs.Field.{new, write};
 ghost use Rattle.vdb_tree.specs.Outcome.{IsOutcome};
@@ -90,6 +90,19 @@ impl AnyGrid {
             AnyGrid::Bool(tree) => tree.prune(steps),
             AnyGrid::I32(tree) => tree.prune(steps),
             AnyGrid::I64(tree) => tree.prune(steps),
+        }
+    }
+
+    /// A grid with the same cells, background and limit, and with a tree of its own. `Memory` says that a growth was refused.
+    pub fn try_copy(&self) -> Result<AnyGrid, TreeRefusal>
+        ensures field { IfOk result (λ copy. grid_field copy ≡ grid_field self.now) }
+        ensures limit { IfOk result (λ copy. grid_limit copy ≡ grid_limit self.now) }
+        ensures memory { IfErr result (λ refusal. refusal ≡ Memory) }
+    {
+        match self {
+            AnyGrid::Bool(tree) => Ok(AnyGrid::Bool(tree.try_copy()?)),
+            AnyGrid::I32(tree) => Ok(AnyGrid::I32(tree.try_copy()?)),
+            AnyGrid::I64(tree) => Ok(AnyGrid::I64(tree.try_copy()?)),
         }
     }
 

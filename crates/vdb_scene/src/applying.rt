@@ -139,6 +139,24 @@ impl Scene {
         Ok(Answer::Done)
     }
 
+    /// Carries out a command that copies a grid.
+    fn copy(&mut self, from: &Name, to: Name) -> Result<Answer, Refusal>
+        ensures { CarriesOut (scene_of self.old) (commands.Copy from.now to) result (scene_of self.new) }
+    {
+        let Some(grid) = self.get(from) else {
+            return Err(Refusal::NoGrid);
+        };
+        if self.has(&to) {
+            return Err(Refusal::NameTaken);
+        }
+        if self.is_full() {
+            return Err(Refusal::GridLimit);
+        }
+        let copy = grid.try_copy()?;
+        self.put(to, copy)?;
+        Ok(Answer::Done)
+    }
+
     /// Carries out a command that looks up a voxel.
     fn look_up(
         &self,
@@ -240,6 +258,7 @@ impl Scene {
                 background,
             } => self.make(*name, *kind, *background),
             Command::Drop { name } => self.take(name),
+            Command::Copy { from, to } => self.copy(from, *to),
             Command::Get { name, accessor, at } => self.look_up(name, *accessor, at, steps),
             Command::Set {
                 name,

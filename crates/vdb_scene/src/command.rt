@@ -47,6 +47,11 @@ pub enum Command {
     Drop {
         name: Name,
     },
+    /// Makes a grid like another that is there, of its kind and background and with its cells.
+    Copy {
+        from: Name,
+        to: Name,
+    },
     /// Answers the cell of a voxel.
     Get {
         name: Name,

@@ -61,6 +61,11 @@ fn get(name: Name, at: Point) -> Command {
     }
 }
 
+/// A command that copies a grid.
+fn copy(from: Name, to: Name) -> Command {
+    Command::Copy { from, to }
+}
+
 /// Whether an answer is `ok`.
 fn is_done(answer: &Answer) -> bool {
     matches!(answer, Answer::Done)
@@ -214,6 +219,13 @@ fn a_scene_has_at_most_64_grids(rt: HostRuntime) {
     let again = AnyGrid::new(rt.alloc(), Scalar::Bool(true), ROOT_LIMIT);
     assert!(rt; scene.insert(a, again) == Err(Refusal::GridLimit));
     let first = Name::new(b"aa").expect(&rt, "two letters are a name");
+    for (command, refusal) in [
+        (copy(a, first), Refusal::NoGrid),
+        (copy(first, first), Refusal::NameTaken),
+        (copy(first, a), Refusal::GridLimit),
+    ] {
+        assert!(rt; is_refused(&scene.apply(&command, &mut steps), refusal));
+    }
     let taken = AnyGrid::new(rt.alloc(), Scalar::Bool(true), ROOT_LIMIT);
     assert!(rt; scene.insert(first, taken) == Err(Refusal::NameTaken));
     assert!(rt;
@@ -271,6 +283,66 @@ fn each_write_changes_its_part_of_a_cell(rt: HostRuntime) {
             Refusal::NoGrid
         )
     );
+}
+
+#[test]
+fn a_copy_is_a_grid_of_its_own(rt: HostRuntime) {
+    let mut steps = Steps::new(&rt);
+    let mut scene = Scene::new(rt.alloc());
+    let to = letter(&rt, b'z');
+    let here = point(-1, 4095, 4096);
+    let there = point(0, 0, 0);
+    for (byte, kind, background, value, off, on) in [
+        (
+            b'b',
+            Kind::Bool,
+            Literal::Truth(true),
+            Literal::Truth(false),
+            Scalar::Bool(true),
+            Scalar::Bool(false),
+        ),
+        (
+            b'i',
+            Kind::I32,
+            near(5),
+            near(1),
+            Scalar::I32(5),
+            Scalar::I32(1),
+        ),
+        (
+            b'l',
+            Kind::I64,
+            near(i64::MIN),
+            near(i64::MAX),
+            Scalar::I64(i64::MIN),
+            Scalar::I64(i64::MAX),
+        ),
+    ] {
+        let from = letter(&rt, byte);
+        for command in [
+            grid(from, kind, background),
+            set(from, here, value),
+            copy(from, to),
+            state(from, here, false),
+            set(to, there, value),
+        ] {
+            assert!(rt; is_done(&scene.apply(&command, &mut steps)));
+        }
+        for (name, at, value, is_on) in [
+            (from, here, on, false),
+            (from, there, off, false),
+            (to, here, on, true),
+            (to, there, on, true),
+            (to, point(0, 0, 1), off, false),
+        ] {
+            assert!(rt; is_value(&scene.apply(&get(name, at), &mut steps), value, is_on));
+        }
+        assert!(rt; is_done(&scene.apply(&Command::Drop { name: from }, &mut steps)));
+        assert!(rt; is_value(&scene.apply(&get(to, here), &mut steps), on, true));
+        assert!(rt; is_refused(&scene.apply(&copy(from, to), &mut steps), Refusal::NoGrid));
+        assert!(rt; is_refused(&scene.apply(&copy(to, to), &mut steps), Refusal::NameTaken));
+        assert!(rt; is_done(&scene.apply(&Command::Drop { name: to }, &mut steps)));
+    }
 }
 
 #[test]

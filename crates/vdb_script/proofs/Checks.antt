@@ -125,6 +125,9 @@ prune_read = refl
 drop_read : parse (codes "drop a") ≡ Ok (Some (commands.Drop (codes "a")))
 drop_read = refl
 
+copy_read : parse (codes "copy a b_2") ≡ Ok (Some (commands.Copy (codes "a") (codes "b_2")))
+copy_read = refl
+
 voxelise_read : parse (codes "voxelise a 0 1 2 3 4 5")
     ≡ Ok (Some (commands.Voxelise (codes "a") (record {
       min = record { x = Near (pos 0); y = Near (pos 1); z = Near (pos 2) };

@@ -10,7 +10,7 @@ use Rattle.vdb_scene.specs.declared.command.Num.{Num}
 use Rattle.vdb_scene.specs.declared.command.Point.{Point}
 use Rattle.vdb_scene.specs.declared.answer.Refusal.TheVariants as refusals
 use Rattle.vdb_script.specs.Lines.{tokens}
-use Rattle.vdb_script.specs.Grammar.{Form, ◌>>=◌, give, one, point, corners, grid, drop, get, voxel_value, state, prune, voxelise, whole, command_forms, command_of, word_of, is_comment, meaning, parse, name_of, kind_of, state_of, literal_of, accessor_of, number_of}
+use Rattle.vdb_script.specs.Grammar.{Form, ◌>>=◌, give, one, point, corners, grid, drop, copy, get, voxel_value, state, prune, voxelise, whole, command_forms, command_of, word_of, is_comment, meaning, parse, name_of, kind_of, state_of, literal_of, accessor_of, number_of}
 
 -- where a form is there, it takes so many tokens
 pub record Takes {A : Type 0} (n : ℕ) (form : Form A) : Type 0 where
@@ -78,6 +78,10 @@ corners_takes = then_takes 3 3 _ _ point_takes (λ min. then_takes 3 0 _ _ point
 pub drop_takes : Takes 1 drop
 drop_takes = then_takes 1 0 _ _ (one_takes name_of) (λ name. give_takes _)
 
+-- copy FROM TO
+pub copy_takes : Takes 2 copy
+copy_takes = then_takes 1 1 _ _ (one_takes name_of) (λ from. then_takes 1 0 _ _ (one_takes name_of) (λ to. give_takes _))
+
 -- voxelise NAME X0 Y0 Z0 X1 Y1 Z1
 pub voxelise_takes : Takes 7 voxelise
 voxelise_takes = then_takes 1 6 _ _ (one_takes name_of) (λ name. then_takes 6 0 _ _ corners_takes (λ c. give_takes _))
@@ -140,7 +144,7 @@ few n bound takes = record { n = n; few = bound; takes = takes }
 
 -- each command's form does
 commands_take_few : AllByRecursion TakesFew command_forms
-commands_take_few = (few 3 (omega arith) grid_takes, (few 1 (omega arith) drop_takes, (few 5 (omega arith) get_takes, (few 6 (omega arith) (voxel_value_takes commands.Set), (few 6 (omega arith) (voxel_value_takes commands.Unset), (few 6 (omega arith) (voxel_value_takes commands.Only), (few 6 (omega arith) state_takes, (few 1 (omega arith) prune_takes, (few 7 (omega arith) voxelise_takes, tt)))))))))
+commands_take_few = (few 3 (omega arith) grid_takes, (few 1 (omega arith) drop_takes, (few 2 (omega arith) copy_takes, (few 5 (omega arith) get_takes, (few 6 (omega arith) (voxel_value_takes commands.Set), (few 6 (omega arith) (voxel_value_takes commands.Unset), (few 6 (omega arith) (voxel_value_takes commands.Only), (few 6 (omega arith) state_takes, (few 1 (omega arith) prune_takes, (few 7 (omega arith) voxelise_takes, tt))))))))))
 
 too_many_for : (commands : List (List ℕ × Form Command)) (word : List ℕ) (tokens : List (List ℕ)) → AllByRecursion TakesFew commands → 9 < length tokens
     → Err refusals.Syntax ≡ whole (option_and_then (λ form. form tokens) (word_of commands word))

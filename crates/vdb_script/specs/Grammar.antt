@@ -120,6 +120,13 @@ drop = do
   name ← one name_of
   give (commands.Drop name)
 
+-- copy FROM TO: the name of a grid, then that of its copy
+abbrev pub copy : Form Command
+copy = do
+  from ← one name_of
+  to ← one name_of
+  give (commands.Copy from to)
+
 -- get NAME ACCESSOR X Y Z
 abbrev pub get : Form Command
 get = do
@@ -174,7 +181,7 @@ voxelise = do
 -- each command's word, and the form of what stands behind it
 abbrev pub command_forms : List (List ℕ × Form Command)
 command_forms =
-    (codes "grid", grid) ∷ (codes "drop", drop) ∷ (codes "get", get) ∷ (codes "set", set) ∷ (codes "unset", unset) ∷ (codes "only", only) ∷ (codes "state", state)
+    (codes "grid", grid) ∷ (codes "drop", drop) ∷ (codes "copy", copy) ∷ (codes "get", get) ∷ (codes "set", set) ∷ (codes "unset", unset) ∷ (codes "only", only) ∷ (codes "state", state)
     ∷ (codes "prune", prune) ∷ (codes "voxelise", voxelise) ∷ []
 
 -- a command with no token left, or a syntax error

@@ -5,7 +5,7 @@ ghost use Rattle.vdb_scene.specs.declared.command.Command.{Command};
 ghost use Rattle.vdb_scene.specs.declared.command.Literal.{Literal};
 ghost use Rattle.vdb_scene.specs.declared.command.Num.{Num};
 ghost use Rattle.vdb_scene.specs.declared.command.Point.{Point};
-ghost use Rattle.vdb_script.specs.Grammar.{name_of, kind_of, state_of, literal_of, accessor_of, point, corners, grid, drop, get, voxel_value, set, unset, only, state, prune, voxelise, whole, command_of, is_comment, parse};
+ghost use Rattle.vdb_script.specs.Grammar.{name_of, kind_of, state_of, literal_of, accessor_of, point, corners, grid, drop, copy, get, voxel_value, set, unset, only, state, prune, voxelise, whole, command_of, is_comment, parse};
 
 use crate::numbers::number_of;
 use crate::tokens::{first_token, split_tokens};
@@ -106,6 +106,19 @@ fn drop_command(tokens: &[&[u8]]) -> Option<Command>
     match tokens {
         [name] => Some(Command::Drop {
             name: name_of(name)?,
+        }),
+        _ => None,
+    }
+}
+
+/// The command `copy FROM TO`, from the tokens behind its word.
+fn copy_command(tokens: &[&[u8]]) -> Option<Command>
+    ensures { ok_or (option_map Some result) Refusal.Syntax ≡ whole (copy (map (λ t. t.now) tokens.now)) }
+{
+    match tokens {
+        [from, to] => Some(Command::Copy {
+            from: name_of(from)?,
+            to: name_of(to)?,
         }),
         _ => None,
     }
@@ -235,6 +248,8 @@ fn command_of(word: &[u8], tokens: &[&[u8]]) -> Option<Command>
         grid_command(tokens)
     } else if is_word(word, b"drop") {
         drop_command(tokens)
+    } else if is_word(word, b"copy") {
+        copy_command(tokens)
     } else if is_word(word, b"get") {
         get_command(tokens)
     } else if is_word(word, b"set") {

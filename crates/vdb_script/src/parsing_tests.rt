@@ -47,6 +47,7 @@ fn state(name: Name, on: bool) -> Command {
 #[test]
 fn commands_are_read(rt: HostRuntime) {
     let a = Name::new(b"a").expect(&rt, "one letter");
+    let b = Name::new(b"b").expect(&rt, "one letter");
     let longest = Name::new(b"z_0123456789_abc").expect(&rt, "16 bytes");
     let zero = Literal::Number(Num::Near(0));
     let minus_five = Literal::Number(Num::Near(-5));
@@ -102,6 +103,8 @@ fn commands_are_read(rt: HostRuntime) {
         (b"state a - -1 0 2147483648 off".as_slice(), state(a, false)),
         (b"prune a".as_slice(), Command::Prune { name: a }),
         (b"drop a".as_slice(), Command::Drop { name: a }),
+        (b"copy a b".as_slice(), Command::Copy { from: a, to: b }),
+        (b"copy b a".as_slice(), Command::Copy { from: b, to: a }),
         (
             b"voxelise a -1 0 2147483648 0 0 0".as_slice(),
             Command::Voxelise {
@@ -199,6 +202,10 @@ fn other_lines_are_no_commands(rt: HostRuntime) {
         b"prune".as_slice(),
         b"drop".as_slice(),
         b"drop a b".as_slice(),
+        b"copy a".as_slice(),
+        b"copy a b c".as_slice(),
+        b"copy a B".as_slice(),
+        b"copy - b".as_slice(),
         b"voxelise a 0 0 0 0 0".as_slice(),
         b"voxelise a 0 0 0 0 0 0 0".as_slice(),
         b"voxelise a - 0 0 0 0 0".as_slice(),
