@@ -155,6 +155,11 @@ fn scripts_are_answered(rt: HostRuntime) {
             1,
         ),
         (
+            b"grid a i32 5\nset a - 0 0 0 1\ncopy a c\nget c - 0 0 0\nget c - 7 7 7\nset c - 0 0 0 9\nset a - 7 7 7 4\nget a - 0 0 0\nget c - 0 0 0\nget c - 7 7 7\nset c - 0 0 0 true\ncopy a c\ncopy a a\ncopy b c\ncopy b d\ndrop a\ncopy a d\ncopy c a\nget a - 0 0 0".as_slice(),
+            b"ok\nok\nok\nvalue 1 on\nvalue 5 off\nok\nok\nvalue 1 on\nvalue 9 on\nvalue 5 off\nerror kind\nerror name-taken\nerror name-taken\nerror no-grid\nerror no-grid\nok\nerror no-grid\nok\nvalue 9 on\n".as_slice(),
+            1,
+        ),
+        (
             b"grid a i32 0\nset a - 1 2 3 5\nvoxelise a 0 0 0 127 127 127\nvoxelise a 0 0 0 128 127 127\nvoxelise a 1 0 0 0 0 0\nvoxelise a 0 0 0 0 0 2147483648\nvoxelise b 1 0 0 0 0 0\nget a - 1 2 3\nprune a\nvoxelise a -2147483648 -2147483648 -2147483648 -2147483648 -2147483648 -2147483648\nget a - 1 2 3\nget a - 1 2 4".as_slice(),
             b"ok\nok\nok\nerror too-large\nerror box\nerror value-range\nerror no-grid\nvalue 5 on\nok\nok\nvalue 5 on\nvalue 0 off\n".as_slice(),
             1,

@@ -153,6 +153,13 @@ fn random_scripts_beside_a_map(rt: HostRuntime) -> Result<(), AllocError> {
                         .extend_from_slice(b"voxelise a -1 -1 -1 8 8 8\n")?;
                     trial.answers.extend_from_slice(b"ok\n")?;
                 }
+                if turn % 500 == 249 {
+                    // a copy of a copy goes on in the grid's place
+                    trial
+                        .script
+                        .extend_from_slice(b"copy a b\ndrop a\ncopy b a\ndrop b\n")?;
+                    trial.answers.extend_from_slice(b"ok\nok\nok\nok\n")?;
+                }
             }
             expect(
                 &rt,
