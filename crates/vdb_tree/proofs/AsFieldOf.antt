@@ -1,5 +1,5 @@
 -- Operations, blocks and outcomes before and after each value of a field is made another.
-use Rattle.std.proofs.Common.{refl, ◌≡◌, ap, sym, subst, ◌∙◌, Bool, true, false, cond, not, ◌&&◌, ℕ, ◌<◌, ◌≤◌, Result, Ok, Err, filter, length, IsTrue}
+use Rattle.std.proofs.Common.{refl, ◌≡◌, ap, sym, subst, ◌∙◌, Bool, true, false, cond, not, ◌&&◌, ℕ, ◌<◌, ◌≤◌, Result, Ok, Err, filter, length}
 use Rattle.std.specs.List.{list_all}
 use Rattle.std.proofs.Math.Bool.{beq}
 use Rattle.std.proofs.Math.Path.{fun_ext}
@@ -15,7 +15,7 @@ use Rattle.vdb_tree.specs.declared.refusal.TreeRefusal.{TreeRefusal}
 use Rattle.vdb_tree.specs.declared.refusal.TreeRefusal.TheVariants.{Memory, RootLimit}
 use Rattle.vdb_tree.specs.Field.{Field, as_cell_of, as_field_of, as_write_of, combine, field, fill, new, off, write, written}
 use Rattle.vdb_tree.specs.Outcome.{IsOutcome}
-use Rattle.vdb_tree.specs.Plain.{cell_eq, is_constant, is_plain, is_uniform, roots}
+use Rattle.vdb_tree.specs.Plain.{cell_eq, is_constant, is_uniform, roots}
 use Rattle.vdb_tree.proofs.Fields.{same_cells}
 
 made_cond : {V U : Type 0} (make : V → U) (b : Bool) (x y : Cell V) → as_cell_of make (cond b x y) ≡ cond b (as_cell_of make x) (as_cell_of make y)

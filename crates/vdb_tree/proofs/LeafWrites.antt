@@ -1,12 +1,13 @@
 -- What becomes of a tree when a leaf gets other cells.
-use Rattle.std.proofs.Common.{◌≡◌, ◌≢◌, ℕ, ◌<◌, Bool, List, refl, sym, ap, subst, ◌∙◌, inl, inr}
+use Rattle.std.proofs.Common.{◌≡◌, ◌≢◌, IsTrue, ℕ, ◌<◌, Bool, List, refl, sym, ap, subst, ◌∙◌, inl, inr}
 use Rattle.std.specs.Prelude.{Some}
 use Rattle.vdb_coord.specs.Blocks.{block_number, offset}
 use Rattle.vdb_coord.specs.Entries.{entry_number}
+use Rattle.vdb_coord.specs.Space.{Box, is_inside}
 use Rattle.vdb_coord.specs.declared.Bits.{Bits}
 use Rattle.vdb_coord.specs.declared.Coord.{Coord}
 use Rattle.vdb_coord.specs.declared.Level.TheVariants.{Leaf}
-use Rattle.vdb_coord.proofs.Nesting.{entry_number_leaf}
+use Rattle.vdb_coord.proofs.Nesting.{entry_number_leaf, voxel_from_leaf}
 use Rattle.vdb_coord.proofs.Places.{entries_is, offset_below}
 use Rattle.vdb_mask.specs.Mask.{is_on}
 use Rattle.vdb_node.specs.Leaf.{cell_in, Leaf as LeafOf, SetsVoxel}
@@ -20,12 +21,14 @@ use Rattle.vdb_tree.specs.Changes.{Changes, Turns}
 use Rattle.vdb_tree.specs.Field.{written}
 use Rattle.vdb_tree.specs.Layout.{Layout, cell_at, field_of, lower_entry, plain}
 use Rattle.vdb_tree.specs.Leaves.{IsVoxelWritten, with_states_of}
+use Rattle.vdb_tree.specs.Paints.{KeepsOutside, PaintsVoxels}
 use Rattle.vdb_tree.specs.Paths.{IsWhole, Lives, TreePath}
 use Rattle.vdb_tree.specs.Sound.{IsSound}
 use Rattle.vdb_tree.proofs.Descents.{leaf_cell, lower_by_block}
 use Rattle.vdb_tree.proofs.Equations.{same_field}
 use Rattle.vdb_tree.proofs.Fields.{cell_inside}
 use Rattle.vdb_tree.proofs.Levels.{child_slot, coord_cases, held_after, like_coords, node_turns, owned_after, unlike_coords, within_same}
+use Rattle.vdb_tree.proofs.Passes.{descent_by}
 use Rattle.vdb_tree.proofs.Pools.{node_puts}
 
 same_some : {N : Type 0} (n m : N) → Some n ≡ Some m → n ≡ m
@@ -126,3 +129,35 @@ module _ {V : Type 0} (bits : Bits) (t : Layout V) (u : ℕ) (n m : LeafOf V) (w
               let no = unlike_coords (block_number bits Leaf p) (block_number bits Leaf q) d in
               rw (no, at) (states_there sound q (λ e. d (sym e)))
         ])
+
+  -- the part of a box that lies in the leaf over p is painted
+  module _ (p : Coord) (child : lower_entry bits t p ≡ Child u) (box part : Box) (cell : Cell V) (sound : IsSound bits t) (paints : PaintsVoxels bits part cell n m)
+      (within : (q : Coord) → IsTrue (is_inside part q) → IsTrue (is_inside box q) × (block_number bits Leaf q ≡ block_number bits Leaf p))
+      (all : (q : Coord) → IsTrue (is_inside box q) → block_number bits Leaf q ≡ block_number bits Leaf p → IsTrue (is_inside part q)) where
+    pub painted_here : (q : Coord) → IsTrue (is_inside box q) → block_number bits Leaf q ≡ block_number bits Leaf p → cell_at bits (with_leaf t u m) q ≡ cell
+    painted_here q inside e = leaf_cell bits (with_leaf t u m) p u m child (node_puts t.leaves u n m was).here q e ∙ paints.painted q (all q inside e) (plain t)
+
+    other_leaf : (q : Coord) → block_number bits Leaf q ≢ block_number bits Leaf p → cell_at bits (with_leaf t u m) q ≡ cell_at bits t q
+    unfolding cell_at
+    other_leaf q d =
+        within_same (cell_in (plain t)) (λ c. c) (plain t) t.leaves (with_node t.leaves u m) (lower_entry bits t q) (offset bits Leaf q)
+        (λ r e. (node_puts t.leaves u n m was).others r (λ s. d (sound.leaves.own q p u (e ∙ ap Child s) child)))
+
+    same_leaf : (q : Coord) → (IsTrue (is_inside box q) → ⊥) → block_number bits Leaf q ≡ block_number bits Leaf p → cell_at bits (with_leaf t u m) q ≡ cell_at bits t q
+    same_leaf q out e =
+        let after = leaf_cell bits (with_leaf t u m) p u m child (node_puts t.leaves u n m was).here q e in
+        let before = leaf_cell bits t p u n child was q e in
+        let none : (r : Coord) → IsTrue (is_inside part r) → offset bits Leaf r ≡ offset bits Leaf q → ⊥ = λ r inside same.
+        let h = within r inside in
+        out (subst (λ (c : Coord). IsTrue (is_inside box c)) (voxel_from_leaf bits r q (h.1 ∙ sym e) same) h.0) in
+        after ∙ paints.others (offset bits Leaf q) none (plain t) ∙ sym before
+
+    pub painted_outside : KeepsOutside bits box Leaf t (with_leaf t u m) (block_number bits Leaf p)
+    painted_outside = record {
+      head = record { background = refl; limit = refl };
+      cells = λ q out. elim (coord_cases (block_number bits Leaf q) (block_number bits Leaf p)) [
+        | inl e ↦ same_leaf q (λ inside. out inside e) e
+        | inr d ↦ other_leaf q d
+      ];
+      entries = λ q out. descent_by bits t (with_leaf t u m) q refl refl refl;
+    }

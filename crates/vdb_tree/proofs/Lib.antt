@@ -25,6 +25,7 @@ pub mod Passes
 pub mod Sweeps
 pub mod BlockOrder
 pub mod KeysPast
+pub mod Covered
 pub mod Readiness
 pub mod EntryCounts
 pub mod NextChild
@@ -37,3 +38,6 @@ pub mod Voxels
 pub mod Erasing
 pub mod Rooms
 pub mod RoomWalks
+pub mod PaintedVoxels
+pub mod Paints
+pub mod PaintedRoots

@@ -108,7 +108,7 @@ module _ {V : Type 0} (bits : Bits) where
       let u = tile_upper bits t c q e in
       (tile_needed Leaf t q c (tile_lower bits t c q u), tile_needed Lower t q c u, tile_needed Upper t q c e)
 
-  entry_by_block : (level : Level) (t : Layout V) (q r : Coord) → block_number bits level q ≡ block_number bits level r → entry_over bits level t q ≡ entry_over bits level t r
+  pub entry_by_block : (level : Level) (t : Layout V) (q r : Coord) → block_number bits level q ≡ block_number bits level r → entry_over bits level t q ≡ entry_over bits level t r
   entry_by_block Leaf t = lower_by_block bits t
   entry_by_block Lower t = upper_by_block bits t
   entry_by_block Upper t = root_by_block bits t

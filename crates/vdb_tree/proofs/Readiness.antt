@@ -1,25 +1,21 @@
 -- What is ready to be painted, and stays so while nodes come.
-use Rattle.std.proofs.Common.{◌≡◌, ◌≢◌, ◌⊎◌, inl, inr, ℕ, true, refl, sym, ap, subst, ◌∙◌, IsTrue, Some, None, Option, Ok, Err}
+use Rattle.std.proofs.Common.{◌≡◌, ◌≢◌, ◌⊎◌, inl, inr, ℕ, true, refl, sym, ap, ◌∙◌, IsTrue, Some, None, Option, Ok, Err}
 use Rattle.std.specs.Prelude.{IsSome, OnOk, Result}
-use Rattle.vdb_coord.specs.Blocks.{block, block_bits, block_number, key}
-use Rattle.vdb_coord.specs.Space.{Box, coord_cmp, is_box, is_inside, is_within}
+use Rattle.vdb_coord.specs.Blocks.{block_number, key}
+use Rattle.vdb_coord.specs.Space.{Box, coord_cmp, is_box, is_inside}
 use Rattle.vdb_coord.specs.Walk.{IsBlockBefore, IsNextBlock}
 use Rattle.vdb_coord.specs.declared.Bits.{Bits}
 use Rattle.vdb_coord.specs.declared.Coord.{Coord}
 use Rattle.vdb_coord.specs.declared.Level.{Level}
 use Rattle.vdb_coord.specs.declared.Level.TheVariants.{Leaf, Lower, Upper}
-use Rattle.vdb_coord.proofs.Boxes.{and_true}
-use Rattle.vdb_coord.proofs.InRange.{number_of_corner}
-use Rattle.vdb_coord.proofs.Meeting.{number_of_last, within_each}
-use Rattle.vdb_coord.proofs.Nesting.{inside_numbered, lower_from_leaf, upper_from_lower}
 use Rattle.vdb_coord.proofs.Walk.{min_inside, none_before}
-use Rattle.vdb_node.specs.declared.Entry.{Entry}
 use Rattle.vdb_node.specs.declared.Entry.TheVariants.{Child, Tile}
 use Rattle.vdb_value.specs.declared.Cell.{Cell}
 use Rattle.vdb_tree.specs.Changes.{AddsNodes, Keeps}
 use Rattle.vdb_tree.specs.Layout.{Layout, entry_over, plain, root_at}
 use Rattle.vdb_tree.specs.Ready.{IsCovered, IsReady, IsReadyAt, IsReadyTo}
 use Rattle.vdb_tree.specs.Table.{IsNextKey, IsPast}
+use Rattle.vdb_tree.proofs.Covered.{leaf_covered, lower_covered}
 use Rattle.vdb_tree.proofs.Descents.{tile_lower, tile_upper}
 use Rattle.vdb_tree.proofs.KeysPast.{past_on}
 use Rattle.vdb_tree.proofs.Levels.{coord_cases, same_tile, some_held, tile_no_child}
@@ -32,41 +28,12 @@ pub on_ok : {A E : Type 0} {P Q : Type 0} (r : Result A E) → OnOk r P → (P �
 on_ok (Ok x) h f = f h
 on_ok (Err e) h f = tt
 
-module _ (bits : Bits) (box : Box) where
-  -- a block is covered with each of its coordinates
-  pub covered_by_block : (level : Level) (p q : Coord) → block_number bits level q ≡ block_number bits level p → IsCovered bits box level p → IsCovered bits box level q
-  covered_by_block level p q same h = subst (λ (n : Coord). IsTrue (is_within (block bits level n) box)) (sym same) h
-
-  pub covered_each : (level : Level) (p q : Coord) → block_number bits level q ≡ block_number bits level p → IsCovered bits box level p → IsTrue (is_inside box q)
-  covered_each level p q same h = within_each (block bits level (block_number bits level p)) box q h (inside_numbered bits level (block_number bits level p) q same)
-
-  -- the last coordinate of a block has its number
-  number_of_end : (level : Level) (n : Coord) → block_number bits level (block bits level n).max ≡ n
-  number_of_end level n =
-      let k = block_bits bits level in
-      let x = number_of_last k n.x in
-      let y = number_of_last k n.y in
-      let z = number_of_last k n.z in
-      λ i. record { x = x i; y = y i; z = z i }
-
-  pub covered_from : (level : Level) (p : Coord) → ((q : Coord) → block_number bits level q ≡ block_number bits level p → IsTrue (is_inside box q)) → IsCovered bits box level p
-  covered_from level p all =
-      let n = block_number bits level p in
-      and_true (is_inside box (block bits level n).min) (is_inside box (block bits level n).max) (all (block bits level n).min (number_of_corner bits level n)) (all (block bits level n).max (number_of_end level n))
-
-  -- and with the blocks within it
-  pub covered_leaf : (p : Coord) → IsCovered bits box Lower p → IsCovered bits box Leaf p
-  covered_leaf p h = covered_from Leaf p (λ q same. covered_each Lower p q (lower_from_leaf bits q p same) h)
-
-  pub covered_lower : (p : Coord) → IsCovered bits box Upper p → IsCovered bits box Lower p
-  covered_lower p h = covered_from Lower p (λ q same. covered_each Upper p q (upper_from_lower bits q p same) h)
-
 module _ {V : Type 0} (bits : Bits) (box : Box) (cell : Cell V) where
   -- what is covered is ready, and so is what lies in a tile of the cell
   pub ready_within : (level : Level) (t : Layout V) (q : Coord) → IsCovered bits box level q → IsReadyTo bits box cell level t q
   ready_within Leaf t q h = λ tile e. inl h
-  ready_within Lower t q h = (λ tile e. inl (covered_leaf bits box q h), λ tile e. inl h)
-  ready_within Upper t q h = let l = covered_lower bits box q h in (λ tile e. inl (covered_leaf bits box q l), λ tile e. inl l, λ tile e. inl h)
+  ready_within Lower t q h = (λ tile e. inl (leaf_covered bits box q h), λ tile e. inl h)
+  ready_within Upper t q h = let l = lower_covered bits box q h in (λ tile e. inl (leaf_covered bits box q l), λ tile e. inl l, λ tile e. inl h)
 
   pub ready_tiled : (level : Level) (t : Layout V) (q : Coord) → entry_over bits level t q ≡ Tile cell → IsReadyTo bits box cell level t q
   ready_tiled Leaf t q at = λ tile e. inr (same_tile tile cell (sym e ∙ at))

@@ -20,7 +20,7 @@ use Rattle.vdb_value.specs.declared.Cell.{Cell}
 use Rattle.vdb_tree.specs.Changes.{Fills, Turns}
 use Rattle.vdb_tree.specs.Layout.{Layout, cell_at, lower_entry, plain, root_at, root_entry, upper_entry, within}
 use Rattle.vdb_tree.specs.Sound.{IsOwned, IsSound}
-use Rattle.vdb_tree.proofs.Descents.{lower_by_block, root_by_block, upper_by_block, tile_lower}
+use Rattle.vdb_tree.proofs.Descents.{lower_by_block, root_by_block, upper_by_block, tile_lower, tile_upper}
 use Rattle.vdb_tree.proofs.Levels.{IsByBlock, Puts, child_slot, coord_cases, like_coords, node_turns, owned_after, some_held, tile_no_child, tile_or_child, unlike_coords, within_same}
 
 -- ---- at any level
@@ -110,6 +110,80 @@ module _ {V : Type 0} (bits : Bits) (t : Layout V) (sound : IsSound bits t) (p :
     uppers = sound.uppers;
     lowers = owned_after bits Lower _ _ _ _ _ _ was put sound.lowers;
     leaves = dropped_owned bits Leaf (lower_entry bits t) (lower_entry bits leaf_dropped) p c t.leaves leaves s sound.leaves child taken (lower_by_block bits t) leaf_entries;
+  }
+
+-- ---- a tile of a lower node
+
+module _ {V : Type 0} (bits : Bits) (t : Layout V) (sound : IsSound bits t) (p : Coord) (u : ℕ) (b c : Cell V) (n m : List (Entry V)) (lowers : Contents (List (Entry V)))
+    (at : upper_entry bits t p ≡ Child u) (tiled : lower_entry bits t p ≡ Tile b) (was : node_at t.lowers u ≡ Some n) (sets : SetsEntry n m (offset bits Lower p) (Tile c))
+    (put : Puts t.lowers lowers u (Some m)) where
+  abbrev lower_tile : Layout V
+  lower_tile = record t { lowers = lowers }
+
+  pub lower_tile_entries : Turns (block_number bits Leaf) p (lower_entry bits t) (lower_entry bits lower_tile) (Tile c)
+  lower_tile_entries =
+      node_turns (λ node i. slice_index_or node i (Tile (plain t))) Tile (Tile (plain t)) bits Lower (upper_entry bits t) t.lowers lowers p u n m (Tile c) (upper_by_block bits t) sound.lowers at was put
+      (sets.changed _) (sets.others _)
+
+  lower_tile_cells : Turns (block_number bits Leaf) p (cell_at bits t) (cell_at bits lower_tile) c
+  unfolding cell_at
+  lower_tile_cells =
+      below_turns (cell_in (plain t)) (λ cell. cell) (plain t) (block_number bits Leaf) (offset bits Leaf) (lower_entry bits t) (lower_entry bits lower_tile) t.leaves t.leaves p c lower_tile_entries (λ q r d e. refl)
+
+  pub lower_tile_fills : Fills bits Leaf t lower_tile p c
+  lower_tile_fills = record { head = record { background = refl; limit = refl }; cells = lower_tile_cells }
+
+  pub lower_tile_sound : IsSound bits lower_tile
+  lower_tile_sound = record {
+    limit = sound.limit;
+    apart = sound.apart;
+    keys = sound.keys;
+    uppers = sound.uppers;
+    lowers = owned_after bits Lower _ _ _ _ _ _ was put sound.lowers;
+    leaves = childless_owned bits Leaf (lower_entry bits t) (lower_entry bits lower_tile) p c (block_number bits Leaf) t.leaves lower_tile_entries sound.leaves
+        (λ q r same e. tile_no_child b r (sym tiled ∙ sym (lower_by_block bits t q p same) ∙ e));
+  }
+
+-- ---- a tile of an upper node
+
+module _ {V : Type 0} (bits : Bits) (t : Layout V) (sound : IsSound bits t) (p : Coord) (u : ℕ) (b c : Cell V) (n m : List (Entry V)) (uppers : Contents (List (Entry V)))
+    (at : root_entry bits t p ≡ Child u) (tiled : upper_entry bits t p ≡ Tile b) (was : node_at t.uppers u ≡ Some n) (sets : SetsEntry n m (offset bits Upper p) (Tile c))
+    (put : Puts t.uppers uppers u (Some m)) where
+  abbrev upper_tile : Layout V
+  upper_tile = record t { uppers = uppers }
+
+  -- below the tile there is no child
+  tiles_there : (q : Coord) → block_number bits Lower q ≡ block_number bits Lower p → upper_entry bits t q ≡ Tile b
+  tiles_there q same = upper_by_block bits t q p same ∙ tiled
+
+  pub upper_tile_uppers : Turns (block_number bits Lower) p (upper_entry bits t) (upper_entry bits upper_tile) (Tile c)
+  upper_tile_uppers =
+      node_turns (λ node i. slice_index_or node i (Tile (plain t))) Tile (Tile (plain t)) bits Upper (root_entry bits t) t.uppers uppers p u n m (Tile c) (root_by_block bits t) sound.uppers at was put
+      (sets.changed _) (sets.others _)
+
+  pub upper_tile_lowers : Turns (block_number bits Lower) p (lower_entry bits t) (lower_entry bits upper_tile) (Tile c)
+  upper_tile_lowers =
+      below_turns (λ node i. slice_index_or node i (Tile (plain t))) Tile (Tile (plain t)) (block_number bits Lower) (offset bits Lower) (upper_entry bits t) (upper_entry bits upper_tile) t.lowers t.lowers p c upper_tile_uppers
+      (λ q r d e. refl)
+
+  upper_tile_cells : Turns (block_number bits Lower) p (cell_at bits t) (cell_at bits upper_tile) c
+  unfolding cell_at
+  upper_tile_cells =
+      below_turns (cell_in (plain t)) (λ cell. cell) (plain t) (block_number bits Lower) (offset bits Leaf) (lower_entry bits t) (lower_entry bits upper_tile) t.leaves t.leaves p c upper_tile_lowers (λ q r d e. refl)
+
+  pub upper_tile_fills : Fills bits Lower t upper_tile p c
+  upper_tile_fills = record { head = record { background = refl; limit = refl }; cells = upper_tile_cells }
+
+  pub upper_tile_sound : IsSound bits upper_tile
+  upper_tile_sound = record {
+    limit = sound.limit;
+    apart = sound.apart;
+    keys = sound.keys;
+    uppers = owned_after bits Upper _ _ _ _ _ _ was put sound.uppers;
+    lowers = childless_owned bits Lower (upper_entry bits t) (upper_entry bits upper_tile) p c (block_number bits Lower) t.lowers upper_tile_uppers sound.lowers
+        (λ q r same e. tile_no_child b r (sym (tiles_there q same) ∙ e));
+    leaves = childless_owned bits Leaf (lower_entry bits t) (lower_entry bits upper_tile) p c (block_number bits Lower) t.leaves upper_tile_lowers sound.leaves
+        (λ q r same e. tile_no_child b r (sym (tile_lower bits t b q (tiles_there q same)) ∙ e));
   }
 
 -- ---- a lower node without children
@@ -227,4 +301,50 @@ module _ {V : Type 0} (bits : Bits) (t : Layout V) (sound : IsSound bits t) (p :
     uppers = dropped_owned bits Upper (root_entry bits t) (root_entry bits upper_dropped) p c t.uppers uppers s sound.uppers child taken (root_by_block bits t) upper_roots;
     lowers = childless_owned bits Lower (upper_entry bits t) (upper_entry bits upper_dropped) p c (block_number bits Upper) t.lowers upper_uppers sound.lowers childless;
     leaves = childless_owned bits Leaf (lower_entry bits t) (lower_entry bits upper_dropped) p c (block_number bits Upper) t.leaves upper_lowers sound.leaves leafless;
+  }
+
+-- ---- a tile of the table
+
+module _ {V : Type 0} (bits : Bits) (t : Layout V) (sound : IsSound bits t) (p : Coord) (b c : Cell V) (root : List (Coord × Entry V))
+    (entered : IsSome (root_at t.root (key bits p))) (tiled : root_entry bits t p ≡ Tile b)
+    (updates : (k : Coord) → root_at root k ≡ cond (coord_eq (key bits p) k) (Some (Tile c)) (root_at t.root k))
+    (size : length root ≤ length t.root) (apart : IsDistinct coord_eq (keys_of root)) where
+  abbrev root_tile : Layout V
+  root_tile = record t { root = root }
+
+  root_tile_roots : Turns (block_number bits Upper) p (root_entry bits t) (root_entry bits root_tile) (Tile c)
+  root_tile_roots = root_turns bits t p (Some (Tile c)) root updates
+
+  pub root_tile_uppers : Turns (block_number bits Upper) p (upper_entry bits t) (upper_entry bits root_tile) (Tile c)
+  root_tile_uppers =
+      below_turns (λ node i. slice_index_or node i (Tile (plain t))) Tile (Tile (plain t)) (block_number bits Upper) (offset bits Upper) (root_entry bits t) (root_entry bits root_tile) t.uppers t.uppers p c root_tile_roots
+      (λ q r d e. refl)
+
+  pub root_tile_lowers : Turns (block_number bits Upper) p (lower_entry bits t) (lower_entry bits root_tile) (Tile c)
+  root_tile_lowers =
+      below_turns (λ node i. slice_index_or node i (Tile (plain t))) Tile (Tile (plain t)) (block_number bits Upper) (offset bits Lower) (upper_entry bits t) (upper_entry bits root_tile) t.lowers t.lowers p c root_tile_uppers
+      (λ q r d e. refl)
+
+  root_tile_cells : Turns (block_number bits Upper) p (cell_at bits t) (cell_at bits root_tile) c
+  unfolding cell_at
+  root_tile_cells =
+      below_turns (cell_in (plain t)) (λ cell. cell) (plain t) (block_number bits Upper) (offset bits Leaf) (lower_entry bits t) (lower_entry bits root_tile) t.leaves t.leaves p c root_tile_lowers (λ q r d e. refl)
+
+  pub root_tile_fills : Fills bits Upper t root_tile p c
+  root_tile_fills = record { head = record { background = refl; limit = refl }; cells = root_tile_cells }
+
+  root_tiles_there : (q : Coord) → block_number bits Upper q ≡ block_number bits Upper p → root_entry bits t q ≡ Tile b
+  root_tiles_there q same = root_by_block bits t q p same ∙ tiled
+
+  pub root_tile_sound : IsSound bits root_tile
+  root_tile_sound = record {
+    limit = omega (arith, size, sound.limit);
+    apart = apart;
+    keys = λ k h. sound.keys k (root_keys bits t p (Some (Tile c)) root updates (λ _. entered) k h);
+    uppers = childless_owned bits Upper (root_entry bits t) (root_entry bits root_tile) p c (block_number bits Upper) t.uppers root_tile_roots sound.uppers
+        (λ q r same e. tile_no_child b r (sym (root_tiles_there q same) ∙ e));
+    lowers = childless_owned bits Lower (upper_entry bits t) (upper_entry bits root_tile) p c (block_number bits Upper) t.lowers root_tile_uppers sound.lowers
+        (λ q r same e. tile_no_child b r (sym (tile_upper bits t b q (root_tiles_there q same)) ∙ e));
+    leaves = childless_owned bits Leaf (lower_entry bits t) (lower_entry bits root_tile) p c (block_number bits Upper) t.leaves root_tile_lowers sound.leaves
+        (λ q r same e. tile_no_child b r (sym (tile_lower bits t b q (tile_upper bits t b q (root_tiles_there q same))) ∙ e));
   }

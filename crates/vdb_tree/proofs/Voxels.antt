@@ -1,6 +1,6 @@
 -- Active tiles, and leaves in place of them.
-use Rattle.std.proofs.Common.{◌≡◌, ◌⊎◌, inl, inr, refl, sym, ap, ◌∙◌, true, false, IsTrue, Some, None, Option, ℕ, suc, ◌<◌, arith}
-use Rattle.std.specs.Prelude.{IfSome, IsSome}
+use Rattle.std.proofs.Common.{◌≡◌, ◌⊎◌, inl, inr, sym, ap, ◌∙◌, true, IsTrue, Some, None, Option, ℕ, suc, ◌<◌, arith}
+use Rattle.std.specs.Prelude.{IfSome}
 use Rattle.vdb_coord.specs.Blocks.{block_number, key}
 use Rattle.vdb_coord.specs.Space.{Box, is_box, is_inside}
 use Rattle.vdb_coord.specs.Walk.{IsBlockBefore, IsNextBlock, coordinates_after}
@@ -8,15 +8,14 @@ use Rattle.vdb_coord.specs.declared.Bits.{Bits}
 use Rattle.vdb_coord.specs.declared.Coord.{Coord}
 use Rattle.vdb_coord.specs.declared.Level.TheVariants.{Leaf}
 use Rattle.vdb_coord.proofs.Walk.{min_inside, none_before}
-use Rattle.vdb_node.specs.declared.Entry.{Entry}
-use Rattle.vdb_node.specs.declared.Entry.TheVariants.{Child, Tile}
+use Rattle.vdb_node.specs.declared.Entry.TheVariants.{Tile}
 use Rattle.vdb_value.specs.declared.Cell.{Cell}
 use Rattle.vdb_tree.specs.Changes.{AddsNodes, Keeps}
 use Rattle.vdb_tree.specs.Layout.{Layout, cell_at, lower_entry, plain, root_at}
 use Rattle.vdb_tree.specs.Paths.{in_leaf}
 use Rattle.vdb_tree.specs.Table.{HasRoom}
 use Rattle.vdb_tree.proofs.Blocks.{never}
-use Rattle.vdb_tree.proofs.Descents.{lower_by_block, tile_cell, tile_lower, tile_upper}
+use Rattle.vdb_tree.proofs.Descents.{lower_by_block, tile_lower, tile_upper}
 use Rattle.vdb_tree.proofs.Levels.{same_tile}
 use Rattle.vdb_tree.proofs.Needed.{absent_entry, is_some_from, some_or_none}
 use Rattle.vdb_tree.proofs.Splits.{adds_leaves, keeps_itself, keeps_twice}

@@ -15,3 +15,4 @@ pub mod Smallest
 pub mod Changes
 pub mod Corners
 pub mod Seeks
+pub mod Paints

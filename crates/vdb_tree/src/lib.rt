@@ -15,6 +15,8 @@ mod keys;
 mod leaves;
 mod next_leaf;
 mod nodes;
+mod paint;
+mod paint_voxels;
 mod path;
 mod pieces;
 mod prune;

@@ -1,7 +1,7 @@
 //! Tiles in place of nodes. Each node is given back to its pool once its block has tiles alone, so that what stands in
 //! between is a sound tree.
 
-ghost use Rattle.std.specs.Prelude.{◌≡◌, ℕ, Some, if◌then◌else◌};
+ghost use Rattle.std.specs.Prelude.{◌≡◌, ℕ, IsSome, Some, if◌then◌else◌};
 ghost use Rattle.vdb_coord.specs.Blocks.{block_number, key};
 ghost use Rattle.vdb_coord.specs.Space.{coord_eq};
 ghost use Rattle.vdb_coord.specs.declared.Coord.{Coord};
@@ -46,6 +46,46 @@ impl<
         let _ = self.leaves.take(from, steps);
         let place = held_place(&self.lowers, lower);
         self.lowers.at_mut(place, steps).set_tile(offset, cell);
+    }
+
+    /// Makes another tile of p's tile in a lower node.
+    pub(crate) fn set_lower_tile(&mut self, lower: u32, p: Coord, cell: Cell<V>, steps: &mut Steps)
+        requires lower { upper_entry (bits_of U L F) self.old p ≡ Child lower }
+        requires tiled { (tile : Cell V) × (lower_entry (bits_of U L F) self.old p ≡ Tile tile) }
+        ensures fills { Fills (bits_of U L F) Leaf self.old self.new p cell }
+        ensures above { KeepsUppers self.old self.new }
+        ensures entries { Turns (block_number (bits_of U L F) Leaf) p (lower_entry (bits_of U L F) self.old) (lower_entry (bits_of U L F) self.new) (Tile cell) }
+    {
+        let offset = self.offset(p, Level::Lower);
+        let place = held_place(&self.lowers, lower);
+        self.lowers.at_mut(place, steps).set_tile(offset, cell);
+    }
+
+    /// Makes another tile of p's tile in an upper node.
+    pub(crate) fn set_upper_tile(&mut self, upper: u32, p: Coord, cell: Cell<V>, steps: &mut Steps)
+        requires upper { root_entry (bits_of U L F) self.old p ≡ Child upper }
+        requires tiled { (tile : Cell V) × (upper_entry (bits_of U L F) self.old p ≡ Tile tile) }
+        ensures fills { Fills (bits_of U L F) Lower self.old self.new p cell }
+        ensures root { self.new.root ≡ self.old.root }
+        ensures uppers { Turns (block_number (bits_of U L F) Lower) p (upper_entry (bits_of U L F) self.old) (upper_entry (bits_of U L F) self.new) (Tile cell) }
+        ensures lowers { Turns (block_number (bits_of U L F) Lower) p (lower_entry (bits_of U L F) self.old) (lower_entry (bits_of U L F) self.new) (Tile cell) }
+    {
+        let offset = self.offset(p, Level::Upper);
+        let place = held_place(&self.uppers, upper);
+        self.uppers.at_mut(place, steps).set_tile(offset, cell);
+    }
+
+    /// Makes another tile of the tile under p's key.
+    pub(crate) fn set_root_tile(&mut self, p: Coord, cell: Cell<V>)
+        requires entered { IsSome (root_at self.old.root (key (bits_of U L F) p)) }
+        requires tiled { (tile : Cell V) × (root_entry (bits_of U L F) self.old p ≡ Tile tile) }
+        ensures fills { Fills (bits_of U L F) Upper self.old self.new p cell }
+        ensures table { (k : Coord) → root_at self.new.root k ≡ (if coord_eq (key (bits_of U L F) p) k then Some (Tile cell) else root_at self.old.root k) }
+        ensures uppers { Turns (block_number (bits_of U L F) Upper) p (upper_entry (bits_of U L F) self.old) (upper_entry (bits_of U L F) self.new) (Tile cell) }
+        ensures lowers { Turns (block_number (bits_of U L F) Upper) p (lower_entry (bits_of U L F) self.old) (lower_entry (bits_of U L F) self.new) (Tile cell) }
+    {
+        let key = self.key(p);
+        self.root.set(key, Entry::Tile(cell));
     }
 
     /// Makes a tile of the lower node around p, which has no leaves.

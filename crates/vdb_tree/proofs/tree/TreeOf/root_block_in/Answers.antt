@@ -1,6 +1,6 @@
 use Rattle.std.proofs.Common.{◌≡◌, ◌∙◌, ap, sym, subst, IsTrue}
 use Rattle.std.specs.Prelude.{IsSome}
-use Rattle.vdb_coord.specs.Blocks.{block, block_around, block_number, key}
+use Rattle.vdb_coord.specs.Blocks.{block, block_around, key}
 use Rattle.vdb_coord.specs.Space.{Box, is_inside}
 use Rattle.vdb_coord.specs.declared.Bits.{Bits}
 use Rattle.vdb_coord.specs.declared.Coord.{Coord}

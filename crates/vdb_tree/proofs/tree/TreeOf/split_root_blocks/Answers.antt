@@ -1,4 +1,4 @@
-use Rattle.std.proofs.Common.{◌≡◌, ◌≢◌, ◌∙◌, IsTrue, Some, None, Option, refl, subst, sym}
+use Rattle.std.proofs.Common.{◌≡◌, ◌≢◌, IsTrue, Some, None, Option, subst}
 use Rattle.std.specs.Prelude.{IfSome}
 use Rattle.vdb_coord.specs.Blocks.{key}
 use Rattle.vdb_coord.specs.Space.{is_inside}

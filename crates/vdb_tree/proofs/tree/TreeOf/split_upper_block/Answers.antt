@@ -2,9 +2,10 @@ use Rattle.std.proofs.Common.{◌∙◌, ap, sym}
 use Rattle.vdb_coord.specs.declared.Level.TheVariants.{Upper}
 use Rattle.vdb_node.specs.declared.Entry.TheVariants.{Tile}
 use Rattle.vdb_tree.specs.Layout.{bits_of, root_at}
+use Rattle.vdb_tree.proofs.Covered.{covered_by_block}
 use Rattle.vdb_tree.proofs.Descents.{root_by_block}
 use Rattle.vdb_tree.proofs.Passes.{root_entry_same}
-use Rattle.vdb_tree.proofs.Readiness.{covered_by_block, on_ok, ready_child, ready_tiled, ready_within}
+use Rattle.vdb_tree.proofs.Readiness.{on_ok, ready_child, ready_tiled, ready_within}
 use Rattle.vdb_tree.proofs.Splits.{adds_twice, keeps_twice}
 use Rattle.vdb_tree.proofs.Uniform.{cell_exact, exact_by}
 use Rattle.vdb_tree.proofs.tree.TreeOf.split_upper_block.Goals as goal

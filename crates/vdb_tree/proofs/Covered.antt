@@ -1,0 +1,45 @@
+-- Blocks that lie within a box.
+use Rattle.std.proofs.Common.{◌≡◌, sym, subst, IsTrue}
+use Rattle.vdb_coord.specs.Blocks.{block, block_around, block_bits, block_number}
+use Rattle.vdb_coord.specs.Space.{Box, is_inside, is_within}
+use Rattle.vdb_coord.specs.declared.Bits.{Bits}
+use Rattle.vdb_coord.specs.declared.Coord.{Coord}
+use Rattle.vdb_coord.specs.declared.Level.{Level}
+use Rattle.vdb_coord.specs.declared.Level.TheVariants.{Leaf, Lower, Upper}
+use Rattle.vdb_coord.proofs.Boxes.{and_true}
+use Rattle.vdb_coord.proofs.InRange.{number_of_corner}
+use Rattle.vdb_coord.proofs.Meeting.{number_of_last, within_each}
+use Rattle.vdb_coord.proofs.Nesting.{inside_numbered, lower_from_leaf, upper_from_lower}
+use Rattle.vdb_tree.specs.Ready.{IsCovered}
+
+-- the last coordinate of a block has its number
+number_of_end : (bits : Bits) (level : Level) (n : Coord) → block_number bits level (block bits level n).max ≡ n
+number_of_end bits level n =
+    let k = block_bits bits level in
+    let x = number_of_last k n.x in
+    let y = number_of_last k n.y in
+    let z = number_of_last k n.z in
+    λ i. record { x = x i; y = y i; z = z i }
+
+module _ (bits : Bits) (box : Box) where
+  -- a block is covered around each of its coordinates
+  pub covered_by_block : (level : Level) (p q : Coord) → block_number bits level q ≡ block_number bits level p → IsCovered bits box level p → IsCovered bits box level q
+  covered_by_block level p q same h = subst (λ (n : Coord). IsTrue (is_within (block bits level n) box)) (sym same) h
+
+  -- the box holds each coordinate of a block within it
+  pub covered_inside : (level : Level) (p q : Coord) → IsCovered bits box level p → block_number bits level q ≡ block_number bits level p → IsTrue (is_inside box q)
+  covered_inside level p q covered same = within_each (block_around bits level p) box q covered (inside_numbered bits level (block_number bits level p) q same)
+
+  -- so a block in it is within the box too
+  covered_below : (outer inner : Level) → ((q r : Coord) → block_number bits inner q ≡ block_number bits inner r → block_number bits outer q ≡ block_number bits outer r)
+      → (p : Coord) → IsCovered bits box outer p → IsCovered bits box inner p
+  covered_below outer inner up p covered =
+      let b = block_around bits inner p in
+      let n = block_number bits inner p in
+      and_true (is_inside box b.min) (is_inside box b.max) (covered_inside outer p b.min covered (up b.min p (number_of_corner bits inner n))) (covered_inside outer p b.max covered (up b.max p (number_of_end bits inner n)))
+
+  pub leaf_covered : (p : Coord) → IsCovered bits box Lower p → IsCovered bits box Leaf p
+  leaf_covered = covered_below Lower Leaf (lower_from_leaf bits)
+
+  pub lower_covered : (p : Coord) → IsCovered bits box Upper p → IsCovered bits box Lower p
+  lower_covered = covered_below Upper Lower (upper_from_lower bits)

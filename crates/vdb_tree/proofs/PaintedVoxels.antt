@@ -1,0 +1,88 @@
+-- Voxels of a leaf that are painted.
+use Rattle.std.proofs.Common.{◌≡◌, ◌⊎◌, inl, inr, ℕ, ℤ, pos, ◌+ℤ◌, ◌<ℤ◌, ◌≤ℤ◌, SFits, arith, of_z, to_z, w32, true, false, refl, sym, ap, ◌∙◌, IsTrue, Some, None}
+use lib.Signed.{lt_z}
+use Rattle.std.proofs.lemmas.Int.{ints, to_z-of_z}
+use Rattle.std.proofs.lemmas.Bool.Decides.{eqb_tells}
+use Rattle.vdb_coord.specs.Blocks.{block_number, offset}
+use Rattle.vdb_coord.specs.Components.{last_of, number_at}
+use Rattle.vdb_coord.specs.Space.{Box, coord, is_box, is_inside}
+use Rattle.vdb_coord.specs.Walk.{IsBlockBefore, IsNextBlock}
+use Rattle.vdb_coord.specs.declared.Bits.{Bits}
+use Rattle.vdb_coord.specs.declared.Coord.{Coord}
+use Rattle.vdb_coord.specs.declared.Level.TheVariants.{Leaf}
+use Rattle.vdb_coord.proofs.Nesting.{entry_number_leaf}
+use Rattle.vdb_coord.proofs.Walk.{min_inside, next_x, next_y, next_z, no_next, none_before}
+use Rattle.vdb_node.specs.Leaf.{cell_in, Leaf as LeafOf, SetsVoxel}
+use Rattle.vdb_value.specs.declared.Cell.{Cell}
+use Rattle.vdb_tree.specs.Paints.{PaintsVoxels, voxels}
+
+-- each coordinate is a block of its own
+own_block : (p q : Coord) → block_number voxels Leaf p ≡ block_number voxels Leaf q → p ≡ q
+own_block p q e = sym (entry_number_leaf voxels p) ∙ e ∙ entry_number_leaf voxels q
+
+-- ---- the next coordinate
+
+own_last : (x : ℤ) → last_of 0 (number_at 0 x) ≡ x
+own_last x = let e : number_at 0 x ≡ x = ap (λ (p : Coord). p.x) (entry_number_leaf voxels (coord x x x)) in rw e (grind (arith, ints))
+
+-- a number behind another that has one above it
+pub bumped : (x m : ℤ) → SFits w32 x → SFits w32 m → lt_z (to_z w32 (of_z w32 x)) (to_z w32 (of_z w32 m)) ≡ true
+    → (to_z w32 (of_z w32 (to_z w32 (of_z w32 x) +ℤ pos 1)) ≡ x +ℤ pos 1) × (x <ℤ m) × SFits w32 (x +ℤ pos 1)
+bumped x m fx fm h =
+    let less : x <ℤ m = let k = simp to_z-of_z at h in grind (arith, ints) in
+    let fits : SFits w32 (x +ℤ pos 1) = grind (arith, ints) in
+    (simp to_z-of_z, less, fits)
+
+pub covered : (x m : ℤ) → SFits w32 x → SFits w32 m → lt_z (to_z w32 (of_z w32 x)) (to_z w32 (of_z w32 m)) ≡ false → m ≤ℤ x
+covered x m fx fm h = let k = simp to_z-of_z at h in grind (arith, ints)
+
+-- a number of 32 bits isn't past the greatest
+pub greatest : (x : ℤ) → SFits w32 x → x ≤ℤ pos 2147483647
+greatest x h = grind (arith, ints)
+
+pub behind : (x : ℤ) → x <ℤ (x +ℤ pos 1)
+behind x = omega (arith, ints)
+
+module _ (part : Box) (p : Coord) (inside : is_inside part p ≡ true) where
+  pub next_along_z : p.z <ℤ part.max.z → IsNextBlock voxels Leaf part p (Some (coord p.x p.y (p.z +ℤ pos 1)))
+  next_along_z h = let e = own_last p.z in let next = next_z voxels Leaf part p inside (rw e h) in rw e at next
+
+  pub next_along_y : part.max.z ≤ℤ p.z → p.y <ℤ part.max.y → IsNextBlock voxels Leaf part p (Some (coord p.x (p.y +ℤ pos 1) part.min.z))
+  next_along_y z h = let e = own_last p.y in let f = own_last p.z in let next = next_y voxels Leaf part p inside (rw f z) (rw e h) in rw e at next
+
+  pub next_along_x : part.max.z ≤ℤ p.z → part.max.y ≤ℤ p.y → p.x <ℤ part.max.x → IsNextBlock voxels Leaf part p (Some (coord (p.x +ℤ pos 1) part.min.y part.min.z))
+  next_along_x z y h = let e = own_last p.x in let f = own_last p.y in let g = own_last p.z in let next = next_x voxels Leaf part p inside (rw g z) (rw f y) (rw e h) in rw e at next
+
+  pub none_along : part.max.z ≤ℤ p.z → part.max.y ≤ℤ p.y → part.max.x ≤ℤ p.x → IsNextBlock voxels Leaf part p None
+  none_along z y x = let e = own_last p.x in let f = own_last p.y in let g = own_last p.z in no_next voxels Leaf part p inside (rw g z) (rw f y) (rw e x)
+
+-- ---- the walk
+
+module _ {V : Type 0} (bits : Bits) (part : Box) (cell : Cell V) where
+  -- painted before a coordinate of the part
+  pub record PaintsVoxelsTo (old new : LeafOf V) (p : Coord) : Type 0 where
+    pub inside : IsTrue (is_inside part p)
+    pub done : (q : Coord) → IsTrue (is_inside part q) → IsBlockBefore voxels Leaf q p → (d : Cell V) → cell_in d new (offset bits Leaf q) ≡ cell
+    pub others : (i : ℕ) → ((q : Coord) → IsTrue (is_inside part q) → offset bits Leaf q ≡ i → ⊥) → (d : Cell V) → cell_in d new i ≡ cell_in d old i
+
+  pub voxels_none : (leaf : LeafOf V) → is_box part ≡ true → PaintsVoxelsTo leaf leaf part.min
+  voxels_none leaf is = record { inside = min_inside part is; done = λ q inside before. absurd (none_before voxels Leaf part q inside before); others = λ i none d. refl }
+
+  module _ (old mid new : LeafOf V) (p : Coord) (so_far : PaintsVoxelsTo old mid p) (i : ℕ) (at : i ≡ offset bits Leaf p) (sets : SetsVoxel mid new i cell) where
+    up_to : (q : Coord) → IsTrue (is_inside part q) → IsBlockBefore voxels Leaf q p ⊎ (block_number voxels Leaf q ≡ block_number voxels Leaf p) → (d : Cell V) → cell_in d new (offset bits Leaf q) ≡ cell
+    up_to q inside h d = elim (eqb_tells (offset bits Leaf q) i) [
+      | inl same ↦ ap (cell_in d new) same.1 ∙ sets.changed d
+      | inr other ↦ elim h [
+        | inl before ↦ sets.others d (offset bits Leaf q) other.1 ∙ so_far.done q inside before d
+        | inr own ↦ absurd (other.1 (ap (offset bits Leaf) (own_block q p own) ∙ sym at))
+      ]
+    ]
+
+    others_stay : (j : ℕ) → ((q : Coord) → IsTrue (is_inside part q) → offset bits Leaf q ≡ j → ⊥) → (d : Cell V) → cell_in d new j ≡ cell_in d old j
+    others_stay j none d = sets.others d j (λ e. none p so_far.inside (sym at ∙ sym e)) ∙ so_far.others j none d
+
+    pub voxels_next : (next : Coord) → IsNextBlock voxels Leaf part p (Some next) → PaintsVoxelsTo old new next
+    voxels_next next h = record { inside = h.0; done = λ q inside before. up_to q inside (h.2 q inside before); others = others_stay }
+
+    pub voxels_all : IsNextBlock voxels Leaf part p None → PaintsVoxels bits part cell old new
+    voxels_all h = record { painted = λ q inside. up_to q inside (h q inside); others = others_stay }

@@ -1,0 +1,44 @@
+use Rattle.std.proofs.Common.{sym, ap, ◌∙◌}
+use Rattle.vdb_node.specs.declared.Entry.TheVariants.{Child}
+use Rattle.vdb_tree.proofs.Pools.{node_puts}
+use Rattle.vdb_tree.proofs.Sizes.{internal_small}
+use Rattle.vdb_tree.proofs.Tiled.{upper_tile_sound, upper_tile_fills, upper_tile_uppers, upper_tile_lowers}
+use Rattle.vdb_tree.proofs.tree.TreeOf.set_upper_tile.Goals as goal
+
+pub set_tile-requires : goal.set_tile-requires
+set_tile-requires g c =
+    let small = g.met.V.Stored-1.row_small in
+    (internal_small _ _ g.row.WU _ c.self.invariant.0.few_upper_words small.1 small.1 small.0, c.offset-offset.ensures.within)
+
+pub invariant_of-self : goal.invariant_of-self
+invariant_of-self g c = (
+  c.self.invariant.0,
+  upper_tile_sound _ _ c.self.invariant.1 c.args.p _ _ c.args.cell _ _ _
+      ((rw (← c.self.view_is) at c.requires.upper) ∙ ap Child (sym c.held_place-place.ensures.slot))
+      (rw (← c.self.view_is) at c.requires.tiled.1)
+      c.at_mut.ensures.node (rw c.offset-offset.ensures.value at c.set_tile.ensures) (node_puts _ _ _ _ c.at_mut.ensures.node),
+)
+
+pub returns-clause-fills : goal.returns-clause-fills
+returns-clause-fills g c =
+    rw (← c.self.view_is)
+    (upper_tile_fills _ _ c.self.invariant.1 c.args.p _ _ c.args.cell _ _ _
+    ((rw (← c.self.view_is) at c.requires.upper) ∙ ap Child (sym c.held_place-place.ensures.slot))
+    (rw (← c.self.view_is) at c.requires.tiled.1)
+    c.at_mut.ensures.node (rw c.offset-offset.ensures.value at c.set_tile.ensures) (node_puts _ _ _ _ c.at_mut.ensures.node))
+
+pub returns-clause-uppers : goal.returns-clause-uppers
+returns-clause-uppers g c =
+    rw (← c.self.view_is)
+    (upper_tile_uppers _ _ c.self.invariant.1 c.args.p _ _ c.args.cell _ _ _
+    ((rw (← c.self.view_is) at c.requires.upper) ∙ ap Child (sym c.held_place-place.ensures.slot))
+    (rw (← c.self.view_is) at c.requires.tiled.1)
+    c.at_mut.ensures.node (rw c.offset-offset.ensures.value at c.set_tile.ensures) (node_puts _ _ _ _ c.at_mut.ensures.node))
+
+pub returns-clause-lowers : goal.returns-clause-lowers
+returns-clause-lowers g c =
+    rw (← c.self.view_is)
+    (upper_tile_lowers _ _ c.self.invariant.1 c.args.p _ _ c.args.cell _ _ _
+    ((rw (← c.self.view_is) at c.requires.upper) ∙ ap Child (sym c.held_place-place.ensures.slot))
+    (rw (← c.self.view_is) at c.requires.tiled.1)
+    c.at_mut.ensures.node (rw c.offset-offset.ensures.value at c.set_tile.ensures) (node_puts _ _ _ _ c.at_mut.ensures.node))

@@ -1,0 +1,44 @@
+use Rattle.std.proofs.Common.{◌≡◌, ◌∙◌, ◌&&◌, subst, sym, true}
+use Rattle.std.specs.Prelude.{IsSome}
+use Rattle.vdb_coord.specs.Blocks.{block_around, block_number}
+use Rattle.vdb_coord.specs.Space.{Box, is_box, is_inside}
+use Rattle.vdb_coord.specs.declared.Bits.{Bits}
+use Rattle.vdb_coord.specs.declared.Coord.{Coord}
+use Rattle.vdb_coord.specs.declared.Level.TheVariants.{Upper}
+use Rattle.vdb_coord.proofs.Boxes.{and_true, both}
+use Rattle.vdb_coord.proofs.Nesting.{inside_numbered, number_in_block}
+use Rattle.vdb_coord.proofs.Walk.{min_inside}
+use Rattle.vdb_tree.specs.Layout.{bits_of, root_at}
+use Rattle.vdb_tree.proofs.Blocks.{never}
+use Rattle.vdb_tree.proofs.tree.TreeOf.within_root.Goals as goal
+
+-- the least corner of what the box and the block have in common lies in both
+corner : (bits : Bits) (box part : Box) (n : Coord) → ((p : Coord) → is_inside part p ≡ (is_inside box p && is_inside (block_around bits Upper n) p)) → is_box part ≡ true
+    → (is_inside box part.min ≡ true) × (block_number bits Upper part.min ≡ block_number bits Upper n)
+corner bits box part n value is =
+    let parts = both (is_inside box part.min) (is_inside (block_around bits Upper n) part.min) (sym (value part.min) ∙ min_inside part is) in
+    (parts.0, number_in_block bits Upper (block_number bits Upper n) part.min parts.1)
+
+pub returns-in-Some-clause-inside : goal.returns-in-Some-clause-inside
+returns-in-Some-clause-inside g c =
+    let value = rw (c.block_in-block.ensures, c.bits.ensures.value) at c.in-Some.ensures.both in
+    rw c.min.ensures.corner (corner (bits_of g.row.U g.row.L g.row.F) c.args.bounds c.in-Some.part c.key_corner.result value (both _ _ c.min.ensures.bounds).0).0
+
+pub returns-in-Some-clause-number : goal.returns-in-Some-clause-number
+returns-in-Some-clause-number g c =
+    let value = rw (c.block_in-block.ensures, c.bits.ensures.value) at c.in-Some.ensures.both in
+    rw c.min.ensures.corner ((corner (bits_of g.row.U g.row.L g.row.F) c.args.bounds c.in-Some.part c.key_corner.result value (both _ _ c.min.ensures.bounds).0).1 ∙ c.key_corner.ensures.number)
+
+pub returns-in-Some-clause-entered : goal.returns-in-Some-clause-entered
+returns-in-Some-clause-entered g c =
+    let value = rw (c.block_in-block.ensures, c.bits.ensures.value) at c.in-Some.ensures.both in
+    let number = (corner (bits_of g.row.U g.row.L g.row.F) c.args.bounds c.in-Some.part c.key_corner.result value (both _ _ c.min.ensures.bounds).0).1 ∙ c.key_corner.ensures.number in
+    rw c.min.ensures.corner (subst (λ (k : Coord). IsSome (root_at c.args.self.now.root k)) (sym number) c.requires)
+
+pub returns-in-None-clause-none : goal.returns-in-None-clause-none
+returns-in-None-clause-none g c = λ q inside same.
+    let bits = bits_of g.row.U g.row.L g.row.F in
+    let n = c.key_corner.result in
+    let value = rw (c.block_in-block.ensures, c.bits.ensures.value) at c.in-None.ensures.none in
+    never {b = is_inside c.args.bounds q && is_inside (block_around bits Upper n) q} (value q)
+    (and_true (is_inside c.args.bounds q) (is_inside (block_around bits Upper n) q) inside (inside_numbered bits Upper (block_number bits Upper n) q (same ∙ sym c.key_corner.ensures.number)))

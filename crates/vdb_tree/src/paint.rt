@@ -1,0 +1,299 @@
+//! One cell all over a box. It takes no memory, since a tree is made ready for it before.
+
+ghost use Rattle.std.specs.Prelude.{◌≡◌, ◌≢◌, ◌↔◌, ℕ, false, IfNone, IfSome, IsNone, IsSome, IsTrue};
+ghost use Rattle.vdb_coord.specs.Blocks.{block_number, key};
+ghost use Rattle.vdb_coord.specs.Boxes.{meets};
+ghost use Rattle.vdb_coord.specs.Space.{Box, is_inside};
+ghost use Rattle.vdb_coord.specs.declared.Coord.{Coord};
+ghost use Rattle.vdb_coord.specs.declared.Level.{Level};
+ghost use Rattle.vdb_coord.specs.declared.Level.TheVariants.{Leaf, Lower, Upper};
+ghost use Rattle.vdb_node.specs.declared.Entry.TheVariants.{Child, Tile};
+ghost use Rattle.vdb_tree.specs.Changes.{KeepsUppers};
+ghost use Rattle.vdb_tree.specs.Field.{fill};
+ghost use Rattle.vdb_tree.specs.Layout.{bits_of, cell_at, entry_over, field_of, lower_entry, root_at, root_entry, upper_entry};
+ghost use Rattle.vdb_tree.specs.Paints.{ArePainted, AreReady, KeepsOutside};
+ghost use Rattle.vdb_tree.specs.Ready.{IsCovered, IsReady};
+ghost use Rattle.vdb_tree.specs.Table.{IsNextKey};
+
+use crate::TreeOf;
+use crate::nodes::held_place;
+use crate::paint_voxels::paint_voxels;
+use vdb_coord::{Bounds, Coord, Level};
+use vdb_node::{Entry, Stored};
+use vdb_pool::Steps;
+use vdb_value::Cell;
+
+impl<
+    V: Stored<WU> + Stored<WL> + Stored<WF>,
+    const U: u32,
+    const L: u32,
+    const F: u32,
+    const WU: usize,
+    const WL: usize,
+    const WF: usize,
+> TreeOf<V, U, L, F, WU, WL, WF> {
+    /// Gives each coordinate of the box this cell, and every other keeps its own (OpenVDB's `Tree::fill`). It takes no memory:
+    /// a tree that `split` made ready has a node wherever the edge of the box crosses a tile of another cell. Each block that
+    /// lies within the box becomes a tile, and its nodes are given back to their pools.
+    pub fn paint(&mut self, bounds: Bounds, cell: Cell<V>, steps: &mut Steps)
+        requires ready { IsReady (bits_of U L F) bounds cell self.old }
+        ensures field { field_of (bits_of U L F) self.new ≡ fill bounds cell (field_of (bits_of U L F) self.old) }
+        ensures limit { self.new.limit ≡ self.old.limit }
+        ensures tiles { (level : Level) (p : Coord) → IsCovered (bits_of U L F) bounds level p → entry_over (bits_of U L F) level self.new p ≡ Tile cell }
+        ensures again { (box : Box) → IsReady (bits_of U L F) box cell self.old → IsReady (bits_of U L F) box cell self.new }
+        ensures apart { (box : Box) (other : Cell V) → meets bounds box ≡ false → IsReady (bits_of U L F) box other self.old → IsReady (bits_of U L F) box other self.new }
+    {
+        let mut passed = None;
+        while let Some(key) = self.paint_next_root(bounds, cell, passed, steps) {
+            passed = Some(key);
+        }
+    }
+
+    /// Paints the first root block past a key, or the first of all, and gives its key.
+    fn paint_next_root(
+        &mut self,
+        bounds: Bounds,
+        cell: Cell<V>,
+        after: Option<Coord>,
+        steps: &mut Steps,
+    ) -> Option<Coord>
+        requires { AreReady (bits_of U L F) bounds cell self.old }
+        ensures next { IsNextKey self.old.root after result }
+        ensures none { IsNone result → self.new ≡ self.old }
+        ensures outside { IfSome result (λ k. KeepsOutside (bits_of U L F) bounds Upper self.old self.new k) }
+        ensures painted { IfSome result (λ k. ArePainted (bits_of U L F) bounds cell Upper Upper self.new k) }
+        ensures table { IfSome result (λ k. (j : Coord) → j ≢ k → root_at self.new.root j ≡ root_at self.old.root j) }
+        ensures entered { IfSome result (λ k. IsSome (root_at self.new.root k)) }
+    {
+        let key = self.next_key(after)?;
+        if let Some(p) = self.within_root(bounds, key) {
+            self.paint_root_block(bounds, p, cell, steps);
+        }
+        Some(key)
+    }
+
+    /// A coordinate of the box in the root block of a key, where there is one.
+    fn within_root(&self, bounds: Bounds, key: Coord) -> Option<Coord>
+        requires { IsSome (root_at self.now.root key) }
+        ensures inside { IfSome result (λ p. IsTrue (is_inside bounds p)) }
+        ensures number { IfSome result (λ p. block_number (bits_of U L F) Upper p ≡ key) }
+        ensures entered { IfSome result (λ p. IsSome (root_at self.now.root (block_number (bits_of U L F) Upper p))) }
+        ensures none { IfNone result ((q : Coord) → IsTrue (is_inside bounds q) → block_number (bits_of U L F) Upper q ≡ key → ⊥) }
+    {
+        let block = self.key_corner(key).block_in(self.bits(), Level::Upper);
+        match bounds.intersect(block) {
+            Some(part) => Some(part.min()),
+            None => None,
+        }
+    }
+
+    /// Paints the box in the root block around p, which has an entry.
+    fn paint_root_block(&mut self, bounds: Bounds, p: Coord, cell: Cell<V>, steps: &mut Steps)
+        requires inside { IsTrue (is_inside bounds p) }
+        requires entered { IsSome (root_at self.old.root (key (bits_of U L F) p)) }
+        requires ready { AreReady (bits_of U L F) bounds cell self.old }
+        ensures outside { KeepsOutside (bits_of U L F) bounds Upper self.old self.new (block_number (bits_of U L F) Upper p) }
+        ensures painted { ArePainted (bits_of U L F) bounds cell Upper Upper self.new (block_number (bits_of U L F) Upper p) }
+        ensures table { (k : Coord) → k ≢ key (bits_of U L F) p → root_at self.new.root k ≡ root_at self.old.root k }
+        ensures entered { IsSome (root_at self.new.root (key (bits_of U L F) p)) }
+    {
+        let covered = self.is_covered(bounds, Level::Upper, p);
+        match self.root_entry(p) {
+            Entry::Tile(_) => {
+                if covered {
+                    self.set_root_tile(p, cell);
+                }
+            }
+            Entry::Child(upper) => {
+                if covered {
+                    self.tile_lower_blocks(upper, bounds, p, cell, steps);
+                    self.drop_upper(upper, p, cell, steps);
+                } else {
+                    self.paint_lower_blocks(upper, bounds, p, cell, steps);
+                }
+            }
+        }
+    }
+
+    /// Makes a tile of each lower block of the upper node around p, which lies within the box.
+    fn tile_lower_blocks(
+        &mut self,
+        upper: u32,
+        bounds: Bounds,
+        p: Coord,
+        cell: Cell<V>,
+        steps: &mut Steps,
+    )
+        requires inside { IsTrue (is_inside bounds p) }
+        requires covered { IsCovered (bits_of U L F) bounds Upper p }
+        requires upper { root_entry (bits_of U L F) self.old p ≡ Child upper }
+        requires ready { AreReady (bits_of U L F) bounds cell self.old }
+        ensures root { self.new.root ≡ self.old.root }
+        ensures outside { KeepsOutside (bits_of U L F) bounds Upper self.old self.new (block_number (bits_of U L F) Upper p) }
+        ensures upper { root_entry (bits_of U L F) self.new p ≡ Child upper }
+        ensures childless { (q : Coord) (slot : ℕ) → block_number (bits_of U L F) Upper q ≡ block_number (bits_of U L F) Upper p → upper_entry (bits_of U L F) self.new q ≡ Child slot → ⊥ }
+    {
+        self.paint_lower_blocks(upper, bounds, p, cell, steps);
+    }
+
+    /// Paints the box in each lower block of the upper node around p.
+    fn paint_lower_blocks(
+        &mut self,
+        upper: u32,
+        bounds: Bounds,
+        p: Coord,
+        cell: Cell<V>,
+        steps: &mut Steps,
+    )
+        requires inside { IsTrue (is_inside bounds p) }
+        requires upper { root_entry (bits_of U L F) self.old p ≡ Child upper }
+        requires ready { AreReady (bits_of U L F) bounds cell self.old }
+        ensures root { self.new.root ≡ self.old.root }
+        ensures outside { KeepsOutside (bits_of U L F) bounds Upper self.old self.new (block_number (bits_of U L F) Upper p) }
+        ensures painted { ArePainted (bits_of U L F) bounds cell Upper Lower self.new (block_number (bits_of U L F) Upper p) }
+        ensures upper { root_entry (bits_of U L F) self.new p ≡ Child upper }
+    {
+        let part = self.part(bounds, Level::Upper, p);
+        let mut q = part.min();
+        loop {
+            self.paint_lower_block(upper, bounds, q, cell, steps);
+            match self.next_block(part, Level::Lower, q) {
+                Some(next) => q = next,
+                None => return,
+            }
+        }
+    }
+
+    /// Paints the box in the lower block around p.
+    fn paint_lower_block(
+        &mut self,
+        upper: u32,
+        bounds: Bounds,
+        p: Coord,
+        cell: Cell<V>,
+        steps: &mut Steps,
+    )
+        requires inside { IsTrue (is_inside bounds p) }
+        requires upper { root_entry (bits_of U L F) self.old p ≡ Child upper }
+        requires ready { AreReady (bits_of U L F) bounds cell self.old }
+        ensures root { self.new.root ≡ self.old.root }
+        ensures outside { KeepsOutside (bits_of U L F) bounds Lower self.old self.new (block_number (bits_of U L F) Lower p) }
+        ensures painted { ArePainted (bits_of U L F) bounds cell Lower Lower self.new (block_number (bits_of U L F) Lower p) }
+    {
+        let covered = self.is_covered(bounds, Level::Lower, p);
+        match self.upper_entry(upper, p, steps) {
+            Entry::Tile(_) => {
+                if covered {
+                    self.set_upper_tile(upper, p, cell, steps);
+                }
+            }
+            Entry::Child(lower) => {
+                if covered {
+                    self.tile_leaf_blocks(lower, bounds, p, cell, steps);
+                    self.drop_lower(upper, lower, p, cell, steps);
+                } else {
+                    self.paint_leaf_blocks(lower, bounds, p, cell, steps);
+                }
+            }
+        }
+    }
+
+    /// Makes a tile of each leaf block of the lower node around p, which lies within the box.
+    fn tile_leaf_blocks(
+        &mut self,
+        lower: u32,
+        bounds: Bounds,
+        p: Coord,
+        cell: Cell<V>,
+        steps: &mut Steps,
+    )
+        requires inside { IsTrue (is_inside bounds p) }
+        requires covered { IsCovered (bits_of U L F) bounds Lower p }
+        requires lower { upper_entry (bits_of U L F) self.old p ≡ Child lower }
+        requires ready { AreReady (bits_of U L F) bounds cell self.old }
+        ensures above { KeepsUppers self.old self.new }
+        ensures outside { KeepsOutside (bits_of U L F) bounds Lower self.old self.new (block_number (bits_of U L F) Lower p) }
+        ensures upper { (slot : ℕ) → root_entry (bits_of U L F) self.old p ≡ Child slot → root_entry (bits_of U L F) self.new p ≡ Child slot }
+        ensures lower { upper_entry (bits_of U L F) self.new p ≡ Child lower }
+        ensures childless { (q : Coord) (slot : ℕ) → block_number (bits_of U L F) Lower q ≡ block_number (bits_of U L F) Lower p → lower_entry (bits_of U L F) self.new q ≡ Child slot → ⊥ }
+    {
+        self.paint_leaf_blocks(lower, bounds, p, cell, steps);
+    }
+
+    /// Paints the box in each leaf block of the lower node around p.
+    fn paint_leaf_blocks(
+        &mut self,
+        lower: u32,
+        bounds: Bounds,
+        p: Coord,
+        cell: Cell<V>,
+        steps: &mut Steps,
+    )
+        requires inside { IsTrue (is_inside bounds p) }
+        requires lower { upper_entry (bits_of U L F) self.old p ≡ Child lower }
+        requires ready { AreReady (bits_of U L F) bounds cell self.old }
+        ensures above { KeepsUppers self.old self.new }
+        ensures outside { KeepsOutside (bits_of U L F) bounds Lower self.old self.new (block_number (bits_of U L F) Lower p) }
+        ensures painted { ArePainted (bits_of U L F) bounds cell Lower Leaf self.new (block_number (bits_of U L F) Lower p) }
+        ensures upper { (slot : ℕ) → root_entry (bits_of U L F) self.old p ≡ Child slot → root_entry (bits_of U L F) self.new p ≡ Child slot }
+        ensures lower { upper_entry (bits_of U L F) self.new p ≡ Child lower }
+    {
+        let part = self.part(bounds, Level::Lower, p);
+        let mut q = part.min();
+        loop {
+            self.paint_leaf_block(lower, bounds, q, cell, steps);
+            match self.next_block(part, Level::Leaf, q) {
+                Some(next) => q = next,
+                None => return,
+            }
+        }
+    }
+
+    /// Paints the box in the leaf block around p.
+    fn paint_leaf_block(
+        &mut self,
+        lower: u32,
+        bounds: Bounds,
+        p: Coord,
+        cell: Cell<V>,
+        steps: &mut Steps,
+    )
+        requires inside { IsTrue (is_inside bounds p) }
+        requires lower { upper_entry (bits_of U L F) self.old p ≡ Child lower }
+        requires ready { AreReady (bits_of U L F) bounds cell self.old }
+        ensures above { KeepsUppers self.old self.new }
+        ensures outside { KeepsOutside (bits_of U L F) bounds Leaf self.old self.new (block_number (bits_of U L F) Leaf p) }
+        ensures painted { ArePainted (bits_of U L F) bounds cell Leaf Leaf self.new (block_number (bits_of U L F) Leaf p) }
+    {
+        let covered = self.is_covered(bounds, Level::Leaf, p);
+        match self.lower_entry(lower, p, steps) {
+            Entry::Tile(_) => {
+                if covered {
+                    self.set_lower_tile(lower, p, cell, steps);
+                }
+            }
+            Entry::Child(leaf) => {
+                if covered {
+                    self.drop_leaf(lower, leaf, p, cell, steps);
+                } else {
+                    self.paint_leaf(leaf, bounds, p, cell, steps);
+                }
+            }
+        }
+    }
+
+    /// Paints the voxels of the leaf around p that lie in the box.
+    fn paint_leaf(&mut self, leaf: u32, bounds: Bounds, p: Coord, cell: Cell<V>, steps: &mut Steps)
+        requires inside { IsTrue (is_inside bounds p) }
+        requires leaf { lower_entry (bits_of U L F) self.old p ≡ Child leaf }
+        ensures above { KeepsUppers self.old self.new }
+        ensures outside { KeepsOutside (bits_of U L F) bounds Leaf self.old self.new (block_number (bits_of U L F) Leaf p) }
+        ensures cells { (q : Coord) → IsTrue (is_inside bounds q) → block_number (bits_of U L F) Leaf q ≡ block_number (bits_of U L F) Leaf p
+            → cell_at (bits_of U L F) self.new q ≡ cell }
+    {
+        let place = held_place(&self.leaves, leaf);
+        let bits = self.bits();
+        let part = self.part(bounds, Level::Leaf, p);
+        paint_voxels(self.leaves.at_mut(place, steps), bits, part, cell);
+    }
+}
