@@ -7,6 +7,7 @@ mod paths;
 mod pieces;
 mod pruning;
 mod random;
+mod room;
 mod union;
 mod voxels;
 mod writes;
