@@ -1,0 +1,3 @@
+-- Lemmas on what lies beyond a box, and on clearing it.
+pub mod Halves
+pub mod Clearing

@@ -1,0 +1,2 @@
+-- What lies beyond the faces of a box.
+pub mod Beyond

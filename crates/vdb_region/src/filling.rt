@@ -1,0 +1,40 @@
+//! Boxes filled with one cell.
+
+ghost use Rattle.std.specs.Prelude.{◌≡◌};
+ghost use Rattle.vdb_tree.specs.Field.{fill as filled};
+ghost use Rattle.vdb_tree.specs.Layout.{bits_of, field_of};
+ghost use Rattle.vdb_tree.specs.Outcome.{IsOutcome};
+
+use vdb_coord::Bounds;
+use vdb_node::Stored;
+use vdb_pool::Steps;
+use vdb_tree::{TreeOf, TreeRefusal};
+use vdb_value::Cell;
+
+/// Gives each coordinate of the box this cell (OpenVDB's `Tree::fill`). What lies within the box becomes tiles, as large as the
+/// box lets them be, and the nodes that it covers are given back to their pools.
+///
+/// `RootLimit` says that there would be more root blocks with a cell that isn't plain than the limit, `Memory` that a growth
+/// was refused; both leave every cell as it was.
+pub fn fill<
+    V: Stored<WU> + Stored<WL> + Stored<WF>,
+    const U: u32,
+    const L: u32,
+    const F: u32,
+    const WU: usize,
+    const WL: usize,
+    const WF: usize,
+>(
+    tree: &mut TreeOf<V, U, L, F, WU, WL, WF>,
+    bounds: Bounds,
+    cell: Cell<V>,
+    steps: &mut Steps,
+) -> Result<(), TreeRefusal>
+    ensures outcome { IsOutcome V.eq (bits_of U L F) tree.old.limit (field_of (bits_of U L F) tree.old)
+        (filled bounds cell (field_of (bits_of U L F) tree.old)) (field_of (bits_of U L F) tree.new) result }
+    ensures limit { tree.new.limit ≡ tree.old.limit }
+{
+    tree.split(bounds, cell, steps)?;
+    tree.paint(bounds, cell, steps);
+    Ok(())
+}
