@@ -81,10 +81,6 @@ module _ {V : Type 0} (bits : Bits) (box : Box) where
     painted_moved level old new q at same h = (at ∙ h.0, tiles_moved level old new q same h.1)
 
     -- where the block isn't covered, it need be no tile
-    pub uncovered_leaf : (t : Layout V) (p : Coord) → (IsCovered bits box Leaf p → ⊥) → ((q : Coord) → IsTrue (is_inside box q) → block_number bits Leaf q ≡ block_number bits Leaf p → cell_at bits t q ≡ cell)
-        → ArePainted bits box cell Leaf Leaf t (block_number bits Leaf p)
-    uncovered_leaf t p not cells q inside same = (cells q inside same, λ c. absurd (not (covered_by_block bits box Leaf q p (sym same) c)))
-
     pub uncovered_lower : (t : Layout V) (p : Coord) → (IsCovered bits box Lower p → ⊥) → ArePainted bits box cell Lower Leaf t (block_number bits Lower p) → ArePainted bits box cell Lower Lower t (block_number bits Lower p)
     uncovered_lower t p not painted q inside same = let h = painted q inside same in (h.0, (h.1, λ c. absurd (not (covered_by_block bits box Lower q p (sym same) c))))
 
