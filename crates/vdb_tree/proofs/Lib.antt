@@ -41,3 +41,4 @@ pub mod RoomWalks
 pub mod PaintedVoxels
 pub mod Paints
 pub mod PaintedRoots
+pub mod ReadyTrees

@@ -22,7 +22,7 @@ pub record PaintsVoxels {V : Type 0} (bits : Bits) (part : Box) (cell : Cell V) 
   pub others : (i : ℕ) → ((q : Coord) → IsTrue (is_inside part q) → offset bits Leaf q ≡ i → ⊥) → (d : Cell V) → cell_in d new i ≡ cell_in d old i
 
 module _ {V : Type 0} (bits : Bits) (box : Box) where
-  -- what isn't of the box and in the level's block with this number keeps its cell and what stands over it
+  -- each coordinate that isn't one of the box in the level's block with this number keeps its cell and what stands over it
   pub record KeepsOutside (level : Level) (old new : Layout V) (number : Coord) : Type 0 where
     pub head : KeepsHead old new
     pub cells : (q : Coord) → (IsTrue (is_inside box q) → block_number bits level q ≡ number → ⊥) → cell_at bits new q ≡ cell_at bits old q

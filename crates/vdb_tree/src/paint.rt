@@ -1,6 +1,6 @@
 //! One cell all over a box. It takes no memory, since a tree is made ready for it before.
 
-ghost use Rattle.std.specs.Prelude.{◌≡◌, ◌≢◌, ◌↔◌, ℕ, false, IfNone, IfSome, IsNone, IsSome, IsTrue};
+ghost use Rattle.std.specs.Prelude.{◌≡◌, ◌≢◌, ℕ, false, IfNone, IfSome, IsNone, IsSome, IsTrue};
 ghost use Rattle.vdb_coord.specs.Blocks.{block_number, key};
 ghost use Rattle.vdb_coord.specs.Boxes.{meets};
 ghost use Rattle.vdb_coord.specs.Space.{Box, is_inside};
@@ -49,7 +49,7 @@ impl<
         }
     }
 
-    /// Paints the first root block past a key, or the first of all, and gives its key.
+    /// Paints the box in the first root block past a key, or in the first of all, and gives that block's key.
     fn paint_next_root(
         &mut self,
         bounds: Bounds,

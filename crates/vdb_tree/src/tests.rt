@@ -3,6 +3,7 @@
 mod copies;
 mod leaves;
 mod limits;
+mod painting;
 mod paths;
 mod pieces;
 mod pruning;
