@@ -13,7 +13,7 @@ use Rattle.vdb_coord.proofs.Nesting.{inside_numbered, lower_from_leaf, upper_fro
 use Rattle.vdb_tree.specs.Ready.{IsCovered}
 
 -- the last coordinate of a block has its number
-pub number_of_end : (bits : Bits) (level : Level) (n : Coord) → block_number bits level (block bits level n).max ≡ n
+number_of_end : (bits : Bits) (level : Level) (n : Coord) → block_number bits level (block bits level n).max ≡ n
 number_of_end bits level n =
     let k = block_bits bits level in
     let x = number_of_last k n.x in

@@ -41,4 +41,3 @@ pub mod RoomWalks
 pub mod PaintedVoxels
 pub mod Paints
 pub mod PaintedRoots
-pub mod ReadyTrees

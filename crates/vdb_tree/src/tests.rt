@@ -1,9 +1,9 @@
 //! Trees of each type of values, with the nodes of both layouts and with the smallest. Expected values are worked out by
 //! hand.
+mod boxes;
 mod copies;
 mod leaves;
 mod limits;
-mod painting;
 mod paths;
 mod pieces;
 mod pruning;

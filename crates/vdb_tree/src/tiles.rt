@@ -1,5 +1,5 @@
-//! Tiles in place of nodes. Each node is given back to its pool once its block has tiles alone, so that what stands in
-//! between is a sound tree.
+//! Tiles in place of nodes, and of other tiles. Each node is given back to its pool once its block has tiles alone, so that what
+//! stands in between is a sound tree.
 
 ghost use Rattle.std.specs.Prelude.{◌≡◌, ℕ, IsSome, Some, if◌then◌else◌};
 ghost use Rattle.vdb_coord.specs.Blocks.{block_number, key};
