@@ -10,3 +10,6 @@ mod filling;
 
 pub use clipping::clip;
 pub use filling::fill;
+
+#[cfg(test)]
+mod tests;

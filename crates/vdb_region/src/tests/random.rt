@@ -1,0 +1,201 @@
+//! Many small boxes, drawn by a linear congruential generator, beside a map of cells.
+
+ghost use Rattle.std.specs.Prelude.{◌<◌, ◌≤◌};
+
+use super::{at, off};
+use crate::{clip, fill};
+use std::alloc::{AllocError, Global};
+use std::collections::BTreeMap;
+use std::process::Abort;
+use vdb_coord::{Bounds, Coord};
+use vdb_pool::Steps;
+use vdb_tree::{Tree433, TreeOf, TreeRefusal};
+use vdb_value::Cell;
+
+/// A tree whose blocks span 2, 4 and 8 voxels along each axis.
+type Tiny = TreeOf<i32, 1, 1, 1, 1, 1, 1>;
+
+/// Where the boxes lie along each axis.
+const LOW: i32 = -9;
+
+const HIGH: i32 = 12;
+
+/// Knuth's generator of 64 bits.
+#[derive(Drop)]
+struct Draws {
+    state: u64,
+}
+
+impl Draws {
+    // A number below `bound`, by the upper bits.
+    fn below(&mut self, bound: u64) -> u64
+        requires { 0 < bound }
+        ensures { result < bound }
+    {
+        self.state = self
+            .state
+            .wrapping_mul(6364136223846793005)
+            .wrapping_add(1442695040888963407);
+        (self.state >> 33) % bound
+    }
+
+    // Where a box begins and ends along an axis.
+    fn span(&mut self, longest: u64) -> (i32, i32)
+        requires { (0 < longest) × (longest ≤ 100) }
+    {
+        let first = LOW.wrapping_add(self.below(22) as i32);
+        let length = self.below(longest) as i32;
+        (first, first.wrapping_add(length).min(HIGH))
+    }
+
+    fn bounds(&mut self, longest: u64) -> Option<Bounds>
+        requires { (0 < longest) × (longest ≤ 100) }
+    {
+        let (x, y, z) = (self.span(longest), self.span(longest), self.span(longest));
+        Bounds::new(at(x.0, y.0, z.0), at(x.1, y.1, z.1))
+    }
+
+    // Often the background, so that blocks become plain again.
+    fn cell(&mut self) -> Cell<i32> {
+        let value = self.below(2) as i32;
+        let on = self.below(2) == 0;
+        Cell { value, on }
+    }
+}
+
+/// What a tree with background 0 is to hold.
+#[derive(Drop)]
+struct Wanted {
+    alloc: Global,
+    cells: BTreeMap<Coord, Cell<i32>>,
+}
+
+impl Wanted {
+    fn cell(&self, p: Coord) -> Cell<i32> {
+        match self.cells.get(&p) {
+            Some(cell) => *cell,
+            None => off(0),
+        }
+    }
+
+    // Gives the coordinates inside the box, or those outside it, this cell.
+    fn put(&mut self, bounds: Bounds, inside: bool, cell: Cell<i32>) -> Result<(), AllocError> {
+        for x in LOW..=HIGH {
+            for y in LOW..=HIGH {
+                for z in LOW..=HIGH {
+                    if bounds.contains(at(x, y, z)) == inside {
+                        self.cells.insert(at(x, y, z), cell)?;
+                    }
+                }
+            }
+        }
+        Ok(())
+    }
+
+    // How many blocks of 8 voxels along each axis would hold something with the box filled.
+    fn root_blocks(&self, bounds: Bounds, filled: Cell<i32>) -> Result<usize, AllocError> {
+        let mut keys = BTreeMap::new(self.alloc);
+        for x in LOW..=HIGH {
+            for y in LOW..=HIGH {
+                for z in LOW..=HIGH {
+                    let p = at(x, y, z);
+                    let cell = if bounds.contains(p) {
+                        filled
+                    } else {
+                        self.cell(p)
+                    };
+                    if cell != off(0) {
+                        keys.insert(at(x >> 3, y >> 3, z >> 3), ())?;
+                    }
+                }
+            }
+        }
+        Ok(keys.len())
+    }
+}
+
+// Each coordinate around the boxes, with one voxel more on each side.
+fn expect_same<
+    const U: u32,
+    const L: u32,
+    const F: u32,
+    const WU: usize,
+    const WL: usize,
+    const WF: usize,
+>(rt: &impl Abort, tree: &TreeOf<i32, U, L, F, WU, WL, WF>, wanted: &Wanted, steps: &mut Steps) {
+    for x in -10..=13 {
+        for y in -10..=13 {
+            for z in -10..=13 {
+                let p = at(x, y, z);
+                assert!(rt; tree.get(p, steps) == wanted.cell(p), "at {p:?}");
+            }
+        }
+    }
+}
+
+#[test]
+fn small_nodes_within_a_limit(rt: HostRuntime) -> Result<(), TreeRefusal> {
+    let mut steps = Steps::new(&rt);
+    let mut draws = Draws { state: 7 };
+    let mut tree: Tiny = Tiny::new(rt.alloc(), 0, 9);
+    let mut wanted = Wanted {
+        alloc: rt.alloc(),
+        cells: BTreeMap::new(rt.alloc()),
+    };
+    let mut refused = 0u32;
+    for turn in 0..300u32 {
+        let Some(bounds) = draws.bounds(9) else {
+            continue;
+        };
+        let cell = draws.cell();
+        match fill(&mut tree, bounds, cell, &mut steps) {
+            Ok(()) => wanted.put(bounds, true, cell)?,
+            Err(TreeRefusal::RootLimit) => {
+                assert!(rt; wanted.root_blocks(bounds, cell)? > 9);
+                refused = refused.wrapping_add(1);
+            }
+            Err(TreeRefusal::Memory) => return Err(TreeRefusal::Memory),
+        }
+        if turn % 16 == 5 {
+            if let Some(kept) = draws.bounds(16) {
+                clip(&mut tree, kept, &mut steps)?;
+                wanted.put(kept, false, off(0))?;
+            }
+        }
+        if turn % 32 == 9 {
+            tree.prune(&mut steps);
+        }
+        expect_same(&rt, &tree, &wanted, &mut steps);
+    }
+    assert!(rt; refused > 0, "the limit was never reached");
+    Ok(())
+}
+
+#[test]
+fn large_nodes(rt: HostRuntime) -> Result<(), TreeRefusal> {
+    let mut steps = Steps::new(&rt);
+    let mut draws = Draws { state: 11 };
+    let mut tree = Tree433::new(rt.alloc(), 0i32, 8);
+    let mut wanted = Wanted {
+        alloc: rt.alloc(),
+        cells: BTreeMap::new(rt.alloc()),
+    };
+    for turn in 0..200u32 {
+        let Some(bounds) = draws.bounds(22) else {
+            continue;
+        };
+        let cell = draws.cell();
+        if turn % 8 == 3 {
+            clip(&mut tree, bounds, &mut steps)?;
+            wanted.put(bounds, false, off(0))?;
+        } else {
+            fill(&mut tree, bounds, cell, &mut steps)?;
+            wanted.put(bounds, true, cell)?;
+        }
+        if turn % 16 == 9 {
+            tree.voxelise(bounds, &mut steps)?;
+        }
+        expect_same(&rt, &tree, &wanted, &mut steps);
+    }
+    Ok(())
+}
