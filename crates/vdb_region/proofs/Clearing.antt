@@ -1,13 +1,12 @@
 -- Clearing what lies beyond faces, one face after another.
-use Rattle.std.proofs.Common.{◌≡◌, ◌∙◌, sym, refl, true, false, Bool, not, ◌&&◌, ◌||◌, cond, List, ◌∷◌, None, ◌≤◌}
+use Rattle.std.proofs.Common.{◌≡◌, ◌∙◌, sym, refl, ap, length, true, false, Bool, not, ◌&&◌, ◌||◌, cond, List, [], ◌∷◌, ◌≤◌}
 use Rattle.std.specs.List.{list_any}
 use Rattle.vdb_coord.specs.Blocks.{block, block_numbers}
-use Rattle.vdb_coord.specs.Boxes.{box_of, is_bounds}
 use Rattle.vdb_coord.specs.Faces.{faces}
 use Rattle.vdb_coord.specs.Space.{Box, everywhere, is_inside}
 use Rattle.vdb_coord.specs.declared.Bits.{Bits}
 use Rattle.vdb_coord.specs.declared.Coord.{Coord}
-use Rattle.vdb_coord.specs.declared.Level.TheVariants.{Upper}
+use Rattle.vdb_coord.specs.declared.Level.TheVariants.{Leaf, Lower, Upper}
 use Rattle.vdb_coord.specs.declared.face.Face.{Face}
 use Rattle.vdb_coord.proofs.Boxes.{and_true}
 use Rattle.vdb_coord.proofs.CountBounds.{count_at_most, member_passing}
@@ -18,51 +17,80 @@ use Rattle.vdb_tree.proofs.Fields.{cell_inside, same_cells}
 use Rattle.vdb_tree.proofs.Rooted.{not_from, was_false}
 use Rattle.vdb_tree.proofs.Uniform.{uniform_cells, uniform_from}
 use Rattle.vdb_value.specs.declared.Cell.{Cell}
-use Rattle.vdb_region.specs.Beyond.{clear, half, is_beyond}
-use Rattle.vdb_region.proofs.Halves.{beyond_all, half_inside, no_half}
+use Rattle.vdb_region.specs.Beyond.{clear, is_beyond}
+use Rattle.vdb_region.specs.Rings.{hull}
+use Rattle.vdb_region.proofs.Halves.{beyond_all}
+use Rattle.vdb_region.proofs.Hulls.{hull_holds}
 
-module _ {V : Type 0} (b : Box) (background : V) (cells : Coord → Cell V) where
+module _ {V : Type 0} (background : V) (cells : Coord → Cell V) where
   abbrev f : Field V
   f = field background cells
 
-  -- a test that comes to another in range
-  in_range : (i t s : Bool) → i ≡ true → s ≡ (i && t) → s ≡ t
-  in_range true t s h e = e
-  in_range false t s h e = absurd (never refl h)
+  either : {A : Type 0} (s o t r : Bool) (x y : A) → s ≡ (o && t) → cond s x (cond (o && r) x y) ≡ cond (o && (t || r)) x y
+  either s true true r x y e = rw e refl
+  either s true false r x y e = rw e refl
+  either s false t r x y e = rw e refl
 
-  either : {A : Type 0} (s t r : Bool) (x y : A) → s ≡ t → cond s x (cond r x y) ≡ cond (t || r) x y
-  either s true r x y e = rw e refl
-  either s false r x y e = rw e refl
+  neither : {A : Type 0} (o t r : Bool) (x y : A) → (o && t) ≡ false → cond (o && r) x y ≡ cond (o && (t || r)) x y
+  neither true t r x y e = rw e refl
+  neither false t r x y e = refl
 
-  neither : {A : Type 0} (t r : Bool) (x y : A) → t ≡ false → cond r x y ≡ cond (t || r) x y
-  neither t r x y e = rw e refl
+  empty : (fs : List Face) → length fs ≡ 0 → fs ≡ []
+  empty [] e = refl
+  empty (face ∷ fs) e = cc
 
-  swap : {A : Type 0} (s : Bool) (x y : A) → cond (not s) x y ≡ cond s y x
-  swap true x y = refl
-  swap false x y = refl
+  none : {A : Type 0} (o : Bool) (x y : A) → y ≡ cond (o && false) x y
+  none true x y = refl
+  none false x y = refl
 
-  module _ (face : Face) (rest : List Face) (bounds : is_bounds b ≡ true) where
-    abbrev others : Coord → Cell V
-    others q = cond (list_any (is_beyond b q) rest) (off background) (f.cell q)
+  module _ (out inn : Box) where
+    -- no face
+    pub clear_none : (fs : List Face) → length fs ≡ 0 → f ≡ clear out inn fs f
+    clear_none fs e = same_cells background cells (λ q. cond (is_inside out q && false) (off background) (f.cell q)) (λ q inside. sym (cell_inside background cells q inside) ∙ none (is_inside out q) (off background) (f.cell q)) ∙ ap (λ gs. clear out inn gs f) (sym (empty fs e))
 
-    -- a half filled, after the later ones
-    pub clear_next : fill (half b face) (off background) (clear b rest f) ≡ clear b (face ∷ rest) f
-    clear_next = same_cells background _ _ (λ q inside.
-        let at = cell_inside background others q inside in
-        rw at
-        (either (is_inside (half b face) q) (is_beyond b q face) (list_any (is_beyond b q) rest) (off background) (f.cell q)
-        (in_range (is_inside everywhere q) (is_beyond b q face) (is_inside (half b face) q) inside (half_inside b bounds face q))))
+    module _ (face : Face) (rest : List Face) where
+      abbrev others : Coord → Cell V
+      others q = cond (is_inside out q && list_any (is_beyond inn q) rest) (off background) (f.cell q)
 
-    -- no half
-    pub clear_skip : box_of (half b face).min (half b face).max ≡ None → clear b rest f ≡ clear b (face ∷ rest) f
-    clear_skip none = same_cells background _ _ (λ q inside.
-        neither (is_beyond b q face) (list_any (is_beyond b q) rest) (off background) (f.cell q) (sym (in_range (is_inside everywhere q) (is_beyond b q face) false inside (sym (no_half b bounds face none q)))))
+      -- a side filled, after the later ones
+      pub clear_next : (s : Box) → ((q : Coord) → is_inside s q ≡ (is_inside out q && is_beyond inn q face)) → fill s (off background) (clear out inn rest f) ≡ clear out inn (face ∷ rest) f
+      clear_next s same = same_cells background _ _ (λ q inside.
+          let at = cell_inside background others q inside in
+          rw at (either (is_inside s q) (is_inside out q) (is_beyond inn q face) (list_any (is_beyond inn q) rest) (off background) (f.cell q) (same q)))
 
-  -- all six
-  pub clear_all : clear b faces f ≡ clip b f
-  clear_all = same_cells background _ _ (λ q inside.
-      let all = beyond_all b q in
-      rw all (swap (is_inside b q) (off background) (f.cell q)))
+      -- no side
+      pub clear_skip : ((q : Coord) → (is_inside out q && is_beyond inn q face) ≡ false) → clear out inn rest f ≡ clear out inn (face ∷ rest) f
+      clear_skip none = same_cells background _ _ (λ q inside. neither (is_inside out q) (is_beyond inn q face) (list_any (is_beyond inn q) rest) (off background) (f.cell q) (none q))
+
+  -- all rings, from the outermost on
+  ring : {A : Type 0} (b f l r e : Bool) (x y : A) → e ≡ true → (b ≡ true → f ≡ true) → (b ≡ true → l ≡ true) → (b ≡ true → r ≡ true)
+      → cond (f && not b) x (cond (l && not f) x (cond (r && not l) x (cond (e && not r) x y))) ≡ cond b y x
+  ring b f l r false x y h p q s = absurd (never refl h)
+  ring true f l r true x y h p q s = let g = p refl in let k = q refl in let m = s refl in rw (g, k, m) refl
+  ring false true l r true x y h p q s = refl
+  ring false false true r true x y h p q s = refl
+  ring false false false true true x y h p q s = refl
+  ring false false false false true x y h p q s = refl
+
+  module _ (bits : Bits) (b : Box) where
+    abbrev around : Field V
+    around = clear everywhere (hull bits Upper b) faces f
+
+    abbrev roots_left : Field V
+    roots_left = clear (hull bits Upper b) (hull bits Lower b) faces around
+
+    abbrev lowers_left : Field V
+    lowers_left = clear (hull bits Lower b) (hull bits Leaf b) faces roots_left
+
+    pub clear_all : clear (hull bits Leaf b) b faces lowers_left ≡ clip b f
+    clear_all = same_cells background _ _ (λ q inside.
+        let upper = beyond_all (hull bits Upper b) q in
+        let lower = beyond_all (hull bits Lower b) q in
+        let leaf = beyond_all (hull bits Leaf b) q in
+        let own = beyond_all b q in
+        rw (upper, lower, leaf, own, inside)
+        (ring (is_inside b q) (is_inside (hull bits Leaf b) q) (is_inside (hull bits Lower b) q) (is_inside (hull bits Upper b) q) true (off background) (cells q) refl
+        (hull_holds bits b Leaf q) (hull_holds bits b Lower q) (hull_holds bits b Upper q)))
 
 -- root blocks that aren't plain are no more where none comes
 pub fewer_roots : {V : Type 0} (eq : V → V → Bool) (bits : Bits) (f g : Field V)

@@ -97,7 +97,7 @@ module _ (b : Box) (bounds : is_bounds b ≡ true) where
 
 -- ---- all six
 
-not_le : (a x : ℤ) → int_lt x a ≡ not (int_le a x)
+pub not_le : (a x : ℤ) → int_lt x a ≡ not (int_le a x)
 not_le a x = grind (arith, ints)
 
 one_axis : (a c : Bool) (x y : Bool) → x ≡ not y → (not a || (not c || x)) ≡ not ((a && c) && y)

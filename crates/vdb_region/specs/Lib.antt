@@ -1,2 +1,3 @@
--- What lies beyond the faces of a box.
+-- What lies beyond the faces of a box, and what lies around it.
 pub mod Beyond
+pub mod Rings

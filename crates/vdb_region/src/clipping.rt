@@ -1,16 +1,17 @@
 //! Boxes kept while all around them is cleared.
 
-ghost use Rattle.std.specs.Prelude.{◌≡◌, IfErr, OnErr, OnOk};
-ghost use Rattle.vdb_coord.specs.Space.{Box};
-ghost use Rattle.vdb_region.specs.Beyond.{clear};
+ghost use Rattle.std.specs.Prelude.{◌≡◌, ◌&&◌, false, IfErr, IfNone, IfSome};
+ghost use Rattle.vdb_coord.specs.Space.{is_inside};
+ghost use Rattle.vdb_coord.specs.declared.Coord.{Coord};
+ghost use Rattle.vdb_region.specs.Beyond.{clear, is_beyond};
+ghost use Rattle.vdb_region.specs.Rings.{inner, outer};
 ghost use Rattle.vdb_tree.specs.Field.{clip as clipped};
 ghost use Rattle.vdb_tree.specs.Layout.{bits_of, field_of, plain};
 ghost use Rattle.vdb_tree.specs.Outcome.{IsOutcome};
 ghost use Rattle.vdb_tree.specs.Ready.{IsReady};
 ghost use Rattle.vdb_tree.specs.declared.refusal.TreeRefusal.TheVariants.{Memory};
-ghost use Rattle.vdb_value.specs.declared.Cell.{Cell};
 
-use crate::beyond::half;
+use crate::rings::{Ring, side};
 use vdb_coord::{Bounds, Face};
 use vdb_node::Stored;
 use vdb_pool::Steps;
@@ -40,13 +41,24 @@ pub fn clip<
     ensures memory { IfErr result (λ refusal. refusal ≡ Memory) }
 {
     let _ = tree.limit(); // the proof learns from it that the tree's roots keep to the limit
-    let _ = bounds.min(); // and that the box lies within the range
-    clear_beyond(tree, bounds, &Face::ALL, steps)
+    let cell = Cell {
+        value: tree.background(),
+        on: false,
+    };
+    match tree.split(bounds, cell, steps) {
+        Err(refusal) => Err(refusal),
+        Ok(()) => {
+            clear_ring(tree, bounds, Ring::AroundRoots, &Face::ALL, steps);
+            clear_ring(tree, bounds, Ring::WithinRoots, &Face::ALL, steps);
+            clear_ring(tree, bounds, Ring::WithinLowers, &Face::ALL, steps);
+            clear_ring(tree, bounds, Ring::WithinLeaves, &Face::ALL, steps);
+            Ok(())
+        }
+    }
 }
 
-/// Clears what lies beyond these faces of the box. All of it is split before any is painted: each half is split on the
-/// way to the last face, and painted on the way back.
-fn clear_beyond<
+/// Clears what of a ring lies past these faces of what it begins at, in a tree that is ready for it.
+fn clear_ring<
     V: Stored<WU> + Stored<WL> + Stored<WF>,
     const U: u32,
     const L: u32,
@@ -57,29 +69,47 @@ fn clear_beyond<
 >(
     tree: &mut TreeOf<V, U, L, F, WU, WL, WF>,
     bounds: Bounds,
+    ring: Ring,
     faces: &[Face],
     steps: &mut Steps,
-) -> Result<(), TreeRefusal>
-    ensures ok { OnOk result (field_of (bits_of U L F) tree.new ≡ clear bounds faces.now (field_of (bits_of U L F) tree.old)) }
-    ensures err { OnErr result (field_of (bits_of U L F) tree.new ≡ field_of (bits_of U L F) tree.old) }
+)
+    requires { IsReady (bits_of U L F) bounds (plain tree.old) tree.old }
+    ensures field { field_of (bits_of U L F) tree.new ≡ clear (outer (bits_of U L F) bounds ring) (inner (bits_of U L F) bounds ring) faces.now (field_of (bits_of U L F) tree.old) }
     ensures limit { tree.new.limit ≡ tree.old.limit }
-    ensures memory { IfErr result (λ refusal. refusal ≡ Memory) }
-    ensures ready { (box : Box) → IsReady (bits_of U L F) box (plain tree.old) tree.old → IsReady (bits_of U L F) box (plain tree.old) tree.new }
+    ensures ready { IsReady (bits_of U L F) bounds (plain tree.new) tree.new }
 {
-    let Some((face, rest)) = faces.split_first() else {
-        return Ok(());
-    };
-    let cell = Cell {
-        value: tree.background(),
-        on: false,
-    };
-    match half(bounds, *face) {
-        Some(side) => {
-            tree.split(side, cell, steps)?;
-            clear_beyond(tree, bounds, rest, steps)?;
-            tree.paint(side, cell, steps);
-            Ok(())
+    match faces.split_first() {
+        None => {}
+        Some((face, rest)) => {
+            clear_ring(tree, bounds, ring, rest, steps);
+            let cell = Cell {
+                value: tree.background(),
+                on: false,
+            };
+            match ready_side(tree, bounds, ring, *face) {
+                Some(side) => tree.paint(side, cell, steps),
+                None => {}
+            }
         }
-        None => clear_beyond(tree, bounds, rest, steps),
     }
+}
+
+/// What of the ring lies past the face of what it begins at: `None` where that is nothing. A tree that is ready in the box
+/// with the plain cell is ready there, too.
+fn ready_side<
+    V: Stored<WU> + Stored<WL> + Stored<WF>,
+    const U: u32,
+    const L: u32,
+    const F: u32,
+    const WU: usize,
+    const WL: usize,
+    const WF: usize,
+>(tree: &TreeOf<V, U, L, F, WU, WL, WF>, bounds: Bounds, ring: Ring, face: Face) -> Option<Bounds>
+    requires { IsReady (bits_of U L F) bounds (plain tree.now) tree.now }
+    ensures some { IfSome result (λ s. (q : Coord) → is_inside s q ≡ (is_inside (outer (bits_of U L F) bounds ring) q && is_beyond (inner (bits_of U L F) bounds ring) q face)) }
+    ensures none { IfNone result ((q : Coord) → (is_inside (outer (bits_of U L F) bounds ring) q && is_beyond (inner (bits_of U L F) bounds ring) q face) ≡ false) }
+    ensures ready { IfSome result (λ s. IsReady (bits_of U L F) s (plain tree.now) tree.now) }
+{
+    let _ = bounds.min(); // the proof learns from it that the box is one
+    side(tree.bits(), bounds, ring, face)
 }

@@ -7,6 +7,7 @@
 mod beyond;
 mod clipping;
 mod filling;
+mod rings;
 
 pub use clipping::clip;
 pub use filling::fill;

@@ -30,13 +30,17 @@ module _ (bits : Bits) (box : Box) where
   pub covered_inside : (level : Level) (p q : Coord) → IsCovered bits box level p → block_number bits level q ≡ block_number bits level p → IsTrue (is_inside box q)
   covered_inside level p q covered same = within_each (block_around bits level p) box q covered (inside_numbered bits level (block_number bits level p) q same)
 
+  -- and a block of which it holds each is within it
+  pub covered_from : (level : Level) (p : Coord) → ((q : Coord) → block_number bits level q ≡ block_number bits level p → IsTrue (is_inside box q)) → IsCovered bits box level p
+  covered_from level p all =
+      let b = block_around bits level p in
+      let n = block_number bits level p in
+      and_true (is_inside box b.min) (is_inside box b.max) (all b.min (number_of_corner bits level n)) (all b.max (number_of_end bits level n))
+
   -- so a block in it is within the box too
   covered_below : (outer inner : Level) → ((q r : Coord) → block_number bits inner q ≡ block_number bits inner r → block_number bits outer q ≡ block_number bits outer r)
       → (p : Coord) → IsCovered bits box outer p → IsCovered bits box inner p
-  covered_below outer inner up p covered =
-      let b = block_around bits inner p in
-      let n = block_number bits inner p in
-      and_true (is_inside box b.min) (is_inside box b.max) (covered_inside outer p b.min covered (up b.min p (number_of_corner bits inner n))) (covered_inside outer p b.max covered (up b.max p (number_of_end bits inner n)))
+  covered_below outer inner up p covered = covered_from inner p (λ q same. covered_inside outer p q covered (up q p same))
 
   pub leaf_covered : (p : Coord) → IsCovered bits box Lower p → IsCovered bits box Leaf p
   leaf_covered = covered_below Lower Leaf (lower_from_leaf bits)

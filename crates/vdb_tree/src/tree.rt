@@ -129,7 +129,7 @@ impl<
     }
 
     /// The bits of its nodes.
-    pub(crate) fn bits(&self) -> Bits
+    pub fn bits(&self) -> Bits
         ensures value { result ≡ bits_of U L F }
         ensures configured { AreBits result }
     {

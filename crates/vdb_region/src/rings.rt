@@ -1,0 +1,98 @@
+//! The rings around a box, and their sides.
+
+ghost use Rattle.std.specs.Prelude.{◌≡◌, ◌&&◌, false, IfNone, IfSome};
+ghost use Rattle.vdb_coord.specs.Entries.{AreBits};
+ghost use Rattle.vdb_coord.specs.Space.{everywhere, is_inside};
+ghost use Rattle.vdb_coord.specs.declared.Coord.{Coord};
+ghost use Rattle.vdb_region.specs.Beyond.{is_beyond};
+ghost use Rattle.vdb_region.specs.Rings.{hull as hull_of, inner as inner_of, outer as outer_of};
+
+use crate::beyond::half;
+use vdb_coord::{Bits, Bounds, Coord, Face, Level};
+
+/// One of the rings around a box that are as wide as its blocks: a tree that is ready to be painted in the box with the plain
+/// cell is ready in each of their sides, too, since a block that meets the box and lies across its edge is no tile.
+#[derive(Clone, Copy, Debug, PartialEq, Eq)]
+pub(crate) enum Ring {
+    /// All around the root blocks that meet the box.
+    AroundRoots,
+    /// Within these, around the lower blocks that meet the box.
+    WithinRoots,
+    /// Within these, around the leaf blocks that meet the box.
+    WithinLowers,
+    /// Within these, around the box.
+    WithinLeaves,
+}
+
+/// The blocks of the level that meet the box, as one box.
+fn hull(bits: Bits, level: Level, bounds: Bounds) -> Bounds
+    requires { AreBits bits }
+    ensures { result ≡ hull_of bits level bounds }
+{
+    let min = bounds.min().block_in(bits, level).min();
+    let max = bounds.max().block_in(bits, level).max();
+    match Bounds::new(min, max) {
+        Some(hull) => hull,
+        None => unreachable!(),
+    }
+}
+
+/// All coordinates.
+fn space() -> Bounds
+    ensures { result ≡ everywhere }
+{
+    let first = Coord {
+        x: i32::MIN,
+        y: i32::MIN,
+        z: i32::MIN,
+    };
+    let last = Coord {
+        x: i32::MAX,
+        y: i32::MAX,
+        z: i32::MAX,
+    };
+    match Bounds::new(first, last) {
+        Some(space) => space,
+        None => unreachable!(),
+    }
+}
+
+/// Where a ring ends.
+fn outer(bits: Bits, bounds: Bounds, ring: Ring) -> Bounds
+    requires { AreBits bits }
+    ensures { result ≡ outer_of bits bounds ring }
+{
+    match ring {
+        Ring::AroundRoots => space(),
+        Ring::WithinRoots => hull(bits, Level::Upper, bounds),
+        Ring::WithinLowers => hull(bits, Level::Lower, bounds),
+        Ring::WithinLeaves => hull(bits, Level::Leaf, bounds),
+    }
+}
+
+/// Where a ring begins.
+fn inner(bits: Bits, bounds: Bounds, ring: Ring) -> Bounds
+    requires { AreBits bits }
+    ensures { result ≡ inner_of bits bounds ring }
+{
+    match ring {
+        Ring::AroundRoots => hull(bits, Level::Upper, bounds),
+        Ring::WithinRoots => hull(bits, Level::Lower, bounds),
+        Ring::WithinLowers => hull(bits, Level::Leaf, bounds),
+        Ring::WithinLeaves => bounds,
+    }
+}
+
+/// What of the ring lies past the face of what it begins at: `None` where that is nothing.
+pub(crate) fn side(bits: Bits, bounds: Bounds, ring: Ring, face: Face) -> Option<Bounds>
+    requires { AreBits bits }
+    ensures some { IfSome result (λ s. (q : Coord) → is_inside s q ≡ (is_inside (outer_of bits bounds ring) q && is_beyond (inner_of bits bounds ring) q face)) }
+    ensures none { IfNone result ((q : Coord) → (is_inside (outer_of bits bounds ring) q && is_beyond (inner_of bits bounds ring) q face) ≡ false) }
+{
+    let around = outer(bits, bounds, ring);
+    let _ = around.min(); // the proof learns from it that the box lies within the range
+    match half(inner(bits, bounds, ring), face) {
+        Some(half) => half.intersect(around),
+        None => None,
+    }
+}
