@@ -12,6 +12,7 @@ use Rattle.vdb_scene.specs.declared.scalar.Scalar.{Scalar}
 use Rattle.vdb_scene.specs.declared.scalar.Scalar.TheVariants.{Bool as truth, I32}
 use Rattle.vdb_scene.specs.declared.command.Command.{Command}
 use Rattle.vdb_scene.specs.declared.command.Command.TheVariants as commands
+use Rattle.vdb_scene.specs.declared.command.Corners.{Corners}
 use Rattle.vdb_scene.specs.declared.command.Literal.{Literal}
 use Rattle.vdb_scene.specs.declared.command.Literal.TheVariants.{Number, Truth}
 use Rattle.vdb_scene.specs.declared.command.Num.TheVariants.{Near, Far}
@@ -85,6 +86,47 @@ kind_next = refl
 range_next : refusal with_a (commands.Set a (Some Far) (point (pos 0) (pos 0) (pos 2147483648)) (near (pos 1))) ≡ Some refusals.ValueRange
 range_next = refl
 
+-- a box from one place to another; with its corners exchanged, and past the range
+abbrev between : Point → Point → Corners
+between p q = record { min = p; max = q }
+
+abbrev origin : Point
+origin = point (pos 0) (pos 0) (pos 0)
+
+abbrev past : Point
+past = point (pos 0) (pos 0) (pos 2147483648)
+
+-- a fill is refused by the first that applies, and the value and the corners have one range test
+fill_of_none : refusal [] (commands.Fill a (between past origin) (Truth true) true) ≡ Some refusals.NoGrid
+fill_of_none = refl
+
+fill_of_another_kind : refusal with_a (commands.Fill a (between past origin) (Truth true) true) ≡ Some refusals.Kind
+fill_of_another_kind = refl
+
+fill_past_the_range : refusal with_a (commands.Fill a (between past origin) (near (pos 1)) true) ≡ Some refusals.ValueRange
+fill_past_the_range = refl
+
+fill_with_a_value_past_the_range : refusal with_a (commands.Fill a (between (point (pos 1) (pos 0) (pos 0)) origin) (near (pos 2147483648)) true) ≡ Some refusals.ValueRange
+fill_with_a_value_past_the_range = refl
+
+fill_of_no_box : refusal with_a (commands.Fill a (between (point (pos 1) (pos 0) (pos 0)) origin) (near (pos 1)) true) ≡ Some refusals.Box
+fill_of_no_box = refl
+
+fill_of_one_voxel : first_of_all (take 4 (tried with_a (commands.Fill a (between origin origin) (near (pos 1)) true))) ≡ None
+fill_of_one_voxel = refl
+
+clip_of_none : refusal [] (commands.Clip a (between past origin)) ≡ Some refusals.NoGrid
+clip_of_none = refl
+
+clip_past_the_range : refusal with_a (commands.Clip a (between past origin)) ≡ Some refusals.ValueRange
+clip_past_the_range = refl
+
+clip_to_no_box : refusal with_a (commands.Clip a (between (point (pos 1) (pos 0) (pos 0)) origin)) ≡ Some refusals.Box
+clip_to_no_box = refl
+
+clip_to_one_voxel : refusal with_a (commands.Clip a (between origin origin)) ≡ None
+clip_to_one_voxel = refl
+
 -- a sixty-fifth grid, of a name that is taken and of one that is free
 abbrev crowd : Scene
 crowd = map (λ k. (97 ∷ (97 + k) ∷ [], new_grid (truth false))) (range_with_len 0 64)
@@ -126,6 +168,28 @@ takes_none = refl
 -- the voxel is set in a copy, too
 copied : (field_at (after (after with_a set_seven) (commands.Copy a (codes "b"))) (codes "b")).cell (coord (negsuc 0) (negsuc 0) (negsuc 0)) ≡ record { value = I32 (pos 7); on = true }
 copied = refl
+
+-- a box is filled, and all but a box in it is cleared
+abbrev filled : Scene
+filled = after with_a (commands.Fill a (between (point (negsuc 1) (pos 0) (pos 0)) (point (pos 4) (pos 9) (pos 0))) (near (pos 7)) false)
+
+abbrev clipped : Scene
+clipped = after filled (commands.Clip a (between origin (point (pos 9) (pos 9) (pos 9))))
+
+abbrev cell_in : Scene → ℤ → Cell Scalar
+cell_in s x = (field_at s a).cell (coord x (pos 9) (pos 0))
+
+in_the_box : cell_in filled (negsuc 1) ≡ record { value = I32 (pos 7); on = false }
+in_the_box = refl
+
+beyond_the_box : cell_in filled (pos 5) ≡ record { value = I32 (pos 0); on = false }
+beyond_the_box = refl
+
+kept_by_the_clip : cell_in clipped (pos 4) ≡ record { value = I32 (pos 7); on = false }
+kept_by_the_clip = refl
+
+cleared_by_the_clip : cell_in clipped (negsuc 0) ≡ record { value = I32 (pos 0); on = false }
+cleared_by_the_clip = refl
 
 -- a step that is refused
 stays : Step with_a make_a (Refused refusals.NameTaken) with_a

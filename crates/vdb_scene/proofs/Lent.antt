@@ -1,9 +1,14 @@
 -- The scene after the grid of a name was lent and given back.
-use Rattle.std.proofs.Common.{◌≡◌, refl, sym, ap, ◌∙◌, ℕ, List, Option, Some, None, is_none}
+use Rattle.std.proofs.Common.{◌≡◌, refl, sym, ap, ◌∙◌, ℕ, List, Option, Some, None, is_none, Err}
 use Rattle.std.specs.Map.{lookup, set_value}
 use Rattle.std.specs.Option.{option_map}
+use Rattle.vdb_coord.specs.Blocks.{vdb}
 use Rattle.vdb_tree.specs.Field.{Field}
+use Rattle.vdb_tree.specs.Outcome.{IsOutcome}
+use Rattle.vdb_tree.specs.declared.refusal.TreeRefusal.{TreeRefusal}
+use Rattle.vdb_tree.specs.declared.refusal.TreeRefusal.TheVariants.{Memory, RootLimit}
 use Rattle.vdb_scene.specs.Grids.{grid_field, grid_limit, grid_of, scene_over}
+use Rattle.vdb_scene.specs.Scalars.{scalar_eq}
 use Rattle.vdb_scene.specs.Scene.{Grid, grid_at, is_named}
 use Rattle.vdb_scene.specs.Step.{changed}
 use Rattle.vdb_scene.specs.declared.scalar.Scalar.{Scalar}
@@ -14,6 +19,11 @@ use Rattle.vdb_scene.proofs.Steps.{grid_found}
 -- a grid of this field and this limit
 one_grid : (given : AnyGrid) (f : Field Scalar) (limit : ℕ) → grid_field given ≡ f → grid_limit given ≡ limit → grid_of given ≡ record { field = f; limit = limit }
 one_grid given f limit field is = λ i. record { field = field i; limit = is i }
+
+-- a refused change leaves the field as it was
+pub kept : (e : TreeRefusal) (limit : ℕ) (old changed new : Field Scalar) → IsOutcome scalar_eq vdb limit old changed new (Err e) → new ≡ old
+kept RootLimit limit old changed new h = h.0
+kept Memory limit old changed new h = h.0
 
 none_map : {X Y : Type 0} (f : X → Y) (o : Option X) → is_none (option_map f o) ≡ is_none o
 none_map f None = refl

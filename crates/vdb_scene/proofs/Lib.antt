@@ -1,6 +1,7 @@
 -- Lemmas on the step of a scene, and worked examples.
 mod Checks
 pub mod Entries
+pub mod Filling
 pub mod Lent
 pub mod Steps
 pub mod Writing

@@ -76,6 +76,13 @@ corners_first false ordered rest r h = (h, λ e. range_memory (some_exact _ _ h 
 corners_first true false rest r h = (h, λ e. box_memory (some_exact _ _ h ∙ e))
 corners_first true true rest r h = absurd (none_some r h)
 
+-- and behind a value that isn't refused
+pub corners_next : (placed value ordered : Bool) (rest : List (Option Refusal)) (r : Refusal) → value ≡ true
+    → first_of_all (cond (not placed) (Some refusals.ValueRange) None ∷ cond (not ordered) (Some refusals.Box) None ∷ []) ≡ Some r
+    → (first_of_all (cond (not (placed && value)) (Some refusals.ValueRange) None ∷ cond (not ordered) (Some refusals.Box) None ∷ rest) ≡ Some r) × (r ≡ refusals.Memory → ⊥)
+corners_next false value ordered rest r v h = corners_first false ordered rest r h
+corners_next true value ordered rest r v h = rw v (corners_first true ordered rest r h)
+
 -- a value that isn't there where a test fails
 pub test_fails : {A : Type 0} (b : Bool) (x : A) → cond b (Some x) None ≡ None → b ≡ false
 test_fails true x h = absurd (some_none x h)

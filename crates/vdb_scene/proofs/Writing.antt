@@ -1,5 +1,5 @@
 -- What a write of a voxel comes to, from what was found out about the grid and the command.
-use Rattle.std.proofs.Common.{◌≡◌, refl, sym, ap, ◌∙◌, subst, ◌⊎◌, inl, inr, ◌<◌, ◌≤◌, ℕ, Bool, true, false, not, ◌&&◌, nat_lt, List, [], ◌∷◌, Option, Some, None, is_none, Result, Ok, Err, IsOk, IsTrue}
+use Rattle.std.proofs.Common.{◌≡◌, refl, sym, ap, ◌∙◌, subst, ◌⊎◌, inl, inr, ◌≤◌, ℕ, Bool, true, false, not, ◌&&◌, nat_lt, List, [], ◌∷◌, Option, Some, None, is_none, Ok, Err, IsOk, IsTrue}
 use Rattle.std.proofs.lemmas.Bool.{le-ltb, lt-ltb}
 use Rattle.std.specs.Map.{lookup}
 use Rattle.vdb_coord.specs.Blocks.{vdb}
@@ -80,7 +80,7 @@ module _ (absent fits in_range named over : Bool) where
   first_none a f r n o = rw (a, f, r, n, o) refl
 
 -- a first refusal that doesn't apply
-passed_over : (absent : Bool) (rest : List (Option Refusal)) → absent ≡ false → first_of_all (refused_if absent refusals.NoGrid ∷ rest) ≡ first_of_all rest
+pub passed_over : (absent : Bool) (rest : List (Option Refusal)) → absent ≡ false → first_of_all (refused_if absent refusals.NoGrid ∷ rest) ≡ first_of_all rest
 passed_over absent rest a = rw a refl
 
 -- both of two tests

@@ -5,12 +5,11 @@ use Rattle.vdb_coord.specs.Space.{Box, coord, everywhere, is_between, is_box, vo
 use Rattle.vdb_coord.specs.declared.Level.TheVariants.{Leaf}
 use Rattle.vdb_coord.specs.declared.Coord.{Coord}
 use Rattle.vdb_value.specs.declared.Cell.{Cell}
-use Rattle.vdb_value.specs.declared.Kind.{Kind}
 use Rattle.vdb_tree.specs.declared.Write.{Write}
 use Rattle.vdb_tree.specs.declared.Write.TheVariants as writes
 use Rattle.vdb_tree.specs.declared.refusal.TreeRefusal.{TreeRefusal}
 use Rattle.vdb_tree.specs.declared.refusal.TreeRefusal.TheVariants.{Memory, RootLimit}
-use Rattle.vdb_tree.specs.Field.{Field, as_write_of, write, written}
+use Rattle.vdb_tree.specs.Field.{Field, as_write_of, clip, fill, write, written}
 use Rattle.vdb_tree.specs.Plain.{cell_eq, is_constant, roots}
 use Rattle.vdb_scene.specs.Scalars.{has_form, has_value, is_near, number, scalar, scalar_eq}
 use Rattle.vdb_scene.specs.Scene.{Grid, Scene, field_at, grid_at, kind_at, limit_at, new_grid, the_grid, with_changed, with_grid, without_grid}
@@ -85,6 +84,10 @@ write_at s name w = as_write_of (scalar (kind_at s name)) w
 abbrev pub after_write : Scene → List ℕ → Point → Write Literal → Scene
 after_write s name p w = changed s name (write (place p) (write_at s name w))
 
+-- the cell that a line writes to each voxel of a box
+abbrev pub cell_at : Scene → List ℕ → Literal → Bool → Cell Scalar
+cell_at s name v on = record { value = scalar (kind_at s name) v; on = on }
+
 -- the scene after each command
 abbrev pub after : Scene → Command → Scene
 after s (commands.Grid name kind background) = with_grid s name (new_grid (scalar kind background))
@@ -95,6 +98,8 @@ after s (commands.Set name k p v) = after_write s name p (writes.On v)
 after s (commands.Unset name k p v) = after_write s name p (writes.Off v)
 after s (commands.Only name k p v) = after_write s name p (writes.Value v)
 after s (commands.State name k p on) = after_write s name p (writes.State on)
+after s (commands.Fill name c v on) = changed s name (fill (box_between c) (cell_at s name v on))
+after s (commands.Clip name c) = changed s name (clip (box_between c))
 after s (commands.Prune name) = s
 after s (commands.Voxelise name c) = s
 
@@ -162,6 +167,10 @@ tried s (commands.Set name k p v) = tried_write s name k p (writes.On v)
 tried s (commands.Unset name k p v) = tried_write s name k p (writes.Off v)
 tried s (commands.Only name k p v) = tried_write s name k p (writes.Value v)
 tried s (commands.State name k p on) = tried_write s name k p (writes.State on)
+tried s (commands.Fill name c v on) =
+    no_grid s name ∷ other_form (has_form (kind_at s name) v) ∷ out_of_range (are_places c && has_value (kind_at s name) v) ∷ no_box c
+    ∷ root_limit s name (fill (box_between c) (cell_at s name v on)) ∷ []
+tried s (commands.Clip name c) = no_grid s name ∷ out_of_range (are_places c) ∷ no_box c ∷ []
 tried s (commands.Prune name) = no_grid s name ∷ []
 tried s (commands.Voxelise name c) = no_grid s name ∷ out_of_range (are_places c) ∷ no_box c ∷ too_large 2097152 (box_between c) ∷ []
 
@@ -193,6 +202,8 @@ Answers s (commands.Set name k p v) reply = reply ≡ Done
 Answers s (commands.Unset name k p v) reply = reply ≡ Done
 Answers s (commands.Only name k p v) reply = reply ≡ Done
 Answers s (commands.State name k p on) reply = reply ≡ Done
+Answers s (commands.Fill name c v on) reply = reply ≡ Done
+Answers s (commands.Clip name c) reply = reply ≡ Done
 Answers s (commands.Prune name) reply = reply ≡ Done
 Answers s (commands.Voxelise name c) reply = reply ≡ Done
 
@@ -206,7 +217,8 @@ write_takes_memory f p w = not (cell_eq scalar_eq (written w (f.cell p)) (f.cell
 abbrev pub line_takes_memory : Scene → List ℕ → Point → Write Literal → Bool
 line_takes_memory s name p w = write_takes_memory (field_at s name) (place p) (write_at s name w)
 
--- whether a command may take memory: to make or copy a grid, for such a write, and for leaves in place of tiles
+-- whether a command may take memory: to make or copy a grid, for such a write, and for nodes in place of tiles, where a box is
+-- filled, clipped or voxelised
 abbrev pub takes_memory : Scene → Command → Bool
 takes_memory s (commands.Grid name kind v) = true
 takes_memory s (commands.Drop name) = false
@@ -216,6 +228,8 @@ takes_memory s (commands.Set name k p v) = line_takes_memory s name p (writes.On
 takes_memory s (commands.Unset name k p v) = line_takes_memory s name p (writes.Off v)
 takes_memory s (commands.Only name k p v) = line_takes_memory s name p (writes.Value v)
 takes_memory s (commands.State name k p on) = line_takes_memory s name p (writes.State on)
+takes_memory s (commands.Fill name c v on) = true
+takes_memory s (commands.Clip name c) = true
 takes_memory s (commands.Prune name) = false
 takes_memory s (commands.Voxelise name c) = true
 

@@ -1,7 +1,7 @@
 //! A grid of any kind.
 ghost use Rattle.std.specs.Prelude.{◌≡◌, false, IfErr, IfOk, IsOk, IsTrue, OnOk};
 ghost use Rattle.vdb_coord.specs.Blocks.{vdb};
-ghost use Rattle.vdb_tree.specs.Field.{new, write};
+ghost use Rattle.vdb_tree.specs.Field.{clip as clipped, fill as filled, new, write};
 ghost use Rattle.vdb_tree.specs.Outcome.{IsOutcome};
 ghost use Rattle.vdb_tree.specs.declared.refusal.TreeRefusal.TheVariants.{Memory};
 ghost use Rattle.vdb_scene.specs.Scalars.{is_of, kind_of, scalar_eq};
@@ -77,6 +77,39 @@ impl AnyGrid {
             AnyGrid::Bool(tree) => grid_tree::write(tree, at, change, steps),
             AnyGrid::I32(tree) => grid_tree::write(tree, at, change, steps),
             AnyGrid::I64(tree) => grid_tree::write(tree, at, change, steps),
+        }
+    }
+
+    /// Gives each coordinate of a box one cell, with a value of the grid's kind. `RootLimit` says that too many root blocks would
+    /// have a cell that isn't the background, inactive; `Memory` that a growth was refused. Both leave every cell as it was.
+    pub fn fill(
+        &mut self,
+        bounds: Bounds,
+        cell: Cell<Scalar>,
+        steps: &mut Steps,
+    ) -> Result<(), TreeRefusal>
+        requires { IsTrue (is_of (kind_of (grid_field self.old).background) cell.value) }
+        ensures outcome { IsOutcome scalar_eq vdb (grid_limit self.old) (grid_field self.old) (filled bounds cell (grid_field self.old)) (grid_field self.new) result }
+        ensures limit { grid_limit self.new ≡ grid_limit self.old }
+    {
+        match self {
+            AnyGrid::Bool(tree) => grid_tree::fill(tree, bounds, cell, steps),
+            AnyGrid::I32(tree) => grid_tree::fill(tree, bounds, cell, steps),
+            AnyGrid::I64(tree) => grid_tree::fill(tree, bounds, cell, steps),
+        }
+    }
+
+    /// Makes each coordinate outside a box the background, inactive. `Memory` says that a growth was refused, and leaves every
+    /// cell as it was.
+    pub fn clip(&mut self, bounds: Bounds, steps: &mut Steps) -> Result<(), TreeRefusal>
+        ensures outcome { IsOutcome scalar_eq vdb (grid_limit self.old) (grid_field self.old) (clipped bounds (grid_field self.old)) (grid_field self.new) result }
+        ensures limit { grid_limit self.new ≡ grid_limit self.old }
+        ensures memory { IfErr result (λ refusal. refusal ≡ Memory) }
+    {
+        match self {
+            AnyGrid::Bool(tree) => grid_tree::clip(tree, bounds, steps),
+            AnyGrid::I32(tree) => grid_tree::clip(tree, bounds, steps),
+            AnyGrid::I64(tree) => grid_tree::clip(tree, bounds, steps),
         }
     }
 

@@ -15,7 +15,7 @@ use crate::{
 use vdb_coord::{Bounds, Coord};
 use vdb_pool::Steps;
 use vdb_tree::Write;
-use vdb_value::Kind;
+use vdb_value::{Cell, Kind};
 
 /// The most voxels of a box that is voxelised at once.
 const VOXELISE_LIMIT: u128 = 2_097_152;
@@ -205,6 +205,38 @@ impl Scene {
         Ok(Answer::Done)
     }
 
+    /// Carries out a command that fills a box.
+    fn fill(
+        &mut self,
+        name: &Name,
+        corners: &Corners,
+        value: Literal,
+        on: bool,
+        steps: &mut Steps,
+    ) -> Result<Answer, Refusal>
+        ensures { CarriesOut (scene_of self.old) (commands.Fill name.now corners.now value on) result (scene_of self.new) }
+    {
+        let Some(grid) = self.grids.get_mut(name) else {
+            return Err(Refusal::NoGrid);
+        };
+        let value = scalar_of(grid.kind(), value)?;
+        let bounds = bounds_of(corners)?;
+        grid.fill(bounds, Cell { value, on }, steps)?;
+        Ok(Answer::Done)
+    }
+
+    /// Carries out a command that clears all around a box.
+    fn clip(&mut self, name: &Name, corners: &Corners, steps: &mut Steps) -> Result<Answer, Refusal>
+        ensures { CarriesOut (scene_of self.old) (commands.Clip name.now corners.now) result (scene_of self.new) }
+    {
+        let Some(grid) = self.grids.get_mut(name) else {
+            return Err(Refusal::NoGrid);
+        };
+        let bounds = bounds_of(corners)?;
+        grid.clip(bounds, steps)?;
+        Ok(Answer::Done)
+    }
+
     /// Carries out a command that prunes a grid.
     fn prune(&mut self, name: &Name, steps: &mut Steps) -> Result<Answer, Refusal>
         ensures { CarriesOut (scene_of self.old) (commands.Prune name.now) result (scene_of self.new) }
@@ -284,6 +316,13 @@ impl Scene {
                 at,
                 on,
             } => self.write(name, *accessor, at, Write::State(*on), steps),
+            Command::Fill {
+                name,
+                corners,
+                value,
+                on,
+            } => self.fill(name, corners, *value, *on, steps),
+            Command::Clip { name, corners } => self.clip(name, corners, steps),
             Command::Prune { name } => self.prune(name, steps),
             Command::Voxelise { name, corners } => self.voxelise(name, corners, steps),
         }

@@ -86,6 +86,18 @@ pub enum Command {
         at: Point,
         on: bool,
     },
+    /// Gives each voxel of a box one value and one state.
+    Fill {
+        name: Name,
+        corners: Corners,
+        value: Literal,
+        on: bool,
+    },
+    /// Makes each voxel outside a box the background, inactive.
+    Clip {
+        name: Name,
+        corners: Corners,
+    },
     /// Makes the tree of a grid as small as its cells allow. No cell changes.
     Prune {
         name: Name,

@@ -1,16 +1,17 @@
 //! Calls on a tree of one type of values as a grid of any kind.
 
-ghost use Rattle.std.specs.Prelude.{◌≡◌, false, IsOk, IsTrue};
+ghost use Rattle.std.specs.Prelude.{◌≡◌, false, IfErr, IsOk, IsTrue};
 ghost use Rattle.vdb_coord.specs.Blocks.{vdb};
-ghost use Rattle.vdb_tree.specs.Field.{as_field_of, as_write_of, write};
+ghost use Rattle.vdb_tree.specs.Field.{as_cell_of, as_field_of, as_write_of, clip as clipped, fill as filled, write};
 ghost use Rattle.vdb_tree.specs.Layout.{field_of};
 ghost use Rattle.vdb_tree.specs.Outcome.{IsOutcome};
+ghost use Rattle.vdb_tree.specs.declared.refusal.TreeRefusal.TheVariants.{Memory};
 ghost use Rattle.vdb_scene.specs.Scalars.{is_of, scalar_eq};
 ghost use Rattle.vdb_scene.specs.Step.{passes, write_takes_memory};
 
 use crate::Scalar;
 use crate::scalar::GridValue;
-use vdb_coord::Coord;
+use vdb_coord::{Bounds, Coord};
 use vdb_pool::Steps;
 use vdb_tree::{Tree, TreeRefusal, Write};
 use vdb_value::Cell;
@@ -40,6 +41,46 @@ pub fn write<V: GridValue>(
     ensures memory { write_takes_memory (as_field_of V.as_scalar (field_of vdb tree.old)) at change ≡ false → IsOk result }
 {
     tree.write(at, of_kind(change), steps)
+}
+
+/// Gives each coordinate of a box one cell, with a value of the tree's kind.
+pub fn fill<V: GridValue>(
+    tree: &mut Tree<V>,
+    bounds: Bounds,
+    cell: Cell<Scalar>,
+    steps: &mut Steps,
+) -> Result<(), TreeRefusal>
+    requires { IsTrue (is_of V.KIND cell.value) }
+    ensures outcome { IsOutcome scalar_eq vdb tree.old.limit (as_field_of V.as_scalar (field_of vdb tree.old))
+        (filled bounds cell (as_field_of V.as_scalar (field_of vdb tree.old))) (as_field_of V.as_scalar (field_of vdb tree.new)) result }
+    ensures limit { tree.new.limit ≡ tree.old.limit }
+{
+    vdb_region::fill(tree, bounds, cell_of_kind(cell), steps)
+}
+
+/// Makes each coordinate outside a box the background, inactive.
+pub fn clip<V: GridValue>(
+    tree: &mut Tree<V>,
+    bounds: Bounds,
+    steps: &mut Steps,
+) -> Result<(), TreeRefusal>
+    ensures outcome { IsOutcome scalar_eq vdb tree.old.limit (as_field_of V.as_scalar (field_of vdb tree.old))
+        (clipped bounds (as_field_of V.as_scalar (field_of vdb tree.old))) (as_field_of V.as_scalar (field_of vdb tree.new)) result }
+    ensures limit { tree.new.limit ≡ tree.old.limit }
+    ensures memory { IfErr result (λ refusal. refusal ≡ Memory) }
+{
+    vdb_region::clip(tree, bounds, steps)
+}
+
+/// The cell of one kind that one of any is.
+fn cell_of_kind<V: GridValue>(cell: Cell<Scalar>) -> Cell<V>
+    requires { IsTrue (is_of V.KIND cell.value) }
+    ensures { as_cell_of V.as_scalar result ≡ cell }
+{
+    Cell {
+        value: V::from_scalar(cell.value),
+        on: cell.on,
+    }
 }
 
 /// The write of a value of one kind that one of any is.

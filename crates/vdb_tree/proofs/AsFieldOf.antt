@@ -13,7 +13,7 @@ use Rattle.vdb_tree.specs.declared.Write.{Write}
 use Rattle.vdb_tree.specs.declared.Write.TheVariants.{On, Off, State, Value}
 use Rattle.vdb_tree.specs.declared.refusal.TreeRefusal.{TreeRefusal}
 use Rattle.vdb_tree.specs.declared.refusal.TreeRefusal.TheVariants.{Memory, RootLimit}
-use Rattle.vdb_tree.specs.Field.{Field, as_cell_of, as_field_of, as_write_of, combine, field, fill, new, off, write, written}
+use Rattle.vdb_tree.specs.Field.{Field, as_cell_of, as_field_of, as_write_of, clip, combine, field, fill, new, off, write, written}
 use Rattle.vdb_tree.specs.Outcome.{IsOutcome}
 use Rattle.vdb_tree.specs.Plain.{cell_eq, is_constant, is_uniform, roots}
 use Rattle.vdb_tree.proofs.Fields.{same_cells}
@@ -38,6 +38,9 @@ as_field_of_write make q w f = same_cells (make f.background) _ _ (λ p inside.
 
 pub as_field_of_fill : {V U : Type 0} (make : V → U) (box : Box) (c : Cell V) (f : Field V) → as_field_of make (fill box c f) ≡ fill box (as_cell_of make c) (as_field_of make f)
 as_field_of_fill make box c f = same_cells _ _ _ (λ p h. rw h (made_cond make (is_inside box p) c (f.cell p)))
+
+pub as_field_of_clip : {V U : Type 0} (make : V → U) (box : Box) (f : Field V) → as_field_of make (clip box f) ≡ clip box (as_field_of make f)
+as_field_of_clip make box f = same_cells _ _ _ (λ p h. rw h (made_cond make (is_inside box p) (f.cell p) (off f.background)))
 
 pub as_field_of_combine : {V U : Type 0} (make : V → U) (both : V → V → V) (both_made : U → U → U) (f g : Field V)
     → ((v w : V) → make (both v w) ≡ both_made (make v) (make w))
@@ -101,3 +104,19 @@ pub as_outcome_of_write : {V U : Type 0} (make : V → U) (eq : V → V → Bool
 as_outcome_of_write make eq made_eq same bits limit p w f after result h =
     as_outcome_of make f.background (λ q. cond (coord_eq p q) (written w (f.cell q)) (f.cell q)) eq made_eq same bits limit f after
     (write p (as_write_of make w) (as_field_of make f)) result (as_field_of_write make p w f) h
+
+module _ {V U : Type 0} (make : V → U) (eq : V → V → Bool) (made_eq : U → U → Bool) (same : (v w : V) → made_eq (make v) (make w) ≡ eq v w)
+    (bits : Bits) (limit : ℕ) (box : Box) (f after : Field V) (result : Result (Unit {0}) TreeRefusal) where
+  -- that of filling a box
+  pub as_outcome_of_fill : (c : Cell V) → IsOutcome eq bits limit f (fill box c f) after result
+      → IsOutcome made_eq bits limit (as_field_of make f) (fill box (as_cell_of make c) (as_field_of make f)) (as_field_of make after) result
+  as_outcome_of_fill c h =
+      as_outcome_of make f.background (λ q. cond (is_inside box q) c (f.cell q)) eq made_eq same bits limit f after
+      (fill box (as_cell_of make c) (as_field_of make f)) result (as_field_of_fill make box c f) h
+
+  -- and that of clipping one
+  pub as_outcome_of_clip : IsOutcome eq bits limit f (clip box f) after result
+      → IsOutcome made_eq bits limit (as_field_of make f) (clip box (as_field_of make f)) (as_field_of make after) result
+  as_outcome_of_clip h =
+      as_outcome_of make f.background (λ q. cond (is_inside box q) (f.cell q) (off f.background)) eq made_eq same bits limit f after
+      (clip box (as_field_of make f)) result (as_field_of_clip make box f) h

@@ -1,7 +1,4 @@
 use Rattle.std.proofs.Common.{refl, sym}
-use Rattle.std.proofs.Common.{ap}
-use Rattle.std.specs.Prelude.{is_none}
-use Rattle.vdb_scene.specs.Grids.{grid_of, scene_over}
 use Rattle.vdb_scene.specs.Step as replies
 use Rattle.vdb_scene.proofs.Lent.{found, missing, unchanged}
 use Rattle.vdb_scene.proofs.scene.Scene.prune.Goals as goal

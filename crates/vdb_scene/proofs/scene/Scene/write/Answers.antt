@@ -1,23 +1,12 @@
-use Rattle.std.proofs.Common.{◌∙◌, sym, ap, refl, ◌≡◌, ℕ, Err}
+use Rattle.std.proofs.Common.{◌∙◌, sym, ap, refl}
 use Rattle.std.proofs.lemmas.Result.{err_from_is_err_and}
 use Rattle.std.specs.Prelude.{Some}
-use Rattle.vdb_coord.specs.Blocks.{vdb}
-use Rattle.vdb_tree.specs.Field.{Field, write}
-use Rattle.vdb_tree.specs.Outcome.{IsOutcome}
-use Rattle.vdb_tree.specs.declared.refusal.TreeRefusal.{TreeRefusal}
-use Rattle.vdb_tree.specs.declared.refusal.TreeRefusal.TheVariants.{Memory, RootLimit}
+use Rattle.vdb_tree.specs.Field.{write}
 use Rattle.vdb_scene.specs.Grids.{grid_field, grid_limit}
-use Rattle.vdb_scene.specs.Scalars.{scalar_eq}
-use Rattle.vdb_scene.specs.declared.scalar.Scalar.{Scalar}
-use Rattle.vdb_scene.proofs.Lent.{changed_field, unchanged}
+use Rattle.vdb_scene.proofs.Lent.{changed_field, kept, unchanged}
 use Rattle.vdb_scene.proofs.Steps.{test_fails, test_passes}
 use Rattle.vdb_scene.proofs.Writing.{write_accessor_refused, write_done, write_missing, write_place_refused, write_refused, write_value_refused}
 use Rattle.vdb_scene.proofs.scene.Scene.write.Goals as goal
-
--- a refused change leaves the field as it was
-same : (e : TreeRefusal) (limit : ℕ) (old changed new : Field Scalar) → IsOutcome scalar_eq vdb limit old changed new (Err e) → new ≡ old
-same RootLimit limit old changed new h = h.0
-same Memory limit old changed new h = h.0
 
 pub returns-in_default : goal.returns-in_default
 returns-in_default c =
@@ -60,7 +49,7 @@ returns-in_err-write c =
     rw (exit.1, exit.2) (write_refused grids c.args.name.now c.args.accessor c.args.at.now c.args.change _ grid there c.kind.result c.kind.ensures
     c.in_ok-change.ensures.form c.in_ok-change.ensures.range at.0 (sym c.names_accessor.ensures ∙ c.if-not-names_accessor.false)
     c.in-Some-place_of.at at.1 c.in_ok-change.change c.in_ok-change.ensures.value c.in_err-write.field-0.0 (grid_field c.write.new.self) c.in_err-write.ensures.outcome c.in_err-write.ensures.memory
-    (unchanged grids c.args.name.now _ grid c.write.new.self there (c.get_mut.follows.holds c.write.new.self).0 (same c.in_err-write.field-0.0 (grid_limit grid) (grid_field grid) (write c.in-Some-place_of.at c.in_ok-change.change (grid_field grid)) (grid_field c.write.new.self) c.in_err-write.ensures.outcome) c.in_err-write.ensures.limit))
+    (unchanged grids c.args.name.now _ grid c.write.new.self there (c.get_mut.follows.holds c.write.new.self).0 (kept c.in_err-write.field-0.0 (grid_limit grid) (grid_field grid) (write c.in-Some-place_of.at c.in_ok-change.change (grid_field grid)) (grid_field c.write.new.self) c.in_err-write.ensures.outcome) c.in_err-write.ensures.limit))
 
 pub returns : goal.returns
 returns c =

@@ -1,0 +1,16 @@
+use Rattle.std.proofs.Common.{subst}
+use Rattle.vdb_coord.specs.Blocks.{vdb}
+use Rattle.vdb_tree.specs.Field.{as_field_of, fill}
+use Rattle.vdb_tree.specs.Layout.{field_of}
+use Rattle.vdb_tree.specs.Outcome.{IsOutcome}
+use Rattle.vdb_tree.proofs.AsFieldOf.{as_outcome_of_fill}
+use Rattle.vdb_scene.specs.Scalars.{scalar_eq}
+use Rattle.vdb_scene.proofs.grid_tree.fill.Goals as goal
+
+pub returns-clause-outcome : goal.returns-clause-outcome
+returns-clause-outcome g c =
+    let make = g.V.GridValue.as_scalar in
+    let old = field_of vdb c.args.tree.now in
+    let new = field_of vdb c.fill.new.tree in
+    subst (λ cell. IsOutcome scalar_eq vdb c.args.tree.now.limit (as_field_of make old) (fill c.args.bounds cell (as_field_of make old)) (as_field_of make new) c.fill.result) c.cell_of_kind.ensures
+    (as_outcome_of_fill make g.V.PartialEq.eq scalar_eq g.met.V.GridValue.same_eq vdb c.args.tree.now.limit c.args.bounds old new c.fill.result c.cell_of_kind.result c.fill.ensures.outcome)

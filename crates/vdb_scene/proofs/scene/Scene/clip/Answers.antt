@@ -1,0 +1,49 @@
+use Rattle.std.proofs.Common.{◌∙◌, ap, refl, sym, Some}
+use Rattle.std.proofs.lemmas.Result.{err_from_is_err_and}
+use Rattle.vdb_tree.specs.Field.{clip}
+use Rattle.vdb_scene.specs.Step as replies
+use Rattle.vdb_scene.specs.Step.{changed, of_tree}
+use Rattle.vdb_scene.proofs.Lent.{changed_field, found, kept, missing, unchanged}
+use Rattle.vdb_scene.proofs.Steps.{corners_first, refused}
+use Rattle.vdb_scene.specs.Grids.{grid_field, grid_limit, scene_of}
+use Rattle.vdb_scene.specs.declared.command.Command.TheVariants as commands
+use Rattle.vdb_scene.proofs.scene.Scene.clip.Goals as goal
+
+pub returns-in_default : goal.returns-in_default
+returns-in_default c =
+    let grids = c.args.self.now.grids.entries in
+    (rw (missing grids c.args.name.now (sym c.in_default.ensures.value)) refl, rw c.get_mut.follows.holds-at-none refl)
+
+pub returns-in_err-bounds : goal.returns-in_err-bounds
+returns-in_err-bounds c =
+    let grids = c.args.self.now.grids.entries in
+    let grid = c.in-Some.grid.now in
+    let there = sym c.in-Some.ensures.value in
+    let exit = err_from_is_err_and c.from_residual.result c.from_residual.ensures.1 in
+    let first = corners_first _ _ _ _ (c.in_err-bounds.ensures.refusal ∙ ap Some (sym exit.2)) in
+    rw exit.1 (refused (scene_of c.args.self.now) (commands.Clip c.args.name.now c.args.corners.now) _ _ (rw (found grids c.args.name.now grid there) first.0) first.1
+    (unchanged grids c.args.name.now _ grid grid there (c.get_mut.follows.holds grid).0 refl refl))
+
+pub returns-in_err-clip : goal.returns-in_err-clip
+returns-in_err-clip c =
+    let grids = c.args.self.now.grids.entries in
+    let grid = c.in-Some.grid.now in
+    let there = sym c.in-Some.ensures.value in
+    let exit = err_from_is_err_and c.from_residual-in_err-clip.result c.from_residual-in_err-clip.ensures.1 in
+    let same = kept c.in_err-clip.field-0.0 (grid_limit grid) (grid_field grid) (clip c.in_ok-bounds.bounds (grid_field grid)) (grid_field c.clip.new.self) c.in_err-clip.ensures.outcome in
+    rw (exit.1, exit.2 ∙ ap of_tree c.in_err-clip.ensures.memory) (
+      rw (found grids c.args.name.now grid there, c.in_ok-bounds.ensures.places, c.in_ok-bounds.ensures.ordered) refl,
+      refl,
+      unchanged grids c.args.name.now _ grid c.clip.new.self there (c.get_mut.follows.holds c.clip.new.self).0 same c.in_err-clip.ensures.limit,
+    )
+
+pub returns : goal.returns
+returns c =
+    let grids = c.args.self.now.grids.entries in
+    let grid = c.in-Some.grid.now in
+    let there = sym c.in-Some.ensures.value in (
+      rw (found grids c.args.name.now grid there, c.in_ok-bounds.ensures.places, c.in_ok-bounds.ensures.ordered) refl,
+      (replies.Done, refl, refl),
+      changed_field grids c.args.name.now _ grid c.clip.new.self there (c.get_mut.follows.holds c.clip.new.self).0 (clip c.in_ok-bounds.bounds) c.in_ok-clip.ensures.outcome.0 c.in_ok-clip.ensures.limit
+          ∙ ap (λ box. changed (scene_of c.args.self.now) c.args.name.now (clip box)) c.in_ok-bounds.ensures.bounds,
+    )

@@ -1,0 +1,53 @@
+use Rattle.std.proofs.Common.{◌∙◌, sym, ap, refl}
+use Rattle.std.proofs.lemmas.Result.{err_from_is_err_and}
+use Rattle.std.specs.Prelude.{Some}
+use Rattle.vdb_tree.specs.Field.{fill}
+use Rattle.vdb_scene.specs.Grids.{grid_field, grid_limit}
+use Rattle.vdb_scene.proofs.Lent.{changed_field, kept, unchanged}
+use Rattle.vdb_scene.proofs.Filling.{fill_corners_refused, fill_done, fill_missing, fill_refused, fill_value_refused}
+use Rattle.vdb_scene.proofs.scene.Scene.fill.Goals as goal
+
+pub returns-in_default : goal.returns-in_default
+returns-in_default c =
+    fill_missing c.args.self.now.grids.entries c.args.name.now c.args.corners.now c.args.value c.args.on _ (sym c.in_default.ensures.value) (rw c.get_mut.follows.holds-at-none refl)
+
+pub returns-in_err-value : goal.returns-in_err-value
+returns-in_err-value c =
+    let grids = c.args.self.now.grids.entries in
+    let grid = c.in-Some.grid.now in
+    let there = sym c.in-Some.ensures.value in
+    let exit = err_from_is_err_and c.from_residual.result c.from_residual.ensures.1 in
+    rw exit.1 (fill_value_refused grids c.args.name.now c.args.corners.now c.args.value c.args.on _ grid there c.kind.result c.kind.ensures _ (c.in_err-value.ensures.refusal ∙ ap Some (sym exit.2))
+    (unchanged grids c.args.name.now _ grid grid there (c.get_mut.follows.holds grid).0 refl refl))
+
+pub returns-in_err-bounds : goal.returns-in_err-bounds
+returns-in_err-bounds c =
+    let grids = c.args.self.now.grids.entries in
+    let grid = c.in-Some.grid.now in
+    let there = sym c.in-Some.ensures.value in
+    let exit = err_from_is_err_and c.from_residual-in_err-bounds.result c.from_residual-in_err-bounds.ensures.1 in
+    rw exit.1 (fill_corners_refused grids c.args.name.now c.args.corners.now c.args.value c.args.on _ grid there c.kind.result c.kind.ensures c.in_ok-value.ensures.form c.in_ok-value.ensures.range
+    _ (c.in_err-bounds.ensures.refusal ∙ ap Some (sym exit.2)) (unchanged grids c.args.name.now _ grid grid there (c.get_mut.follows.holds grid).0 refl refl))
+
+pub returns-in_err-fill : goal.returns-in_err-fill
+returns-in_err-fill c =
+    let grids = c.args.self.now.grids.entries in
+    let grid = c.in-Some.grid.now in
+    let there = sym c.in-Some.ensures.value in
+    let exit = err_from_is_err_and c.from_residual-in_err-fill.result c.from_residual-in_err-fill.ensures.1 in
+    let same = kept c.in_err-fill.field-0.0 (grid_limit grid) (grid_field grid) (fill c.in_ok-bounds.bounds (record { value = c.in_ok-value.value; on = c.args.on }) (grid_field grid)) (grid_field c.fill.new.self)
+    c.in_err-fill.ensures.outcome in
+    rw (exit.1, exit.2) (fill_refused grids c.args.name.now c.args.corners.now c.args.value c.args.on _ grid there c.kind.result c.kind.ensures c.in_ok-value.ensures.form c.in_ok-value.ensures.range
+    c.in_ok-bounds.ensures.places c.in_ok-bounds.ensures.ordered c.in_ok-bounds.bounds c.in_ok-bounds.ensures.bounds c.in_ok-value.value c.in_ok-value.ensures.value
+    c.in_err-fill.field-0.0 (grid_field c.fill.new.self) c.in_err-fill.ensures.outcome
+    (unchanged grids c.args.name.now _ grid c.fill.new.self there (c.get_mut.follows.holds c.fill.new.self).0 same c.in_err-fill.ensures.limit))
+
+pub returns : goal.returns
+returns c =
+    let grids = c.args.self.now.grids.entries in
+    let grid = c.in-Some.grid.now in
+    let there = sym c.in-Some.ensures.value in
+    fill_done grids c.args.name.now c.args.corners.now c.args.value c.args.on _ grid there c.kind.result c.kind.ensures c.in_ok-value.ensures.form c.in_ok-value.ensures.range
+    c.in_ok-bounds.ensures.places c.in_ok-bounds.ensures.ordered c.in_ok-bounds.bounds c.in_ok-bounds.ensures.bounds c.in_ok-value.value c.in_ok-value.ensures.value c.in_ok-fill.ensures.outcome.1
+    (changed_field grids c.args.name.now _ grid c.fill.new.self there (c.get_mut.follows.holds c.fill.new.self).0 (fill c.in_ok-bounds.bounds (record { value = c.in_ok-value.value; on = c.args.on }))
+    c.in_ok-fill.ensures.outcome.0 c.in_ok-fill.ensures.limit)
