@@ -138,6 +138,29 @@ voxelise_read = refl
 voxelise_with_a_number_too_few : parse (codes "voxelise a 0 1 2 3 4") ≡ Err refusals.Syntax
 voxelise_with_a_number_too_few = refl
 
+fill_read : parse (codes "fill a 0 1 2 3 4 5 6 off")
+    ≡ Ok (Some (commands.Fill (codes "a") (record {
+      min = record { x = Near (pos 0); y = Near (pos 1); z = Near (pos 2) };
+      max = record { x = Near (pos 3); y = Near (pos 4); z = Near (pos 5) };
+    }) (Number (Near (pos 6))) false))
+fill_read = refl
+
+fill_without_a_state : parse (codes "fill a 0 1 2 3 4 5 6") ≡ Err refusals.Syntax
+fill_without_a_state = refl
+
+fill_with_a_truth_value_for_a_state : parse (codes "fill a 0 1 2 3 4 5 6 true") ≡ Err refusals.Syntax
+fill_with_a_truth_value_for_a_state = refl
+
+clip_read : parse (codes "clip a 0 1 2 3 4 5")
+    ≡ Ok (Some (commands.Clip (codes "a") (record {
+      min = record { x = Near (pos 0); y = Near (pos 1); z = Near (pos 2) };
+      max = record { x = Near (pos 3); y = Near (pos 4); z = Near (pos 5) };
+    })))
+clip_read = refl
+
+clip_with_a_number_too_few : parse (codes "clip a 0 1 2 3 4") ≡ Err refusals.Syntax
+clip_with_a_number_too_few = refl
+
 other_word : parse (codes "pruned a") ≡ Err refusals.Syntax
 other_word = refl
 

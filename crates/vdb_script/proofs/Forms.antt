@@ -10,7 +10,7 @@ use Rattle.vdb_scene.specs.declared.command.Num.{Num}
 use Rattle.vdb_scene.specs.declared.command.Point.{Point}
 use Rattle.vdb_scene.specs.declared.answer.Refusal.TheVariants as refusals
 use Rattle.vdb_script.specs.Lines.{tokens}
-use Rattle.vdb_script.specs.Grammar.{Form, ◌>>=◌, give, one, point, corners, grid, drop, copy, get, voxel_value, state, prune, voxelise, whole, command_forms, command_of, word_of, is_comment, meaning, parse, name_of, kind_of, state_of, literal_of, accessor_of, number_of}
+use Rattle.vdb_script.specs.Grammar.{Form, ◌>>=◌, give, one, point, corners, grid, drop, copy, get, voxel_value, state, fill, clip, prune, voxelise, whole, command_forms, command_of, word_of, is_comment, meaning, parse, name_of, kind_of, state_of, literal_of, accessor_of, number_of}
 
 -- where a form is there, it takes so many tokens
 pub record Takes {A : Type 0} (n : ℕ) (form : Form A) : Type 0 where
@@ -82,6 +82,14 @@ drop_takes = then_takes 1 0 _ _ (one_takes name_of) (λ name. give_takes _)
 pub copy_takes : Takes 2 copy
 copy_takes = then_takes 1 1 _ _ (one_takes name_of) (λ from. then_takes 1 0 _ _ (one_takes name_of) (λ to. give_takes _))
 
+-- fill NAME X0 Y0 Z0 X1 Y1 Z1 VALUE STATE
+pub fill_takes : Takes 9 fill
+fill_takes = then_takes 1 8 _ _ (one_takes name_of) (λ name. then_takes 6 2 _ _ corners_takes (λ c. then_takes 1 1 _ _ (one_takes literal_of) (λ v. then_takes 1 0 _ _ (one_takes state_of) (λ on. give_takes _))))
+
+-- clip NAME X0 Y0 Z0 X1 Y1 Z1
+pub clip_takes : Takes 7 clip
+clip_takes = then_takes 1 6 _ _ (one_takes name_of) (λ name. then_takes 6 0 _ _ corners_takes (λ c. give_takes _))
+
 -- voxelise NAME X0 Y0 Z0 X1 Y1 Z1
 pub voxelise_takes : Takes 7 voxelise
 voxelise_takes = then_takes 1 6 _ _ (one_takes name_of) (λ name. then_takes 6 0 _ _ corners_takes (λ c. give_takes _))
@@ -124,6 +132,13 @@ seven (a ∷ b ∷ c ∷ e ∷ f ∷ []) d l = absurd (let n : 5 ≡ 7 = l in om
 seven (a ∷ b ∷ c ∷ e ∷ f ∷ g ∷ []) d l = absurd (let n : 6 ≡ 7 = l in omega (arith, n))
 seven (a ∷ b ∷ c ∷ e ∷ f ∷ g ∷ h ∷ i ∷ more) d l = absurd (omega (arith, l))
 
+-- nine items, one by one
+pub nine : {A : Type 0} (ts : List A) (d : A) → length ts ≡ 9
+    → ts ≡ get_or ts 0 d ∷ get_or ts 1 d ∷ get_or ts 2 d ∷ get_or ts 3 d ∷ get_or ts 4 d ∷ get_or ts 5 d ∷ get_or ts 6 d ∷ get_or ts 7 d ∷ get_or ts 8 d ∷ []
+nine (a ∷ b ∷ ts) d l = ap (λ us. a ∷ b ∷ us) (seven ts d (omega (arith, l)))
+nine (a ∷ []) d l = absurd (let n : 1 ≡ 9 = l in omega (arith, n))
+nine [] d l = absurd (let n : 0 ≡ 9 = l in omega (arith, n))
+
 -- any other number of tokens is no command
 pub whole_takes : (n : ℕ) (form : Form Command) (tokens : List (List ℕ)) → Takes n form → length tokens ≢ n → Err refusals.Syntax ≡ whole (form tokens)
 whole_takes n form tokens takes other = no_whole (form tokens) (λ c e. other (let count : length tokens ≡ n + 0 = takes.count tokens c [] e in omega arith))
@@ -144,7 +159,31 @@ few n bound takes = record { n = n; few = bound; takes = takes }
 
 -- each command's form does
 commands_take_few : AllByRecursion TakesFew command_forms
-commands_take_few = (few 3 (omega arith) grid_takes, (few 1 (omega arith) drop_takes, (few 2 (omega arith) copy_takes, (few 5 (omega arith) get_takes, (few 6 (omega arith) (voxel_value_takes commands.Set), (few 6 (omega arith) (voxel_value_takes commands.Unset), (few 6 (omega arith) (voxel_value_takes commands.Only), (few 6 (omega arith) state_takes, (few 1 (omega arith) prune_takes, (few 7 (omega arith) voxelise_takes, tt))))))))))
+commands_take_few = (
+  few 3 (omega arith) grid_takes,
+  (
+    few 1 (omega arith) drop_takes,
+    (
+      few 2 (omega arith) copy_takes,
+      (
+        few 5 (omega arith) get_takes,
+        (
+          few 6 (omega arith) (voxel_value_takes commands.Set),
+          (
+            few 6 (omega arith) (voxel_value_takes commands.Unset),
+            (
+              few 6 (omega arith) (voxel_value_takes commands.Only),
+              (
+                few 6 (omega arith) state_takes,
+                (few 9 (omega arith) fill_takes, (few 7 (omega arith) clip_takes, (few 1 (omega arith) prune_takes, (few 7 (omega arith) voxelise_takes, tt)))),
+              ),
+            ),
+          ),
+        ),
+      ),
+    ),
+  ),
+)
 
 too_many_for : (commands : List (List ℕ × Form Command)) (word : List ℕ) (tokens : List (List ℕ)) → AllByRecursion TakesFew commands → 9 < length tokens
     → Err refusals.Syntax ≡ whole (option_and_then (λ form. form tokens) (word_of commands word))

@@ -163,6 +163,22 @@ state = do
   on ← one state_of
   give (commands.State name k p on)
 
+-- fill NAME X0 Y0 Z0 X1 Y1 Z1 VALUE STATE
+abbrev pub fill : Form Command
+fill = do
+  name ← one name_of
+  c ← corners
+  v ← one literal_of
+  on ← one state_of
+  give (commands.Fill name c v on)
+
+-- clip NAME X0 Y0 Z0 X1 Y1 Z1
+abbrev pub clip : Form Command
+clip = do
+  name ← one name_of
+  c ← corners
+  give (commands.Clip name c)
+
 -- prune NAME
 abbrev pub prune : Form Command
 prune = do
@@ -182,7 +198,7 @@ voxelise = do
 abbrev pub command_forms : List (List ℕ × Form Command)
 command_forms =
     (codes "grid", grid) ∷ (codes "drop", drop) ∷ (codes "copy", copy) ∷ (codes "get", get) ∷ (codes "set", set) ∷ (codes "unset", unset) ∷ (codes "only", only) ∷ (codes "state", state)
-    ∷ (codes "prune", prune) ∷ (codes "voxelise", voxelise) ∷ []
+    ∷ (codes "fill", fill) ∷ (codes "clip", clip) ∷ (codes "prune", prune) ∷ (codes "voxelise", voxelise) ∷ []
 
 -- a command with no token left, or a syntax error
 abbrev pub whole : Option (Command × List (List ℕ)) → Result (Option Command) Refusal

@@ -5,7 +5,7 @@ ghost use Rattle.vdb_scene.specs.declared.command.Command.{Command};
 ghost use Rattle.vdb_scene.specs.declared.command.Literal.{Literal};
 ghost use Rattle.vdb_scene.specs.declared.command.Num.{Num};
 ghost use Rattle.vdb_scene.specs.declared.command.Point.{Point};
-ghost use Rattle.vdb_script.specs.Grammar.{name_of, kind_of, state_of, literal_of, accessor_of, point, corners, grid, drop, copy, get, voxel_value, set, unset, only, state, prune, voxelise, whole, command_of, is_comment, parse};
+ghost use Rattle.vdb_script.specs.Grammar.{name_of, kind_of, state_of, literal_of, accessor_of, point, corners, grid, drop, copy, get, voxel_value, set, unset, only, state, fill, clip, prune, voxelise, whole, command_of, is_comment, parse};
 
 use crate::numbers::number_of;
 use crate::tokens::{first_token, split_tokens};
@@ -208,6 +208,34 @@ fn state_command(tokens: &[&[u8]]) -> Option<Command>
     }
 }
 
+/// The command `fill NAME X0 Y0 Z0 X1 Y1 Z1 VALUE STATE`, from the tokens behind its word.
+fn fill_command(tokens: &[&[u8]]) -> Option<Command>
+    ensures { ok_or (option_map Some result) Refusal.Syntax ≡ whole (fill (map (λ t. t.now) tokens.now)) }
+{
+    match tokens {
+        [name, x0, y0, z0, x1, y1, z1, value, on] => Some(Command::Fill {
+            name: name_of(name)?,
+            corners: corners_of(x0, y0, z0, x1, y1, z1)?,
+            value: literal_of(value)?,
+            on: state_of(on)?,
+        }),
+        _ => None,
+    }
+}
+
+/// The command `clip NAME X0 Y0 Z0 X1 Y1 Z1`, from the tokens behind its word.
+fn clip_command(tokens: &[&[u8]]) -> Option<Command>
+    ensures { ok_or (option_map Some result) Refusal.Syntax ≡ whole (clip (map (λ t. t.now) tokens.now)) }
+{
+    match tokens {
+        [name, x0, y0, z0, x1, y1, z1] => Some(Command::Clip {
+            name: name_of(name)?,
+            corners: corners_of(x0, y0, z0, x1, y1, z1)?,
+        }),
+        _ => None,
+    }
+}
+
 /// The command `prune NAME`, from the tokens behind its word.
 fn prune_command(tokens: &[&[u8]]) -> Option<Command>
     ensures { ok_or (option_map Some result) Refusal.Syntax ≡ whole (prune (map (λ t. t.now) tokens.now)) }
@@ -260,6 +288,10 @@ fn command_of(word: &[u8], tokens: &[&[u8]]) -> Option<Command>
         only_command(tokens)
     } else if is_word(word, b"state") {
         state_command(tokens)
+    } else if is_word(word, b"fill") {
+        fill_command(tokens)
+    } else if is_word(word, b"clip") {
+        clip_command(tokens)
     } else if is_word(word, b"prune") {
         prune_command(tokens)
     } else if is_word(word, b"voxelise") {

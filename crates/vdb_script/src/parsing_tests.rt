@@ -44,6 +44,25 @@ fn state(name: Name, on: bool) -> Command {
     }
 }
 
+/// Corners with a number of their own for each component.
+const CORNERS: Corners = Corners {
+    min: AT,
+    max: Point {
+        x: Num::Near(3),
+        y: Num::Near(4),
+        z: Num::Far,
+    },
+};
+
+fn fill(name: Name, value: Literal, on: bool) -> Command {
+    Command::Fill {
+        name,
+        corners: CORNERS,
+        value,
+        on,
+    }
+}
+
 #[test]
 fn commands_are_read(rt: HostRuntime) {
     let a = Name::new(b"a").expect(&rt, "one letter");
@@ -101,6 +120,21 @@ fn commands_are_read(rt: HostRuntime) {
         ),
         (b"state a - -1 0 2147483648 on".as_slice(), state(a, true)),
         (b"state a - -1 0 2147483648 off".as_slice(), state(a, false)),
+        (
+            b"fill a -1 0 2147483648 3 4 9223372036854775808 -5 on".as_slice(),
+            fill(a, minus_five, true),
+        ),
+        (
+            b"fill b -1 0 2147483648 3 4 9223372036854775808 true off".as_slice(),
+            fill(b, Literal::Truth(true), false),
+        ),
+        (
+            b"clip a -1 0 2147483648 3 4 9223372036854775808".as_slice(),
+            Command::Clip {
+                name: a,
+                corners: CORNERS,
+            },
+        ),
         (b"prune a".as_slice(), Command::Prune { name: a }),
         (b"drop a".as_slice(), Command::Drop { name: a }),
         (b"copy a b".as_slice(), Command::Copy { from: a, to: b }),
@@ -218,6 +252,18 @@ fn other_lines_are_no_commands(rt: HostRuntime) {
         b"state a - 0 0 0 true".as_slice(),
         b"state a - 0 0 0 on on".as_slice(),
         b"fill a".as_slice(),
+        b"fill a 0 0 0 0 0 0 1".as_slice(),
+        b"fill a 0 0 0 0 0 0 on".as_slice(),
+        b"fill a 0 0 0 0 0 1 on".as_slice(),
+        b"fill a 0 0 0 0 0 0 1 on on".as_slice(),
+        b"fill a 0 0 0 0 0 0 0 1 on".as_slice(),
+        b"fill a 0 0 0 0 0 0 1 true".as_slice(),
+        b"fill a 0 0 0 0 0 0 on 1".as_slice(),
+        b"fill a - 0 0 0 0 0 1 on".as_slice(),
+        b"clip a 0 0 0 0 0".as_slice(),
+        b"clip a 0 0 0 0 0 0 0".as_slice(),
+        b"clip a 0 0 0 0 0 true".as_slice(),
+        b"clip - 0 0 0 0 0 0".as_slice(),
         b"get a - 0 0 0 1 2 3 4 5 6 7 8 9 10 11 12".as_slice(),
     ] {
         assert!(rt; parse(rt.alloc(), line) == Err(Refusal::Syntax));
