@@ -165,6 +165,36 @@ fn scripts_are_answered(rt: HostRuntime) {
             1,
         ),
         (
+            b"grid a i32 0\nfill a 0 0 0 65535 65535 65535 1 on\nfill a 0 0 0 4095 4095 4095 0 off\nset a - 0 0 0 1\nset a - -1 0 0 1\nunset a - 0 0 0 0\nset a - -1 0 0 1\nset a - 0 0 0 0\nget a - 0 0 0\nstate a - -5000 0 0 off".as_slice(),
+            b"ok\nok\nok\nok\nerror root-limit\nok\nok\nerror root-limit\nvalue 0 off\nok\n".as_slice(),
+            1,
+        ),
+        (
+            b"grid a i32 0\nfill a -2147483648 -2147483648 -2147483648 2147483647 2147483647 2147483647 0 off\nfill a -2147483648 -2147483648 -2147483648 2147483647 2147483647 2147483647 1 off\nfill a -2147483648 -2147483648 -2147483648 2147483647 2147483647 2147483647 0 on\nget a - 0 0 0".as_slice(),
+            b"ok\nok\nerror root-limit\nerror root-limit\nvalue 0 off\n".as_slice(),
+            1,
+        ),
+        (
+            b"grid a i32 0\nfill a 0 0 0 9 9 9 4 on\nclip a 5 5 5 20 20 20\nget a - 4 9 9\nget a - 9 9 9\nget a - 5 5 5\nget a - 10 9 9".as_slice(),
+            b"ok\nok\nok\nvalue 0 off\nvalue 4 on\nvalue 4 on\nvalue 0 off\n".as_slice(),
+            0,
+        ),
+        (
+            b"grid a i32 0\nfill a 0 0 0 65535 65535 65535 1 on\nset a - -1 -1 -1 1\nfill a 0 0 0 4095 4095 4095 0 off\nset a - 0 0 0 1\nunset a - 0 0 0 0\nset a - -1 -1 -1 1\nget a - 0 0 0\nget a - -1 -1 -1\nget a - 65535 65535 65535".as_slice(),
+            b"ok\nok\nerror root-limit\nok\nok\nok\nok\nvalue 0 off\nvalue 1 on\nvalue 1 on\n".as_slice(),
+            1,
+        ),
+        (
+            b"grid a i64 -3\nfill a -9 -9 -9 9 9 9 9223372036854775807 off\nget a - -9 9 -9\nget a - -10 9 -9\nfill a 0 0 0 0 0 0 -3 on\nget a - 0 0 0\nfill a 2147483647 2147483647 2147483647 2147483647 2147483647 2147483647 5 on\nget a - 2147483647 2147483647 2147483647\nclip a -2147483648 -2147483648 -2147483648 0 0 0\nget a - 0 0 0\nget a - 1 0 0\nget a - 2147483647 2147483647 2147483647\nget a - -9 -9 -9".as_slice(),
+            b"ok\nok\nvalue 9223372036854775807 off\nvalue -3 off\nok\nvalue -3 on\nok\nvalue 5 on\nok\nvalue -3 on\nvalue -3 off\nvalue -3 off\nvalue 9223372036854775807 off\n".as_slice(),
+            0,
+        ),
+        (
+            b"fill a 1 0 0 0 0 2147483648 true on\nclip a 1 0 0 0 0 2147483648\ngrid a bool false\ngrid b i32 0\nfill a 1 0 0 0 0 0 1 on\nfill a 1 0 0 0 0 0 true on\nfill a 0 0 0 0 0 0 1 on\nfill a 0 0 0 0 0 2147483648 1 on\nfill a 1 0 0 0 0 2147483648 true on\nfill b 0 0 0 0 0 0 true on\nfill b 1 0 0 0 0 0 2147483648 on\nfill b 1 0 0 0 0 -2147483649 1 on\nfill b 1 0 0 0 0 0 1 on\nclip b 1 0 0 0 0 2147483648\nclip b 0 0 1 0 0 0\nfill b 0 0 0 0 0 0 1\nfill b 0 0 0 0 0 0 1 yes\nclip b 0 0 0 0 0\nget a - 0 0 0\nget b - 0 0 0".as_slice(),
+            b"error no-grid\nerror no-grid\nok\nok\nerror kind\nerror box\nerror kind\nerror kind\nerror value-range\nerror kind\nerror value-range\nerror value-range\nerror box\nerror value-range\nerror box\nerror syntax\nerror syntax\nerror syntax\nvalue false off\nvalue 0 off\n".as_slice(),
+            1,
+        ),
+        (
             b"grid a i32 0\nstate a 9 0 0 2147483648 on\nstate a 9 0 0 0 on\nstate a - -2147483648 2147483647 -2147483648 on\nget a - -2147483648 2147483647 -2147483648\nget a - -2147483648 2147483647 -2147483647".as_slice(),
             b"ok\nerror value-range\nerror no-accessor\nok\nvalue 0 on\nvalue 0 off\n".as_slice(),
             1,

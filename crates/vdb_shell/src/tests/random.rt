@@ -33,6 +33,53 @@ struct Wanted {
     on: bool,
 }
 
+/// Numbers in a row along an axis, and which of the four components are among them.
+#[derive(Clone, Copy)]
+struct Stretch<'a> {
+    first: &'a [u8],
+    last: &'a [u8],
+    holds: [bool; 4],
+}
+
+/// The stretches that boxes are made of. The first six have at most twelve numbers, the others reach far.
+fn a_stretch<'a>(number: usize) -> Stretch<'a> {
+    let (first, last, holds) = match number {
+        0 => (
+            b"-4".as_slice(),
+            b"-1".as_slice(),
+            [true, false, false, false],
+        ),
+        1 => (b"-1".as_slice(), b"8".as_slice(), [true, true, true, false]),
+        2 => (
+            b"0".as_slice(),
+            b"0".as_slice(),
+            [false, true, false, false],
+        ),
+        3 => (b"0".as_slice(), b"7".as_slice(), [false, true, true, false]),
+        4 => (
+            b"1".as_slice(),
+            b"9".as_slice(),
+            [false, false, true, false],
+        ),
+        5 => (
+            b"4090".as_slice(),
+            b"4101".as_slice(),
+            [false, false, false, true],
+        ),
+        6 => (
+            b"-8".as_slice(),
+            b"4095".as_slice(),
+            [true, true, true, false],
+        ),
+        _ => (
+            b"-1".as_slice(),
+            b"4096".as_slice(),
+            [true, true, true, true],
+        ),
+    };
+    Stretch { first, last, holds }
+}
+
 /// A script, the answers that are wanted, and the voxels.
 #[derive(Drop)]
 struct Trial<'a> {
@@ -97,6 +144,72 @@ impl<'a> Trial<'a> {
             add_line(&mut self.answers, answer.as_slice())
         }
     }
+
+    /// Adds a command that fills a box of at most twelve voxels along each axis, and its answer.
+    fn fill(&mut self, draws: &mut Draws) -> Result<(), AllocError> {
+        let x = a_stretch(draws.below(6));
+        let y = a_stretch(draws.below(6));
+        let z = a_stretch(draws.below(6));
+        let value = draws.below(3);
+        let written = self.values[value];
+        let on = draws.below(2) == 1;
+        let state = if on {
+            b"on".as_slice()
+        } else {
+            b"off".as_slice()
+        };
+        let parts = [
+            b"fill".as_slice(),
+            b"a".as_slice(),
+            x.first,
+            y.first,
+            z.first,
+            x.last,
+            y.last,
+            z.last,
+            written,
+            state,
+        ];
+        add_line(&mut self.script, parts.as_slice())?;
+        add_line(&mut self.answers, [b"ok".as_slice()].as_slice())?;
+        self.change(x, y, z, true, Wanted { value, on });
+        Ok(())
+    }
+
+    /// Adds a command that clears all around a box, and its answer.
+    fn clip(&mut self, draws: &mut Draws) -> Result<(), AllocError> {
+        let x = a_stretch(draws.below(8));
+        let y = a_stretch(draws.below(8));
+        let z = a_stretch(draws.below(8));
+        let parts = [
+            b"clip".as_slice(),
+            b"a".as_slice(),
+            x.first,
+            y.first,
+            z.first,
+            x.last,
+            y.last,
+            z.last,
+        ];
+        add_line(&mut self.script, parts.as_slice())?;
+        add_line(&mut self.answers, [b"ok".as_slice()].as_slice())?;
+        let background = Wanted {
+            value: 0,
+            on: false,
+        };
+        self.change(x, y, z, false, background);
+        Ok(())
+    }
+
+    /// Makes the voxels in a box, or those outside it, others.
+    fn change(&mut self, x: Stretch, y: Stretch, z: Stretch, inside: bool, new: Wanted) {
+        for i in 0..64usize {
+            let held = x.holds[i / 16] && y.holds[i / 4 % 4] && z.holds[i % 4];
+            if held == inside {
+                self.voxels[i] = new;
+            }
+        }
+    }
 }
 
 #[test]
@@ -143,6 +256,12 @@ fn random_scripts_beside_a_map(rt: HostRuntime) -> Result<(), AllocError> {
             for turn in 0..2000u64 {
                 let command = draws.below(8);
                 trial.turn(command, &mut draws)?;
+                if turn % 7 == 3 {
+                    trial.fill(&mut draws)?;
+                }
+                if turn % 60 == 30 {
+                    trial.clip(&mut draws)?;
+                }
                 if turns_of_a_prune > 0 && turn % turns_of_a_prune == 0 {
                     trial.script.extend_from_slice(b"prune a\n")?;
                     trial.answers.extend_from_slice(b"ok\n")?;
