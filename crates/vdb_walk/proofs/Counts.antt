@@ -1,0 +1,135 @@
+-- Active voxels of boxes, counted.
+use Rattle.std.proofs.Common.{◌≡◌, sym, ap, ◌∙◌, refl, ℕ, ◌+◌, ◌≤◌, ◌^◌, Bool, true, false, not, ◌&&◌, ◌||◌, List, [], length, arith, IsTrue}
+use Rattle.std.specs.List.{IsDistinct, filter}
+use Rattle.std.proofs.lemmas.List.Filters.{length-filter_both}
+use Rattle.std.proofs.lemmas.List.Sums.{count_by-le-length, length-filter}
+use Rattle.std.proofs.lemmas.Map.Made.{is_member-filter, length-from_same_keys, length-le_from_is_member}
+use Rattle.vdb_coord.specs.Boxes.{is_bounds}
+use Rattle.vdb_coord.specs.Space.{Box, coord_eq, coordinates, everywhere, is_box, is_inside, is_within, volume}
+use Rattle.vdb_coord.specs.declared.Coord.{Coord}
+use Rattle.vdb_coord.proofs.Boxes.{both}
+use Rattle.vdb_coord.proofs.CountBounds.{member_passing}
+use Rattle.vdb_coord.proofs.Counts.{count_by_members, distinct_filter}
+use Rattle.vdb_coord.proofs.Distinct.{distinct_coordinates}
+use Rattle.vdb_coord.proofs.Meeting.{within_each}
+use Rattle.vdb_coord.proofs.Members.{coord_equiv, coord_exact, member_coordinates}
+use Rattle.vdb_coord.proofs.Volume.{length_coordinates}
+use Rattle.vdb_tree.specs.Field.{Field}
+use Rattle.vdb_tree.specs.Plain.{count}
+use Rattle.vdb_value.specs.declared.Cell.{Cell}
+use Rattle.vdb_walk.specs.Halves.{IsHalved}
+
+-- ---- truth values
+
+-- what passes and lies in the first part
+in_first : (b c d t : Bool) → b ≡ (c || d) → ((b && t) && c) ≡ (c && t)
+in_first b true d true e = rw e refl
+in_first b true d false e = rw e refl
+in_first b false true true e = rw e refl
+in_first b false true false e = rw e refl
+in_first b false false t e = rw e refl
+
+-- and what passes and doesn't
+in_second : (b c d t : Bool) → b ≡ (c || d) → (c && d) ≡ false → ((b && t) && not c) ≡ (d && t)
+in_second b true true t e f = cc
+in_second b true false true e f = rw e refl
+in_second b true false false e f = rw e refl
+in_second b false true true e f = rw e refl
+in_second b false true false e f = rw e refl
+in_second b false false t e f = rw e refl
+
+all_on : (i t : Bool) → (i ≡ true → t ≡ true) → i ≡ (i && t)
+all_on true t h = sym (h refl)
+all_on false t h = refl
+
+none_on : (i t : Bool) → (i ≡ true → t ≡ false) → false ≡ (i && t)
+none_on true t h = sym (h refl)
+none_on false t h = refl
+
+nothing_apart : IsDistinct coord_eq []
+unfolding IsDistinct
+nothing_apart = tt
+
+-- ---- any test
+
+module _ (t : Coord → Bool) where
+  abbrev those : Box → List Coord
+  those b = filter t (coordinates b)
+
+  those_apart : (b : Box) → IsDistinct coord_eq (those b)
+  those_apart b = distinct_filter coord_eq t (coordinates b) (distinct_coordinates b)
+
+  -- those of a box that lie in a part
+  passing_within : (b c : Box) (s : Coord → Bool) → ((p : Coord) → ((is_inside b p && t p) && s p) ≡ (is_inside c p && t p)) → length (filter s (those b)) ≡ length (those c)
+  passing_within b c s same =
+      length-from_same_keys coord_equiv (filter s (those b)) (those c) (distinct_filter coord_eq s (those b) (those_apart b)) (those_apart c)
+      (λ q. is_member-filter coord_equiv s q (λ x e. ap s (coord_exact q x e)) (those b) ∙ ap (λ i. i && s q) (member_passing b t q) ∙ same q ∙ sym (member_passing c t q))
+
+  -- those of a box are those of its halves
+  halved : (b c d : Box) → IsHalved b c d → length (those b) ≡ length (those c) + length (those d)
+  halved b c d h =
+      let first = passing_within b c (is_inside c) (λ p. in_first (is_inside b p) (is_inside c p) (is_inside d p) (t p) (h.each p)) in
+      let second = passing_within b d (λ p. not (is_inside c p)) (λ p. in_second (is_inside b p) (is_inside c p) (is_inside d p) (t p) (h.each p) (h.apart p)) in
+      let whole = length-filter_both (is_inside c) (λ p. not (is_inside c p)) (λ p. refl) (those b) in
+      omega (arith, first, second, whole)
+
+-- ---- active voxels
+
+module _ {V : Type 0} (f : Field V) where
+  abbrev on : Coord → Bool
+  on p = (f.cell p).on
+
+  counted : (b : Box) → count f b ≡ length (filter on (coordinates b))
+  counted b = sym (length-filter on (coordinates b))
+
+  -- those of a box are those of its halves
+  pub count_halved : (b c d : Box) → IsHalved b c d → count f c + count f d ≡ count f b
+  count_halved b c d h =
+      let whole = halved on b c d h in
+      let eb = counted b in let ec = counted c in let ed = counted d in
+      omega (arith, whole, eb, ec, ed)
+
+  -- they are no more than its coordinates
+  pub count_few : (b : Box) → count f b ≤ volume b
+  count_few b = let few = count_by-le-length on (coordinates b) in let size = length_coordinates b in omega (arith, few, size)
+
+  -- all of a box
+  pub count_all : (b : Box) → ((p : Coord) → IsTrue (is_inside b p) → (f.cell p).on ≡ true) → count f b ≡ volume b
+  count_all b h =
+      counted b
+      ∙ count_by_members b on (coordinates b) (distinct_coordinates b) (λ p. member_coordinates b p ∙ all_on (is_inside b p) (on p) (h p))
+      ∙ length_coordinates b
+
+  -- none of it
+  pub count_none : (b : Box) → ((p : Coord) → IsTrue (is_inside b p) → (f.cell p).on ≡ false) → count f b ≡ 0
+  count_none b h = counted b ∙ count_by_members b on [] nothing_apart (λ p. none_on (is_inside b p) (on p) (h p))
+
+  -- a part of a piece, whose cells are all one
+  module _ (b piece : Box) (cell : Cell V) (within : is_within b piece ≡ true) (cells : (p : Coord) → IsTrue (is_inside piece p) → f.cell p ≡ cell) where
+    state : (p : Coord) → IsTrue (is_inside b p) → (f.cell p).on ≡ cell.on
+    state p inside = ap (λ (c : Cell V). c.on) (cells p (within_each b piece p within inside))
+
+    pub count_active : cell.on ≡ true → volume b ≡ count f b
+    count_active e = sym (count_all b (λ p inside. state p inside ∙ e))
+
+    pub count_inactive : cell.on ≡ false → 0 ≡ count f b
+    count_inactive e = sym (count_none b (λ p inside. state p inside ∙ e))
+
+-- ---- how many there can be
+
+-- a box within the range has no more coordinates than all
+pub volume_few : (b : Box) → is_bounds b ≡ true → volume b ≤ 2 ^ 96
+volume_few b h =
+    let inside = (both (is_box b) (is_within b everywhere) h).1 in
+    let few = length-le_from_is_member coord_equiv (coordinates b) (coordinates everywhere) (distinct_coordinates b)
+    (λ q m. member_coordinates everywhere q ∙ within_each b everywhere q inside (sym (member_coordinates b q) ∙ m)) in
+    let size = length_coordinates b in
+    let all : length (coordinates everywhere) ≡ 2 ^ 96 = length_coordinates everywhere in
+    omega (arith, few, size, all)
+
+module _ {V : Type 0} (f : Field V) (b c d : Box) (halved : IsHalved b c d) (m n : ℕ) (first : m ≡ count f c) (second : n ≡ count f d) where
+  pub both_counted : m + n ≡ count f b
+  both_counted = let whole = count_halved f b c d halved in omega (arith, first, second, whole)
+
+  pub both_few : is_bounds b ≡ true → m + n ≤ 2 ^ 96
+  both_few h = let whole = both_counted in let few = count_few f b in let bound = volume_few b h in omega (arith, whole, few, bound)

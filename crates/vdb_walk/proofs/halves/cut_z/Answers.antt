@@ -1,0 +1,35 @@
+use Rattle.std.proofs.Common.{SFits, rules, w32}
+use Rattle.std.proofs.lemmas.Int.{to_z-of_z}
+use Rattle.vdb_coord.proofs.Boxes.{both}
+use Rattle.vdb_walk.proofs.Cuts.{boxes_z, cut_z, lowered}
+use Rattle.vdb_walk.proofs.halves.cut_z.Goals as goal
+
+pub two-requires-clause-low : goal.two-requires-clause-low
+two-requires-clause-low c =
+    let x : SFits w32 c.args.z = search rules in
+    let m : SFits w32 c.args.part.min.z = search rules in
+    let hx : SFits w32 c.max.result.x = search rules in
+    let hy : SFits w32 c.max.result.y = search rules in
+    let lx : SFits w32 c.min.result.x = search rules in
+    let ly : SFits w32 c.min.result.y = search rules in
+    rw (lowered c.args.z c.args.part.min.z x m c.requires.0, to_z-of_z w32 c.max.result.x hx, to_z-of_z w32 c.max.result.y hy, c.max.ensures.corner) (boxes_z c.args.part c.args.z c.requires.0 c.requires.1 (both _ _ c.min.ensures.bounds).0).0
+
+pub two-requires-clause-high : goal.two-requires-clause-high
+two-requires-clause-high c =
+    let x : SFits w32 c.args.z = search rules in
+    let m : SFits w32 c.args.part.min.z = search rules in
+    let hx : SFits w32 c.max.result.x = search rules in
+    let hy : SFits w32 c.max.result.y = search rules in
+    let lx : SFits w32 c.min.result.x = search rules in
+    let ly : SFits w32 c.min.result.y = search rules in
+    rw (to_z-of_z w32 c.args.z x, to_z-of_z w32 c.min.result.x lx, to_z-of_z w32 c.min.result.y ly, c.min.ensures.corner) (boxes_z c.args.part c.args.z c.requires.0 c.requires.1 (both _ _ c.min.ensures.bounds).0).1
+
+pub returns : goal.returns
+returns c =
+    let x : SFits w32 c.args.z = search rules in
+    let m : SFits w32 c.args.part.min.z = search rules in
+    let hx : SFits w32 c.max.result.x = search rules in
+    let hy : SFits w32 c.max.result.y = search rules in
+    let lx : SFits w32 c.min.result.x = search rules in
+    let ly : SFits w32 c.min.result.y = search rules in
+    rw (c.two.ensures.low, c.two.ensures.high, lowered c.args.z c.args.part.min.z x m c.requires.0, to_z-of_z w32 c.max.result.x hx, to_z-of_z w32 c.max.result.y hy, c.max.ensures.corner, to_z-of_z w32 c.args.z x, to_z-of_z w32 c.min.result.x lx, to_z-of_z w32 c.min.result.y ly, c.min.ensures.corner) (cut_z c.args.part c.args.z c.requires.0 c.requires.1)

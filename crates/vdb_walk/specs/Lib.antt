@@ -1,0 +1,2 @@
+-- Boxes cut in two.
+pub mod Halves
