@@ -3,5 +3,7 @@
 
 mod counting;
 mod halves;
+#[cfg(test)]
+mod tests;
 
 pub use counting::count;

@@ -1,0 +1,217 @@
+//! Trees of both layouts and of the smallest nodes. Expected values are worked out by hand.
+
+use crate::count;
+use std::process::Abort;
+use vdb_coord::{Bounds, Coord};
+use vdb_node::Stored;
+use vdb_pool::Steps;
+use vdb_tree::{Tree, Tree433, TreeOf, TreeRefusal, Write};
+use vdb_value::Cell;
+
+/// A tree whose blocks span 2, 4 and 8 voxels along each axis, so that a few writes fill one.
+type Tiny<V> = TreeOf<V, 1, 1, 1, 1, 1, 1>;
+
+fn at(x: i32, y: i32, z: i32) -> Coord {
+    Coord { x, y, z }
+}
+
+fn all(component: i32) -> Coord {
+    at(component, component, component)
+}
+
+fn on<V>(value: V) -> Cell<V> {
+    Cell { value, on: true }
+}
+
+fn off<V>(value: V) -> Cell<V> {
+    Cell { value, on: false }
+}
+
+// Gives each coordinate from one corner to the other this cell.
+fn fill<
+    V: Stored<WU> + Stored<WL> + Stored<WF>,
+    const U: u32,
+    const L: u32,
+    const F: u32,
+    const WU: usize,
+    const WL: usize,
+    const WF: usize,
+>(
+    rt: &impl Abort,
+    tree: &mut TreeOf<V, U, L, F, WU, WL, WF>,
+    min: Coord,
+    max: Coord,
+    cell: Cell<V>,
+    steps: &mut Steps,
+) -> Result<(), TreeRefusal> {
+    let bounds = Bounds::new(min, max).expect(rt, "a box");
+    tree.split(bounds, cell, steps)?;
+    tree.paint(bounds, cell, steps);
+    Ok(())
+}
+
+// Each case: the corners of a box, and how many of its voxels are active.
+fn expect_counts<
+    V: Stored<WU> + Stored<WL> + Stored<WF>,
+    const U: u32,
+    const L: u32,
+    const F: u32,
+    const WU: usize,
+    const WL: usize,
+    const WF: usize,
+>(
+    rt: &impl Abort,
+    tree: &TreeOf<V, U, L, F, WU, WL, WF>,
+    cases: &[(Coord, Coord, u128)],
+    steps: &mut Steps,
+) {
+    for (min, max, wanted) in cases {
+        let bounds = Bounds::new(*min, *max).expect(rt, "a box");
+        assert_eq!(rt;
+            count(tree, Some(bounds), steps),
+            *wanted,
+            "from {min:?} to {max:?}"
+        );
+    }
+}
+
+#[test]
+fn a_fresh_tree_has_none(rt: HostRuntime) {
+    let mut steps = Steps::new(&rt);
+    let tree = Tree::new(rt.alloc(), 5i32, 4096);
+    assert_eq!(rt; count(&tree, None, &mut steps), 0);
+    let cases = [
+        (all(0), all(0), 0),
+        (all(-5000), all(5000), 0),
+        (all(i32::MIN), all(i32::MAX), 0),
+    ];
+    expect_counts(&rt, &tree, &cases, &mut steps);
+}
+
+#[test]
+fn single_voxels(rt: HostRuntime) -> Result<(), TreeRefusal> {
+    let mut steps = Steps::new(&rt);
+    let mut tree = Tree433::new(rt.alloc(), 0i64, 4096);
+    tree.write(at(1, 2, 3), Write::On(7), &mut steps)?;
+    assert_eq!(rt; count(&tree, None, &mut steps), 1);
+    tree.write(at(1, 2, 4), Write::Off(7), &mut steps)?;
+    assert_eq!(rt; count(&tree, None, &mut steps), 1);
+    tree.write(all(i32::MIN), Write::On(7), &mut steps)?;
+    tree.write(all(i32::MAX), Write::State(true), &mut steps)?;
+    tree.write(at(i32::MIN, i32::MAX, -1), Write::On(0), &mut steps)?;
+    assert_eq!(rt; count(&tree, None, &mut steps), 4);
+    let cases = [
+        (at(1, 2, 3), at(1, 2, 3), 1),
+        (at(1, 2, 4), at(1, 2, 4), 0),
+        (all(0), all(7), 1),
+        (all(0), at(7, 7, 2), 0),
+        (at(2, 0, 0), all(7), 0),
+        (all(i32::MIN), all(i32::MIN), 1),
+        (all(i32::MAX), all(i32::MAX), 1),
+        (all(i32::MIN), all(-1), 1),
+        (all(i32::MIN), at(-1, i32::MAX, -1), 2),
+        (all(0), all(i32::MAX), 2),
+        (all(i32::MIN), all(i32::MAX), 4),
+    ];
+    expect_counts(&rt, &tree, &cases, &mut steps);
+    Ok(())
+}
+
+// A tile of each level: a root block of 4,096 cubed, a lower block of 128 cubed beside it, and a leaf block of 8 cubed.
+#[test]
+fn tiles_of_each_level(rt: HostRuntime) -> Result<(), TreeRefusal> {
+    let mut steps = Steps::new(&rt);
+    let mut tree = Tree::new(rt.alloc(), 0i32, 4096);
+    fill(&rt, &mut tree, all(0), all(4095), on(1), &mut steps)?;
+    fill(
+        &rt,
+        &mut tree,
+        at(4096, 0, 0),
+        at(4223, 127, 127),
+        on(2),
+        &mut steps,
+    )?;
+    fill(
+        &rt,
+        &mut tree,
+        at(8192, 0, 0),
+        at(8199, 7, 7),
+        on(3),
+        &mut steps,
+    )?;
+    assert_eq!(rt; tree.node_counts().leaf, 0);
+    assert_eq!(rt;
+        count(&tree, None, &mut steps),
+        68_719_476_736 + 2_097_152 + 512
+    );
+    let cases = [
+        (all(0), all(4095), 68_719_476_736),
+        (at(4096, 0, 0), at(4223, 127, 127), 2_097_152),
+        (at(8192, 0, 0), at(8199, 7, 7), 512),
+        (all(-5), all(4), 125),
+        (
+            at(4000, 100, 100),
+            at(4100, 130, 130),
+            96 * 31 * 31 + 5 * 28 * 28,
+        ),
+        (at(8190, 3, 7), at(8195, 3, 20), 4),
+        (at(8200, -9, -9), at(9000, 9, 9), 0),
+    ];
+    expect_counts(&rt, &tree, &cases, &mut steps);
+    fill(&rt, &mut tree, all(0), all(4095), off(1), &mut steps)?;
+    assert_eq!(rt; count(&tree, None, &mut steps), 2_097_152 + 512);
+    Ok(())
+}
+
+#[test]
+fn boxes_that_cut_leaves(rt: HostRuntime) -> Result<(), TreeRefusal> {
+    let mut steps = Steps::new(&rt);
+    let mut tree = Tree::new(rt.alloc(), 0i64, 4096);
+    let mut tiny = Tiny::new(rt.alloc(), 0i32, 4096);
+    fill(&rt, &mut tree, all(3), all(12), on(-1), &mut steps)?;
+    fill(&rt, &mut tiny, all(3), all(12), on(1), &mut steps)?;
+    let cases = [
+        (all(0), all(7), 125),
+        (all(5), all(9), 125),
+        (all(3), all(3), 1),
+        (all(12), all(20), 1),
+        (all(-20), all(20), 1000),
+        (at(0, 7, 12), at(15, 8, 12), 20),
+        (all(13), all(15), 0),
+    ];
+    expect_counts(&rt, &tree, &cases, &mut steps);
+    expect_counts(&rt, &tiny, &cases, &mut steps);
+    tree.write(all(7), Write::State(false), &mut steps)?;
+    tiny.write(all(7), Write::State(false), &mut steps)?;
+    let cases = [
+        (all(0), all(7), 124),
+        (all(5), all(9), 124),
+        (all(7), all(7), 0),
+        (all(8), all(15), 125),
+        (all(i32::MIN), all(i32::MAX), 999),
+    ];
+    expect_counts(&rt, &tree, &cases, &mut steps);
+    expect_counts(&rt, &tiny, &cases, &mut steps);
+    Ok(())
+}
+
+// 65,536 voxels along each axis, in 4,096 tiles of the root table: no node is visited.
+#[test]
+fn tiles_count_at_once(rt: HostRuntime) -> Result<(), TreeRefusal> {
+    let mut steps = Steps::new(&rt);
+    let mut tree = Tree::new(rt.alloc(), 0i32, 4096);
+    fill(&rt, &mut tree, all(-32768), all(32767), on(1), &mut steps)?;
+    let before = steps.count();
+    assert_eq!(rt; count(&tree, None, &mut steps), 281_474_976_710_656);
+    let cases = [
+        (all(-32767), all(32767), 65535 * 65535 * 65535),
+        (all(0), all(i32::MAX), 32768 * 32768 * 32768),
+        (all(100), at(100, 100, 4195), 4096),
+        (all(32768), all(i32::MAX), 0),
+    ];
+    expect_counts(&rt, &tree, &cases, &mut steps);
+    assert_eq!(rt; steps.count(), before);
+    fill(&rt, &mut tree, all(-32768), all(32767), off(2), &mut steps)?;
+    assert_eq!(rt; count(&tree, None, &mut steps), 0);
+    Ok(())
+}
