@@ -58,7 +58,7 @@ fn as_many_root_blocks_as_the_limit(rt: HostRuntime) -> Result<(), TreeRefusal> 
     fill(&mut tree, bounds(&rt, all(-1), all(0)), off(0), &mut steps)?;
     let elsewhere = bounds(&rt, all(-9), all(-1));
     fill(&mut tree, elsewhere, on(5), &mut steps)?;
-    expect_counts(&rt, &tree, [4096, 1, 1, 8]);
+    expect_counts(&rt, &tree, [4096, 1, 1, 7]);
     let refused = fill(&mut tree, one, on(1), &mut steps);
     assert_eq!(rt; refused, Err(TreeRefusal::RootLimit));
     expect_cells(
