@@ -17,6 +17,7 @@ pub mod Rooted
 pub mod Census
 pub mod Writes
 pub mod LeafBlocks
+pub mod LeafCounts
 pub mod Paths
 pub mod PieceCells
 pub mod Tiled

@@ -1,7 +1,7 @@
 //! Calls that work on a whole leaf, or on a voxel of one.
 
 ghost use Rattle.std.specs.Prelude.{◌≡◌, ◌+◌, ◌≤◌, false, is_some, IfSome, IsNone, IsTrue};
-ghost use Rattle.vdb_coord.specs.Blocks.{block_number};
+ghost use Rattle.vdb_coord.specs.Blocks.{block_around, block_number};
 ghost use Rattle.vdb_coord.specs.Space.{everywhere, is_inside};
 ghost use Rattle.vdb_coord.specs.declared.Coord.{Coord};
 ghost use Rattle.vdb_coord.specs.declared.Level.TheVariants.{Leaf as leaf_level};
@@ -11,6 +11,7 @@ ghost use Rattle.vdb_tree.specs.Field.{written};
 ghost use Rattle.vdb_tree.specs.Layout.{bits_of, cell_at, field_of, lower_entry};
 ghost use Rattle.vdb_tree.specs.Leaves.{IsLeafAround, IsVoxelWritten, SetsStates, with_states_of};
 ghost use Rattle.vdb_tree.specs.Paths.{in_leaf, IsWhole, TreePath};
+ghost use Rattle.vdb_tree.specs.Plain.{count as active_count};
 
 use crate::nodes::held_place;
 use crate::{TreeOf, Write};
@@ -40,6 +41,19 @@ impl<
     {
         match self.leaf_entry(p, steps) {
             Entry::Child(slot) => Some(self.held_leaf(slot, p, steps)),
+            Entry::Tile(_) => None,
+        }
+    }
+
+    /// How many voxels of the leaf around a coordinate are active, where there is a leaf, by at most three visits (OpenVDB's
+    /// `LeafNode::onVoxelCount`). It counts by the words of the leaf's states.
+    pub fn leaf_count(&self, p: Coord, steps: &mut Steps) -> Option<u32>
+        ensures active { IfSome result (λ active. active ≡ active_count (field_of (bits_of U L F) self.now) (block_around (bits_of U L F) leaf_level p)) }
+        ensures there { is_some result ≡ in_leaf (bits_of U L F) self.now p }
+        ensures steps { steps.new ≤ steps.old + 3 }
+    {
+        match self.leaf_entry(p, steps) {
+            Entry::Child(slot) => Some(self.held_count(slot, p, steps)),
             Entry::Tile(_) => None,
         }
     }
@@ -89,6 +103,16 @@ impl<
     {
         let place = held_place(&self.leaves, slot);
         self.leaves.at(place, steps)
+    }
+
+    /// How many voxels of the leaf around p are active.
+    fn held_count(&self, slot: u32, p: Coord, steps: &mut Steps) -> u32
+        requires { lower_entry (bits_of U L F) self.now p ≡ Child slot }
+        ensures active { result ≡ active_count (field_of (bits_of U L F) self.now) (block_around (bits_of U L F) leaf_level p) }
+        ensures steps { steps.new ≤ steps.old + 1 }
+    {
+        let place = held_place(&self.leaves, slot);
+        self.leaves.at(place, steps).count_on()
     }
 
     /// Gives the voxels of the leaf around p the states of the mask.

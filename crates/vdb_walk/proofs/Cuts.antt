@@ -1,9 +1,11 @@
 -- A box cut in two along an axis.
-use Rattle.std.proofs.Common.{◌≡◌, refl, ◌<◌, ℤ, pos, ◌-ℤ◌, ◌≤ℤ◌, ◌<ℤ◌, Bool, true, false, ◌&&◌, ◌||◌, int_le, SFits, arith, of_z, to_z, w32}
+use Rattle.std.proofs.Common.{◌≡◌, refl, ◌<◌, ℤ, pos, ◌-ℤ◌, ◌≤ℤ◌, ◌<ℤ◌, Bool, true, false, not, ◌&&◌, ◌||◌, int_le, SFits, arith, of_z, to_z, w32}
 use Rattle.std.specs.Prelude.{unsigned_abs}
+use Rattle.std.specs.Ordering.{int_eq}
 use Rattle.std.proofs.lemmas.Int.{ints, to_z-of_z}
 use Rattle.vdb_coord.specs.Space.{Box, is_between, is_box}
-use Rattle.vdb_coord.proofs.Boxes.{three, together}
+use Rattle.vdb_coord.specs.declared.Coord.{Coord}
+use Rattle.vdb_coord.proofs.Boxes.{both, three, together}
 use Rattle.vdb_coord.proofs.Meeting.{le_from_test, test_from_le}
 use Rattle.vdb_walk.specs.Halves.{IsHalved, below_x, below_y, below_z, from_x, from_y, from_z}
 
@@ -125,3 +127,28 @@ one_coordinate b h x y z =
 -- a number of 32 bits before another
 pub lowered : (x m : ℤ) → SFits w32 x → SFits w32 m → m <ℤ x → to_z w32 (of_z w32 (to_z w32 (of_z w32 x) -ℤ pos 1)) ≡ x -ℤ pos 1
 lowered x m fx fm h = let fits : SFits w32 (x -ℤ pos 1) = grind (arith, ints) in simp to_z-of_z
+
+-- boxes whose corners are found equal are one
+pub same_boxes : (b c : Box) → let same : Coord → Coord → Bool = λ p q. int_eq p.x q.x && (int_eq p.y q.y && int_eq p.z q.z) in false ≡ not (same b.min c.min && same b.max c.max) → b ≡ c
+same_boxes b c h =
+    let same : Coord → Coord → Bool = λ p q. int_eq p.x q.x && (int_eq p.y q.y && int_eq p.z q.z) in
+    let corners = both (same b.min c.min) (same b.max c.max) (unturned _ h) in
+    let min = corner b.min c.min corners.0 in
+    let max = corner b.max c.max corners.1 in
+    λ i. record { min = min i; max = max i }
+  where
+    unturned : (t : Bool) → false ≡ not t → t ≡ true
+    unturned true e = refl
+    unturned false e = cc
+
+    one : (x y : ℤ) → int_eq x y ≡ true → x ≡ y
+    one x y e = grind (arith, ints)
+
+    corner : (p q : Coord) → (int_eq p.x q.x && (int_eq p.y q.y && int_eq p.z q.z)) ≡ true → p ≡ q
+    corner p q e =
+        let first = both (int_eq p.x q.x) (int_eq p.y q.y && int_eq p.z q.z) e in
+        let rest = both (int_eq p.y q.y) (int_eq p.z q.z) first.1 in
+        let x = one p.x q.x first.0 in
+        let y = one p.y q.y rest.0 in
+        let z = one p.z q.z rest.1 in
+        λ i. record { x = x i; y = y i; z = z i }

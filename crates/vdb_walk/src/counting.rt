@@ -8,13 +8,14 @@ ghost use Rattle.vdb_tree.specs.Layout.{bits_of, field_of};
 ghost use Rattle.vdb_tree.specs.Plain.{count as active_count};
 
 use crate::halves::halves;
-use vdb_coord::{Bounds, Coord};
+use vdb_coord::{Bounds, Coord, Level};
 use vdb_node::Stored;
 use vdb_pool::Steps;
 use vdb_tree::TreeOf;
 
 /// How many voxels of the box are active, or of all coordinates where there is no box (OpenVDB's `tools::countActiveVoxels` and
-/// `Tree::activeVoxelCount`). What the box has of a tile counts at once. It takes no memory.
+/// `Tree::activeVoxelCount`). What the box has of a tile counts at once, and so does a leaf that lies within the box. It takes
+/// no memory.
 pub fn count<
     V: Stored<WU> + Stored<WL> + Stored<WF>,
     const U: u32,
@@ -74,9 +75,35 @@ fn count_in<
     if piece.bounds.covers(part) {
         return if piece.cell.on { part.volume() } else { 0 };
     }
+    if let Some(active) = count_leaf(tree, part, steps) {
+        return active;
+    }
     match halves(part, tree.bits()) {
         Some((first, second)) => count_in(tree, first, steps) + count_in(tree, second, steps),
         None => unreachable!(),
+    }
+}
+
+/// How many voxels of the part are active, if it is the block of a leaf.
+fn count_leaf<
+    V: Stored<WU> + Stored<WL> + Stored<WF>,
+    const U: u32,
+    const L: u32,
+    const F: u32,
+    const WU: usize,
+    const WL: usize,
+    const WF: usize,
+>(tree: &TreeOf<V, U, L, F, WU, WL, WF>, part: Bounds, steps: &mut Steps) -> Option<u128>
+    ensures value { IfSome result (λ active. active ≡ active_count (field_of (bits_of U L F) tree.now) part) }
+    ensures bound { IfSome result (λ active. active ≤ 2 ^ 96) }
+{
+    let p = part.min();
+    if part != p.block_in(tree.bits(), Level::Leaf) {
+        return None;
+    }
+    match tree.leaf_count(p, steps) {
+        Some(active) => Some(u128::from(active)),
+        None => None,
     }
 }
 

@@ -1,4 +1,4 @@
-//! What a tree holds, counted piece by piece: a tile at once.
+//! What a tree holds, counted piece by piece: a tile at once, a leaf by the words of its states.
 #![tactic(auto)]
 
 mod counting;

@@ -195,6 +195,28 @@ fn boxes_that_cut_leaves(rt: HostRuntime) -> Result<(), TreeRefusal> {
     Ok(())
 }
 
+// A leaf within the box counts by its states alone: three visits find its piece, and three the leaf.
+#[test]
+fn leaves_count_at_once(rt: HostRuntime) -> Result<(), TreeRefusal> {
+    let mut steps = Steps::new(&rt);
+    let mut tree = Tree::new(rt.alloc(), 0i64, 4096);
+    tree.write(at(8, -8, 16), Write::On(1), &mut steps)?;
+    tree.write(at(15, -1, 23), Write::On(2), &mut steps)?;
+    tree.write(at(15, -1, 22), Write::Off(3), &mut steps)?;
+    let before = steps.count();
+    let cases = [(at(8, -8, 16), at(15, -1, 23), 2)];
+    expect_counts(&rt, &tree, &cases, &mut steps);
+    assert_eq!(rt; steps.count().wrapping_sub(before), 6);
+    let cases = [
+        (at(8, -8, 16), at(15, -1, 22), 1),
+        (at(9, -8, 16), at(15, -1, 23), 1),
+        (at(9, -8, 16), at(15, -1, 22), 0),
+        (at(0, -16, 8), at(23, 7, 31), 2),
+    ];
+    expect_counts(&rt, &tree, &cases, &mut steps);
+    Ok(())
+}
+
 // 65,536 voxels along each axis, in 4,096 tiles of the root table: no node is visited.
 #[test]
 fn tiles_count_at_once(rt: HostRuntime) -> Result<(), TreeRefusal> {

@@ -47,6 +47,29 @@ fn leaves_by_their_blocks(rt: HostRuntime) -> Result<(), TreeRefusal> {
     Ok(())
 }
 
+#[test]
+fn active_voxels_of_a_leaf(rt: HostRuntime) -> Result<(), TreeRefusal> {
+    let mut steps = Steps::new(&rt);
+    let mut tree = Tree433::new(rt.alloc(), 0i32, 4096);
+    tree.write(at(1, 2, 3), Write::On(7), &mut steps)?;
+    tree.write(all(7), Write::State(true), &mut steps)?;
+    tree.write(all(6), Write::Off(5), &mut steps)?;
+    tree.write(all(-8), Write::Off(6), &mut steps)?;
+    let cases = [
+        (all(0), Some(2), 3),
+        (all(-1), Some(0), 3),
+        (all(8), None, 2),
+        (all(200), None, 1),
+        (all(1024), None, 0),
+    ];
+    for (p, active, visits) in cases {
+        let before = steps.count();
+        assert_eq!(rt; tree.leaf_count(p, &mut steps), active, "at {p:?}");
+        assert_eq!(rt; steps.count().wrapping_sub(before), visits, "at {p:?}");
+    }
+    Ok(())
+}
+
 // One word of a leaf's states is made 101 from its lowest bit on; the values stay.
 fn try_states<
     V: Stored<WU> + Stored<WL> + Stored<8>,

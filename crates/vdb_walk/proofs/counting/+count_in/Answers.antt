@@ -22,8 +22,8 @@ returns-else-piece-clause-value g t c =
 
 pub returns-clause-value : goal.returns-clause-value
 returns-clause-value g t c =
-    both_counted (field_of (bits_of g.row.U g.row.L g.row.F) c.args.tree.now) c.args.part _ _ c.in-Some.ensures.some c.count_in.result c.count_in-in-Some.result c.count_in.ensures.value c.count_in-in-Some.ensures.value
+    both_counted (field_of (bits_of g.row.U g.row.L g.row.F) c.args.tree.now) c.args.part _ _ c.in-Some-halves.ensures.some c.count_in.result c.count_in-in-Some-halves.result c.count_in.ensures.value c.count_in-in-Some-halves.ensures.value
 
 pub returns-clause-bound : goal.returns-clause-bound
 returns-clause-bound g t c =
-    both_few (field_of (bits_of g.row.U g.row.L g.row.F) c.args.tree.now) c.args.part _ _ c.in-Some.ensures.some c.count_in.result c.count_in-in-Some.result c.count_in.ensures.value c.count_in-in-Some.ensures.value c.min.ensures.bounds
+    both_few (field_of (bits_of g.row.U g.row.L g.row.F) c.args.tree.now) c.args.part _ _ c.in-Some-halves.ensures.some c.count_in.result c.count_in-in-Some-halves.result c.count_in.ensures.value c.count_in-in-Some-halves.ensures.value c.min.ensures.bounds

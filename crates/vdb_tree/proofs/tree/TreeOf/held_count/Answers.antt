@@ -1,0 +1,24 @@
+use Rattle.std.proofs.Common.{◌≡◌, ap, sym, ◌∙◌, rules}
+use Rattle.vdb_coord.specs.declared.Level.TheVariants.{Leaf}
+use Rattle.vdb_coord.proofs.Meeting.{fits_everywhere}
+use Rattle.vdb_coord.proofs.Places.{entries_is}
+use Rattle.vdb_mask.specs.Mask.{on_count}
+use Rattle.vdb_node.specs.declared.Entry.TheVariants.{Child}
+use Rattle.vdb_tree.specs.Layout.{bits_of, field_of}
+use Rattle.vdb_tree.proofs.LeafBlocks.{leaf_around}
+use Rattle.vdb_tree.proofs.LeafCounts.{leaf_counted}
+use Rattle.vdb_tree.proofs.Sizes.{leaf_small}
+use Rattle.vdb_tree.proofs.tree.TreeOf.held_count.Goals as goal
+
+pub count_on-requires : goal.count_on-requires
+count_on-requires g c =
+    let small = g.met.V.Stored-3.row_small in
+    leaf_small _ _ g.row.WF _ c.self.invariant.0.few_leaf_words small.1 small.1 small.0
+
+pub returns-clause-active : goal.returns-clause-active
+returns-clause-active g c =
+    let bits = bits_of g.row.U g.row.L g.row.F in
+    let around = leaf_around bits _ c.args.p _ _ ((rw (← c.self.view_is) at c.requires) ∙ ap Child (sym c.held_place-place.ensures.slot)) c.at.ensures.node in
+    rw (← c.self.view_is)
+    (c.count_on.ensures ∙ ap (on_count c.at.result.now.states) (sym (entries_is bits Leaf))
+    ∙ leaf_counted bits c.self.invariant.0.bits _ c.args.p c.at.result.now (fits_everywhere c.args.p (search rules) (search rules) (search rules)) around)
