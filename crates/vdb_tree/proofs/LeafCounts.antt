@@ -125,7 +125,7 @@ module _ (bits : Bits) (p : Coord) (mask : List Bool) where
 
   block_counted : (t : Coord → Bool) → ((q : Coord) → is_inside block q ≡ true → t q ≡ is_on mask (offset bits Leaf q)) → length (filter t (coordinates block)) ≡ on_count mask (entries bits Leaf)
   unfolding on_count
-  block_counted t states = count_by_members block t (keys 0 (entries bits Leaf)) (apart 0 (entries bits Leaf) (omega arith)) (all t states) 
+  block_counted t states = count_by_members block t (keys 0 (entries bits Leaf)) (apart 0 (entries bits Leaf) (omega arith)) (all t states)
       ∙ size 0 (entries bits Leaf) ∙ length-filter (is_on mask) (range_with_len 0 (entries bits Leaf))
 
 -- the block of a leaf
