@@ -1,6 +1,6 @@
 -- The active voxels of a leaf block, counted by the states of its leaf.
-use Rattle.std.proofs.Common.{◌≡◌, ◌⊎◌, inl, inr, sym, ap, ◌∙◌, refl, subst, ℕ, zero, suc, ◌+◌, ◌<◌, ◌≤◌, Bool, true, false, ◌&&◌, ◌||◌, cond, List, [], ◌∷◌, length, arith, IsTrue}
-use Rattle.std.specs.List.{IsDistinct, count_by, filter, range_with_len}
+use Rattle.std.proofs.Common.{◌≡◌, ◌⊎◌, inl, inr, sym, ap, ◌∙◌, refl, subst, ℕ, zero, suc, ◌+◌, ◌<◌, ◌≤◌, Bool, true, false, ◌&&◌, cond, List, [], ◌∷◌, length, arith, IsTrue}
+use Rattle.std.specs.List.{IsDistinct, filter, range_with_len}
 use Rattle.std.specs.Set.{is_member}
 use Rattle.std.proofs.lemmas.List.Sums.{length-filter}
 use Rattle.vdb_coord.specs.Blocks.{block_around, block_number, entries, offset, sub_block}
