@@ -3,11 +3,30 @@ use Rattle.std.proofs.Common.{◌≡◌, refl, ◌<◌, ℤ, pos, ◌-ℤ◌, �
 use Rattle.std.specs.Prelude.{unsigned_abs}
 use Rattle.std.specs.Ordering.{int_eq}
 use Rattle.std.proofs.lemmas.Int.{ints, to_z-of_z}
-use Rattle.vdb_coord.specs.Space.{Box, is_between, is_box}
+use Rattle.vdb_coord.specs.Space.{Box, coord, is_between, is_box}
 use Rattle.vdb_coord.specs.declared.Coord.{Coord}
 use Rattle.vdb_coord.proofs.Boxes.{both, three, together}
 use Rattle.vdb_coord.proofs.Meeting.{le_from_test, test_from_le}
-use Rattle.vdb_walk.specs.Halves.{IsHalved, below_x, below_y, below_z, from_x, from_y, from_z}
+use Rattle.vdb_walk.specs.Halves.{IsHalved}
+
+-- what lies below a number along an axis, and what lies from it on
+abbrev pub below_x : Box → ℤ → Box
+below_x b x = record { min = b.min; max = coord (x -ℤ pos 1) b.max.y b.max.z }
+
+abbrev pub from_x : Box → ℤ → Box
+from_x b x = record { min = coord x b.min.y b.min.z; max = b.max }
+
+abbrev pub below_y : Box → ℤ → Box
+below_y b y = record { min = b.min; max = coord b.max.x (y -ℤ pos 1) b.max.z }
+
+abbrev pub from_y : Box → ℤ → Box
+from_y b y = record { min = coord b.min.x y b.min.z; max = b.max }
+
+abbrev pub below_z : Box → ℤ → Box
+below_z b z = record { min = b.min; max = coord b.max.x b.max.y (z -ℤ pos 1) }
+
+abbrev pub from_z : Box → ℤ → Box
+from_z b z = record { min = coord b.min.x b.min.y z; max = b.max }
 
 -- ---- along one axis
 

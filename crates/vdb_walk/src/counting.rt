@@ -123,7 +123,7 @@ fn has_keys<
     let bits = tree.bits();
     let (first, last) = (part.min().key_in(bits), part.max().key_in(bits));
     let Some(z) = first.z.checked_sub(1) else {
-        return true;
+        return true; // never so: blocks are fewer than numbers
     };
     match tree.next_key(Some(Coord { z, ..first })) {
         Some(key) => key.cmp(&last).is_le(),
