@@ -1,6 +1,6 @@
 //! The keys of the root table, in their order.
 
-ghost use Rattle.std.specs.Prelude.{◌≡◌, IsSome, IsTrue};
+ghost use Rattle.std.specs.Prelude.{◌≡◌, IfNone, IfSome, IsSome, IsTrue};
 ghost use Rattle.vdb_coord.specs.Blocks.{block_number, block_numbers};
 ghost use Rattle.vdb_coord.specs.Space.{everywhere, is_inside};
 ghost use Rattle.vdb_coord.specs.declared.Coord.{Coord};
@@ -9,7 +9,7 @@ ghost use Rattle.vdb_tree.specs.Layout.{bits_of, root_at};
 ghost use Rattle.vdb_tree.specs.Table.{IsNextKey};
 
 use crate::TreeOf;
-use vdb_coord::{Coord, Level};
+use vdb_coord::{Bounds, Coord, Level};
 use vdb_node::Stored;
 
 impl<
@@ -39,5 +39,20 @@ impl<
     {
         let _ = &self.root;
         key.numbered_block_in(self.bits(), Level::Upper).min()
+    }
+
+    /// A coordinate of the box in the root block of a key, where there is one.
+    pub(crate) fn within_root(&self, bounds: Bounds, key: Coord) -> Option<Coord>
+        requires { IsSome (root_at self.now.root key) }
+        ensures inside { IfSome result (λ p. IsTrue (is_inside bounds p)) }
+        ensures number { IfSome result (λ p. block_number (bits_of U L F) Upper p ≡ key) }
+        ensures entered { IfSome result (λ p. IsSome (root_at self.now.root (block_number (bits_of U L F) Upper p))) }
+        ensures none { IfNone result ((q : Coord) → IsTrue (is_inside bounds q) → block_number (bits_of U L F) Upper q ≡ key → ⊥) }
+    {
+        let block = self.key_corner(key).block_in(self.bits(), Level::Upper);
+        match bounds.intersect(block) {
+            Some(part) => Some(part.min()),
+            None => None,
+        }
     }
 }

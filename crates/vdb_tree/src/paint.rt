@@ -72,21 +72,6 @@ impl<
         Some(key)
     }
 
-    /// A coordinate of the box in the root block of a key, where there is one.
-    fn within_root(&self, bounds: Bounds, key: Coord) -> Option<Coord>
-        requires { IsSome (root_at self.now.root key) }
-        ensures inside { IfSome result (λ p. IsTrue (is_inside bounds p)) }
-        ensures number { IfSome result (λ p. block_number (bits_of U L F) Upper p ≡ key) }
-        ensures entered { IfSome result (λ p. IsSome (root_at self.now.root (block_number (bits_of U L F) Upper p))) }
-        ensures none { IfNone result ((q : Coord) → IsTrue (is_inside bounds q) → block_number (bits_of U L F) Upper q ≡ key → ⊥) }
-    {
-        let block = self.key_corner(key).block_in(self.bits(), Level::Upper);
-        match bounds.intersect(block) {
-            Some(part) => Some(part.min()),
-            None => None,
-        }
-    }
-
     /// Paints the box in the root block around p, which has an entry.
     fn paint_root_block(&mut self, bounds: Bounds, p: Coord, cell: Cell<V>, steps: &mut Steps)
         requires inside { IsTrue (is_inside bounds p) }

@@ -94,23 +94,10 @@ impl<
         let Some(key) = self.next_key(after) else {
             return Ok(None);
         };
-        if let Some(p) = self.root_block_in(bounds, key) {
+        if let Some(p) = self.within_root(bounds, key) {
             self.split_upper_block(bounds, p, cell, steps)?;
         }
         Ok(Some(key))
-    }
-
-    /// A coordinate of the box in the root block with this key of the table.
-    fn root_block_in(&self, bounds: Bounds, at: Coord) -> Option<Coord>
-        requires { IsSome (root_at self.now.root at) }
-        ensures some { IfSome result (λ p. IsTrue (is_inside bounds p) × (key (bits_of U L F) p ≡ at) × IsSome (root_at self.now.root (key (bits_of U L F) p))) }
-        ensures none { IsNone result → (q : Coord) → IsTrue (is_inside bounds q) → key (bits_of U L F) q ≢ at }
-    {
-        let block = self.key_corner(at).block_in(self.bits(), Level::Upper);
-        match bounds.intersect(block) {
-            Some(part) => Some(part.min()),
-            None => None,
-        }
     }
 
     /// Makes p's root block, which has an entry, ready.
