@@ -34,8 +34,9 @@ impl<
     /// entry. No cell changes, and what was ready for a plain cell stays so.
     ///
     /// `RootLimit` says that the filled box would leave more root blocks with a cell that isn't plain than the limit,
-    /// `Memory` that a growth was refused; some nodes may have been made then. It visits the blocks that the box's edge
-    /// crosses, and none within the box or outside it.
+    /// `Memory` that a growth was refused; some nodes may have been made then. It visits the nodes that the box's edge
+    /// crosses, and others only where a full root table is swept of plain entries first. OpenVDB's `Tree::fill` makes these
+    /// nodes while it writes.
     pub fn split(
         &mut self,
         bounds: Bounds,
