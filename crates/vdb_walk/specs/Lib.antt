@@ -1,2 +1,4 @@
--- Boxes cut in two.
+-- Boxes cut in two, reports on a field, and a tree's pieces in turn.
 pub mod Halves
+pub mod Reports
+pub mod Passing

@@ -1,9 +1,11 @@
-//! What a tree holds, counted piece by piece: a tile at once, a leaf by the words of its states.
+//! What a tree holds, told piece by piece: a tile at once, a leaf by the words of its states.
 #![tactic(auto)]
 
+mod census;
 mod counting;
 mod halves;
 #[cfg(test)]
 mod tests;
 
+pub use census::Census;
 pub use counting::count;
