@@ -1,7 +1,7 @@
 -- What a command makes of a scene: when it is refused, what it answers, and the scene after it.
-use Rattle.std.specs.Prelude.{◌≡◌, ◌⊎◌, ℕ, ℤ, pos, Bool, true, false, not, ◌&&◌, if◌then◌else◌, List, [], ◌∷◌, length, Option, Some, None, is_some, is_none, IsTrue, nat_le, nat_lt, Result, Ok, Err}
+use Rattle.std.specs.Prelude.{◌≡◌, ◌⊎◌, ℕ, ℤ, pos, Bool, true, false, not, ◌&&◌, if◌then◌else◌, List, [], ◌∷◌, length, Option, Some, None, is_some, is_none, IsTrue, nat_le, nat_lt, ◌||◌, map, Result, Ok, Err}
 use Rattle.vdb_coord.specs.Blocks.{block_around, vdb}
-use Rattle.vdb_coord.specs.Space.{Box, coord, everywhere, is_between, is_box, volume}
+use Rattle.vdb_coord.specs.Space.{Box, coord, everywhere, extent, is_between, is_box, range, volume}
 use Rattle.vdb_coord.specs.declared.Level.TheVariants.{Leaf}
 use Rattle.vdb_coord.specs.declared.Coord.{Coord}
 use Rattle.vdb_value.specs.declared.Cell.{Cell}
@@ -15,6 +15,7 @@ use Rattle.vdb_scene.specs.Scalars.{has_form, has_value, is_near, number, scalar
 use Rattle.vdb_scene.specs.Scene.{Grid, Scene, field_at, grid_at, kind_at, limit_at, new_grid, the_grid, with_changed, with_grid, without_grid}
 use Rattle.vdb_scene.specs.declared.command.Command.{Command}
 use Rattle.vdb_scene.specs.declared.command.Command.TheVariants as commands
+use Rattle.vdb_scene.specs.declared.command.Area.{Area}
 use Rattle.vdb_scene.specs.declared.command.Corners.{Corners}
 use Rattle.vdb_scene.specs.declared.command.Literal.{Literal}
 use Rattle.vdb_scene.specs.declared.command.Num.{Num}
@@ -48,6 +49,10 @@ box_between c = record { min = place c.min; max = place c.max }
 -- whether both corners are coordinates
 abbrev pub are_places : Corners → Bool
 are_places c = is_place c.min && is_place c.max
+
+-- the corners of a part of a plane of one z
+abbrev pub flat : Num → Area → Corners
+flat z a = record { min = record { x = a.min_x; y = a.min_y; z = z }; max = record { x = a.max_x; y = a.max_y; z = z } }
 
 -- whether a line names an accessor, 0 to 7, or none
 abbrev pub is_accessor : Option Num → Bool
@@ -102,6 +107,7 @@ after s (commands.Fill name c v on) = changed s name (fill (box_between c) (cell
 after s (commands.Clip name c) = changed s name (clip (box_between c))
 after s (commands.Prune name) = s
 after s (commands.Voxelise name c) = s
+after s (commands.Slice name z a) = s
 
 -- ---- when a command is refused
 
@@ -151,6 +157,10 @@ no_box c = refused_if (not (is_box (box_between c))) refusals.Box
 abbrev pub too_large : ℕ → Box → Option Refusal
 too_large most box = refused_if (nat_lt most (volume box)) refusals.TooLarge
 
+-- a slice has more columns or rows than so many
+abbrev pub too_wide : ℕ → Box → Option Refusal
+too_wide most box = refused_if (nat_lt most (extent box.min.x box.max.x) || nat_lt most (extent box.min.y box.max.y)) refusals.TooLarge
+
 -- what a write of a voxel may be refused for
 abbrev pub tried_write : Scene → List ℕ → Option Num → Point → Write Literal → List (Option Refusal)
 tried_write s name k p w =
@@ -173,6 +183,7 @@ tried s (commands.Fill name c v on) =
 tried s (commands.Clip name c) = no_grid s name ∷ out_of_range (are_places c) ∷ no_box c ∷ []
 tried s (commands.Prune name) = no_grid s name ∷ []
 tried s (commands.Voxelise name c) = no_grid s name ∷ out_of_range (are_places c) ∷ no_box c ∷ too_large 2097152 (box_between c) ∷ []
+tried s (commands.Slice name z a) = no_grid s name ∷ out_of_range (are_places (flat z a)) ∷ no_box (flat z a) ∷ too_wide 64 (box_between (flat z a)) ∷ []
 
 -- the first refusal of a list, if there is one
 abbrev pub first_of_all : List (Option Refusal) → Option Refusal
@@ -186,11 +197,25 @@ refusal s c = first_of_all (tried s c)
 
 -- ---- the answer
 
+-- A row of a slice: its y, and the cells by rising x.
+pub record Row : Type 0 where
+  pub y : ℤ
+  pub cells : List (Cell Scalar)
+
+-- the row of y and z, from one x to another
+abbrev pub row_at : Field Scalar → ℤ → ℤ → ℤ → ℤ → Row
+row_at f low high z y = record { y = y; cells = map (λ x. f.cell (coord x y z)) (range low high) }
+
+-- the rows of a box at its least z, by rising y
+abbrev pub rows : Field Scalar → Box → List Row
+rows f box = map (row_at f box.min.x box.max.x box.min.z) (range box.min.y box.max.y)
+
 -- what a command answers
 pub data Reply : Type 0 where
   Done : Reply
   Refused : (refusal : Refusal) → Reply
   Value : (cell : Cell Scalar) → Reply
+  Slice : (rows : List Row) → Reply
 
 -- the answer to a command that isn't refused
 abbrev pub Answers : Scene → Command → Reply → Type 0
@@ -206,6 +231,7 @@ Answers s (commands.Fill name c v on) reply = reply ≡ Done
 Answers s (commands.Clip name c) reply = reply ≡ Done
 Answers s (commands.Prune name) reply = reply ≡ Done
 Answers s (commands.Voxelise name c) reply = reply ≡ Done
+Answers s (commands.Slice name z a) reply = reply ≡ Slice (rows (field_at s name) (box_between (flat z a)))
 
 -- ---- want of memory
 
@@ -232,6 +258,7 @@ takes_memory s (commands.Fill name c v on) = true
 takes_memory s (commands.Clip name c) = true
 takes_memory s (commands.Prune name) = false
 takes_memory s (commands.Voxelise name c) = true
+takes_memory s (commands.Slice name z a) = false
 
 -- ---- one step
 

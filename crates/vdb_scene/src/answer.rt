@@ -3,7 +3,7 @@
 ghost use Rattle.std.specs.Prelude.{◌≡◌};
 ghost use Rattle.vdb_scene.specs.Step.{of_tree};
 
-use crate::Scalar;
+use crate::{Scalar, Slice};
 use vdb_tree::TreeRefusal;
 
 /// Why a line is refused, in the order in which the reasons are tried.
@@ -43,13 +43,15 @@ pub enum Refusal {
 
 /// What a command answers. It lends the scene until it is dropped.
 #[derive(Drop)]
-pub enum Answer {
+pub enum Answer<'a> {
     /// The command is carried out.
     Done,
     /// The command is refused, and the scene is as it was.
     Refused(Refusal),
     /// The value of a voxel, and whether it is active.
     Value(Scalar, bool),
+    /// The cells of a part of a plane.
+    Slice(Slice<'a>),
 }
 
 impl From<TreeRefusal> for Refusal {

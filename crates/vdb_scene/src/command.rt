@@ -34,6 +34,15 @@ pub struct Corners {
     pub max: Point,
 }
 
+/// The part of a plane that a line names: the least x and y, then the greatest.
+#[derive(Clone, Copy, Debug, PartialEq, Eq)]
+pub struct Area {
+    pub min_x: Num,
+    pub min_y: Num,
+    pub max_x: Num,
+    pub max_y: Num,
+}
+
 /// What a line asks for.
 #[derive(Clone, Copy, PartialEq, Eq)]
 pub enum Command {
@@ -106,5 +115,11 @@ pub enum Command {
     Voxelise {
         name: Name,
         corners: Corners,
+    },
+    /// Answers the cells of the part of a plane of one z, row by row.
+    Slice {
+        name: Name,
+        z: Num,
+        area: Area,
     },
 }

@@ -192,13 +192,24 @@ voxelise = do
   c ← corners
   give (commands.Voxelise name c)
 
+-- slice NAME Z X0 Y0 X1 Y1
+abbrev pub slice : Form Command
+slice = do
+  name ← one name_of
+  z ← one number_of
+  x0 ← one number_of
+  y0 ← one number_of
+  x1 ← one number_of
+  y1 ← one number_of
+  give (commands.Slice name z (record { min_x = x0; min_y = y0; max_x = x1; max_y = y1 }))
+
 -- ---- the commands
 
 -- each command's word, and the form of what stands behind it
 abbrev pub command_forms : List (List ℕ × Form Command)
 command_forms =
     (codes "grid", grid) ∷ (codes "drop", drop) ∷ (codes "copy", copy) ∷ (codes "get", get) ∷ (codes "set", set) ∷ (codes "unset", unset) ∷ (codes "only", only) ∷ (codes "state", state)
-    ∷ (codes "fill", fill) ∷ (codes "clip", clip) ∷ (codes "prune", prune) ∷ (codes "voxelise", voxelise) ∷ []
+    ∷ (codes "fill", fill) ∷ (codes "clip", clip) ∷ (codes "prune", prune) ∷ (codes "voxelise", voxelise) ∷ (codes "slice", slice) ∷ []
 
 -- a command with no token left, or a syntax error
 abbrev pub whole : Option (Command × List (List ℕ)) → Result (Option Command) Refusal

@@ -1,6 +1,6 @@
 //! Lines and the commands that they are.
 use crate::parse;
-use vdb_scene::{Command, Corners, Literal, Name, Num, Point, Refusal};
+use vdb_scene::{Area, Command, Corners, Literal, Name, Num, Point, Refusal};
 use vdb_value::Kind;
 
 /// The coordinate of the lines below.
@@ -135,6 +135,19 @@ fn commands_are_read(rt: HostRuntime) {
                 corners: CORNERS,
             },
         ),
+        (
+            b"slice a 9223372036854775808 -1 0 2147483648 5".as_slice(),
+            Command::Slice {
+                name: a,
+                z: Num::Far,
+                area: Area {
+                    min_x: Num::Near(-1),
+                    min_y: Num::Near(0),
+                    max_x: Num::Near(2147483648),
+                    max_y: Num::Near(5),
+                },
+            },
+        ),
         (b"prune a".as_slice(), Command::Prune { name: a }),
         (b"drop a".as_slice(), Command::Drop { name: a }),
         (b"copy a b".as_slice(), Command::Copy { from: a, to: b }),
@@ -243,6 +256,11 @@ fn other_lines_are_no_commands(rt: HostRuntime) {
         b"voxelise a 0 0 0 0 0".as_slice(),
         b"voxelise a 0 0 0 0 0 0 0".as_slice(),
         b"voxelise a - 0 0 0 0 0".as_slice(),
+        b"slice a 0 0 0 0".as_slice(),
+        b"slice a 0 0 0 0 0 0".as_slice(),
+        b"slice a - 0 0 0 0".as_slice(),
+        b"slice - 0 0 0 0 0".as_slice(),
+        b"slice a 0 0 0 0 all".as_slice(),
         b"prune a a".as_slice(),
         b"prune -".as_slice(),
         b"unset a - 0 0 0".as_slice(),

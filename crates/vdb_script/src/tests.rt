@@ -1,5 +1,6 @@
 use super::*;
 use std::io::{self, Read, Write};
+use vdb_pool::Steps;
 use vdb_scene::{Answer, Refusal, Scalar, Watched};
 
 // ---- reading
@@ -204,10 +205,10 @@ const TEXT: &[u8] =
     b"ok\nerror line-too-long\nerror memory\nvalue true on\nvalue false off\nvalue -2147483648 on\nvalue 2147483647 off\nvalue -9223372036854775808 off\nvalue 9223372036854775807 on\nvalue 0 off\n";
 
 /// Prints the ten answers.
-fn print_all<W: Write>(writer: &mut Watched<W>) -> Result<(), WriteFault> {
-    print(Answer::Done, writer)?;
+fn print_all<W: Write>(writer: &mut Watched<W>, steps: &mut Steps) -> Result<(), WriteFault> {
+    print(Answer::Done, writer, steps)?;
     for refusal in [Refusal::LineTooLong, Refusal::Memory] {
-        print(Answer::Refused(refusal), writer)?;
+        print(Answer::Refused(refusal), writer, steps)?;
     }
     for (value, on) in [
         (Scalar::Bool(true), true),
@@ -218,7 +219,7 @@ fn print_all<W: Write>(writer: &mut Watched<W>) -> Result<(), WriteFault> {
         (Scalar::I64(i64::MAX), true),
         (Scalar::I64(0), false),
     ] {
-        print(Answer::Value(value, on), writer)?;
+        print(Answer::Value(value, on), writer, steps)?;
     }
     Ok(())
 }
@@ -234,7 +235,8 @@ fn a_line_is_one_write(rt: HostRuntime) {
             fails: false,
         };
         let mut writer = Watched::new(&mut narrow);
-        assert!(rt; print_all(&mut writer).is_ok());
+        let mut steps = Steps::new(&rt);
+        assert!(rt; print_all(&mut writer, &mut steps).is_ok());
         assert!(rt; !writer.failed());
         assert_eq!(rt; narrow.text.as_slice(), TEXT);
         assert_eq!(rt; narrow.calls, calls);
@@ -253,7 +255,8 @@ fn a_write_fault_leaves_a_front(rt: HostRuntime) {
                 fails,
             };
             let mut writer = Watched::new(&mut narrow);
-            assert!(rt; print_all(&mut writer) == Err(WriteFault));
+            let mut steps = Steps::new(&rt);
+            assert!(rt; print_all(&mut writer, &mut steps) == Err(WriteFault));
             assert!(rt; writer.failed());
             assert_eq!(rt; Some(narrow.text.as_slice()), TEXT.get(..stops_at - 1));
             assert_eq!(rt; narrow.calls, stops_at);

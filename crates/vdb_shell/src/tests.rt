@@ -2,6 +2,7 @@
 ghost use Rattle.std.specs.Prelude.{Some};
 
 mod random;
+mod slices;
 
 use super::*;
 use std::alloc::AllocError;
