@@ -2,3 +2,4 @@
 pub mod Counts
 pub mod Cuts
 pub mod Keys
+pub mod OneCell

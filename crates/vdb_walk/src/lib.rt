@@ -6,6 +6,8 @@ mod counting;
 mod halves;
 #[cfg(test)]
 mod tests;
+mod uniformity;
 
 pub use census::Census;
 pub use counting::count;
+pub use uniformity::uniform;
