@@ -3,3 +3,4 @@ pub mod Counts
 pub mod Cuts
 pub mod Keys
 pub mod OneCell
+pub mod Numbered

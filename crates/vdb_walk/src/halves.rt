@@ -27,7 +27,7 @@ pub(crate) fn halves(part: Bounds, bits: Bits) -> Option<(Bounds, Bounds)>
 }
 
 /// The box cut along an edge of blocks of 2 to the power `least`, or more, along x, else along y, else along z.
-fn cut(part: Bounds, least: u32) -> Option<(Bounds, Bounds)>
+pub(crate) fn cut(part: Bounds, least: u32) -> Option<(Bounds, Bounds)>
     ensures some { IfSome result (λ parts. IsHalved part parts.0 parts.1) }
     ensures none { IsNone result → least ≡ 0 → part.min ≡ part.max }
 {

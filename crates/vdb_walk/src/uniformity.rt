@@ -52,11 +52,14 @@ pub(crate) fn has_only<
     if piece.cell != cell {
         return false;
     }
-    if piece.bounds.covers(part) || !has_keys(tree, part) {
+    if piece.bounds.covers(part) {
         return true;
     }
     if let Some(same) = leaf_has_only(tree, part, cell, steps) {
         return same;
+    }
+    if !has_keys(tree, part) {
+        return true;
     }
     match halves(part, tree.bits()) {
         Some((first, second)) => {
@@ -84,8 +87,9 @@ fn leaf_has_only<
     ensures { IfSome result (λ same. same ≡ is_uniform V.eq (field_of (bits_of U L F) tree.now) part cell) }
 {
     let p = part.min();
-    if WF > 512 || part != p.block_in(tree.bits(), Level::Leaf) {
-        return None; // no tree's masks have more words
+    let few_words = WF <= 512; // so it is in every tree, but only here does the proof learn it
+    if !few_words || part != p.block_in(tree.bits(), Level::Leaf) {
+        return None;
     }
     let count = u32::from(tree.bits().entries(Level::Leaf));
     let leaf = match tree.leaf(p, steps) {
