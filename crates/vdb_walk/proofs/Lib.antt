@@ -2,3 +2,5 @@
 pub mod Counts
 pub mod Cuts
 pub mod Keys
+pub mod OneCell
+pub mod Numbered
