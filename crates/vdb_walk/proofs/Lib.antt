@@ -1,4 +1,8 @@
--- Lemmas on boxes cut in two, on counts, and on the keys of the table.
+-- Lemmas on boxes cut in two, on counts, on the keys of the table, and on block order.
 pub mod Counts
 pub mod Cuts
 pub mod Keys
+pub mod BoxOrder
+pub mod Firsts
+pub mod LeafSeeks
+pub mod InOrder

@@ -4,8 +4,13 @@
 mod census;
 mod counting;
 mod halves;
+mod listing;
+mod order;
+mod seeking;
 #[cfg(test)]
 mod tests;
 
 pub use census::Census;
 pub use counting::count;
+pub use listing::{Listing, list};
+pub use seeking::next_active;
