@@ -1,6 +1,10 @@
--- Lemmas on boxes cut in two, on counts, and on the keys of the table.
+-- Lemmas on boxes cut in two, on counts, on the keys of the table, and on block order.
 pub mod Counts
 pub mod Cuts
 pub mod Keys
 pub mod OneCell
 pub mod Numbered
+pub mod BoxOrder
+pub mod Firsts
+pub mod LeafSeeks
+pub mod InOrder

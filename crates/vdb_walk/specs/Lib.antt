@@ -3,3 +3,4 @@ pub mod Halves
 pub mod Reports
 pub mod Passing
 pub mod Numbers
+pub mod Firsts

@@ -3,13 +3,18 @@
 
 mod counting;
 mod halves;
+mod listing;
 mod mixed;
+mod order;
+mod seeking;
 mod smallest;
 #[cfg(test)]
 mod tests;
 mod uniformity;
 
 pub use counting::count;
+pub use listing::{Listing, list};
 pub use mixed::census;
+pub use seeking::next_active;
 pub use smallest::Census;
 pub use uniformity::uniform;
