@@ -3,6 +3,7 @@ mod Checks
 pub mod Entries
 pub mod Filling
 pub mod Lent
+pub mod Listings
 pub mod Rows
 pub mod Steps
 pub mod Writing

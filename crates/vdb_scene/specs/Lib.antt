@@ -5,6 +5,7 @@ pub mod Scene
 pub mod Step
 pub mod Grids
 pub mod Slices
+pub mod Listings
 pub mod Shown
 pub mod Doing
 pub mod Watched

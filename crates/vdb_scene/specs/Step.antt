@@ -1,5 +1,5 @@
 -- What a command makes of a scene: when it is refused, what it answers, and the scene after it.
-use Rattle.std.specs.Prelude.{◌≡◌, ◌⊎◌, ℕ, ℤ, pos, Bool, true, false, not, ◌&&◌, if◌then◌else◌, List, [], ◌∷◌, length, Option, Some, None, is_some, is_none, IsTrue, nat_le, nat_lt, ◌||◌, map, Result, Ok, Err}
+use Rattle.std.specs.Prelude.{◌≡◌, ◌⊎◌, ℕ, ℤ, pos, Bool, true, false, not, ◌&&◌, if◌then◌else◌, List, [], ◌∷◌, length, Option, Some, None, is_some, is_none, IsTrue, nat_le, nat_lt, ◌||◌, map, take, unsigned_abs, Result, Ok, Err}
 use Rattle.vdb_coord.specs.Blocks.{block_around, vdb}
 use Rattle.vdb_coord.specs.Space.{Box, coord, everywhere, extent, is_between, is_box, range, volume}
 use Rattle.vdb_coord.specs.declared.Level.TheVariants.{Leaf}
@@ -11,6 +11,7 @@ use Rattle.vdb_tree.specs.declared.refusal.TreeRefusal.{TreeRefusal}
 use Rattle.vdb_tree.specs.declared.refusal.TreeRefusal.TheVariants.{Memory, RootLimit}
 use Rattle.vdb_tree.specs.Field.{Field, as_write_of, clip, fill, write, written}
 use Rattle.vdb_tree.specs.Plain.{cell_eq, is_constant, roots}
+use Rattle.vdb_walk.specs.Reports.{active}
 use Rattle.vdb_scene.specs.Scalars.{has_form, has_value, is_near, number, scalar, scalar_eq}
 use Rattle.vdb_scene.specs.Scene.{Grid, Scene, field_at, grid_at, kind_at, limit_at, new_grid, the_grid, with_changed, with_grid, without_grid}
 use Rattle.vdb_scene.specs.declared.command.Command.{Command}
@@ -58,6 +59,14 @@ flat z a = record { min = record { x = a.min_x; y = a.min_y; z = z }; max = reco
 abbrev pub is_accessor : Option Num → Bool
 is_accessor None = true
 is_accessor (Some k) = is_from (pos 0) (pos 7) k
+
+-- whether a line names a limit of a listing, 1 to 4,096
+abbrev pub is_limit : Num → Bool
+is_limit n = is_from (pos 1) (pos 4096) n
+
+-- the number of a line as a count
+abbrev pub count_of : Num → ℕ
+count_of n = unsigned_abs (number n)
 
 -- ---- writes of voxels
 
@@ -107,6 +116,7 @@ after s (commands.Fill name c v on) = changed s name (fill (box_between c) (cell
 after s (commands.Clip name c) = changed s name (clip (box_between c))
 after s (commands.Prune name) = s
 after s (commands.Voxelise name c) = s
+after s (commands.List name c limit) = s
 after s (commands.Slice name z a) = s
 
 -- ---- when a command is refused
@@ -183,6 +193,7 @@ tried s (commands.Fill name c v on) =
 tried s (commands.Clip name c) = no_grid s name ∷ out_of_range (are_places c) ∷ no_box c ∷ []
 tried s (commands.Prune name) = no_grid s name ∷ []
 tried s (commands.Voxelise name c) = no_grid s name ∷ out_of_range (are_places c) ∷ no_box c ∷ too_large 2097152 (box_between c) ∷ []
+tried s (commands.List name c limit) = no_grid s name ∷ out_of_range (is_limit limit && are_places c) ∷ no_box c ∷ []
 tried s (commands.Slice name z a) = no_grid s name ∷ out_of_range (are_places (flat z a)) ∷ no_box (flat z a) ∷ too_wide 64 (box_between (flat z a)) ∷ []
 
 -- the first refusal of a list, if there is one
@@ -215,7 +226,12 @@ pub data Reply : Type 0 where
   Done : Reply
   Refused : (refusal : Refusal) → Reply
   Value : (cell : Cell Scalar) → Reply
+  Listing : (voxels : List (Coord × Scalar)) → (more : Bool) → Reply
   Slice : (rows : List Row) → Reply
+
+-- the first so many of some voxels, and whether there are more
+abbrev pub listing : ℕ → List (Coord × Scalar) → Reply
+listing n voxels = Listing (take n voxels) (nat_lt n (length voxels))
 
 -- the answer to a command that isn't refused
 abbrev pub Answers : Scene → Command → Reply → Type 0
@@ -231,6 +247,7 @@ Answers s (commands.Fill name c v on) reply = reply ≡ Done
 Answers s (commands.Clip name c) reply = reply ≡ Done
 Answers s (commands.Prune name) reply = reply ≡ Done
 Answers s (commands.Voxelise name c) reply = reply ≡ Done
+Answers s (commands.List name c limit) reply = reply ≡ listing (count_of limit) (active vdb (field_at s name) (box_between c))
 Answers s (commands.Slice name z a) reply = reply ≡ Slice (rows (field_at s name) (box_between (flat z a)))
 
 -- ---- want of memory
@@ -258,6 +275,7 @@ takes_memory s (commands.Fill name c v on) = true
 takes_memory s (commands.Clip name c) = true
 takes_memory s (commands.Prune name) = false
 takes_memory s (commands.Voxelise name c) = true
+takes_memory s (commands.List name c limit) = false
 takes_memory s (commands.Slice name z a) = false
 
 -- ---- one step

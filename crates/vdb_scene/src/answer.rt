@@ -3,7 +3,7 @@
 ghost use Rattle.std.specs.Prelude.{◌≡◌};
 ghost use Rattle.vdb_scene.specs.Step.{of_tree};
 
-use crate::{Scalar, Slice};
+use crate::{Scalar, Slice, Voxels};
 use vdb_tree::TreeRefusal;
 
 /// Why a line is refused, in the order in which the reasons are tried.
@@ -50,6 +50,8 @@ pub enum Answer<'a> {
     Refused(Refusal),
     /// The value of a voxel, and whether it is active.
     Value(Scalar, bool),
+    /// The active voxels of a box in block order, up to a limit.
+    List(Voxels<'a>),
     /// The cells of a part of a plane.
     Slice(Slice<'a>),
 }

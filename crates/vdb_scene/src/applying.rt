@@ -7,14 +7,14 @@ ghost use Rattle.vdb_scene.specs.Doing.{AppliesTo, CarriesOut};
 ghost use Rattle.vdb_scene.specs.Grids.{scene_of};
 ghost use Rattle.vdb_scene.specs.contracts.scene.Scene.{the_row};
 ghost use Rattle.vdb_scene.specs.Scalars.{has_form, has_value, number, scalar};
-ghost use Rattle.vdb_scene.specs.Step.{are_places, box_between, first_of_all, flat as flat_corners, is_accessor, is_component, is_place, no_box, other_form, out_of_range, passes, place, write_command};
+ghost use Rattle.vdb_scene.specs.Step.{are_places, box_between, count_of, first_of_all, flat as flat_corners, is_accessor, is_component, is_limit, is_place, no_box, other_form, out_of_range, passes, place, write_command};
 ghost use Rattle.vdb_tree.specs.Field.{as_write_of};
 ghost use Rattle.vdb_scene.specs.declared.command.Command.TheVariants as commands;
 
 use crate::slice::numbers;
 use crate::{
     Answer, AnyGrid, Area, Command, Corners, Literal, Name, Num, Point, ROOT_LIMIT, Refusal,
-    Scalar, Scene, Slice,
+    Scalar, Scene, Slice, Voxels,
 };
 use vdb_coord::{Bounds, Coord};
 use vdb_pool::Steps;
@@ -23,6 +23,9 @@ use vdb_value::{Cell, Kind};
 
 /// The most voxels of a box that is voxelised at once.
 const VOXELISE_LIMIT: u128 = 2_097_152;
+
+/// The most voxels that are listed at once.
+const LIST_LIMIT: i64 = 4096;
 
 /// The most columns, and the most rows, of a slice.
 const SLICE_LIMIT: u64 = 64;
@@ -115,6 +118,22 @@ fn is_wide(min: Coord, max: Coord) -> bool
     ensures { result ≡ (nat_lt 64 (extent min.x max.x) || nat_lt 64 (extent min.y max.y)) }
 {
     numbers(min.x, max.x) > SLICE_LIMIT || numbers(min.y, max.y) > SLICE_LIMIT
+}
+
+/// The limit of a listing that a line names, if it is one of 1 to `LIST_LIMIT`.
+fn limit_of(limit: Num) -> Option<u32>
+    ensures { result ≡ (if is_limit limit then Some (count_of limit) else None) }
+{
+    match limit {
+        Num::Near(value) => {
+            if 1 <= value && value <= LIST_LIMIT {
+                Some(value as u32)
+            } else {
+                None
+            }
+        }
+        Num::Far => None,
+    }
 }
 
 /// Whether a line names no accessor, or one of 0 to 7.
@@ -309,6 +328,20 @@ impl Scene {
         Ok(Answer::Done)
     }
 
+    /// Carries out a command that lists voxels.
+    fn list(&self, name: &Name, corners: &Corners, limit: Num) -> Result<Answer<'_>, Refusal>
+        ensures { CarriesOut (scene_of self.now) (commands.List name.now corners.now limit) result (scene_of self.now) }
+    {
+        let Some(grid) = self.get(name) else {
+            return Err(Refusal::NoGrid);
+        };
+        let Some(limit) = limit_of(limit) else {
+            return Err(Refusal::ValueRange);
+        };
+        let bounds = bounds_of(corners)?;
+        Ok(Answer::List(Voxels::new(grid, bounds, limit)))
+    }
+
     /// Carries out a command that shows a part of a plane.
     fn slice(&self, name: &Name, z: Num, area: Area) -> Result<Answer<'_>, Refusal>
         ensures { CarriesOut (scene_of self.now) (commands.Slice name.now z area) result (scene_of self.now) }
@@ -380,6 +413,11 @@ impl Scene {
             Command::Clip { name, corners } => self.clip(name, corners, steps),
             Command::Prune { name } => self.prune(name, steps),
             Command::Voxelise { name, corners } => self.voxelise(name, corners, steps),
+            Command::List {
+                name,
+                corners,
+                limit,
+            } => self.list(name, corners, *limit),
             Command::Slice { name, z, area } => self.slice(name, *z, *area),
         }
     }

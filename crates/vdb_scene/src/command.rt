@@ -116,6 +116,12 @@ pub enum Command {
         name: Name,
         corners: Corners,
     },
+    /// Answers the first active voxels of a box in block order, up to a limit, and whether there are more.
+    List {
+        name: Name,
+        corners: Corners,
+        limit: Num,
+    },
     /// Answers the cells of the part of a plane of one z, row by row.
     Slice {
         name: Name,

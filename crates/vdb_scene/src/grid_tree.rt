@@ -6,8 +6,10 @@ ghost use Rattle.vdb_tree.specs.Field.{as_cell_of, as_field_of, as_write_of, cli
 ghost use Rattle.vdb_tree.specs.Layout.{field_of};
 ghost use Rattle.vdb_tree.specs.Outcome.{IsOutcome};
 ghost use Rattle.vdb_tree.specs.declared.refusal.TreeRefusal.TheVariants.{Memory};
+ghost use Rattle.vdb_scene.specs.Listings.{as_listed_of};
 ghost use Rattle.vdb_scene.specs.Scalars.{is_of, scalar_eq};
 ghost use Rattle.vdb_scene.specs.Step.{passes, write_takes_memory};
+ghost use Rattle.vdb_walk.specs.Reports.{HandsOut};
 
 use crate::Scalar;
 use crate::scalar::GridValue;
@@ -15,6 +17,7 @@ use vdb_coord::{Bounds, Coord};
 use vdb_pool::Steps;
 use vdb_tree::{Tree, TreeRefusal, Write};
 use vdb_value::Cell;
+use vdb_walk::Listing;
 
 /// The cell of a voxel.
 pub fn get<V: GridValue>(tree: &Tree<V>, at: Coord, steps: &mut Steps) -> Cell<Scalar>
@@ -70,6 +73,19 @@ pub fn clip<V: GridValue>(
     ensures memory { IfErr result (λ refusal. refusal ≡ Memory) }
 {
     vdb_region::clip(tree, bounds, steps)
+}
+
+/// The next voxel of a listing, with its value as one of any kind.
+pub fn next_voxel<'a, V: GridValue>(
+    listing: &mut Listing<'a, V, 5, 4, 3, 512, 64, 8>,
+    steps: &mut Steps,
+) -> Option<(Coord, Scalar)>
+    ensures { HandsOut (as_listed_of V.as_scalar listing.old) result (as_listed_of V.as_scalar listing.new) }
+{
+    match listing.next(steps) {
+        Some((at, value)) => Some((at, value.scalar())),
+        None => None,
+    }
 }
 
 /// The cell of one kind that one of any is.

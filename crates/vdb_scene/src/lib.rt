@@ -10,6 +10,7 @@ mod name;
 mod scalar;
 mod scene;
 mod slice;
+mod voxels;
 mod watched;
 
 pub use answer::{Answer, Refusal};
@@ -19,6 +20,7 @@ pub use name::{NAME_LIMIT, Name};
 pub use scalar::Scalar;
 pub use scene::{GRID_LIMIT, ROOT_LIMIT, Scene};
 pub use slice::{Slice, SliceRow};
+pub use voxels::{AnyListing, Voxels};
 pub use watched::Watched;
 
 #[cfg(test)]

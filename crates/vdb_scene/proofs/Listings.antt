@@ -1,0 +1,98 @@
+-- The voxels that are listed, before and after each value is made one of any kind.
+use Rattle.std.proofs.Common.{◌≡◌, ◌≢◌, refl, sym, ap, ◌∙◌, ℕ, ℤ, pos, negsuc, Bool, true, false, ◌&&◌, List, [], ◌∷◌, map, filter, Option, Some, None, cond, int_le, IsTrue, arith}
+use Rattle.std.specs.Int.{int_max, int_min}
+use Rattle.std.proofs.Math.Path.{fun_ext}
+use Rattle.std.proofs.lemmas.Int.{ints}
+use Rattle.std.proofs.lemmas.Simd.{map-map}
+use Rattle.vdb_coord.specs.Blocks.{vdb}
+use Rattle.vdb_coord.specs.Boxes as boxes
+use Rattle.vdb_coord.specs.Space.{Box, coord, coordinates, is_box}
+use Rattle.vdb_coord.specs.declared.Coord.{Coord}
+use Rattle.vdb_value.specs.declared.Cell.{Cell}
+use Rattle.vdb_tree.specs.Field.{Field, as_field_of}
+use Rattle.vdb_tree.specs.Layout.{Layout, cell_at, field_of}
+use Rattle.vdb_tree.proofs.AsFieldOf.{as_field_of_cell}
+use Rattle.vdb_walk.specs.Reports.{Listed, active, in_block_order}
+use Rattle.vdb_scene.specs.Listings.{as_listed_of, as_voxels_of, box_across}
+
+-- ---- the box of two corners
+
+least_first : (x y : ℤ) → int_le x y ≡ true → int_min x y ≡ x
+least_first x y h = grind (arith, ints)
+
+greatest_last : (x y : ℤ) → int_le x y ≡ true → int_max x y ≡ y
+greatest_last x y h = grind (arith, ints)
+
+pub both : (a b : Bool) → (a && b) ≡ true → (a ≡ true) × (b ≡ true)
+both true b h = (refl, h)
+both false b h = absurd (no h)
+  where
+    no : false ≡ true → ⊥
+    no e = cc
+
+-- that of a box's own corners is the box
+pub across_box : (b : Box) → is_box b ≡ true → box_across b.min b.max ≡ b
+across_box b h =
+    let x = both _ _ (both _ _ h).0 in
+    let z = (both _ _ h).1 in
+    λ i. record {
+      min = coord (least_first b.min.x b.max.x x.0 i) (least_first b.min.y b.max.y x.1 i) (least_first b.min.z b.max.z z i);
+      max = coord (greatest_last b.min.x b.max.x x.0 i) (greatest_last b.min.y b.max.y x.1 i) (greatest_last b.min.z b.max.z z i);
+    }
+
+in_order : (x y : ℤ) → int_le (int_min x y) (int_max x y) ≡ true
+in_order x y = grind (arith, ints)
+
+-- two corners have a box
+pub across_is_box : (p q : Coord) → is_box (box_across p q) ≡ true
+across_is_box p q = rw (in_order p.x q.x, in_order p.y q.y, in_order p.z q.z) refl
+
+-- ---- values made others
+
+module _ {V U : Type 0} (make : V → U) (t : Layout V) where
+  abbrev before : Field V
+  before = field_of vdb t
+
+  abbrev after : Field U
+  after = as_field_of make before
+
+  made_cell : (p : Coord) → after.cell p ≡ record { value = make (before.cell p).value; on = (before.cell p).on }
+  made_cell p = as_field_of_cell make t.background (cell_at vdb t) p
+
+  -- the same voxels are active
+  pub made_active : (box : Box) → as_voxels_of make (active vdb before box) ≡ active vdb after box
+  made_active box =
+      let same : (λ (p : Coord). (before.cell p).on) ≡ (λ p. (after.cell p).on) = fun_ext (λ p. sym (ap (λ (c : Cell U). c.on) (made_cell p))) in
+      let values : (λ (p : Coord). (p, make (before.cell p).value)) ≡ (λ p. (p, (after.cell p).value)) = fun_ext (λ p. ap (λ v. (p, v)) (sym (ap (λ (c : Cell U). c.value) (made_cell p)))) in
+      map-map (λ item. (item.0, make item.1)) (λ p. (p, (before.cell p).value)) (in_block_order vdb (filter (λ p. (before.cell p).on) (coordinates box)))
+      ∙ ap (λ (f : Coord → Coord × U). map f (in_block_order vdb (filter (λ p. (before.cell p).on) (coordinates box)))) values
+      ∙ ap (λ (on : Coord → Bool). map (λ p. (p, (after.cell p).value)) (in_block_order vdb (filter on (coordinates box)))) same
+
+-- none are left of one just where none are left of the other
+module _ {V U : Type 0} (make : V → U) where
+  some_none : {X : Type 0} (x : X) (xs : List X) → x ∷ xs ≡ [] → ⊥
+  some_none x xs e = cc
+
+  none_made : (voxels : List (Coord × V)) → as_voxels_of make voxels ≡ [] → voxels ≡ []
+  none_made [] h = refl
+  none_made (v ∷ vs) h = absurd (some_none _ _ h)
+
+  pub made_more : (more : Bool) (l : Listed V) → (IsTrue more → l.rest ≢ []) × (l.rest ≢ [] → IsTrue more) → (IsTrue more → (as_listed_of make l).rest ≢ []) × ((as_listed_of make l).rest ≢ [] → IsTrue more)
+  made_more more l h = (λ yes none. h.0 yes (none_made l.rest none), λ some. h.1 (λ none. some (ap (as_voxels_of make) none)))
+
+-- the box that two corners make
+pub made_box : (p q a b : Coord) (r : Option Box) → a ≡ (box_across p q).min → b ≡ (box_across p q).max → r ≡ boxes.box_of a b → r ≡ Some (box_across p q)
+made_box p q a b r is_least is_greatest made =
+    made ∙ ap (λ (c : Coord). boxes.box_of c b) is_least ∙ ap (boxes.box_of (box_across p q).min) is_greatest ∙ ap (λ test. cond test (Some (box_across p q)) None) (across_is_box p q)
+
+pub some_exact : (b c : Box) → Some b ≡ Some c → b ≡ c
+some_exact b c h = cc
+
+pub none_some : (b : Box) → None ≡ Some b → ⊥
+none_some b h = cc
+
+-- a listing of a tree is one of its grid
+pub listing_made : {V U : Type 0} (make : V → U) (t : Layout V) (box is : Box) (limit : ℕ) (l : Listed V) → is ≡ box → l ≡ record { rest = active vdb (field_of vdb t) is; left = limit }
+    → as_listed_of make l ≡ record { rest = active vdb (as_field_of make (field_of vdb t)) box; left = limit }
+listing_made make t box is limit l same h =
+    ap (as_listed_of make) h ∙ (λ i. record { rest = made_active make t is i; left = limit }) ∙ (λ i. record { rest = active vdb (as_field_of make (field_of vdb t)) (same i); left = limit })

@@ -1,0 +1,90 @@
+//! The active voxels of a box of a grid, in block order.
+ghost use Rattle.std.specs.Prelude.{◌≡◌, ◌≢◌, ◌↔◌, [], IsTrue};
+ghost use Rattle.vdb_scene.specs.Listings.{box_across, listed_of, voxels_of};
+ghost use Rattle.vdb_coord.specs.Blocks.{vdb};
+ghost use Rattle.vdb_scene.specs.Grids.{grid_field};
+ghost use Rattle.vdb_walk.specs.Reports.{HandsOut, active};
+
+use crate::{AnyGrid, Scalar, grid_tree};
+use vdb_coord::{Bounds, Coord};
+use vdb_pool::Steps;
+use vdb_walk::{Listing, list};
+
+/// The active voxels of a box, of which a listing hands out so many at most. It lends the grid.
+#[derive(Drop)]
+pub struct Voxels<'a> {
+    grid: &'a AnyGrid,
+    /// Two corners of the box across from each other.
+    corner: Coord,
+    opposite: Coord,
+    limit: u32,
+}
+
+/// Voxels of a grid of any kind, one after another in block order, with their values. It lends the grid.
+#[derive(Drop)]
+pub enum AnyListing<'a> {
+    Bool(Listing<'a, bool, 5, 4, 3, 512, 64, 8>),
+    I32(Listing<'a, i32, 5, 4, 3, 512, 64, 8>),
+    I64(Listing<'a, i64, 5, 4, 3, 512, 64, 8>),
+}
+
+impl<'a> Voxels<'a> {
+    /// The active voxels of a box, to be handed out up to a limit.
+    pub(crate) fn new(grid: &'a AnyGrid, bounds: Bounds, limit: u32) -> Voxels<'a>
+        ensures voxels { voxels_of result ≡ active vdb (grid_field grid.now) bounds }
+        ensures limit { result.limit ≡ limit }
+    {
+        Voxels {
+            grid,
+            corner: bounds.min(),
+            opposite: bounds.max(),
+            limit,
+        }
+    }
+
+    /// A listing of them, from the first one on.
+    pub fn listing(&self) -> AnyListing<'a>
+        ensures { listed_of result ≡ record { rest = voxels_of self.now; left = self.now.limit } }
+    {
+        let bounds = between(self.corner, self.opposite);
+        match self.grid {
+            AnyGrid::Bool(tree) => AnyListing::Bool(list(tree, bounds, self.limit)),
+            AnyGrid::I32(tree) => AnyListing::I32(list(tree, bounds, self.limit)),
+            AnyGrid::I64(tree) => AnyListing::I64(list(tree, bounds, self.limit)),
+        }
+    }
+}
+
+impl<'a> AnyListing<'a> {
+    /// The next voxel with its value; `None` where no more are left, or the limit is reached.
+    pub fn next(&mut self, steps: &mut Steps) -> Option<(Coord, Scalar)>
+        ensures { HandsOut (listed_of self.old) result (listed_of self.new) }
+    {
+        match self {
+            AnyListing::Bool(listing) => grid_tree::next_voxel(listing, steps),
+            AnyListing::I32(listing) => grid_tree::next_voxel(listing, steps),
+            AnyListing::I64(listing) => grid_tree::next_voxel(listing, steps),
+        }
+    }
+
+    /// Whether an active voxel of the box follows the last one that was handed out, or there is one at all before the first.
+    pub fn more(&self, steps: &mut Steps) -> bool
+        ensures { IsTrue result ↔ ((listed_of self.now).rest ≢ []) }
+    {
+        match self {
+            AnyListing::Bool(listing) => listing.more(steps),
+            AnyListing::I32(listing) => listing.more(steps),
+            AnyListing::I64(listing) => listing.more(steps),
+        }
+    }
+}
+
+/// The box with these two corners across from each other.
+fn between(corner: Coord, opposite: Coord) -> Bounds
+    ensures { result ≡ box_across corner opposite }
+{
+    match Bounds::new(corner.lesser(opposite), corner.greater(opposite)) {
+        Some(bounds) => bounds,
+        None => unreachable!(),
+    }
+}
