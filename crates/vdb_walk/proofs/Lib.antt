@@ -1,4 +1,5 @@
--- Lemmas on boxes cut in two, on counts, and on the keys of the table.
+-- Lemmas on boxes cut in two, on counts, on the keys of the table, and on least boxes.
 pub mod Counts
 pub mod Cuts
 pub mod Keys
+pub mod Surrounds

@@ -2,3 +2,4 @@
 pub mod Halves
 pub mod Reports
 pub mod Passing
+pub mod Surround

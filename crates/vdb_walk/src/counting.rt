@@ -35,7 +35,7 @@ pub fn count<
 }
 
 /// The box of all coordinates.
-fn all() -> Bounds
+pub(crate) fn all() -> Bounds
     ensures { result ≡ everywhere }
 {
     let (least, greatest) = (i32::MIN, i32::MAX);
@@ -109,7 +109,7 @@ fn count_leaf<
 
 /// Whether the root table has a key between those of the part's least and its greatest corner, in the order of keys. Where it
 /// has none, no voxel of the part is active.
-fn has_keys<
+pub(crate) fn has_keys<
     V: Stored<WU> + Stored<WL> + Stored<WF>,
     const U: u32,
     const L: u32,

@@ -4,8 +4,10 @@
 mod census;
 mod counting;
 mod halves;
+mod surround;
 #[cfg(test)]
 mod tests;
 
 pub use census::Census;
 pub use counting::count;
+pub use surround::active_bounds;

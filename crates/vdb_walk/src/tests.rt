@@ -1,5 +1,7 @@
 //! Trees of both layouts and of the smallest nodes. Expected values are worked out by hand.
 
+mod surround;
+
 use crate::count;
 use std::process::Abort;
 use vdb_coord::{Bounds, Coord};
