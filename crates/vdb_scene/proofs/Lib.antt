@@ -3,5 +3,6 @@ mod Checks
 pub mod Entries
 pub mod Filling
 pub mod Lent
+pub mod Reports
 pub mod Steps
 pub mod Writing

@@ -1,12 +1,20 @@
 -- Which abstract answer an answer shows.
-use Rattle.std.specs.Prelude.{◌≡◌}
+use Rattle.std.specs.Prelude.{◌≡◌, option_map}
+use Rattle.vdb_coord.specs.Space.{Box}
+use Rattle.vdb_coord.specs.declared.Coord.{Coord}
 use Rattle.vdb_scene.specs.Step.{Reply}
 use Rattle.vdb_scene.specs.Step as replies
 use Rattle.vdb_scene.specs.declared.answer.Answer.{Answer}
-use Rattle.vdb_scene.specs.declared.answer.Answer.TheVariants.{Done, Refused, Value}
+use Rattle.vdb_scene.specs.declared.answer.Answer.TheVariants.{Done, Refused, Value, Count, Bounds}
+
+-- the box between two corners
+abbrev pub box_of_corners : Coord × Coord → Box
+box_of_corners corners = record { min = corners.0; max = corners.1 }
 
 -- the answer shows this one
 abbrev pub Shows : Answer → Reply → Type 0
 Shows Done reply = reply ≡ replies.Done
 Shows (Refused r) reply = reply ≡ replies.Refused r
 Shows (Value v on) reply = reply ≡ replies.Value (record { value = v; on = on })
+Shows (Count active) reply = reply ≡ replies.Count active
+Shows (Bounds corners) reply = reply ≡ replies.Bounds (option_map box_of_corners corners)

@@ -10,7 +10,8 @@ use Rattle.vdb_tree.specs.declared.Write.TheVariants as writes
 use Rattle.vdb_tree.specs.declared.refusal.TreeRefusal.{TreeRefusal}
 use Rattle.vdb_tree.specs.declared.refusal.TreeRefusal.TheVariants.{Memory, RootLimit}
 use Rattle.vdb_tree.specs.Field.{Field, as_write_of, clip, fill, write, written}
-use Rattle.vdb_tree.specs.Plain.{cell_eq, is_constant, roots}
+use Rattle.vdb_tree.specs.Plain.{cell_eq, count, is_constant, roots}
+use Rattle.vdb_walk.specs.Reports.{IsActiveBounds}
 use Rattle.vdb_scene.specs.Scalars.{has_form, has_value, is_near, number, scalar, scalar_eq}
 use Rattle.vdb_scene.specs.Scene.{Grid, Scene, field_at, grid_at, kind_at, limit_at, new_grid, the_grid, with_changed, with_grid, without_grid}
 use Rattle.vdb_scene.specs.declared.command.Command.{Command}
@@ -48,6 +49,11 @@ box_between c = record { min = place c.min; max = place c.max }
 -- whether both corners are coordinates
 abbrev pub are_places : Corners → Bool
 are_places c = is_place c.min && is_place c.max
+
+-- the box of a line, or that of all coordinates
+abbrev pub region : Option Corners → Box
+region None = everywhere
+region (Some c) = box_between c
 
 -- whether a line names an accessor, 0 to 7, or none
 abbrev pub is_accessor : Option Num → Bool
@@ -102,6 +108,8 @@ after s (commands.Fill name c v on) = changed s name (fill (box_between c) (cell
 after s (commands.Clip name c) = changed s name (clip (box_between c))
 after s (commands.Prune name) = s
 after s (commands.Voxelise name c) = s
+after s (commands.Count name c) = s
+after s (commands.Bounds name) = s
 
 -- ---- when a command is refused
 
@@ -151,6 +159,11 @@ no_box c = refused_if (not (is_box (box_between c))) refusals.Box
 abbrev pub too_large : ℕ → Box → Option Refusal
 too_large most box = refused_if (nat_lt most (volume box)) refusals.TooLarge
 
+-- what the box of a line may be refused for, if there is one
+abbrev pub tried_region : Option Corners → List (Option Refusal)
+tried_region None = []
+tried_region (Some c) = out_of_range (are_places c) ∷ no_box c ∷ []
+
 -- what a write of a voxel may be refused for
 abbrev pub tried_write : Scene → List ℕ → Option Num → Point → Write Literal → List (Option Refusal)
 tried_write s name k p w =
@@ -173,6 +186,8 @@ tried s (commands.Fill name c v on) =
 tried s (commands.Clip name c) = no_grid s name ∷ out_of_range (are_places c) ∷ no_box c ∷ []
 tried s (commands.Prune name) = no_grid s name ∷ []
 tried s (commands.Voxelise name c) = no_grid s name ∷ out_of_range (are_places c) ∷ no_box c ∷ too_large 2097152 (box_between c) ∷ []
+tried s (commands.Count name c) = no_grid s name ∷ tried_region c
+tried s (commands.Bounds name) = no_grid s name ∷ []
 
 -- the first refusal of a list, if there is one
 abbrev pub first_of_all : List (Option Refusal) → Option Refusal
@@ -191,6 +206,8 @@ pub data Reply : Type 0 where
   Done : Reply
   Refused : (refusal : Refusal) → Reply
   Value : (cell : Cell Scalar) → Reply
+  Count : (active : ℕ) → Reply
+  Bounds : (box : Option Box) → Reply
 
 -- the answer to a command that isn't refused
 abbrev pub Answers : Scene → Command → Reply → Type 0
@@ -206,6 +223,8 @@ Answers s (commands.Fill name c v on) reply = reply ≡ Done
 Answers s (commands.Clip name c) reply = reply ≡ Done
 Answers s (commands.Prune name) reply = reply ≡ Done
 Answers s (commands.Voxelise name c) reply = reply ≡ Done
+Answers s (commands.Count name c) reply = reply ≡ Count (count (field_at s name) (region c))
+Answers s (commands.Bounds name) reply = (box : Option Box) × (reply ≡ Bounds box) × IsActiveBounds (field_at s name) box
 
 -- ---- want of memory
 
@@ -232,6 +251,8 @@ takes_memory s (commands.Fill name c v on) = true
 takes_memory s (commands.Clip name c) = true
 takes_memory s (commands.Prune name) = false
 takes_memory s (commands.Voxelise name c) = true
+takes_memory s (commands.Count name c) = false
+takes_memory s (commands.Bounds name) = false
 
 -- ---- one step
 

@@ -4,6 +4,7 @@ ghost use Rattle.std.specs.Prelude.{◌≡◌};
 ghost use Rattle.vdb_scene.specs.Step.{of_tree};
 
 use crate::Scalar;
+use vdb_coord::Coord;
 use vdb_tree::TreeRefusal;
 
 /// Why a line is refused, in the order in which the reasons are tried.
@@ -50,6 +51,10 @@ pub enum Answer {
     Refused(Refusal),
     /// The value of a voxel, and whether it is active.
     Value(Scalar, bool),
+    /// How many voxels are active.
+    Count(u128),
+    /// The least and the greatest corner of the box around the active voxels, if there are any.
+    Bounds(Option<(Coord, Coord)>),
 }
 
 impl From<TreeRefusal> for Refusal {

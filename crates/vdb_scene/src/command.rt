@@ -107,4 +107,13 @@ pub enum Command {
         name: Name,
         corners: Corners,
     },
+    /// Answers how many voxels of a box are active, or of the whole grid where there is no box.
+    Count {
+        name: Name,
+        corners: Option<Corners>,
+    },
+    /// Answers the least box that holds every active voxel.
+    Bounds {
+        name: Name,
+    },
 }

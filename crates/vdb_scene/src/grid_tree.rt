@@ -1,11 +1,15 @@
 //! Calls on a tree of one type of values as a grid of any kind.
 
 ghost use Rattle.std.specs.Prelude.{◌≡◌, false, IfErr, IsOk, IsTrue};
+ghost use Rattle.std.specs.Option.{unwrap_or};
 ghost use Rattle.vdb_coord.specs.Blocks.{vdb};
+ghost use Rattle.vdb_coord.specs.Space.{everywhere};
 ghost use Rattle.vdb_tree.specs.Field.{as_cell_of, as_field_of, as_write_of, clip as clipped, fill as filled, write};
 ghost use Rattle.vdb_tree.specs.Layout.{field_of};
 ghost use Rattle.vdb_tree.specs.Outcome.{IsOutcome};
+ghost use Rattle.vdb_tree.specs.Plain.{count as active_count};
 ghost use Rattle.vdb_tree.specs.declared.refusal.TreeRefusal.TheVariants.{Memory};
+ghost use Rattle.vdb_walk.specs.Reports.{IsActiveBounds};
 ghost use Rattle.vdb_scene.specs.Scalars.{is_of, scalar_eq};
 ghost use Rattle.vdb_scene.specs.Step.{passes, write_takes_memory};
 
@@ -70,6 +74,20 @@ pub fn clip<V: GridValue>(
     ensures memory { IfErr result (λ refusal. refusal ≡ Memory) }
 {
     vdb_region::clip(tree, bounds, steps)
+}
+
+/// How many voxels of the box, or of all, are active.
+pub fn count<V: GridValue>(tree: &Tree<V>, bounds: Option<Bounds>, steps: &mut Steps) -> u128
+    ensures { result ≡ active_count (as_field_of V.as_scalar (field_of vdb tree.now)) (unwrap_or bounds everywhere) }
+{
+    vdb_walk::count(tree, bounds, steps)
+}
+
+/// The least box that holds every active voxel, if there is one.
+pub fn active_bounds<V: GridValue>(tree: &Tree<V>, steps: &mut Steps) -> Option<Bounds>
+    ensures { IsActiveBounds (as_field_of V.as_scalar (field_of vdb tree.now)) result }
+{
+    vdb_walk::active_bounds(tree, steps)
 }
 
 /// The cell of one kind that one of any is.

@@ -192,13 +192,41 @@ voxelise = do
   c ← corners
   give (commands.Voxelise name c)
 
+-- the word for all coordinates, which is no box
+abbrev pub all_of : List ℕ → Option (Option Corners)
+all_of token = word_of ((codes "all", None) ∷ []) token
+
+-- count NAME X0 Y0 Z0 X1 Y1 Z1
+abbrev pub count_box : Form Command
+count_box = do
+  name ← one name_of
+  c ← corners
+  give (commands.Count name (Some c))
+
+-- count NAME all
+abbrev pub count_all : Form Command
+count_all = do
+  name ← one name_of
+  c ← one all_of
+  give (commands.Count name c)
+
+-- one of these
+abbrev pub count : Form Command
+count tokens = or_else (count_box tokens) (count_all tokens)
+
+-- bounds NAME
+abbrev pub bounds : Form Command
+bounds = do
+  name ← one name_of
+  give (commands.Bounds name)
+
 -- ---- the commands
 
 -- each command's word, and the form of what stands behind it
 abbrev pub command_forms : List (List ℕ × Form Command)
 command_forms =
     (codes "grid", grid) ∷ (codes "drop", drop) ∷ (codes "copy", copy) ∷ (codes "get", get) ∷ (codes "set", set) ∷ (codes "unset", unset) ∷ (codes "only", only) ∷ (codes "state", state)
-    ∷ (codes "fill", fill) ∷ (codes "clip", clip) ∷ (codes "prune", prune) ∷ (codes "voxelise", voxelise) ∷ []
+    ∷ (codes "fill", fill) ∷ (codes "clip", clip) ∷ (codes "prune", prune) ∷ (codes "voxelise", voxelise) ∷ (codes "count", count) ∷ (codes "bounds", bounds) ∷ []
 
 -- a command with no token left, or a syntax error
 abbrev pub whole : Option (Command × List (List ℕ)) → Result (Option Command) Refusal

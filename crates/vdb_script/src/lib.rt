@@ -6,6 +6,7 @@ mod lines;
 mod numbers;
 mod parsing;
 mod printing;
+mod reports;
 mod source;
 mod tokens;
 

@@ -8,6 +8,7 @@ ghost use Rattle.vdb_scene.specs.Watched.{has_failed, source};
 ghost use Rattle.vdb_script.specs.Text.{line, state_text, text, word};
 ghost use Rattle.vdb_script.specs.Writing.{Writes};
 
+use crate::reports::{bounds_line, count_line};
 use arrayvec::ArrayVec;
 use itoa::Buffer;
 use std::io::Write;
@@ -15,7 +16,7 @@ use thiserror::Error;
 use vdb_scene::{Answer, Refusal, Scalar, Watched};
 
 /// The most bytes that the line of an answer has, its newline among them.
-const ANSWER_LIMIT: usize = 64;
+pub(crate) const ANSWER_LIMIT: usize = 96;
 
 /// The writer failed, or took no byte of some.
 #[derive(Clone, Copy, Debug, PartialEq, Eq, Error)]
@@ -84,7 +85,7 @@ fn add_part(composed: &mut ArrayVec<u8, ANSWER_LIMIT>, is_first: bool, part: &[u
 }
 
 /// A line: its parts with a space between each two, and a newline.
-fn compose(parts: &[&[u8]]) -> ArrayVec<u8, ANSWER_LIMIT>
+pub(crate) fn compose(parts: &[&[u8]]) -> ArrayVec<u8, ANSWER_LIMIT>
     requires room { length (line (map (λ part. part.now) parts.now)) ≤ ANSWER_LIMIT }
     ensures { result.items ≡ line (map (λ part. part.now) parts.now) }
 {
@@ -114,6 +115,8 @@ fn answer_line(answer: Answer) -> ArrayVec<u8, ANSWER_LIMIT>
             ];
             compose(parts.as_slice())
         }
+        Answer::Count(active) => count_line(active),
+        Answer::Bounds(corners) => bounds_line(corners),
     }
 }
 

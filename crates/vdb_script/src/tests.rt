@@ -1,5 +1,6 @@
 use super::*;
 use std::io::{self, Read, Write};
+use vdb_coord::Coord;
 use vdb_scene::{Answer, Refusal, Scalar, Watched};
 
 // ---- reading
@@ -221,6 +222,31 @@ fn print_all<W: Write>(writer: &mut Watched<W>) -> Result<(), WriteFault> {
         print(Answer::Value(value, on), writer)?;
     }
     Ok(())
+}
+
+/// A coordinate.
+fn at(x: i32, y: i32, z: i32) -> Coord {
+    Coord { x, y, z }
+}
+
+#[test]
+fn reports_are_lines(rt: HostRuntime) {
+    let (least, greatest) = (i32::MIN, i32::MAX);
+    let mut writer = Watched::new(Vec::new(rt.alloc()));
+    for active in [0u128, 79228162514264337593543950336] {
+        assert!(rt; print(Answer::Count(active), &mut writer).is_ok());
+    }
+    for corners in [
+        None,
+        Some((at(-5, -2, 1), at(3, 4, 1))),
+        Some((at(least, least, least), at(-1, 0, 10))),
+        Some((at(least, least, least), at(greatest, greatest, greatest))),
+    ] {
+        assert!(rt; print(Answer::Bounds(corners), &mut writer).is_ok());
+    }
+    let wanted =
+        b"count 0\ncount 79228162514264337593543950336\nbounds none\nbounds -5 -2 1 3 4 1\nbounds -2147483648 -2147483648 -2147483648 -1 0 10\nbounds -2147483648 -2147483648 -2147483648 2147483647 2147483647 2147483647\n";
+    assert_eq!(rt; writer.get_ref().as_slice(), wanted.as_slice());
 }
 
 #[test]

@@ -1,0 +1,33 @@
+-- What is reported of a field, before and after each value is made one of any kind.
+use Rattle.std.proofs.Common.{◌≡◌, ap, sym, ◌∙◌, Option, Some, None}
+use Rattle.std.specs.List.{count_by}
+use Rattle.std.proofs.Math.Path.{fun_ext}
+use Rattle.vdb_coord.specs.Blocks.{vdb}
+use Rattle.vdb_coord.specs.Space.{Box, coordinates}
+use Rattle.vdb_coord.specs.declared.Coord.{Coord}
+use Rattle.vdb_tree.specs.Field.{Field, as_field_of}
+use Rattle.vdb_tree.specs.Layout.{Layout, cell_at, field_of}
+use Rattle.vdb_tree.specs.Plain.{count}
+use Rattle.vdb_tree.proofs.AsFieldOf.{as_field_of_cell}
+use Rattle.vdb_value.specs.declared.Cell.{Cell}
+use Rattle.vdb_walk.specs.Reports.{HoldsActive, IsActiveBounds}
+
+module _ {V U : Type 0} (make : V → U) (t : Layout V) where
+  abbrev before : Field V
+  before = field_of vdb t
+
+  abbrev after : Field U
+  after = as_field_of make before
+
+  -- the states stay
+  made_on : (p : Coord) → (after.cell p).on ≡ (before.cell p).on
+  made_on p = ap (λ (c : Cell U). c.on) (as_field_of_cell make t.background (cell_at vdb t) p)
+
+  -- so many voxels are active
+  pub made_count : (box : Box) → count after box ≡ count before box
+  made_count box = ap (λ (test : Coord → _). count_by test (coordinates box)) (fun_ext made_on)
+
+  -- a box around one field's active voxels is one around the other's
+  pub made_bounds : (result : Option Box) → IsActiveBounds before result → IsActiveBounds after result
+  made_bounds None h = λ p. made_on p ∙ h p
+  made_bounds (Some box) h = (λ p on. h.0 p (sym (made_on p) ∙ on), λ other holds. h.1 other (λ p on. holds p (made_on p ∙ on)))
