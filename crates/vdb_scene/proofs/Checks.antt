@@ -146,6 +146,9 @@ count_of_all_of_none = refl
 bounds_of_none : refusal [] (commands.Bounds a) ≡ Some refusals.NoGrid
 bounds_of_none = refl
 
+census_of_none : refusal [] (commands.Census a) ≡ Some refusals.NoGrid
+census_of_none = refl
+
 -- a sixty-fifth grid, of a name that is taken and of one that is free
 abbrev crowd : Scene
 crowd = map (λ k. (97 ∷ (97 + k) ∷ [], new_grid (truth false))) (range_with_len 0 64)

@@ -3,6 +3,7 @@ mod Checks
 pub mod Entries
 pub mod Filling
 pub mod Lent
+pub mod Rows
 pub mod Reports
 pub mod Steps
 pub mod Writing

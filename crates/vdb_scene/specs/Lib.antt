@@ -4,6 +4,7 @@ pub mod Scalars
 pub mod Scene
 pub mod Step
 pub mod Grids
+pub mod Slices
 pub mod Shown
 pub mod Doing
 pub mod Watched

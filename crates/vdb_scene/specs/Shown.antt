@@ -2,10 +2,11 @@
 use Rattle.std.specs.Prelude.{◌≡◌, option_map}
 use Rattle.vdb_coord.specs.Space.{Box}
 use Rattle.vdb_coord.specs.declared.Coord.{Coord}
+use Rattle.vdb_scene.specs.Slices.{rows_left}
 use Rattle.vdb_scene.specs.Step.{Reply}
 use Rattle.vdb_scene.specs.Step as replies
 use Rattle.vdb_scene.specs.declared.answer.Answer.{Answer}
-use Rattle.vdb_scene.specs.declared.answer.Answer.TheVariants.{Done, Refused, Value, Count, Bounds}
+use Rattle.vdb_scene.specs.declared.answer.Answer.TheVariants.{Done, Refused, Value, Slice, Count, Bounds, Census}
 
 -- the box between two corners
 abbrev pub box_of_corners : Coord × Coord → Box
@@ -16,5 +17,7 @@ abbrev pub Shows : Answer → Reply → Type 0
 Shows Done reply = reply ≡ replies.Done
 Shows (Refused r) reply = reply ≡ replies.Refused r
 Shows (Value v on) reply = reply ≡ replies.Value (record { value = v; on = on })
+Shows (Slice s) reply = reply ≡ replies.Slice (rows_left s)
 Shows (Count active) reply = reply ≡ replies.Count active
 Shows (Bounds corners) reply = reply ≡ replies.Bounds (option_map box_of_corners corners)
+Shows (Census counts) reply = reply ≡ replies.Census counts

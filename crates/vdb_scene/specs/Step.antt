@@ -1,7 +1,7 @@
 -- What a command makes of a scene: when it is refused, what it answers, and the scene after it.
-use Rattle.std.specs.Prelude.{◌≡◌, ◌⊎◌, ℕ, ℤ, pos, Bool, true, false, not, ◌&&◌, if◌then◌else◌, List, [], ◌∷◌, length, Option, Some, None, is_some, is_none, IsTrue, nat_le, nat_lt, Result, Ok, Err}
+use Rattle.std.specs.Prelude.{◌≡◌, ◌⊎◌, ℕ, ℤ, pos, Bool, true, false, not, ◌&&◌, if◌then◌else◌, List, [], ◌∷◌, length, Option, Some, None, is_some, is_none, IsTrue, nat_le, nat_lt, ◌||◌, map, Result, Ok, Err}
 use Rattle.vdb_coord.specs.Blocks.{block_around, vdb}
-use Rattle.vdb_coord.specs.Space.{Box, coord, everywhere, is_between, is_box, volume}
+use Rattle.vdb_coord.specs.Space.{Box, coord, everywhere, extent, is_between, is_box, range, volume}
 use Rattle.vdb_coord.specs.declared.Level.TheVariants.{Leaf}
 use Rattle.vdb_coord.specs.declared.Coord.{Coord}
 use Rattle.vdb_value.specs.declared.Cell.{Cell}
@@ -11,11 +11,13 @@ use Rattle.vdb_tree.specs.declared.refusal.TreeRefusal.{TreeRefusal}
 use Rattle.vdb_tree.specs.declared.refusal.TreeRefusal.TheVariants.{Memory, RootLimit}
 use Rattle.vdb_tree.specs.Field.{Field, as_write_of, clip, fill, write, written}
 use Rattle.vdb_tree.specs.Plain.{cell_eq, count, is_constant, roots}
-use Rattle.vdb_walk.specs.Reports.{IsActiveBounds}
+use Rattle.vdb_walk.specs.Reports.{IsActiveBounds, census}
+use Rattle.vdb_walk.specs.declared.smallest.Census.{Census as Smallest}
 use Rattle.vdb_scene.specs.Scalars.{has_form, has_value, is_near, number, scalar, scalar_eq}
 use Rattle.vdb_scene.specs.Scene.{Grid, Scene, field_at, grid_at, kind_at, limit_at, new_grid, the_grid, with_changed, with_grid, without_grid}
 use Rattle.vdb_scene.specs.declared.command.Command.{Command}
 use Rattle.vdb_scene.specs.declared.command.Command.TheVariants as commands
+use Rattle.vdb_scene.specs.declared.command.Area.{Area}
 use Rattle.vdb_scene.specs.declared.command.Corners.{Corners}
 use Rattle.vdb_scene.specs.declared.command.Literal.{Literal}
 use Rattle.vdb_scene.specs.declared.command.Num.{Num}
@@ -49,6 +51,10 @@ box_between c = record { min = place c.min; max = place c.max }
 -- whether both corners are coordinates
 abbrev pub are_places : Corners → Bool
 are_places c = is_place c.min && is_place c.max
+
+-- the corners of a part of a plane of one z
+abbrev pub flat : Num → Area → Corners
+flat z a = record { min = record { x = a.min_x; y = a.min_y; z = z }; max = record { x = a.max_x; y = a.max_y; z = z } }
 
 -- the box of a line, or that of all coordinates
 abbrev pub region : Option Corners → Box
@@ -108,8 +114,10 @@ after s (commands.Fill name c v on) = changed s name (fill (box_between c) (cell
 after s (commands.Clip name c) = changed s name (clip (box_between c))
 after s (commands.Prune name) = s
 after s (commands.Voxelise name c) = s
+after s (commands.Slice name z a) = s
 after s (commands.Count name c) = s
 after s (commands.Bounds name) = s
+after s (commands.Census name) = s
 
 -- ---- when a command is refused
 
@@ -159,6 +167,10 @@ no_box c = refused_if (not (is_box (box_between c))) refusals.Box
 abbrev pub too_large : ℕ → Box → Option Refusal
 too_large most box = refused_if (nat_lt most (volume box)) refusals.TooLarge
 
+-- a slice has more columns or rows than so many
+abbrev pub too_wide : ℕ → Box → Option Refusal
+too_wide most box = refused_if (nat_lt most (extent box.min.x box.max.x) || nat_lt most (extent box.min.y box.max.y)) refusals.TooLarge
+
 -- what the box of a line may be refused for, if there is one
 abbrev pub tried_region : Option Corners → List (Option Refusal)
 tried_region None = []
@@ -186,8 +198,10 @@ tried s (commands.Fill name c v on) =
 tried s (commands.Clip name c) = no_grid s name ∷ out_of_range (are_places c) ∷ no_box c ∷ []
 tried s (commands.Prune name) = no_grid s name ∷ []
 tried s (commands.Voxelise name c) = no_grid s name ∷ out_of_range (are_places c) ∷ no_box c ∷ too_large 2097152 (box_between c) ∷ []
+tried s (commands.Slice name z a) = no_grid s name ∷ out_of_range (are_places (flat z a)) ∷ no_box (flat z a) ∷ too_wide 64 (box_between (flat z a)) ∷ []
 tried s (commands.Count name c) = no_grid s name ∷ tried_region c
 tried s (commands.Bounds name) = no_grid s name ∷ []
+tried s (commands.Census name) = no_grid s name ∷ []
 
 -- the first refusal of a list, if there is one
 abbrev pub first_of_all : List (Option Refusal) → Option Refusal
@@ -201,13 +215,28 @@ refusal s c = first_of_all (tried s c)
 
 -- ---- the answer
 
+-- A row of a slice: its y, and the cells by rising x.
+pub record Row : Type 0 where
+  pub y : ℤ
+  pub cells : List (Cell Scalar)
+
+-- the row of y and z, from one x to another
+abbrev pub row_at : Field Scalar → ℤ → ℤ → ℤ → ℤ → Row
+row_at f low high z y = record { y = y; cells = map (λ x. f.cell (coord x y z)) (range low high) }
+
+-- the rows of a box at its least z, by rising y
+abbrev pub rows : Field Scalar → Box → List Row
+rows f box = map (row_at f box.min.x box.max.x box.min.z) (range box.min.y box.max.y)
+
 -- what a command answers
 pub data Reply : Type 0 where
   Done : Reply
   Refused : (refusal : Refusal) → Reply
   Value : (cell : Cell Scalar) → Reply
+  Slice : (rows : List Row) → Reply
   Count : (active : ℕ) → Reply
   Bounds : (box : Option Box) → Reply
+  Census : (counts : Smallest) → Reply
 
 -- the answer to a command that isn't refused
 abbrev pub Answers : Scene → Command → Reply → Type 0
@@ -223,8 +252,10 @@ Answers s (commands.Fill name c v on) reply = reply ≡ Done
 Answers s (commands.Clip name c) reply = reply ≡ Done
 Answers s (commands.Prune name) reply = reply ≡ Done
 Answers s (commands.Voxelise name c) reply = reply ≡ Done
+Answers s (commands.Slice name z a) reply = reply ≡ Slice (rows (field_at s name) (box_between (flat z a)))
 Answers s (commands.Count name c) reply = reply ≡ Count (count (field_at s name) (region c))
 Answers s (commands.Bounds name) reply = (box : Option Box) × (reply ≡ Bounds box) × IsActiveBounds (field_at s name) box
+Answers s (commands.Census name) reply = reply ≡ Census (census scalar_eq vdb (field_at s name))
 
 -- ---- want of memory
 
@@ -251,8 +282,10 @@ takes_memory s (commands.Fill name c v on) = true
 takes_memory s (commands.Clip name c) = true
 takes_memory s (commands.Prune name) = false
 takes_memory s (commands.Voxelise name c) = true
+takes_memory s (commands.Slice name z a) = false
 takes_memory s (commands.Count name c) = false
 takes_memory s (commands.Bounds name) = false
+takes_memory s (commands.Census name) = false
 
 -- ---- one step
 

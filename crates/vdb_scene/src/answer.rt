@@ -3,9 +3,10 @@
 ghost use Rattle.std.specs.Prelude.{◌≡◌};
 ghost use Rattle.vdb_scene.specs.Step.{of_tree};
 
-use crate::Scalar;
+use crate::{Scalar, Slice};
 use vdb_coord::Coord;
 use vdb_tree::TreeRefusal;
+use vdb_walk::Census;
 
 /// Why a line is refused, in the order in which the reasons are tried.
 #[derive(Clone, Copy, Debug, PartialEq, Eq)]
@@ -44,17 +45,21 @@ pub enum Refusal {
 
 /// What a command answers. It lends the scene until it is dropped.
 #[derive(Drop)]
-pub enum Answer {
+pub enum Answer<'a> {
     /// The command is carried out.
     Done,
     /// The command is refused, and the scene is as it was.
     Refused(Refusal),
     /// The value of a voxel, and whether it is active.
     Value(Scalar, bool),
+    /// The cells of a part of a plane.
+    Slice(Slice<'a>),
     /// How many voxels are active.
     Count(u128),
     /// The least and the greatest corner of the box around the active voxels, if there are any.
     Bounds(Option<(Coord, Coord)>),
+    /// How large the smallest tree of the grid's cells is.
+    Census(Census),
 }
 
 impl From<TreeRefusal> for Refusal {

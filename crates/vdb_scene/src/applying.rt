@@ -1,16 +1,20 @@
 //! The step of a scene by a command.
-ghost use Rattle.std.specs.Prelude.{◌≡◌, IfOk, IfErr, Some, None, ◌∷◌, [], true, if◌then◌else◌};
-ghost use Rattle.vdb_coord.specs.Space.{is_box};
+ghost use Rattle.std.specs.Prelude.{◌≡◌, IfOk, IfErr, Some, None, ◌∷◌, [], true, if◌then◌else◌, ◌||◌, nat_lt};
+ghost use Rattle.std.specs.Borrow.{sem};
+ghost use Rattle.std.specs.Io.BufRead.{Rests};
+ghost use Rattle.vdb_coord.specs.Space.{extent, is_box};
 ghost use Rattle.vdb_scene.specs.Doing.{AppliesTo, CarriesOut};
 ghost use Rattle.vdb_scene.specs.Grids.{scene_of};
+ghost use Rattle.vdb_scene.specs.contracts.scene.Scene.{the_row};
 ghost use Rattle.vdb_scene.specs.Scalars.{has_form, has_value, number, scalar};
-ghost use Rattle.vdb_scene.specs.Step.{are_places, box_between, first_of_all, is_accessor, is_component, is_place, no_box, other_form, out_of_range, passes, place, write_command};
+ghost use Rattle.vdb_scene.specs.Step.{are_places, box_between, first_of_all, flat as flat_corners, is_accessor, is_component, is_place, no_box, other_form, out_of_range, passes, place, write_command};
 ghost use Rattle.vdb_tree.specs.Field.{as_write_of};
 ghost use Rattle.vdb_scene.specs.declared.command.Command.TheVariants as commands;
 
+use crate::slice::numbers;
 use crate::{
-    Answer, AnyGrid, Command, Corners, Literal, Name, Num, Point, ROOT_LIMIT, Refusal, Scalar,
-    Scene,
+    Answer, AnyGrid, Area, Command, Corners, Literal, Name, Num, Point, ROOT_LIMIT, Refusal,
+    Scalar, Scene, Slice,
 };
 use vdb_coord::{Bounds, Coord};
 use vdb_pool::Steps;
@@ -19,6 +23,9 @@ use vdb_value::{Cell, Kind};
 
 /// The most voxels of a box that is voxelised at once.
 const VOXELISE_LIMIT: u128 = 2_097_152;
+
+/// The most columns, and the most rows, of a slice.
+const SLICE_LIMIT: u64 = 64;
 
 /// The 32-bit number that a line writes, if it is one.
 fn component_of(component: Num) -> Option<i32>
@@ -86,6 +93,30 @@ pub(crate) fn bounds_of(corners: &Corners) -> Result<Bounds, Refusal>
     Ok(bounds)
 }
 
+/// The corners of a part of a plane.
+fn flat(z: Num, area: Area) -> Corners
+    ensures { result ≡ flat_corners z area }
+{
+    let min = Point {
+        x: area.min_x,
+        y: area.min_y,
+        z,
+    };
+    let max = Point {
+        x: area.max_x,
+        y: area.max_y,
+        z,
+    };
+    Corners { min, max }
+}
+
+/// Whether a slice between two corners has more than `SLICE_LIMIT` columns or rows.
+fn is_wide(min: Coord, max: Coord) -> bool
+    ensures { result ≡ (nat_lt 64 (extent min.x max.x) || nat_lt 64 (extent min.y max.y)) }
+{
+    numbers(min.x, max.x) > SLICE_LIMIT || numbers(min.y, max.y) > SLICE_LIMIT
+}
+
 /// Whether a line names no accessor, or one of 0 to 7.
 fn names_accessor(accessor: Option<Num>) -> bool
     ensures { result ≡ is_accessor accessor }
@@ -115,7 +146,12 @@ fn write_of(kind: Kind, change: Write<Literal>) -> Result<Write<Scalar>, Refusal
 
 impl Scene {
     /// Carries out a command that makes a grid.
-    fn make(&mut self, name: Name, kind: Kind, background: Literal) -> Result<Answer, Refusal>
+    fn make(
+        &mut self,
+        name: Name,
+        kind: Kind,
+        background: Literal,
+    ) -> Result<Answer<'static>, Refusal>
         ensures { CarriesOut (scene_of self.old) (commands.Grid name kind background) result (scene_of self.new) }
     {
         if self.has(&name) {
@@ -130,7 +166,7 @@ impl Scene {
     }
 
     /// Carries out a command that takes a grid away.
-    fn take(&mut self, name: &Name) -> Result<Answer, Refusal>
+    fn take(&mut self, name: &Name) -> Result<Answer<'static>, Refusal>
         ensures { CarriesOut (scene_of self.old) (commands.Drop name.now) result (scene_of self.new) }
     {
         if self.grids.remove(name).is_none() {
@@ -140,7 +176,7 @@ impl Scene {
     }
 
     /// Carries out a command that copies a grid.
-    fn copy(&mut self, from: &Name, to: Name) -> Result<Answer, Refusal>
+    fn copy(&mut self, from: &Name, to: Name) -> Result<Answer<'static>, Refusal>
         ensures { CarriesOut (scene_of self.old) (commands.Copy from.now to) result (scene_of self.new) }
     {
         let Some(grid) = self.get(from) else {
@@ -164,7 +200,7 @@ impl Scene {
         accessor: Option<Num>,
         at: &Point,
         steps: &mut Steps,
-    ) -> Result<Answer, Refusal>
+    ) -> Result<Answer<'static>, Refusal>
         ensures { CarriesOut (scene_of self.now) (commands.Get name.now accessor at.now) result (scene_of self.now) }
     {
         let Some(grid) = self.get(name) else {
@@ -188,7 +224,7 @@ impl Scene {
         at: &Point,
         change: Write<Literal>,
         steps: &mut Steps,
-    ) -> Result<Answer, Refusal>
+    ) -> Result<Answer<'static>, Refusal>
         ensures { CarriesOut (scene_of self.old) (write_command name.now accessor at.now change) result (scene_of self.new) }
     {
         let Some(grid) = self.grids.get_mut(name) else {
@@ -213,7 +249,7 @@ impl Scene {
         value: Literal,
         on: bool,
         steps: &mut Steps,
-    ) -> Result<Answer, Refusal>
+    ) -> Result<Answer<'static>, Refusal>
         ensures { CarriesOut (scene_of self.old) (commands.Fill name.now corners.now value on) result (scene_of self.new) }
     {
         let Some(grid) = self.grids.get_mut(name) else {
@@ -226,7 +262,12 @@ impl Scene {
     }
 
     /// Carries out a command that clears all around a box.
-    fn clip(&mut self, name: &Name, corners: &Corners, steps: &mut Steps) -> Result<Answer, Refusal>
+    fn clip(
+        &mut self,
+        name: &Name,
+        corners: &Corners,
+        steps: &mut Steps,
+    ) -> Result<Answer<'static>, Refusal>
         ensures { CarriesOut (scene_of self.old) (commands.Clip name.now corners.now) result (scene_of self.new) }
     {
         let Some(grid) = self.grids.get_mut(name) else {
@@ -238,7 +279,7 @@ impl Scene {
     }
 
     /// Carries out a command that prunes a grid.
-    fn prune(&mut self, name: &Name, steps: &mut Steps) -> Result<Answer, Refusal>
+    fn prune(&mut self, name: &Name, steps: &mut Steps) -> Result<Answer<'static>, Refusal>
         ensures { CarriesOut (scene_of self.old) (commands.Prune name.now) result (scene_of self.new) }
     {
         let Some(grid) = self.grids.get_mut(name) else {
@@ -254,7 +295,7 @@ impl Scene {
         name: &Name,
         corners: &Corners,
         steps: &mut Steps,
-    ) -> Result<Answer, Refusal>
+    ) -> Result<Answer<'static>, Refusal>
         ensures { CarriesOut (scene_of self.old) (commands.Voxelise name.now corners.now) result (scene_of self.new) }
     {
         let Some(grid) = self.grids.get_mut(name) else {
@@ -268,10 +309,24 @@ impl Scene {
         Ok(Answer::Done)
     }
 
+    /// Carries out a command that shows a part of a plane.
+    fn slice(&self, name: &Name, z: Num, area: Area) -> Result<Answer<'_>, Refusal>
+        ensures { CarriesOut (scene_of self.now) (commands.Slice name.now z area) result (scene_of self.now) }
+    {
+        let Some(grid) = self.get(name) else {
+            return Err(Refusal::NoGrid);
+        };
+        let bounds = bounds_of(&flat(z, area))?;
+        if is_wide(bounds.min(), bounds.max()) {
+            return Err(Refusal::TooLarge);
+        }
+        Ok(Answer::Slice(Slice::new(grid, bounds)))
+    }
+
     /// Carries out a command and answers it. Refusals are tried in their one order, the first that applies is answered,
     /// and then the scene is as it was; so it is where the answer is want of memory, which comes in place of nothing else.
-    pub fn apply(&mut self, command: &Command, steps: &mut Steps) -> Answer
-        ensures step { AppliesTo (scene_of self.old) command.now result (scene_of self.new) }
+    pub fn apply(&mut self, command: &Command, steps: &mut Steps) -> Answer<'_>
+        ensures* step { sem 𝓛 (Rests the_row self.entry (λ new. AppliesTo (scene_of self.old) command.now result (scene_of new))) }
     {
         match self.carry_out(command, steps) {
             Ok(answer) => answer,
@@ -280,8 +335,8 @@ impl Scene {
     }
 
     /// Carries out a command.
-    fn carry_out(&mut self, command: &Command, steps: &mut Steps) -> Result<Answer, Refusal>
-        ensures { CarriesOut (scene_of self.old) command.now result (scene_of self.new) }
+    fn carry_out(&mut self, command: &Command, steps: &mut Steps) -> Result<Answer<'_>, Refusal>
+        ensures* step { sem 𝓛 (Rests the_row self.entry (λ new. CarriesOut (scene_of self.old) command.now result (scene_of new))) }
     {
         match command {
             Command::Grid {
@@ -325,8 +380,10 @@ impl Scene {
             Command::Clip { name, corners } => self.clip(name, corners, steps),
             Command::Prune { name } => self.prune(name, steps),
             Command::Voxelise { name, corners } => self.voxelise(name, corners, steps),
+            Command::Slice { name, z, area } => self.slice(name, *z, *area),
             Command::Count { name, corners } => self.count(name, corners, steps),
             Command::Bounds { name } => self.bounds(name, steps),
+            Command::Census { name } => self.census(name, steps),
         }
     }
 }

@@ -34,6 +34,15 @@ pub struct Corners {
     pub max: Point,
 }
 
+/// The part of a plane that a line names: the least x and y, then the greatest.
+#[derive(Clone, Copy, Debug, PartialEq, Eq)]
+pub struct Area {
+    pub min_x: Num,
+    pub min_y: Num,
+    pub max_x: Num,
+    pub max_y: Num,
+}
+
 /// What a line asks for.
 #[derive(Clone, Copy, PartialEq, Eq)]
 pub enum Command {
@@ -107,6 +116,12 @@ pub enum Command {
         name: Name,
         corners: Corners,
     },
+    /// Answers the cells of the part of a plane of one z, row by row.
+    Slice {
+        name: Name,
+        z: Num,
+        area: Area,
+    },
     /// Answers how many voxels of a box are active, or of the whole grid where there is no box.
     Count {
         name: Name,
@@ -114,6 +129,10 @@ pub enum Command {
     },
     /// Answers the least box that holds every active voxel.
     Bounds {
+        name: Name,
+    },
+    /// Answers how large the smallest tree of the grid's cells is.
+    Census {
         name: Name,
     },
 }

@@ -9,7 +9,7 @@ ghost use Rattle.vdb_tree.specs.Layout.{field_of};
 ghost use Rattle.vdb_tree.specs.Outcome.{IsOutcome};
 ghost use Rattle.vdb_tree.specs.Plain.{count as active_count};
 ghost use Rattle.vdb_tree.specs.declared.refusal.TreeRefusal.TheVariants.{Memory};
-ghost use Rattle.vdb_walk.specs.Reports.{IsActiveBounds};
+ghost use Rattle.vdb_walk.specs.Reports.{IsActiveBounds, census as census_of};
 ghost use Rattle.vdb_scene.specs.Scalars.{is_of, scalar_eq};
 ghost use Rattle.vdb_scene.specs.Step.{passes, write_takes_memory};
 
@@ -19,6 +19,7 @@ use vdb_coord::{Bounds, Coord};
 use vdb_pool::Steps;
 use vdb_tree::{Tree, TreeRefusal, Write};
 use vdb_value::Cell;
+use vdb_walk::Census;
 
 /// The cell of a voxel.
 pub fn get<V: GridValue>(tree: &Tree<V>, at: Coord, steps: &mut Steps) -> Cell<Scalar>
@@ -88,6 +89,13 @@ pub fn active_bounds<V: GridValue>(tree: &Tree<V>, steps: &mut Steps) -> Option<
     ensures { IsActiveBounds (as_field_of V.as_scalar (field_of vdb tree.now)) result }
 {
     vdb_walk::active_bounds(tree, steps)
+}
+
+/// How large the smallest tree of the cells is.
+pub fn census<V: GridValue>(tree: &Tree<V>, steps: &mut Steps) -> Census
+    ensures { result ≡ census_of scalar_eq vdb (as_field_of V.as_scalar (field_of vdb tree.now)) }
+{
+    vdb_walk::census(tree, steps)
 }
 
 /// The cell of one kind that one of any is.

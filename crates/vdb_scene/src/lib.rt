@@ -10,14 +10,16 @@ mod name;
 mod reporting;
 mod scalar;
 mod scene;
+mod slice;
 mod watched;
 
 pub use answer::{Answer, Refusal};
 pub use any_grid::AnyGrid;
-pub use command::{Command, Corners, Literal, Num, Point};
+pub use command::{Area, Command, Corners, Literal, Num, Point};
 pub use name::{NAME_LIMIT, Name};
 pub use scalar::Scalar;
 pub use scene::{GRID_LIMIT, ROOT_LIMIT, Scene};
+pub use slice::{Slice, SliceRow};
 pub use watched::Watched;
 
 #[cfg(test)]

@@ -1,4 +1,4 @@
-//! Commands that report on the active voxels of a grid.
+//! Commands that report on a grid: its active voxels, and how large its tree must be.
 ghost use Rattle.vdb_scene.specs.Doing.{CarriesOut};
 ghost use Rattle.vdb_scene.specs.Grids.{scene_of};
 ghost use Rattle.vdb_scene.specs.declared.command.Command.TheVariants as commands;
@@ -14,7 +14,7 @@ impl Scene {
         name: &Name,
         corners: &Option<Corners>,
         steps: &mut Steps,
-    ) -> Result<Answer, Refusal>
+    ) -> Result<Answer<'static>, Refusal>
         ensures { CarriesOut (scene_of self.now) (commands.Count name.now corners.now) result (scene_of self.now) }
     {
         let Some(grid) = self.get(name) else {
@@ -30,7 +30,7 @@ impl Scene {
     }
 
     /// Carries out a command that asks for the box around the active voxels.
-    pub(crate) fn bounds(&self, name: &Name, steps: &mut Steps) -> Result<Answer, Refusal>
+    pub(crate) fn bounds(&self, name: &Name, steps: &mut Steps) -> Result<Answer<'static>, Refusal>
         ensures { CarriesOut (scene_of self.now) (commands.Bounds name.now) result (scene_of self.now) }
     {
         let Some(grid) = self.get(name) else {
@@ -40,5 +40,15 @@ impl Scene {
             Some(bounds) => Ok(Answer::Bounds(Some((bounds.min(), bounds.max())))),
             None => Ok(Answer::Bounds(None)),
         }
+    }
+
+    /// Carries out a command that asks how large the smallest tree is.
+    pub(crate) fn census(&self, name: &Name, steps: &mut Steps) -> Result<Answer<'static>, Refusal>
+        ensures { CarriesOut (scene_of self.now) (commands.Census name.now) result (scene_of self.now) }
+    {
+        let Some(grid) = self.get(name) else {
+            return Err(Refusal::NoGrid);
+        };
+        Ok(Answer::Census(grid.census(steps)))
     }
 }

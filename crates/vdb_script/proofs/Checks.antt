@@ -9,7 +9,7 @@ use Rattle.vdb_scene.specs.declared.command.Num.TheVariants.{Near, Far}
 use Rattle.vdb_scene.specs.declared.answer.Refusal.TheVariants as refusals
 use Rattle.vdb_scene.specs.declared.scalar.Scalar.TheVariants.{I32, I64}
 use Rattle.vdb_coord.specs.Space.{coord}
-use Rattle.vdb_scene.specs.Step.{Done, Refused, Value, Count, Bounds}
+use Rattle.vdb_scene.specs.Step.{Done, Refused, Value, Count, Bounds, Census}
 use Rattle.vdb_script.specs.Lines.{lines, tokens}
 use Rattle.vdb_script.specs.Grammar.{number_of, parse}
 use Rattle.vdb_script.specs.Run.{read}
@@ -181,6 +181,9 @@ count_of_nothing = refl
 bounds_read : parse (codes "bounds a") ≡ Ok (Some (commands.Bounds (codes "a")))
 bounds_read = refl
 
+census_read : parse (codes "census a") ≡ Ok (Some (commands.Census (codes "a")))
+census_read = refl
+
 bounds_of_all : parse (codes "bounds a all") ≡ Err refusals.Syntax
 bounds_of_all = refl
 
@@ -242,3 +245,7 @@ bounds_text = refl
 
 no_bounds_text : text (Bounds None) ≡ codes "bounds none\n"
 no_bounds_text = refl
+
+census_text : text (Census (record { roots = 4096; upper = 1; lower = 0; leaf = 18446744073709551615 })) ≡ codes "census 4096 1 0 18446744073709551615\n"
+unfolding digits
+census_text = refl

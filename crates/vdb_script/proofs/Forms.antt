@@ -10,7 +10,7 @@ use Rattle.vdb_scene.specs.declared.command.Num.{Num}
 use Rattle.vdb_scene.specs.declared.command.Point.{Point}
 use Rattle.vdb_scene.specs.declared.answer.Refusal.TheVariants as refusals
 use Rattle.vdb_script.specs.Lines.{tokens}
-use Rattle.vdb_script.specs.Grammar.{Form, ◌>>=◌, give, one, point, corners, grid, drop, copy, get, voxel_value, state, fill, clip, prune, voxelise, all_of, count_box, count_all, count, bounds, or_else, whole, command_forms, command_of, word_of, is_comment, meaning, parse, name_of, kind_of, state_of, literal_of, accessor_of, number_of}
+use Rattle.vdb_script.specs.Grammar.{Form, ◌>>=◌, give, one, point, corners, grid, drop, copy, get, voxel_value, state, fill, clip, prune, voxelise, all_of, count_box, count_all, count, bounds, census, or_else, slice, whole, command_forms, command_of, word_of, is_comment, meaning, parse, name_of, kind_of, state_of, literal_of, accessor_of, number_of}
 
 -- where a form is there, it takes so many tokens
 pub record Takes {A : Type 0} (n : ℕ) (form : Form A) : Type 0 where
@@ -114,6 +114,12 @@ state_takes = then_takes 1 5 _ _ (one_takes name_of) (λ name. then_takes 1 4 _ 
 pub prune_takes : Takes 1 prune
 prune_takes = then_takes 1 0 _ _ (one_takes name_of) (λ name. give_takes _)
 
+-- slice NAME Z X0 Y0 X1 Y1
+pub slice_takes : Takes 6 slice
+slice_takes =
+    then_takes 1 5 _ _ (one_takes name_of) (λ name. then_takes 1 4 _ _ (one_takes number_of) (λ z. then_takes 1 3 _ _ (one_takes number_of) (λ x0. then_takes 1 2 _ _ (one_takes number_of)
+    (λ y0. then_takes 1 1 _ _ (one_takes number_of) (λ x1. then_takes 1 0 _ _ (one_takes number_of) (λ y1. give_takes _))))))
+
 -- count NAME X0 Y0 Z0 X1 Y1 Z1
 count_box_takes : Takes 7 count_box
 count_box_takes = then_takes 1 6 _ _ (one_takes name_of) (λ name. then_takes 6 0 _ _ corners_takes (λ c. give_takes _))
@@ -125,6 +131,10 @@ count_all_takes = then_takes 1 1 _ _ (one_takes name_of) (λ name. then_takes 1 
 -- bounds NAME
 pub bounds_takes : Takes 1 bounds
 bounds_takes = then_takes 1 0 _ _ (one_takes name_of) (λ name. give_takes _)
+
+-- census NAME
+pub census_takes : Takes 1 census
+census_takes = then_takes 1 0 _ _ (one_takes name_of) (λ name. give_takes _)
 
 no_whole : (found : Option (Command × List (List ℕ))) → ((c : Command) → found ≡ Some (c, []) → ⊥) → Err refusals.Syntax ≡ whole found
 no_whole None other = refl
@@ -213,7 +223,13 @@ commands_take_few = (
               few 6 (omega arith) (voxel_value_takes commands.Only),
               (
                 few 6 (omega arith) state_takes,
-                (few 9 (omega arith) fill_takes, (few 7 (omega arith) clip_takes, (few 1 (omega arith) prune_takes, (few 7 (omega arith) voxelise_takes, (count_takes_few, (few 1 (omega arith) bounds_takes, tt)))))),
+                (
+                  few 9 (omega arith) fill_takes,
+                  (
+                    few 7 (omega arith) clip_takes,
+                    (few 1 (omega arith) prune_takes, (few 7 (omega arith) voxelise_takes, (few 6 (omega arith) slice_takes, (count_takes_few, (few 1 (omega arith) bounds_takes, (few 1 (omega arith) census_takes, tt)))))),
+                  ),
+                ),
               ),
             ),
           ),

@@ -1,6 +1,8 @@
 -- Lemmas on the lines that are read, their tokens and forms, and the answers that are written.
 mod Checks
 pub mod Forms
+pub mod Pages
 pub mod Reading
+pub mod RowLines
 pub mod Splitting
 pub mod Writing

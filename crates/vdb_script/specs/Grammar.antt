@@ -192,6 +192,17 @@ voxelise = do
   c ← corners
   give (commands.Voxelise name c)
 
+-- slice NAME Z X0 Y0 X1 Y1
+abbrev pub slice : Form Command
+slice = do
+  name ← one name_of
+  z ← one number_of
+  x0 ← one number_of
+  y0 ← one number_of
+  x1 ← one number_of
+  y1 ← one number_of
+  give (commands.Slice name z (record { min_x = x0; min_y = y0; max_x = x1; max_y = y1 }))
+
 -- the word for all coordinates, which is no box
 abbrev pub all_of : List ℕ → Option (Option Corners)
 all_of token = word_of ((codes "all", None) ∷ []) token
@@ -220,13 +231,20 @@ bounds = do
   name ← one name_of
   give (commands.Bounds name)
 
+-- census NAME
+abbrev pub census : Form Command
+census = do
+  name ← one name_of
+  give (commands.Census name)
+
 -- ---- the commands
 
 -- each command's word, and the form of what stands behind it
 abbrev pub command_forms : List (List ℕ × Form Command)
 command_forms =
     (codes "grid", grid) ∷ (codes "drop", drop) ∷ (codes "copy", copy) ∷ (codes "get", get) ∷ (codes "set", set) ∷ (codes "unset", unset) ∷ (codes "only", only) ∷ (codes "state", state)
-    ∷ (codes "fill", fill) ∷ (codes "clip", clip) ∷ (codes "prune", prune) ∷ (codes "voxelise", voxelise) ∷ (codes "count", count) ∷ (codes "bounds", bounds) ∷ []
+    ∷ (codes "fill", fill) ∷ (codes "clip", clip) ∷ (codes "prune", prune) ∷ (codes "voxelise", voxelise) ∷ (codes "slice", slice) ∷ (codes "count", count) ∷ (codes "bounds", bounds)
+    ∷ (codes "census", census) ∷ []
 
 -- a command with no token left, or a syntax error
 abbrev pub whole : Option (Command × List (List ℕ)) → Result (Option Command) Refusal

@@ -1,13 +1,15 @@
 -- The text of an answer.
-use Rattle.std.specs.Prelude.{ℕ, Bool, if◌then◌else◌, List, [], ◌∷◌, ◌++◌, Option, Some, None, codes}
+use Rattle.std.specs.Prelude.{ℕ, Bool, if◌then◌else◌, List, [], ◌∷◌, ◌++◌, Option, Some, None, codes, length, map}
 use Rattle.std.specs.Fmt.{decimal, signed_decimal}
 use Rattle.std.specs.List.{join_with_byte, flat_map}
 use Rattle.vdb_coord.specs.Space.{Box}
 use Rattle.vdb_coord.specs.declared.Coord.{Coord}
+use Rattle.vdb_value.specs.declared.Cell.{Cell}
 use Rattle.vdb_scene.specs.Scalars.{scalar_text}
-use Rattle.vdb_scene.specs.Step.{Reply, Done, Refused, Value, Count, Bounds}
+use Rattle.vdb_scene.specs.Step.{Reply, Row, Done, Refused, Value, Slice, Count, Bounds, Census}
 use Rattle.vdb_scene.specs.declared.answer.Refusal.{Refusal}
 use Rattle.vdb_scene.specs.declared.answer.Refusal.TheVariants as refusals
+use Rattle.vdb_scene.specs.declared.scalar.Scalar.{Scalar}
 
 -- the word of a refusal
 abbrev pub word : Refusal → List ℕ
@@ -35,6 +37,18 @@ state_text on = if on then codes "on" else codes "off"
 abbrev pub line : List (List ℕ) → List ℕ
 line parts = join_with_byte 32 parts ++ 10 ∷ []
 
+-- the text of a cell in a slice: its value, in brackets where it is inactive
+abbrev pub cell_text : Cell Scalar → List ℕ
+cell_text c = if c.on then scalar_text c.value else 40 ∷ scalar_text c.value ++ 41 ∷ []
+
+-- the line of a row of a slice
+abbrev pub row_line : Row → List ℕ
+row_line r = line (codes "row" ∷ signed_decimal r.y ∷ map cell_text r.cells)
+
+-- the line behind the others of an answer: its word, and how many the others are
+abbrev pub last_line : List ℕ → ℕ → List ℕ
+last_line word count = line (word ∷ decimal count ∷ [])
+
 -- the components of a coordinate
 abbrev pub components : Coord → List (List ℕ)
 components p = signed_decimal p.x ∷ signed_decimal p.y ∷ signed_decimal p.z ∷ []
@@ -49,8 +63,10 @@ abbrev pub text : Reply → List ℕ
 text Done = line (codes "ok" ∷ [])
 text (Refused r) = line (codes "error" ∷ word r ∷ [])
 text (Value c) = line (codes "value" ∷ scalar_text c.value ∷ state_text c.on ∷ [])
+text (Slice rows) = flat_map row_line rows ++ last_line (codes "end") (length rows)
 text (Count active) = line (codes "count" ∷ decimal active ∷ [])
 text (Bounds box) = line (codes "bounds" ∷ corners box)
+text (Census c) = line (codes "census" ∷ decimal c.roots ∷ decimal c.upper ∷ decimal c.lower ∷ decimal c.leaf ∷ [])
 
 -- the texts of answers, one after another
 abbrev pub answers_text : List Reply → List ℕ

@@ -4,16 +4,19 @@
 mod line_text;
 mod lines;
 mod numbers;
+mod output;
 mod parsing;
 mod printing;
 mod reports;
+mod slices;
 mod source;
 mod tokens;
 
 pub use line_text::LINE_LIMIT;
 pub use lines::{Line, Lines, read_line};
+pub use output::WriteFault;
 pub use parsing::parse;
-pub use printing::{WriteFault, print};
+pub use printing::print;
 pub use source::{SCRIPT_LIMIT, ScriptFault};
 
 #[cfg(test)]

@@ -5,12 +5,12 @@ ghost use Rattle.vdb_scene.specs.declared.command.Command.{Command};
 ghost use Rattle.vdb_scene.specs.declared.command.Literal.{Literal};
 ghost use Rattle.vdb_scene.specs.declared.command.Num.{Num};
 ghost use Rattle.vdb_scene.specs.declared.command.Point.{Point};
-ghost use Rattle.vdb_script.specs.Grammar.{name_of, kind_of, state_of, literal_of, accessor_of, point, corners, grid, drop, copy, get, voxel_value, set, unset, only, state, fill, clip, prune, voxelise, all_of, count, bounds, whole, command_of, is_comment, parse};
+ghost use Rattle.vdb_script.specs.Grammar.{name_of, kind_of, state_of, literal_of, accessor_of, point, corners, grid, drop, copy, get, voxel_value, set, unset, only, state, fill, clip, prune, voxelise, all_of, count, bounds, census, slice, whole, command_of, is_comment, parse};
 
 use crate::numbers::number_of;
 use crate::tokens::{first_token, split_tokens};
 use std::alloc::Global;
-use vdb_scene::{Command, Corners, Literal, Name, Num, Point, Refusal};
+use vdb_scene::{Area, Command, Corners, Literal, Name, Num, Point, Refusal};
 use vdb_value::Kind;
 
 /// The name that a token is.
@@ -261,6 +261,25 @@ fn voxelise_command(tokens: &[&[u8]]) -> Option<Command>
     }
 }
 
+/// The command `slice NAME Z X0 Y0 X1 Y1`, from the tokens behind its word.
+fn slice_command(tokens: &[&[u8]]) -> Option<Command>
+    ensures { ok_or (option_map Some result) Refusal.Syntax ≡ whole (slice (map (λ t. t.now) tokens.now)) }
+{
+    match tokens {
+        [name, z, x0, y0, x1, y1] => Some(Command::Slice {
+            name: name_of(name)?,
+            z: number_of(z)?,
+            area: Area {
+                min_x: number_of(x0)?,
+                min_y: number_of(y0)?,
+                max_x: number_of(x1)?,
+                max_y: number_of(y1)?,
+            },
+        }),
+        _ => None,
+    }
+}
+
 /// No box, where a token is the word for all coordinates.
 fn all_of(token: &[u8]) -> Option<Option<Corners>>
     ensures { result ≡ all_of token.now }
@@ -294,6 +313,18 @@ fn bounds_command(tokens: &[&[u8]]) -> Option<Command>
 {
     match tokens {
         [name] => Some(Command::Bounds {
+            name: name_of(name)?,
+        }),
+        _ => None,
+    }
+}
+
+/// The command `census NAME`, from the tokens behind its word.
+fn census_command(tokens: &[&[u8]]) -> Option<Command>
+    ensures { ok_or (option_map Some result) Refusal.Syntax ≡ whole (census (map (λ t. t.now) tokens.now)) }
+{
+    match tokens {
+        [name] => Some(Command::Census {
             name: name_of(name)?,
         }),
         _ => None,
@@ -335,10 +366,14 @@ fn command_of(word: &[u8], tokens: &[&[u8]]) -> Option<Command>
         prune_command(tokens)
     } else if is_word(word, b"voxelise") {
         voxelise_command(tokens)
+    } else if is_word(word, b"slice") {
+        slice_command(tokens)
     } else if is_word(word, b"count") {
         count_command(tokens)
     } else if is_word(word, b"bounds") {
         bounds_command(tokens)
+    } else if is_word(word, b"census") {
+        census_command(tokens)
     } else {
         None
     }

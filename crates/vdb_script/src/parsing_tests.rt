@@ -1,6 +1,6 @@
 //! Lines and the commands that they are.
 use crate::parse;
-use vdb_scene::{Command, Corners, Literal, Name, Num, Point, Refusal};
+use vdb_scene::{Area, Command, Corners, Literal, Name, Num, Point, Refusal};
 use vdb_value::Kind;
 
 /// The coordinate of the lines below.
@@ -135,6 +135,19 @@ fn commands_are_read(rt: HostRuntime) {
                 corners: CORNERS,
             },
         ),
+        (
+            b"slice a 9223372036854775808 -1 0 2147483648 5".as_slice(),
+            Command::Slice {
+                name: a,
+                z: Num::Far,
+                area: Area {
+                    min_x: Num::Near(-1),
+                    min_y: Num::Near(0),
+                    max_x: Num::Near(2147483648),
+                    max_y: Num::Near(5),
+                },
+            },
+        ),
         (b"prune a".as_slice(), Command::Prune { name: a }),
         (
             b"count a -1 0 2147483648 3 4 9223372036854775808".as_slice(),
@@ -151,6 +164,7 @@ fn commands_are_read(rt: HostRuntime) {
             },
         ),
         (b"bounds a".as_slice(), Command::Bounds { name: a }),
+        (b"census b".as_slice(), Command::Census { name: b }),
         (b"drop a".as_slice(), Command::Drop { name: a }),
         (b"copy a b".as_slice(), Command::Copy { from: a, to: b }),
         (b"copy b a".as_slice(), Command::Copy { from: b, to: a }),
@@ -258,6 +272,11 @@ fn other_lines_are_no_commands(rt: HostRuntime) {
         b"voxelise a 0 0 0 0 0".as_slice(),
         b"voxelise a 0 0 0 0 0 0 0".as_slice(),
         b"voxelise a - 0 0 0 0 0".as_slice(),
+        b"slice a 0 0 0 0".as_slice(),
+        b"slice a 0 0 0 0 0 0".as_slice(),
+        b"slice a - 0 0 0 0".as_slice(),
+        b"slice - 0 0 0 0 0".as_slice(),
+        b"slice a 0 0 0 0 all".as_slice(),
         b"prune a a".as_slice(),
         b"prune -".as_slice(),
         b"unset a - 0 0 0".as_slice(),
@@ -290,6 +309,8 @@ fn other_lines_are_no_commands(rt: HostRuntime) {
         b"bounds a a".as_slice(),
         b"bounds a all".as_slice(),
         b"bounds -".as_slice(),
+        b"census".as_slice(),
+        b"census a b".as_slice(),
         b"clip a 0 0 0 0 0".as_slice(),
         b"clip a 0 0 0 0 0 0 0".as_slice(),
         b"clip a 0 0 0 0 0 true".as_slice(),

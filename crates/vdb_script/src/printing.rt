@@ -4,24 +4,22 @@ ghost use Rattle.std.specs.Prelude.{◌≡◌, ◌≤◌, ◌||◌, [], ◌∷�
 ghost use Rattle.vdb_scene.specs.Scalars.{scalar_text};
 ghost use Rattle.vdb_scene.specs.Shown.{Shows};
 ghost use Rattle.vdb_scene.specs.Step.{Reply};
+ghost use Rattle.vdb_scene.specs.Step as replies;
 ghost use Rattle.vdb_scene.specs.Watched.{has_failed, source};
 ghost use Rattle.vdb_script.specs.Text.{line, state_text, text, word};
 ghost use Rattle.vdb_script.specs.Writing.{Writes};
 
-use crate::reports::{bounds_line, count_line};
+use crate::output::{WriteFault, write_bytes};
+use crate::reports::{bounds_line, census_line, count_line};
+use crate::slices::print_slice;
 use arrayvec::ArrayVec;
 use itoa::Buffer;
 use std::io::Write;
-use thiserror::Error;
+use vdb_pool::Steps;
 use vdb_scene::{Answer, Refusal, Scalar, Watched};
 
 /// The most bytes that the line of an answer has, its newline among them.
 pub(crate) const ANSWER_LIMIT: usize = 96;
-
-/// The writer failed, or took no byte of some.
-#[derive(Clone, Copy, Debug, PartialEq, Eq, Error)]
-#[error("write")]
-pub struct WriteFault;
 
 /// The word of a refusal.
 fn refusal_word(refusal: Refusal) -> &'static [u8]
@@ -48,7 +46,7 @@ fn refusal_word(refusal: Refusal) -> &'static [u8]
 }
 
 /// The text of a value: `true`, `false` or a decimal number.
-fn value_text<'b>(value: Scalar, buffer: &'b mut Buffer) -> &'b [u8]
+pub(crate) fn value_text<'b>(value: Scalar, buffer: &'b mut Buffer) -> &'b [u8]
     ensures text { result.now ≡ scalar_text value }
     ensures short { length result.now ≤ 20 }
 {
@@ -97,56 +95,47 @@ pub(crate) fn compose(parts: &[&[u8]]) -> ArrayVec<u8, ANSWER_LIMIT>
     composed
 }
 
-/// The line of an answer, its newline at the end.
-fn answer_line(answer: Answer) -> ArrayVec<u8, ANSWER_LIMIT>
-    ensures { (reply : Reply) → Shows answer reply → result.items ≡ text reply }
+/// The line of a refusal.
+fn refusal_line(refusal: Refusal) -> ArrayVec<u8, ANSWER_LIMIT>
+    ensures { result.items ≡ text (replies.Refused refusal) }
 {
-    match answer {
-        Answer::Done => compose([b"ok".as_slice()].as_slice()),
-        Answer::Refused(refusal) => {
-            compose([b"error".as_slice(), refusal_word(refusal)].as_slice())
-        }
-        Answer::Value(value, on) => {
-            let mut buffer = Buffer::new();
-            let parts = [
-                b"value".as_slice(),
-                value_text(value, &mut buffer),
-                state_word(on),
-            ];
-            compose(parts.as_slice())
-        }
-        Answer::Count(active) => count_line(active),
-        Answer::Bounds(corners) => bounds_line(corners),
-    }
+    compose([b"error".as_slice(), refusal_word(refusal)].as_slice())
 }
 
-/// Writes all of the bytes, in one call where the writer takes them all at once. A writer that fails or takes no byte
-/// of some isn't tried again.
-fn write_bytes<W: Write>(writer: &mut Watched<W>, bytes: &[u8]) -> Result<(), WriteFault>
-    ensures writes { Writes (W.contents (source writer.old)) (W.contents (source writer.new)) result bytes.now }
-    ensures failed { has_failed writer.new ≡ (has_failed writer.old || is_err result) }
+/// The line of a cell.
+fn value_line(value: Scalar, on: bool) -> ArrayVec<u8, ANSWER_LIMIT>
+    ensures { result.items ≡ text (replies.Value (record { value = value; on = on })) }
 {
-    let mut at = 0;
-    while at < bytes.len() {
-        match writer.write(&bytes[at..]) {
-            Ok(0) => return Err(WriteFault),
-            Ok(taken) => at += taken,
-            Err(_) => return Err(WriteFault),
-        }
-    }
-    Ok(())
+    let mut buffer = Buffer::new();
+    let parts = [
+        b"value".as_slice(),
+        value_text(value, &mut buffer),
+        state_word(on),
+    ];
+    compose(parts.as_slice())
 }
 
-/// Writes the line of an answer.
+/// Writes the text of an answer.
 ///
-/// It is composed first and written in one call; only a writer that takes a part of it is called again, with the rest.
-/// `WriteFault` says that a call of the writer failed, or took no byte of some; a front of the line may have been
-/// written then, and nothing is tried again.
-pub fn print<W: Write>(answer: Answer, writer: &mut Watched<W>) -> Result<(), WriteFault>
-    ensures writes { (reply : Reply) → Shows answer reply →
+/// It is composed first, up to 4,096 bytes at once, and written in one call; only a writer that takes a part of them is called
+/// again, with the rest. An answer of several lines is read from the scene as it is written. `WriteFault` says that a call of
+/// the writer failed, or took no byte of some; a front of the text may have been written then, and nothing is tried again.
+pub fn print<W: Write>(
+    answer: Answer,
+    writer: &mut Watched<W>,
+    steps: &mut Steps,
+) -> Result<(), WriteFault>
+    ensures writes { (reply : Reply) → Shows answer.entry reply →
         Writes (W.contents (source writer.old)) (W.contents (source writer.new)) result (text reply) }
     ensures failed { has_failed writer.new ≡ (has_failed writer.old || is_err result) }
 {
-    let composed = answer_line(answer);
-    write_bytes(writer, composed.as_slice())
+    match answer {
+        Answer::Done => write_bytes(writer, compose([b"ok".as_slice()].as_slice()).as_slice()),
+        Answer::Refused(refusal) => write_bytes(writer, refusal_line(refusal).as_slice()),
+        Answer::Value(value, on) => write_bytes(writer, value_line(value, on).as_slice()),
+        Answer::Slice(slice) => print_slice(slice, writer, steps),
+        Answer::Count(active) => write_bytes(writer, count_line(active).as_slice()),
+        Answer::Bounds(corners) => write_bytes(writer, bounds_line(corners).as_slice()),
+        Answer::Census(counts) => write_bytes(writer, census_line(counts).as_slice()),
+    }
 }

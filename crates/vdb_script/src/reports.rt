@@ -9,6 +9,7 @@ use crate::printing::{ANSWER_LIMIT, compose};
 use arrayvec::ArrayVec;
 use itoa::Buffer;
 use vdb_coord::Coord;
+use vdb_walk::Census;
 
 /// The line of a count.
 pub(crate) fn count_line(active: u128) -> ArrayVec<u8, ANSWER_LIMIT>
@@ -42,6 +43,22 @@ fn corners_line(min: Coord, max: Coord) -> ArrayVec<u8, ANSWER_LIMIT>
         component_text(max.x, &mut x1),
         component_text(max.y, &mut y1),
         component_text(max.z, &mut z1),
+    ];
+    compose(parts.as_slice())
+}
+
+/// The line of a census.
+pub(crate) fn census_line(counts: Census) -> ArrayVec<u8, ANSWER_LIMIT>
+    ensures { result.items ≡ text (replies.Census counts) }
+{
+    let (mut roots, mut upper) = (Buffer::new(), Buffer::new());
+    let (mut lower, mut leaf) = (Buffer::new(), Buffer::new());
+    let parts = [
+        b"census".as_slice(),
+        roots.format(counts.roots).as_bytes(),
+        upper.format(counts.upper).as_bytes(),
+        lower.format(counts.lower).as_bytes(),
+        leaf.format(counts.leaf).as_bytes(),
     ];
     compose(parts.as_slice())
 }

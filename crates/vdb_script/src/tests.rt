@@ -1,7 +1,9 @@
 use super::*;
 use std::io::{self, Read, Write};
 use vdb_coord::Coord;
+use vdb_pool::Steps;
 use vdb_scene::{Answer, Refusal, Scalar, Watched};
+use vdb_walk::Census;
 
 // ---- reading
 
@@ -205,10 +207,10 @@ const TEXT: &[u8] =
     b"ok\nerror line-too-long\nerror memory\nvalue true on\nvalue false off\nvalue -2147483648 on\nvalue 2147483647 off\nvalue -9223372036854775808 off\nvalue 9223372036854775807 on\nvalue 0 off\n";
 
 /// Prints the ten answers.
-fn print_all<W: Write>(writer: &mut Watched<W>) -> Result<(), WriteFault> {
-    print(Answer::Done, writer)?;
+fn print_all<W: Write>(writer: &mut Watched<W>, steps: &mut Steps) -> Result<(), WriteFault> {
+    print(Answer::Done, writer, steps)?;
     for refusal in [Refusal::LineTooLong, Refusal::Memory] {
-        print(Answer::Refused(refusal), writer)?;
+        print(Answer::Refused(refusal), writer, steps)?;
     }
     for (value, on) in [
         (Scalar::Bool(true), true),
@@ -219,7 +221,7 @@ fn print_all<W: Write>(writer: &mut Watched<W>) -> Result<(), WriteFault> {
         (Scalar::I64(i64::MAX), true),
         (Scalar::I64(0), false),
     ] {
-        print(Answer::Value(value, on), writer)?;
+        print(Answer::Value(value, on), writer, steps)?;
     }
     Ok(())
 }
@@ -232,9 +234,10 @@ fn at(x: i32, y: i32, z: i32) -> Coord {
 #[test]
 fn reports_are_lines(rt: HostRuntime) {
     let (least, greatest) = (i32::MIN, i32::MAX);
+    let mut steps = Steps::new(&rt);
     let mut writer = Watched::new(Vec::new(rt.alloc()));
     for active in [0u128, 79228162514264337593543950336] {
-        assert!(rt; print(Answer::Count(active), &mut writer).is_ok());
+        assert!(rt; print(Answer::Count(active), &mut writer, &mut steps).is_ok());
     }
     for corners in [
         None,
@@ -242,10 +245,19 @@ fn reports_are_lines(rt: HostRuntime) {
         Some((at(least, least, least), at(-1, 0, 10))),
         Some((at(least, least, least), at(greatest, greatest, greatest))),
     ] {
-        assert!(rt; print(Answer::Bounds(corners), &mut writer).is_ok());
+        assert!(rt; print(Answer::Bounds(corners), &mut writer, &mut steps).is_ok());
+    }
+    for counts in [[0u64, 0, 0, 0], [4096, 1, 23, 456], [u64::MAX; 4]] {
+        let census = Census {
+            roots: counts[0],
+            upper: counts[1],
+            lower: counts[2],
+            leaf: counts[3],
+        };
+        assert!(rt; print(Answer::Census(census), &mut writer, &mut steps).is_ok());
     }
     let wanted =
-        b"count 0\ncount 79228162514264337593543950336\nbounds none\nbounds -5 -2 1 3 4 1\nbounds -2147483648 -2147483648 -2147483648 -1 0 10\nbounds -2147483648 -2147483648 -2147483648 2147483647 2147483647 2147483647\n";
+        b"count 0\ncount 79228162514264337593543950336\nbounds none\nbounds -5 -2 1 3 4 1\nbounds -2147483648 -2147483648 -2147483648 -1 0 10\nbounds -2147483648 -2147483648 -2147483648 2147483647 2147483647 2147483647\ncensus 0 0 0 0\ncensus 4096 1 23 456\ncensus 18446744073709551615 18446744073709551615 18446744073709551615 18446744073709551615\n";
     assert_eq!(rt; writer.get_ref().as_slice(), wanted.as_slice());
 }
 
@@ -260,7 +272,8 @@ fn a_line_is_one_write(rt: HostRuntime) {
             fails: false,
         };
         let mut writer = Watched::new(&mut narrow);
-        assert!(rt; print_all(&mut writer).is_ok());
+        let mut steps = Steps::new(&rt);
+        assert!(rt; print_all(&mut writer, &mut steps).is_ok());
         assert!(rt; !writer.failed());
         assert_eq!(rt; narrow.text.as_slice(), TEXT);
         assert_eq!(rt; narrow.calls, calls);
@@ -279,7 +292,8 @@ fn a_write_fault_leaves_a_front(rt: HostRuntime) {
                 fails,
             };
             let mut writer = Watched::new(&mut narrow);
-            assert!(rt; print_all(&mut writer) == Err(WriteFault));
+            let mut steps = Steps::new(&rt);
+            assert!(rt; print_all(&mut writer, &mut steps) == Err(WriteFault));
             assert!(rt; writer.failed());
             assert_eq!(rt; Some(narrow.text.as_slice()), TEXT.get(..stops_at - 1));
             assert_eq!(rt; narrow.calls, stops_at);

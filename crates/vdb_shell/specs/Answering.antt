@@ -1,15 +1,28 @@
 -- What a line that is carried out answers.
-use Rattle.std.specs.Prelude.{◌≡◌, Bool, true, false, List, [], ◌∷◌, Option, Some, None, Result, Ok, Err}
-use Rattle.vdb_scene.specs.Shown.{Shows}
+use Rattle.std.specs.Prelude.{◌≡◌, ℕ, Bool, true, false, List, [], ◌∷◌, Option, Some, None, Result, Ok, Err}
+use Rattle.std.specs.List.{list_any}
+use Rattle.std.specs.Io.KnownBytes.{Appends}
+use Rattle.vdb_scene.specs.Scene.{Scene}
 use Rattle.vdb_scene.specs.Step.{Reply}
-use Rattle.vdb_scene.specs.declared.answer.Answer.{Answer}
+use Rattle.vdb_script.specs.Run.{TakesLine, read}
+use Rattle.vdb_script.specs.Text.{answers_text, text}
+use Rattle.vdb_script.specs.Writing.{HasCut}
 use Rattle.vdb_script.specs.declared.source.ScriptFault.{ScriptFault}
 use Rattle.vdb_script.specs.declared.source.ScriptFault.TheVariants.{Read, TooLong}
+use Rattle.vdb_shell.specs.Session.{is_refused}
+use Rattle.vdb_shell.specs.declared.playing.Turn.{Turn}
 
--- no answer, or one that shows the only reply
-abbrev pub ShowsAll : Option Answer → List Reply → Type 0
-ShowsAll None replies = replies ≡ []
-ShowsAll (Some answer) replies = (reply : Reply) × (replies ≡ reply ∷ []) × Shows answer reply
+-- the answers of a line went out, or at a fault a front of the only one
+abbrev pub GoesOut : {A E : Type 0} → Option (List ℕ) → Option (List ℕ) → Result A E → List Reply → Type 0
+GoesOut old new (Ok a) replies = Appends old new (answers_text replies)
+GoesOut old new (Err e) replies = (reply : Reply) × (replies ≡ reply ∷ []) × HasCut old new (text reply)
+
+-- a line is carried out, from one scene and one text of answers to the next
+pub record TakesTurn (s : Scene) (line : List ℕ) (turn : Turn) (old new : Option (List ℕ)) (next : Scene) : Type 0 where
+  pub replies : List Reply
+  pub takes : TakesLine s (read line) replies next
+  pub out : GoesOut old new turn.written replies
+  pub refused : turn.refused ≡ list_any is_refused replies
 
 -- whether a script ended since its reader failed
 abbrev pub is_read_ending : {A : Type 0} → Result A (Option ScriptFault) → Bool

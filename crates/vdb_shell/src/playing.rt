@@ -1,13 +1,14 @@
 //! A script that is played on a scene, line by line.
-ghost use Rattle.std.specs.Prelude.{◌≡◌, ◌<◌, ◌||◌, ◌↔◌, false, true, Some, None, Ok, Err, IfOk, OnOk, OnErr, IsTrue, ℕ, List, [], ◌∷◌, length, Option};
+ghost use Rattle.std.specs.Prelude.{◌≡◌, ◌<◌, ◌||◌, ◌↔◌, false, true, Some, None, Err, IfOk, OnOk, OnErr, IsTrue, is_err, ℕ, List, length};
 ghost use Rattle.std.specs.Io.KnownBytes.{Appends, Consumes};
 ghost use Rattle.vdb_scene.specs.Grids.{scene_of};
 ghost use Rattle.vdb_scene.specs.Shown.{Shows};
 ghost use Rattle.vdb_scene.specs.Step.{Reply};
 ghost use Rattle.vdb_scene.specs.Watched.{has_failed, source};
 ghost use Rattle.vdb_script.specs.Reading.{EndsWith, HandsEnd, HandsLine, HandsPart, HandsTooMuch, ahead, budget};
-ghost use Rattle.vdb_script.specs.Run.{TakesLine, read};
-ghost use Rattle.vdb_shell.specs.Answering.{ShowsAll, is_read_ending};
+ghost use Rattle.vdb_script.specs.Text.{text};
+ghost use Rattle.vdb_script.specs.Writing.{Writes};
+ghost use Rattle.vdb_shell.specs.Answering.{TakesTurn, is_read_ending};
 ghost use Rattle.vdb_shell.specs.Session.{PlaysFrom, is_refused};
 
 use crate::Fault;
@@ -15,7 +16,7 @@ use std::alloc::Global;
 use std::io::{Read, Write};
 use vdb_pool::Steps;
 use vdb_scene::{Answer, Refusal, Scene, Watched};
-use vdb_script::{Line, Lines, ScriptFault, parse, print, read_line};
+use vdb_script::{Line, Lines, ScriptFault, WriteFault, parse, print, read_line};
 
 /// How the playing of a script ended.
 #[derive(Clone, Copy, Debug, PartialEq, Eq)]
@@ -24,6 +25,15 @@ pub struct Played {
     pub refused: bool,
     /// What ended it early, if anything did.
     pub fault: Option<Fault>,
+}
+
+/// What came of a line.
+#[derive(Clone, Copy)]
+struct Turn {
+    /// Whether it was refused.
+    refused: bool,
+    /// Whether its answer went out, if it has one.
+    written: Result<(), WriteFault>,
 }
 
 /// Plays a script on a scene: reads a line, carries it out and writes its answer before the next line is read. It ends
@@ -52,7 +62,7 @@ pub fn play<R: Read, W: Write>(
     let mut lines = Lines::new();
     let mut refused = false;
     'lines: loop {
-        match next_answer(alloc, scene, &mut lines, script, steps) {
+        match play_line(alloc, scene, &mut lines, script, answers, steps) {
             Err(None) => {
                 return Played {
                     refused,
@@ -65,10 +75,9 @@ pub fn play<R: Read, W: Write>(
                     fault: Some(Fault::Script(fault)),
                 };
             }
-            Ok(None) => {}
-            Ok(Some(answer)) => {
-                refused |= is_refusal(&answer);
-                if print(answer, answers).is_err() {
+            Ok(turn) => {
+                refused |= turn.refused;
+                if turn.written.is_err() {
                     return Played {
                         refused,
                         fault: Some(Fault::Answers),
@@ -79,50 +88,73 @@ pub fn play<R: Read, W: Write>(
     }
 }
 
-/// Reads the next line of a script that has neither ended nor failed, and carries it out: its answer, if it has one.
+/// Reads the next line of a script that has neither ended nor failed, carries it out and writes its answer, if it has one.
 /// `Err(None)` is the script's end.
-fn next_answer<R: Read>(
+fn play_line<R: Read, W: Write>(
     alloc: Global,
     scene: &mut Scene,
     lines: &mut Lines,
     script: &mut Watched<R>,
+    answers: &mut Watched<W>,
     steps: &mut Steps,
-) -> Result<Option<Answer>, Option<ScriptFault>>
+) -> Result<Turn, Option<ScriptFault>>
     requires unended { lines.old.ending ≡ None }
     requires ends { EndsWith lines.old.source (R.remaining (source script.old)) }
     ensures ends { EndsWith lines.new.source (R.remaining (source script.new)) }
-    ensures line { IfOk result (λ answer. (line : List ℕ) × (replies : List Reply)
+    ensures line { IfOk result (λ turn. (line : List ℕ)
         × HandsLine (ahead lines.old.source (R.remaining (source script.old))) (ahead lines.new.source (R.remaining (source script.new))) lines.old.source lines.new.source line
-        × ShowsAll answer replies × TakesLine (scene_of scene.old) (read line) replies (scene_of scene.new)) }
+        × TakesTurn (scene_of scene.old) line turn (W.contents (source answers.old)) (W.contents (source answers.new)) (scene_of scene.new)) }
     ensures end { result ≡ Err None → HandsEnd (ahead lines.old.source (R.remaining (source script.old))) (ahead lines.new.source (R.remaining (source script.new))) lines.new.source }
     ensures overflow { result ≡ Err (Some ScriptFault.TooLong) → HandsTooMuch (ahead lines.old.source (R.remaining (source script.old))) (R.remaining (source script.new)) lines.old.source }
     ensures read { result ≡ Err (Some ScriptFault.Read) → HandsPart (ahead lines.old.source (R.remaining (source script.old))) (R.remaining (source script.new)) lines.old.source }
     ensures failed { has_failed script.new ≡ (has_failed script.old || is_read_ending result) }
+    ensures answers_failed { IfOk result (λ turn. has_failed answers.new ≡ (has_failed answers.old || is_err turn.written)) }
     ensures quiet { lines.old.source.ended ≡ true → script.new ≡ script.old }
     ensures same { OnErr result (scene_of scene.new ≡ scene_of scene.old) }
+    ensures silent { OnErr result (answers.new ≡ answers.old) }
     ensures unended { OnOk result (lines.new.ending ≡ None) }
     ensures progress { OnOk result (budget lines.new.source < budget lines.old.source) }
 {
     match read_line(lines, script) {
-        Ok(Line::Text) => Ok(answer_line(alloc, scene, lines.text(), steps)),
-        Ok(Line::TooLong) => Ok(Some(Answer::Refused(Refusal::LineTooLong))),
+        Ok(Line::Text) => Ok(answer_line(alloc, scene, lines.text(), answers, steps)),
+        Ok(Line::TooLong) => Ok(tell(Answer::Refused(Refusal::LineTooLong), answers, steps)),
         Ok(Line::End) => Err(None),
         Err(fault) => Err(Some(fault)),
     }
 }
 
-/// Carries out a line of at most 256 bytes: its answer, if it has one.
-fn answer_line(alloc: Global, scene: &mut Scene, line: &[u8], steps: &mut Steps) -> Option<Answer>
+/// Carries out a line of at most 256 bytes and writes its answer, if it has one.
+fn answer_line<W: Write>(
+    alloc: Global,
+    scene: &mut Scene,
+    line: &[u8],
+    answers: &mut Watched<W>,
+    steps: &mut Steps,
+) -> Turn
     requires { length line.now < 257 }
-    ensures { (replies : List Reply) × ShowsAll result replies × TakesLine (scene_of scene.old) (read line.now) replies (scene_of scene.new) }
+    ensures turn { TakesTurn (scene_of scene.old) line.now result (W.contents (source answers.old)) (W.contents (source answers.new)) (scene_of scene.new) }
+    ensures failed { has_failed answers.new ≡ (has_failed answers.old || is_err result.written) }
 {
     match parse(alloc, line) {
-        Ok(command) => {
-            let command = command?;
-            Some(scene.apply(&command, steps))
-        }
-        Err(refusal) => Some(Answer::Refused(refusal)),
+        Ok(None) => Turn {
+            refused: false,
+            written: Ok(()),
+        },
+        Ok(Some(command)) => tell(scene.apply(&command, steps), answers, steps),
+        Err(refusal) => tell(Answer::Refused(refusal), answers, steps),
     }
+}
+
+/// Writes an answer.
+fn tell<W: Write>(answer: Answer, answers: &mut Watched<W>, steps: &mut Steps) -> Turn
+    ensures refused { (reply : Reply) → Shows answer.entry reply → result.refused ≡ is_refused reply }
+    ensures writes { (reply : Reply) → Shows answer.entry reply →
+        Writes (W.contents (source answers.old)) (W.contents (source answers.new)) result.written (text reply) }
+    ensures failed { has_failed answers.new ≡ (has_failed answers.old || is_err result.written) }
+{
+    let refused = is_refusal(&answer);
+    let written = print(answer, answers, steps);
+    Turn { refused, written }
 }
 
 /// Whether an answer is a refusal.

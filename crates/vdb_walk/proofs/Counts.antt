@@ -42,18 +42,18 @@ all_on : (i t : Bool) → (i ≡ true → t ≡ true) → i ≡ (i && t)
 all_on true t h = sym (h refl)
 all_on false t h = refl
 
-none_on : (i t : Bool) → (i ≡ true → t ≡ false) → false ≡ (i && t)
+pub none_on : (i t : Bool) → (i ≡ true → t ≡ false) → false ≡ (i && t)
 none_on true t h = sym (h refl)
 none_on false t h = refl
 
-nothing_apart : IsDistinct coord_eq []
+pub nothing_apart : IsDistinct coord_eq []
 unfolding IsDistinct
 nothing_apart = tt
 
 -- ---- any test
 
 module _ (t : Coord → Bool) where
-  abbrev those : Box → List Coord
+  abbrev pub those : Box → List Coord
   those b = filter t (coordinates b)
 
   those_apart : (b : Box) → IsDistinct coord_eq (those b)
@@ -66,7 +66,7 @@ module _ (t : Coord → Bool) where
       (λ q. is_member-filter coord_equiv s q (λ x e. ap s (coord_exact q x e)) (those b) ∙ ap (λ i. i && s q) (member_passing b t q) ∙ same q ∙ sym (member_passing c t q))
 
   -- those of a box are those of its halves
-  halved : (b c d : Box) → IsHalved b c d → length (those b) ≡ length (those c) + length (those d)
+  pub halved : (b c d : Box) → IsHalved b c d → length (those b) ≡ length (those c) + length (those d)
   halved b c d h =
       let first = passing_within b c (is_inside c) (λ p. in_first (is_inside b p) (is_inside c p) (is_inside d p) (t p) (h.each p)) in
       let second = passing_within b d (λ p. not (is_inside c p)) (λ p. in_second (is_inside b p) (is_inside c p) (is_inside d p) (t p) (h.each p) (h.apart p)) in

@@ -1,4 +1,4 @@
--- Boxes without a key of the table: none of their voxels is active.
+-- Boxes without a key of the table: each of their voxels is the background, inactive.
 use Rattle.std.proofs.Common.{◌≡◌, ◌⊎◌, inl, inr, sym, ap, refl, ℤ, pos, ◌-ℤ◌, ◌≤ℤ◌, ◌<ℤ◌, Bool, true, false, int_le, arith}
 use Rattle.std.specs.Prelude.{Some, None, if◌then◌else◌}
 use Rattle.std.specs.Cmp.{int_cmp_is}
@@ -105,29 +105,33 @@ module _ (bits : Bits) (b : Box) (q : Coord) (inside : is_inside b q ≡ true) w
   to_last = let k = block_bits bits Upper in (number_mono k q.x b.max.x parts.0.1, number_mono k q.y b.max.y parts.1.1, number_mono k q.z b.max.z parts.2.1)
 
 module _ {V : Type 0} (bits : Bits) (t : Layout V) where
-  -- no voxel under an absent key is active
-  absent_off : (q : Coord) → root_at t.root (key bits q) ≡ None → ((field_of bits t).cell q).on ≡ false
-  absent_off q none = either (is_inside everywhere q) (cell_at bits t q) (absent_block bits t q none q refl)
+  -- each voxel under an absent key is the background, inactive
+  absent_plain : (q : Coord) → root_at t.root (key bits q) ≡ None → (field_of bits t).cell q ≡ off t.background
+  absent_plain q none = either (is_inside everywhere q) (cell_at bits t q) (absent_block bits t q none q refl)
     where
-      either : (i : Bool) (c : Cell V) → c ≡ off t.background → (if i then c else off t.background).on ≡ false
-      either true c e = ap (λ (d : Cell V). d.on) e
+      either : (i : Bool) (c : Cell V) → c ≡ off t.background → (if i then c else off t.background) ≡ off t.background
+      either true c e = e
       either false c e = refl
+
+  -- so none is active
+  pub off_from_plain : (b : Box) → ((q : Coord) → is_inside b q ≡ true → (field_of bits t).cell q ≡ off t.background) → (q : Coord) → is_inside b q ≡ true → ((field_of bits t).cell q).on ≡ false
+  off_from_plain b h q inside = ap (λ (d : Cell V). d.on) (h q inside)
 
   module _ (b : Box) where
     abbrev pub before : Coord
     before = let k = key bits b.min in coord k.x k.y (k.z -ℤ pos 1)
 
     -- no key comes past those before the box
-    pub none_off : IsNextKey t.root (Some before) None → (q : Coord) → is_inside b q ≡ true → ((field_of bits t).cell q).on ≡ false
-    none_off next q inside = absent_off q (next (key bits q) (before_less (key bits b.min) (key bits q) (from_first bits b q inside)))
+    pub none_plain : IsNextKey t.root (Some before) None → (q : Coord) → is_inside b q ≡ true → (field_of bits t).cell q ≡ off t.background
+    none_plain next q inside = absent_plain q (next (key bits q) (before_less (key bits b.min) (key bits q) (from_first bits b q inside)))
 
     -- or the first that does comes past those of the box
-    pub past_off : (k : Coord) → IsNextKey t.root (Some before) (Some k) → is_le (coord_cmp k (key bits b.max)) ≡ false → (q : Coord) → is_inside b q ≡ true → ((field_of bits t).cell q).on ≡ false
-    past_off k next past q inside =
+    pub past_plain : (k : Coord) → IsNextKey t.root (Some before) (Some k) → is_le (coord_cmp k (key bits b.max)) ≡ false → (q : Coord) → is_inside b q ≡ true → (field_of bits t).cell q ≡ off t.background
+    past_plain k next past q inside =
         elim (some_or_none (root_at t.root (key bits q))) [
           | inl e ↦
               let least = next.2 (key bits q) (before_less (key bits b.min) (key bits q) (from_first bits b q inside)) (is_some_from (root_at t.root (key bits q)) e.0 e.1) in
               let later = past_greater k (key bits b.max) (key bits q) (to_last bits b q inside) (was_greater _ past) in
               absurd (never least (ap is_gt later))
-          | inr none ↦ absent_off q none
+          | inr none ↦ absent_plain q none
         ]

@@ -2,4 +2,6 @@
 pub mod Counts
 pub mod Cuts
 pub mod Keys
+pub mod OneCell
+pub mod Numbered
 pub mod Surrounds

@@ -2,4 +2,5 @@
 pub mod Halves
 pub mod Reports
 pub mod Passing
+pub mod Numbers
 pub mod Surround

@@ -8,7 +8,7 @@ use Rattle.vdb_coord.specs.declared.Coord.{Coord}
 use Rattle.vdb_coord.specs.declared.Level.TheVariants.{Leaf, Lower, Upper}
 use Rattle.vdb_tree.specs.Field.{Field}
 use Rattle.vdb_tree.specs.Plain.{mixed, roots}
-use Rattle.vdb_walk.specs.declared.census.Census.{Census}
+use Rattle.vdb_walk.specs.declared.smallest.Census.{Census}
 
 -- each of the coordinates once, in block order
 abbrev pub in_block_order : Bits → List Coord → List Coord

@@ -4,6 +4,7 @@ ghost use Rattle.std.specs.Prelude.{◌≡◌, ◌≤◌, ◌^◌, false, IfSome
 ghost use Rattle.std.specs.Option.{unwrap_or};
 ghost use Rattle.vdb_coord.specs.Space.{everywhere, is_inside};
 ghost use Rattle.vdb_coord.specs.declared.Coord.{Coord};
+ghost use Rattle.vdb_tree.specs.Field.{off};
 ghost use Rattle.vdb_tree.specs.Layout.{bits_of, field_of};
 ghost use Rattle.vdb_tree.specs.Plain.{count as active_count};
 
@@ -108,7 +109,7 @@ fn count_leaf<
 }
 
 /// Whether the root table has a key between those of the part's least and its greatest corner, in the order of keys. Where it
-/// has none, no voxel of the part is active.
+/// has none, each voxel of the part is the background, inactive.
 pub(crate) fn has_keys<
     V: Stored<WU> + Stored<WL> + Stored<WF>,
     const U: u32,
@@ -118,7 +119,8 @@ pub(crate) fn has_keys<
     const WL: usize,
     const WF: usize,
 >(tree: &TreeOf<V, U, L, F, WU, WL, WF>, part: Bounds) -> bool
-    ensures { result ≡ false → (q : Coord) → IsTrue (is_inside part q) → ((field_of (bits_of U L F) tree.now).cell q).on ≡ false }
+    ensures inactive { result ≡ false → (q : Coord) → IsTrue (is_inside part q) → ((field_of (bits_of U L F) tree.now).cell q).on ≡ false }
+    ensures plain { result ≡ false → (q : Coord) → IsTrue (is_inside part q) → (field_of (bits_of U L F) tree.now).cell q ≡ off tree.now.background }
 {
     let bits = tree.bits();
     let (first, last) = (part.min().key_in(bits), part.max().key_in(bits));

@@ -27,18 +27,18 @@ pub(crate) fn halves(part: Bounds, bits: Bits) -> Option<(Bounds, Bounds)>
 }
 
 /// The box cut along an edge of blocks of 2 to the power `least`, or more, along x, else along y, else along z.
-fn cut(part: Bounds, least: u32) -> Option<(Bounds, Bounds)>
+pub(crate) fn cut(part: Bounds, least: u32) -> Option<(Bounds, Bounds)>
     ensures some { IfSome result (λ parts. IsHalved part parts.0 parts.1) }
     ensures none { IsNone result → least ≡ 0 → part.min ≡ part.max }
 {
     let (min, max) = (part.min(), part.max());
-    if let Some(x) = edge(min.x, max.x, 31, least) {
+    if let Some(x) = edge(min.x, max.x, least) {
         return Some(cut_x(part, x));
     }
-    if let Some(y) = edge(min.y, max.y, 31, least) {
+    if let Some(y) = edge(min.y, max.y, least) {
         return Some(cut_y(part, y));
     }
-    match edge(min.z, max.z, 31, least) {
+    match edge(min.z, max.z, least) {
         Some(z) => Some(cut_z(part, z)),
         None => None,
     }
@@ -99,9 +99,25 @@ fn two(part: Bounds, last: Coord, first: Coord) -> (Bounds, Bounds)
     }
 }
 
+/// A number above `low`, up to `high`, at which a block of the greatest power of 2 begins, if that power is `least` at least:
+/// the highest bit in which the two differ tells it.
+fn edge(low: i32, high: i32, least: u32) -> Option<i32>
+    ensures some { IfSome result (λ at. (low <ℤ at) × (at ≤ℤ high)) }
+    ensures none { IsNone result → least ≡ 0 → high ≤ℤ low }
+{
+    if high <= low {
+        return None;
+    }
+    let bits = 31u32.saturating_sub((low ^ high).leading_zeros());
+    if bits < least {
+        return None;
+    }
+    edge_below(low, high, bits, least)
+}
+
 /// A number above `low`, up to `high`, at which a block of 2 to the power `bits` begins, or else one of the next lower power
 /// that has such a number: the power is `least` at least.
-fn edge(low: i32, high: i32, bits: u32, least: u32) -> Option<i32>
+fn edge_below(low: i32, high: i32, bits: u32, least: u32) -> Option<i32>
     requires { bits ≤ 31 }
     ensures some { IfSome result (λ at. (low <ℤ at) × (at ≤ℤ high)) }
     ensures none { IsNone result → least ≡ 0 → high ≤ℤ low }
@@ -113,5 +129,5 @@ fn edge(low: i32, high: i32, bits: u32, least: u32) -> Option<i32>
     if bits == 0 || bits <= least {
         return None;
     }
-    edge(low, high, bits - 1, least)
+    edge_below(low, high, bits - 1, least)
 }

@@ -1,5 +1,6 @@
 //! Trees of both layouts and of the smallest nodes. Expected values are worked out by hand.
 
+mod census;
 mod surround;
 
 use crate::count;

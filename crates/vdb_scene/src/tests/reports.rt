@@ -2,6 +2,7 @@
 
 use super::*;
 use vdb_coord::Coord;
+use vdb_walk::Census;
 
 /// A command that counts a grid's active voxels.
 fn count(name: Name) -> Command {
@@ -31,6 +32,20 @@ fn is_count(answer: &Answer, active: u128) -> bool {
 fn is_bounds(answer: &Answer, corners: Option<(Coord, Coord)>) -> bool {
     match answer {
         Answer::Bounds(given) => *given == corners,
+        _ => false,
+    }
+}
+
+/// Whether an answer is this census: root blocks that aren't plain, and blocks of each level that aren't constant.
+fn is_census(answer: &Answer, counts: [u64; 4]) -> bool {
+    let wanted = Census {
+        roots: counts[0],
+        upper: counts[1],
+        lower: counts[2],
+        leaf: counts[3],
+    };
+    match answer {
+        Answer::Census(given) => *given == wanted,
         _ => false,
     }
 }
@@ -129,7 +144,56 @@ fn reports_are_refused_in_order(rt: HostRuntime) {
         (count_in(a, zero, far), Refusal::ValueRange),
         (count_in(a, point(1, 0, 0), zero), Refusal::Box),
         (Command::Bounds { name: b }, Refusal::NoGrid),
+        (Command::Census { name: b }, Refusal::NoGrid),
     ] {
         assert!(rt; is_refused(&scene.apply(&command, &mut steps), refusal));
+    }
+}
+
+// Nodes that stand without need make no difference, and neither does the order of the commands.
+#[test]
+fn blocks_that_are_no_single_tile_are_counted(rt: HostRuntime) {
+    let mut steps = Steps::new(&rt);
+    let mut scene = Scene::new(rt.alloc());
+    for (byte, kind, background, value) in [
+        (
+            b'b',
+            Kind::Bool,
+            Literal::Truth(true),
+            Literal::Truth(false),
+        ),
+        (b'i', Kind::I32, near(3), near(-1)),
+        (b'l', Kind::I64, near(3), near(-1)),
+    ] {
+        let name = letter(&rt, byte);
+        let census = Command::Census { name };
+        let unset = Command::Unset {
+            name,
+            accessor: None,
+            at: point(-1, 0, 0),
+            value: background,
+        };
+        let root_block = Command::Fill {
+            name,
+            corners: Corners {
+                min: point(0, 0, 0),
+                max: point(4095, 4095, 4095),
+            },
+            value,
+            on: true,
+        };
+        for (command, wanted) in [
+            (grid(name, kind, background), [0, 0, 0, 0]),
+            (set(name, point(5, 5, 5), value), [1, 1, 1, 1]),
+            (set(name, point(5, 5, 9), value), [1, 1, 1, 2]),
+            (set(name, point(-1, 0, 0), background), [2, 2, 2, 3]),
+            (unset, [1, 1, 1, 2]),
+            (root_block, [1, 0, 0, 0]),
+            (Command::Prune { name }, [1, 0, 0, 0]),
+            (state(name, point(9, 9, 9), false), [1, 1, 1, 1]),
+        ] {
+            assert!(rt; is_done(&scene.apply(&command, &mut steps)));
+            assert!(rt; is_census(&scene.apply(&census, &mut steps), wanted));
+        }
     }
 }

@@ -1,8 +1,8 @@
-use Rattle.std.proofs.Common.{◌∙◌, sym, ap, refl, rules, Err, Some, ◌||◌}
+use Rattle.std.proofs.Common.{◌∙◌, sym, ap, refl, rules, Err, Some}
 use Rattle.std.proofs.KnownBytes.{prepend_known-nil}
 use Rattle.vdb_scene.specs.Watched.{has_failed, source}
 use Rattle.vdb_script.specs.Reading.{Position, ahead, budget}
-use Rattle.vdb_shell.proofs.Turns.{ended_at, never_failed, told_answered, told_cut, told_end, told_fault, told_none, told_silent}
+use Rattle.vdb_shell.proofs.Turns.{ended_at, never_failed, told_cut, told_end, told_fault, told_more, told_none}
 use Rattle.vdb_shell.proofs.playing.play.Goals as goal
 
 pub lines-init : goal.lines-init
@@ -16,48 +16,27 @@ lines-init g c = record {
   answers = c.requires.answers_fresh;
 }
 
-pub returns-in-Err-None-clause-plays : goal.returns-in-Err-None-clause-plays
-returns-in-Err-None-clause-plays g c = λ bytes is.
-    let left = g.R.Read.remaining (source c.next_answer.new.script) in
-    ended_at _ bytes _ _ _ _ _ _ _ c.in-Err-None.ensures.same
-    (told_end _ bytes _ _ _ _ _ _ (c.lines.invariant.told bytes is) (ahead c.next_answer.new.lines.source left) c.next_answer.new.lines.source left
-    (c.in-Err-None.ensures.end (ap Err c.in-Err-None.field-0-is)) refl)
-
 pub returns-in-Err-Some-clause-plays : goal.returns-in-Err-Some-clause-plays
 returns-in-Err-Some-clause-plays g c = λ bytes is.
-    rw c.in-Err-Some.fault-is (ended_at _ bytes _ _ _ _ _ _ _ c.in-Err-Some.ensures.same
+    rw (c.in-Err-Some.fault-is, c.in-Err-Some.ensures.silent) (ended_at _ bytes _ _ _ _ _ _ _ c.in-Err-Some.ensures.same
     (told_fault _ bytes _ _ _ _ _ _ (c.lines.invariant.told bytes is) _ _
     (λ e. c.in-Err-Some.ensures.overflow (ap Err (c.in-Err-Some.field-0-is ∙ ap Some e)))
     (λ e. c.in-Err-Some.ensures.read (ap Err (c.in-Err-Some.field-0-is ∙ ap Some e)))
-    (λ e ended. never_failed (has_failed c.lines.script) (has_failed c.next_answer.new.script) c.in-Err-Some.field-0 c.lines.invariant.script
+    (λ e ended. never_failed (has_failed c.lines.script) (has_failed c.play_line.new.script) c.in-Err-Some.field-0 c.lines.invariant.script
     (ap has_failed (c.in-Err-Some.ensures.quiet ended)) c.in-Err-Some.ensures.failed (c.in-Err-Some.field-0-is ∙ ap Some e))))
-
-pub lines-preserved-in-Ok-None : goal.lines-preserved-in-Ok-None
-lines-preserved-in-Ok-None g c =
-    let h = rw c.in-Ok-None.field-0-is at c.in-Ok-None.ensures.line in
-    record {
-      told = λ bytes is. told_silent _ bytes _ _ _ _ _ _ (c.lines.invariant.told bytes is) _ _ _ h.0 h.1 h.2 h.4 h.3;
-      unended = search rules;
-      ends = search rules;
-      script = search rules;
-      answers = search rules;
-    }
-
-pub lines-preserved : goal.lines-preserved
-lines-preserved g c =
-    let h = rw c.in-Ok-Some.field-0-is at c.in-Ok-Some.ensures.line in
-    record {
-      told = λ bytes is.
-          told_answered _ bytes _ _ _ _ _ _ (c.lines.invariant.told bytes is) _ _ _ h.0 h.1 h.2 h.4 c.in-Ok-Some.answer _ _ h.3
-          (λ reply shown. ap (λ b. c.lines.refused || b) (c.is_refusal-refused.ensures reply shown)) c.print.result c.print.ensures.writes (sym c.is_err.ensures.value ∙ c.if-is_err.false);
-      unended = search rules;
-      ends = search rules;
-      script = search rules;
-      answers = search rules;
-    }
 
 pub returns-then-is_err-clause-plays : goal.returns-then-is_err-clause-plays
 returns-then-is_err-clause-plays g c = λ bytes is.
-    let h = rw c.in-Ok-Some.field-0-is at c.in-Ok-Some.ensures.line in
-    told_cut _ bytes _ _ _ _ _ _ (c.lines.invariant.told bytes is) _ _ _ h.0 h.1 h.2 h.4 c.in-Ok-Some.answer _ _ h.3
-    (λ reply shown. ap (λ b. c.lines.refused || b) (c.is_refusal-refused.ensures reply shown)) c.print.result _ refl c.print.ensures.writes (sym c.is_err.ensures.value ∙ c.if-is_err.true)
+    let h = c.in-Ok.ensures.line in
+    told_cut _ bytes _ _ _ _ _ _ (c.lines.invariant.told bytes is) _ _ _ h.0 c.in-Ok.turn _ h.1 h.2 _ refl (sym c.is_err.ensures.value ∙ c.if-is_err.true)
+
+pub lines-preserved : goal.lines-preserved
+lines-preserved g c =
+    let h = c.in-Ok.ensures.line in
+    record {
+      told = λ bytes is. told_more _ bytes _ _ _ _ _ _ (c.lines.invariant.told bytes is) _ _ _ h.0 c.in-Ok.turn _ h.1 h.2 (sym c.is_err.ensures.value ∙ c.if-is_err.false);
+      unended = search rules;
+      ends = search rules;
+      script = search rules;
+      answers = search rules;
+    }

@@ -6,7 +6,7 @@ use Rattle.vdb_walk.proofs.counting.+count_in.Goals as goal
 
 pub returns-then-not-has_keys-clause-value : goal.returns-then-not-has_keys-clause-value
 returns-then-not-has_keys-clause-value g t c =
-    sym (count_none (field_of (bits_of g.row.U g.row.L g.row.F) c.args.tree.now) c.args.part (c.has_keys.ensures (search rules)))
+    sym (count_none (field_of (bits_of g.row.U g.row.L g.row.F) c.args.tree.now) c.args.part (c.has_keys.ensures.inactive (search rules)))
 
 pub returns-then-piece-clause-value : goal.returns-then-piece-clause-value
 returns-then-piece-clause-value g t c =

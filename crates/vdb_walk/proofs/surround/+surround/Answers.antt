@@ -12,7 +12,7 @@ returns-then-lies_within-clause-least g t c =
 
 pub returns-then-not-has_keys-clause-least : goal.returns-then-not-has_keys-clause-least
 returns-then-not-has_keys-clause-least g t c =
-    kept_off (field_of (bits_of g.row.U g.row.L g.row.F) c.args.tree.now) c.args.found c.args.part (c.has_keys.ensures (search rules))
+    kept_off (field_of (bits_of g.row.U g.row.L g.row.F) c.args.tree.now) c.args.found c.args.part (c.has_keys.ensures.inactive (search rules))
 
 pub returns-then-piece-clause-least : goal.returns-then-piece-clause-least
 returns-then-piece-clause-least g t c =

@@ -1,7 +1,7 @@
 use Rattle.std.proofs.Common.{rules, arith, length-drop}
 use Rattle.std.proofs.KnownBytes.{Appends-kept}
 use Rattle.vdb_script.proofs.Writing.{Appends-more, Appends-none, Writes-front}
-use Rattle.vdb_script.proofs.printing.write_bytes.Goals as goal
+use Rattle.vdb_script.proofs.output.write_bytes.Goals as goal
 
 pub returns-in-Ok-eq0-clause-writes : goal.returns-in-Ok-eq0-clause-writes
 returns-in-Ok-eq0-clause-writes g c =

@@ -1,7 +1,7 @@
 use Rattle.std.proofs.Common.{◌≡◌, ◌≤◌, ◌-◌, length, take}
 use Rattle.std.specs.Io.KnownBytes.{Appends}
 use Rattle.vdb_scene.specs.Watched.{has_failed, source}
-use Rattle.vdb_script.proofs.printing.write_bytes.Given as goal
+use Rattle.vdb_script.proofs.output.write_bytes.Given as goal
 
 -- what was taken so far
 abbrev pub invariant-loop-at : goal.invariant-loop-at

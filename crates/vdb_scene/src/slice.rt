@@ -1,0 +1,127 @@
+//! The cells of a part of a plane, row by row.
+ghost use Rattle.std.specs.Prelude.{◌≡◌, length};
+ghost use Rattle.vdb_coord.specs.Space.{extent};
+ghost use Rattle.vdb_scene.specs.Grids.{grid_field};
+ghost use Rattle.vdb_scene.specs.Slices.{HandsCell, HandsNumber, HandsRow, cell_at, rows_left};
+ghost use Rattle.vdb_scene.specs.Step.{rows};
+
+use crate::{AnyGrid, Scalar};
+use vdb_coord::{Bounds, Coord};
+use vdb_pool::Steps;
+use vdb_value::Cell;
+
+/// The rows of a part of a plane, by rising y. It lends the grid.
+#[derive(Drop)]
+pub struct Slice<'a> {
+    grid: &'a AnyGrid,
+    min: Coord,
+    max: Coord,
+    /// The y of the next row, if there is one.
+    y: Option<i32>,
+}
+
+/// The cells of a row, by rising x. It lends the grid.
+#[derive(Drop)]
+pub struct SliceRow<'a> {
+    grid: &'a AnyGrid,
+    y: i32,
+    z: i32,
+    /// The x of the next cell, if there is one.
+    x: Option<i32>,
+    last: i32,
+}
+
+impl<'a> Slice<'a> {
+    /// The rows of a box, at its least z.
+    pub(crate) fn new(grid: &'a AnyGrid, bounds: Bounds) -> Slice<'a>
+        ensures { rows_left result ≡ rows (grid_field grid.now) bounds }
+    {
+        let (min, max) = (bounds.min(), bounds.max());
+        Slice {
+            grid,
+            min,
+            max,
+            y: Some(min.y),
+        }
+    }
+
+    /// How many rows are left.
+    pub fn len(&self) -> u64
+        ensures { result ≡ length (rows_left self.now) }
+    {
+        match self.y {
+            Some(y) => numbers(y, self.max.y),
+            None => 0,
+        }
+    }
+
+    /// The next row, or `None` behind the last one.
+    pub fn next(&mut self) -> Option<SliceRow<'a>>
+        ensures { HandsRow self.old result self.new }
+    {
+        match advance(&mut self.y, self.max.y) {
+            Some(y) => Some(SliceRow {
+                grid: self.grid,
+                y,
+                z: self.min.z,
+                x: Some(self.min.x),
+                last: self.max.x,
+            }),
+            None => None,
+        }
+    }
+}
+
+impl<'a> SliceRow<'a> {
+    /// The y of its cells.
+    pub fn y(&self) -> i32
+        ensures { result ≡ self.now.y }
+    {
+        self.y
+    }
+
+    /// The next cell, or `None` behind the last one.
+    pub fn next(&mut self, steps: &mut Steps) -> Option<Cell<Scalar>>
+        ensures { HandsCell self.old result self.new }
+    {
+        match advance(&mut self.x, self.last) {
+            Some(x) => Some(self.cell(x, steps)),
+            None => None,
+        }
+    }
+
+    /// The cell at an x.
+    fn cell(&self, x: i32, steps: &mut Steps) -> Cell<Scalar>
+        ensures { result ≡ cell_at self.now x }
+    {
+        let (y, z) = (self.y, self.z);
+        self.grid.get(Coord { x, y, z }, steps)
+    }
+}
+
+/// How many numbers there are from one to another, both counted.
+pub(crate) fn numbers(low: i32, high: i32) -> u64
+    ensures { result ≡ extent low high }
+{
+    if high < low {
+        return 0;
+    }
+    u64::from(high.abs_diff(low)) + 1
+}
+
+/// The next number up to the last one, if there is one, and then `next` is the one behind it.
+fn advance(next: &mut Option<i32>, last: i32) -> Option<i32>
+    ensures { HandsNumber next.old last result next.new }
+{
+    match *next {
+        Some(number) => {
+            if number < last {
+                *next = Some(number + 1);
+                return Some(number);
+            }
+            *next = None;
+            if number == last { Some(number) } else { None }
+        }
+        None => None,
+    }
+}
