@@ -6,7 +6,7 @@ use Rattle.std.proofs.lemmas.Int.{ints, to_z-of_z}
 use Rattle.vdb_coord.specs.Space.{Box, coord, is_between, is_box}
 use Rattle.vdb_coord.specs.declared.Coord.{Coord}
 use Rattle.vdb_coord.proofs.Boxes.{both, three, together}
-use Rattle.vdb_coord.proofs.Meeting.{le_from_test, test_from_le}
+use Rattle.vdb_coord.proofs.Meeting.{test_from_le}
 use Rattle.vdb_walk.specs.Halves.{IsHalved}
 
 -- what lies below a number along an axis, and what lies from it on
@@ -132,16 +132,6 @@ module _ (b : Box) (at : ℤ) where
     boxes_z h =
         let t = three (int_le b.min.x b.max.x) (int_le b.min.y b.max.y) (int_le b.min.z b.max.z) h in
         (together _ _ _ t.0 t.1 (low_ordered b.min.z b.max.z at low), together _ _ _ t.0 t.1 (test_from_le at b.max.z high))
-
--- a box in order that no axis can be cut along is one coordinate
-pub one_coordinate : (b : Box) → is_box b ≡ true → b.max.x ≤ℤ b.min.x → b.max.y ≤ℤ b.min.y → b.max.z ≤ℤ b.min.z → b.min ≡ b.max
-one_coordinate b h x y z =
-    let t = three (int_le b.min.x b.max.x) (int_le b.min.y b.max.y) (int_le b.min.z b.max.z) h in
-    let both : (m n : ℤ) → m ≤ℤ n → n ≤ℤ m → m ≡ n = λ m n a c. omega (arith, ints, a, c) in
-    let ex = both b.min.x b.max.x (le_from_test _ _ t.0) x in
-    let ey = both b.min.y b.max.y (le_from_test _ _ t.1) y in
-    let ez = both b.min.z b.max.z (le_from_test _ _ t.2) z in
-    λ i. record { x = ex i; y = ey i; z = ez i }
 
 -- a number of 32 bits before another
 pub lowered : (x m : ℤ) → SFits w32 x → SFits w32 m → m <ℤ x → to_z w32 (of_z w32 (to_z w32 (of_z w32 x) -ℤ pos 1)) ≡ x -ℤ pos 1

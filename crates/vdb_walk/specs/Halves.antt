@@ -1,6 +1,11 @@
 -- Boxes cut in two.
-use Rattle.std.specs.Prelude.{◌≡◌, ◌<◌, ◌+◌, ℕ, ◌-ℤ◌, unsigned_abs, ◌&&◌, ◌||◌, false}
-use Rattle.vdb_coord.specs.Space.{Box, is_inside}
+use Rattle.std.specs.Prelude.{◌≡◌, ◌<◌, ◌+◌, ℕ, ◌-ℤ◌, unsigned_abs, ◌&&◌, ◌||◌, false, IsTrue}
+use Rattle.std.specs.Ordering.{is_lt}
+use Rattle.vdb_coord.specs.Blocks.{block_cmp}
+use Rattle.vdb_coord.specs.Components.{number_at}
+use Rattle.vdb_coord.specs.Space.{Box, coord, is_inside}
+use Rattle.vdb_coord.specs.Walk.{IsBefore}
+use Rattle.vdb_coord.specs.declared.Bits.{Bits}
 use Rattle.vdb_coord.specs.declared.Coord.{Coord}
 
 -- how far a box reaches along its three axes together
@@ -13,3 +18,15 @@ pub record IsHalved (b first second : Box) : Type 0 where
   pub apart : (p : Coord) → (is_inside first p && is_inside second p) ≡ false
   pub first_less : reach first < reach b
   pub second_less : reach second < reach b
+
+-- which block of 2 to the power `low` along each axis holds p, counted in such blocks
+abbrev pub numbers : ℕ → Coord → Coord
+numbers low p = coord (number_at low p.x) (number_at low p.y) (number_at low p.z)
+
+-- the blocks of the first box come before those of the second, by x, then by y, then by z
+abbrev pub AreOrdered : ℕ → Box → Box → Type 0
+AreOrdered low first second = (p q : Coord) → IsTrue (is_inside first p) → IsTrue (is_inside second q) → IsBefore (numbers low p) (numbers low q)
+
+-- each coordinate of the first box comes before each of the second in block order
+abbrev pub AreInBlockOrder : Bits → Box → Box → Type 0
+AreInBlockOrder bits first second = (p q : Coord) → IsTrue (is_inside first p) → IsTrue (is_inside second q) → IsTrue (is_lt (block_cmp bits p q))

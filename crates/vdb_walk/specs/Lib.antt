@@ -4,3 +4,4 @@ pub mod Reports
 pub mod Passing
 pub mod Numbers
 pub mod Surround
+pub mod Firsts

@@ -1,17 +1,21 @@
 //! Boxes cut in two, along the edges of blocks.
 
-ghost use Rattle.std.specs.Prelude.{◌≡◌, ◌≤◌, ◌≤ℤ◌, ◌<ℤ◌, ◌-ℤ◌, pos, IfSome, IsNone, IsTrue};
+ghost use Rattle.std.specs.Prelude.{◌≡◌, ◌≤◌, ◌^◌, ◌≤ℤ◌, ◌<ℤ◌, ◌-ℤ◌, pos, IfSome, IsNone, IsTrue};
+ghost use Rattle.vdb_coord.specs.Components.{first_of, number_at};
 ghost use Rattle.vdb_coord.specs.Entries.{AreBits};
-ghost use Rattle.vdb_coord.specs.Space.{coord, is_box};
-ghost use Rattle.vdb_walk.specs.Halves.{IsHalved};
+ghost use Rattle.vdb_coord.specs.Space.{is_box, is_inside};
+ghost use Rattle.vdb_coord.specs.declared.Coord.{Coord};
+ghost use Rattle.vdb_walk.specs.Halves.{AreInBlockOrder, AreOrdered, IsHalved, numbers};
 
 use vdb_coord::{Bits, Bounds, Coord, Level};
 
 /// The box in two parts, cut along the edge of root blocks if there is one within it, else of lower blocks, else of leaf
-/// blocks, else of voxels; `None` where it is one voxel. So no tile is cut before the part lies within its block.
+/// blocks, else of voxels; `None` where it is one voxel. So no tile is cut before the part lies within its block, and the first
+/// part comes before the second in block order.
 pub(crate) fn halves(part: Bounds, bits: Bits) -> Option<(Bounds, Bounds)>
     requires { AreBits bits }
     ensures some { IfSome result (λ parts. IsHalved part parts.0 parts.1) }
+    ensures ordered { IfSome result (λ parts. AreInBlockOrder bits parts.0 parts.1) }
     ensures none { IsNone result → part.min ≡ part.max }
 {
     if let Some(parts) = cut(part, bits.block_bits(Level::Upper)) {
@@ -26,10 +30,12 @@ pub(crate) fn halves(part: Bounds, bits: Bits) -> Option<(Bounds, Bounds)>
     cut(part, 0)
 }
 
-/// The box cut along an edge of blocks of 2 to the power `least`, or more, along x, else along y, else along z.
+/// The box cut along an edge of blocks of 2 to the power `least`, along x, else along y, else along z.
 pub(crate) fn cut(part: Bounds, least: u32) -> Option<(Bounds, Bounds)>
+    requires { least ≤ 15 }
     ensures some { IfSome result (λ parts. IsHalved part parts.0 parts.1) }
-    ensures none { IsNone result → least ≡ 0 → part.min ≡ part.max }
+    ensures ordered { IfSome result (λ parts. AreOrdered least parts.0 parts.1) }
+    ensures none { IsNone result → numbers least part.min ≡ numbers least part.max }
 {
     let (min, max) = (part.min(), part.max());
     if let Some(x) = edge(min.x, max.x, least) {
@@ -47,7 +53,9 @@ pub(crate) fn cut(part: Bounds, least: u32) -> Option<(Bounds, Bounds)>
 /// The box cut along x: what lies below a number, and what lies from it on.
 fn cut_x(part: Bounds, x: i32) -> (Bounds, Bounds)
     requires { (part.min.x <ℤ x) × (x ≤ℤ part.max.x) }
-    ensures { IsHalved part result.0 result.1 }
+    ensures halved { IsHalved part result.0 result.1 }
+    ensures below { (p : Coord) → IsTrue (is_inside result.0 p) → p.x <ℤ x }
+    ensures from_on { (p : Coord) → IsTrue (is_inside result.1 p) → x ≤ℤ p.x }
 {
     let last = Coord {
         x: x - 1,
@@ -60,7 +68,9 @@ fn cut_x(part: Bounds, x: i32) -> (Bounds, Bounds)
 /// The box cut along y: what lies below a number, and what lies from it on.
 fn cut_y(part: Bounds, y: i32) -> (Bounds, Bounds)
     requires { (part.min.y <ℤ y) × (y ≤ℤ part.max.y) }
-    ensures { IsHalved part result.0 result.1 }
+    ensures halved { IsHalved part result.0 result.1 }
+    ensures below { (p : Coord) → IsTrue (is_inside result.0 p) → p.y <ℤ y }
+    ensures from_on { (p : Coord) → IsTrue (is_inside result.1 p) → y ≤ℤ p.y }
 {
     let last = Coord {
         y: y - 1,
@@ -73,7 +83,9 @@ fn cut_y(part: Bounds, y: i32) -> (Bounds, Bounds)
 /// The box cut along z: what lies below a number, and what lies from it on.
 fn cut_z(part: Bounds, z: i32) -> (Bounds, Bounds)
     requires { (part.min.z <ℤ z) × (z ≤ℤ part.max.z) }
-    ensures { IsHalved part result.0 result.1 }
+    ensures halved { IsHalved part result.0 result.1 }
+    ensures below { (p : Coord) → IsTrue (is_inside result.0 p) → p.z <ℤ z }
+    ensures from_on { (p : Coord) → IsTrue (is_inside result.1 p) → z ≤ℤ p.z }
 {
     let last = Coord {
         z: z - 1,
@@ -99,35 +111,40 @@ fn two(part: Bounds, last: Coord, first: Coord) -> (Bounds, Bounds)
     }
 }
 
-/// A number above `low`, up to `high`, at which a block of the greatest power of 2 begins, if that power is `least` at least:
-/// the highest bit in which the two differ tells it.
+/// The first number of a block of 2 to the power `least` that begins above `low`, up to `high`: the one in the middle.
 fn edge(low: i32, high: i32, least: u32) -> Option<i32>
+    requires { least ≤ 15 }
     ensures some { IfSome result (λ at. (low <ℤ at) × (at ≤ℤ high)) }
-    ensures none { IsNone result → least ≡ 0 → high ≤ℤ low }
+    ensures first { IfSome result (λ at. first_of least (number_at least at) ≡ at) }
+    ensures none { IsNone result → number_at least high ≤ℤ number_at least low }
 {
-    if high <= low {
+    let (first, last) = (number(low, least), number(high, least));
+    if last <= first {
         return None;
     }
-    let bits = 31u32.saturating_sub((low ^ high).leading_zeros());
-    if bits < least {
-        return None;
-    }
-    edge_below(low, high, bits, least)
+    Some(middle(first, last) * span(least))
 }
 
-/// A number above `low`, up to `high`, at which a block of 2 to the power `bits` begins, or else one of the next lower power
-/// that has such a number: the power is `least` at least.
-fn edge_below(low: i32, high: i32, bits: u32, least: u32) -> Option<i32>
-    requires { bits ≤ 31 }
-    ensures some { IfSome result (λ at. (low <ℤ at) × (at ≤ℤ high)) }
-    ensures none { IsNone result → least ≡ 0 → high ≤ℤ low }
+/// Which block of 2 to the power `bits` holds the component, counted in such blocks.
+fn number(component: i32, bits: u32) -> i32
+    requires { bits ≤ 15 }
+    ensures { result ≡ number_at bits component }
 {
-    let first = high >> bits << bits;
-    if low < first && first <= high {
-        return Some(first);
-    }
-    if bits == 0 || bits <= least {
-        return None;
-    }
-    edge_below(low, high, bits - 1, least)
+    component >> bits
+}
+
+/// How many numbers such a block holds.
+fn span(bits: u32) -> i32
+    requires { bits ≤ 15 }
+    ensures { result ≡ pos (2 ^ bits) }
+{
+    1 << bits
+}
+
+/// A number above the first, up to the last, as far from both.
+fn middle(first: i32, last: i32) -> i32
+    requires { first <ℤ last }
+    ensures { (first <ℤ result) × (result ≤ℤ last) }
+{
+    last - (last.abs_diff(first) / 2) as i32
 }

@@ -3,7 +3,10 @@
 
 mod counting;
 mod halves;
+mod listing;
 mod mixed;
+mod order;
+mod seeking;
 mod smallest;
 mod surround;
 #[cfg(test)]
@@ -11,7 +14,9 @@ mod tests;
 mod uniformity;
 
 pub use counting::count;
+pub use listing::{Listing, list};
 pub use mixed::census;
+pub use seeking::next_active;
 pub use smallest::Census;
-pub use uniformity::uniform;
 pub use surround::active_bounds;
+pub use uniformity::uniform;

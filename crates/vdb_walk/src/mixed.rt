@@ -137,6 +137,7 @@ fn blocks_box(numbers: Bounds, bits: Bits, level: Level) -> Bounds
 /// The numbers of the level's blocks in two parts, cut along an edge of root blocks if there is one, else of lower blocks, else
 /// anywhere; `None` where there is one number. So no tile is cut before all blocks lie within its block.
 fn number_halves(numbers: Bounds, bits: Bits, level: Level) -> Option<(Bounds, Bounds)>
+    requires { AreBits bits }
     ensures some { IfSome result (λ parts. IsHalved numbers parts.0 parts.1) }
     ensures none { IsNone result → numbers.min ≡ numbers.max }
 {
