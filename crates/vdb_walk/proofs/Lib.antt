@@ -6,3 +6,4 @@ pub mod BoxOrder
 pub mod Firsts
 pub mod LeafSeeks
 pub mod InOrder
+pub mod PiecesInTurn

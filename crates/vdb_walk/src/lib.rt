@@ -6,6 +6,7 @@ mod counting;
 mod halves;
 mod listing;
 mod order;
+mod passing;
 mod seeking;
 #[cfg(test)]
 mod tests;
@@ -13,4 +14,5 @@ mod tests;
 pub use census::Census;
 pub use counting::count;
 pub use listing::{Listing, list};
+pub use passing::Pieces;
 pub use seeking::next_active;
