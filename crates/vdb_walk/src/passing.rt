@@ -6,7 +6,6 @@ ghost use Rattle.vdb_coord.specs.Blocks.{key};
 ghost use Rattle.vdb_coord.specs.Entries.{AreBits};
 ghost use Rattle.vdb_coord.specs.Space.{everywhere, is_inside};
 ghost use Rattle.vdb_tree.specs.Layout.{bits_of, root_at};
-ghost use Rattle.vdb_tree.specs.Table.{IsPast};
 ghost use Rattle.vdb_walk.specs.Firsts.{EndsPiece, IsEntered, IsEnteredPast, IsFirst};
 ghost use Rattle.vdb_walk.specs.Passing.{IsNextPiece, Passage};
 

@@ -87,11 +87,11 @@ fn five_voxels(rt: HostRuntime) -> Result<(), TreeRefusal> {
 fn limits(rt: HostRuntime) -> Result<(), TreeRefusal> {
     let mut steps = Steps::new(&rt);
     let mut tree = Tree::new(rt.alloc(), 0i32, 4096);
-    for z in 0..5 {
+    for z in 0..5i32 {
         tree.write(at(0, 0, z.wrapping_mul(4)), Write::On(z), &mut steps)?;
     }
     let bounds = Bounds::new(at(0, 0, 0), at(0, 0, 19)).expect(&rt, "a box");
-    for (limit, handed, more) in [(10, 5, false), (2, 2, true), (5, 5, false), (0, 0, true)] {
+    for (limit, handed, more) in [(10, 5i32, false), (2, 2, true), (5, 5, false), (0, 0, true)] {
         let mut listing = list(&tree, bounds, limit);
         for z in 0..handed {
             assert_eq!(rt;
