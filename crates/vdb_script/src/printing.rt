@@ -9,9 +9,9 @@ ghost use Rattle.vdb_scene.specs.Watched.{has_failed, source};
 ghost use Rattle.vdb_script.specs.Text.{line, state_text, text, word};
 ghost use Rattle.vdb_script.specs.Writing.{Writes};
 
+use crate::lists::print_list;
 use crate::output::{WriteFault, write_bytes};
 use crate::reports::{bounds_line, census_line, count_line};
-use crate::lists::print_list;
 use crate::slices::print_slice;
 use arrayvec::ArrayVec;
 use itoa::Buffer;

@@ -1,6 +1,8 @@
 //! Sessions over memory, over readers and writers that fail, and over readers that never end.
 ghost use Rattle.std.specs.Prelude.{Some};
 
+mod layouts;
+mod lists;
 mod random;
 mod slices;
 

@@ -1,8 +1,7 @@
 //! Trees of both layouts and of the smallest nodes. Expected values are worked out by hand.
+mod census;
 mod listing;
 mod passing;
-
-mod census;
 mod surround;
 
 use crate::count;

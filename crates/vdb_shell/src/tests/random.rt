@@ -8,13 +8,13 @@ use vdb_pool::Steps;
 
 /// What is drawn next: numbers by Knuth's generator of 64 bits.
 #[derive(Drop)]
-struct Draws {
-    state: u64,
+pub(super) struct Draws {
+    pub(super) state: u64,
 }
 
 impl Draws {
     /// A number below the bound, by the upper bits.
-    fn below(&mut self, bound: u64) -> usize
+    pub(super) fn below(&mut self, bound: u64) -> usize
         requires { 0 < bound }
         ensures { result < bound }
     {

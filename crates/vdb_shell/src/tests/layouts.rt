@@ -1,0 +1,114 @@
+//! Random scripts with prunes and voxelisings put in anywhere, which must not change an answer.
+
+use super::random::Draws;
+use super::session;
+use std::alloc::AllocError;
+use std::process::Abort;
+use vdb_pool::Steps;
+use vdb_scene::Watched;
+
+/// Adds a number, drawn from -9 to 16.
+fn add_component(text: &mut Vec<u8>, draws: &mut Draws) -> Result<i32, AllocError> {
+    let number = draws.below(26) as i32 - 9;
+    if number < 0 {
+        text.push(b'-')?;
+    }
+    let size = number.unsigned_abs() as u8;
+    if size >= 10 {
+        text.push(b'0' + size / 10 % 10)?;
+    }
+    text.push(b'0' + size % 10)?;
+    text.push(b' ')?;
+    Ok(number)
+}
+
+/// Adds a coordinate.
+fn add_place(text: &mut Vec<u8>, draws: &mut Draws) -> Result<(), AllocError> {
+    for _ in 0..3 {
+        let _ = add_component(text, draws)?;
+    }
+    Ok(())
+}
+
+/// Adds a line that writes voxels of the grid `a`; where its corners are no box it is refused.
+fn add_write(text: &mut Vec<u8>, draws: &mut Draws) -> Result<(), AllocError> {
+    match draws.below(5) {
+        0 => {
+            text.extend_from_slice(b"fill a ")?;
+            add_place(text, draws)?;
+            add_place(text, draws)?;
+            text.extend_from_slice(b"3 on\n")
+        }
+        1 => {
+            text.extend_from_slice(b"fill a 0 0 0 7 15 ")?;
+            let _ = add_component(text, draws)?;
+            text.extend_from_slice(b"4 off\n")
+        }
+        2 => {
+            text.extend_from_slice(b"clip a -9 -9 -8 ")?;
+            add_place(text, draws)?;
+            text.extend_from_slice(b"\n")
+        }
+        3 => {
+            text.extend_from_slice(b"set a - ")?;
+            add_place(text, draws)?;
+            text.extend_from_slice(b"3\n")
+        }
+        _ => {
+            text.extend_from_slice(b"state a - ")?;
+            add_place(text, draws)?;
+            text.extend_from_slice(b"on\n")
+        }
+    }
+}
+
+/// Adds a line that changes the layout of a grid alone.
+fn add_layout(text: &mut Vec<u8>, grid: u8, turn: usize) -> Result<(), AllocError> {
+    if turn == 0 {
+        text.extend_from_slice(b"prune ")?;
+        text.push(grid)?;
+        return text.extend_from_slice(b"\n");
+    }
+    text.extend_from_slice(b"voxelise ")?;
+    text.push(grid)?;
+    text.extend_from_slice(b" -9 -8 -9 8 16 12\n")
+}
+
+/// A script of writes and reports on the grid `a`, with changes of the layout of `grid`.
+fn script(text: &mut Vec<u8>, grid: u8, seed: u64) -> Result<(), AllocError> {
+    let mut draws = Draws { state: seed };
+    text.extend_from_slice(b"grid a i32 0\ngrid z i32 0\n")?;
+    for _ in 0..10 {
+        for _ in 0..3 {
+            add_write(text, &mut draws)?;
+            let turn = draws.below(3);
+            if turn < 2 {
+                add_layout(text, grid, turn)?;
+            }
+        }
+        text.extend_from_slice(
+            b"count a all\nbounds a\ncensus a\nlist a -9 -9 -9 16 16 16 12\nslice a 3 -3 -2 9 8\ncount a -3 0 0 9 9 9\nget a 0 7 7 7\n",
+        )?;
+    }
+    Ok(())
+}
+
+#[test]
+fn layouts_change_no_answer(rt: HostRuntime) -> Result<(), AllocError> {
+    let mut steps = Steps::new(&rt);
+    for seed in 1u64..9 {
+        let mut texts = [Vec::new(rt.alloc()), Vec::new(rt.alloc())];
+        for (i, grid) in [b'a', b'z'].into_iter().enumerate() {
+            let mut lines = Vec::new(rt.alloc());
+            script(&mut lines, grid, seed)?;
+            let mut reader = Watched::new(lines.as_slice());
+            let mut writer = Watched::new(Vec::new(rt.alloc()));
+            let outcome = session(rt.alloc(), &mut reader, &mut writer, &mut steps);
+            assert!(rt; outcome.fault.is_none());
+            texts[i].extend_from_slice(writer.get_ref().as_slice())?;
+        }
+        assert!(rt; texts[0].len() > 1000);
+        assert!(rt; texts[0] == texts[1]);
+    }
+    Ok(())
+}
