@@ -127,6 +127,28 @@ clip_to_no_box = refl
 clip_to_one_voxel : refusal with_a (commands.Clip a (between origin origin)) ≡ None
 clip_to_one_voxel = refl
 
+-- a count of a box is refused as a clip is, and one of all only where there is no grid
+count_of_none : refusal [] (commands.Count a (Some (between past origin))) ≡ Some refusals.NoGrid
+count_of_none = refl
+
+count_past_the_range : refusal with_a (commands.Count a (Some (between past origin))) ≡ Some refusals.ValueRange
+count_past_the_range = refl
+
+count_of_no_box : refusal with_a (commands.Count a (Some (between (point (pos 1) (pos 0) (pos 0)) origin))) ≡ Some refusals.Box
+count_of_no_box = refl
+
+count_of_all : refusal with_a (commands.Count a None) ≡ None
+count_of_all = refl
+
+count_of_all_of_none : refusal [] (commands.Count a None) ≡ Some refusals.NoGrid
+count_of_all_of_none = refl
+
+bounds_of_none : refusal [] (commands.Bounds a) ≡ Some refusals.NoGrid
+bounds_of_none = refl
+
+census_of_none : refusal [] (commands.Census a) ≡ Some refusals.NoGrid
+census_of_none = refl
+
 -- a sixty-fifth grid, of a name that is taken and of one that is free
 abbrev crowd : Scene
 crowd = map (λ k. (97 ∷ (97 + k) ∷ [], new_grid (truth false))) (range_with_len 0 64)

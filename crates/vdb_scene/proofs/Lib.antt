@@ -5,5 +5,6 @@ pub mod Filling
 pub mod Lent
 pub mod Listings
 pub mod Rows
+pub mod Reports
 pub mod Steps
 pub mod Writing

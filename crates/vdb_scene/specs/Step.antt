@@ -10,8 +10,9 @@ use Rattle.vdb_tree.specs.declared.Write.TheVariants as writes
 use Rattle.vdb_tree.specs.declared.refusal.TreeRefusal.{TreeRefusal}
 use Rattle.vdb_tree.specs.declared.refusal.TreeRefusal.TheVariants.{Memory, RootLimit}
 use Rattle.vdb_tree.specs.Field.{Field, as_write_of, clip, fill, write, written}
-use Rattle.vdb_tree.specs.Plain.{cell_eq, is_constant, roots}
-use Rattle.vdb_walk.specs.Reports.{active}
+use Rattle.vdb_tree.specs.Plain.{cell_eq, count, is_constant, roots}
+use Rattle.vdb_walk.specs.Reports.{IsActiveBounds, active, census}
+use Rattle.vdb_walk.specs.declared.smallest.Census.{Census as Smallest}
 use Rattle.vdb_scene.specs.Scalars.{has_form, has_value, is_near, number, scalar, scalar_eq}
 use Rattle.vdb_scene.specs.Scene.{Grid, Scene, field_at, grid_at, kind_at, limit_at, new_grid, the_grid, with_changed, with_grid, without_grid}
 use Rattle.vdb_scene.specs.declared.command.Command.{Command}
@@ -54,6 +55,11 @@ are_places c = is_place c.min && is_place c.max
 -- the corners of a part of a plane of one z
 abbrev pub flat : Num → Area → Corners
 flat z a = record { min = record { x = a.min_x; y = a.min_y; z = z }; max = record { x = a.max_x; y = a.max_y; z = z } }
+
+-- the box of a line, or that of all coordinates
+abbrev pub region : Option Corners → Box
+region None = everywhere
+region (Some c) = box_between c
 
 -- whether a line names an accessor, 0 to 7, or none
 abbrev pub is_accessor : Option Num → Bool
@@ -118,6 +124,9 @@ after s (commands.Prune name) = s
 after s (commands.Voxelise name c) = s
 after s (commands.List name c limit) = s
 after s (commands.Slice name z a) = s
+after s (commands.Count name c) = s
+after s (commands.Bounds name) = s
+after s (commands.Census name) = s
 
 -- ---- when a command is refused
 
@@ -171,6 +180,11 @@ too_large most box = refused_if (nat_lt most (volume box)) refusals.TooLarge
 abbrev pub too_wide : ℕ → Box → Option Refusal
 too_wide most box = refused_if (nat_lt most (extent box.min.x box.max.x) || nat_lt most (extent box.min.y box.max.y)) refusals.TooLarge
 
+-- what the box of a line may be refused for, if there is one
+abbrev pub tried_region : Option Corners → List (Option Refusal)
+tried_region None = []
+tried_region (Some c) = out_of_range (are_places c) ∷ no_box c ∷ []
+
 -- what a write of a voxel may be refused for
 abbrev pub tried_write : Scene → List ℕ → Option Num → Point → Write Literal → List (Option Refusal)
 tried_write s name k p w =
@@ -195,6 +209,9 @@ tried s (commands.Prune name) = no_grid s name ∷ []
 tried s (commands.Voxelise name c) = no_grid s name ∷ out_of_range (are_places c) ∷ no_box c ∷ too_large 2097152 (box_between c) ∷ []
 tried s (commands.List name c limit) = no_grid s name ∷ out_of_range (is_limit limit && are_places c) ∷ no_box c ∷ []
 tried s (commands.Slice name z a) = no_grid s name ∷ out_of_range (are_places (flat z a)) ∷ no_box (flat z a) ∷ too_wide 64 (box_between (flat z a)) ∷ []
+tried s (commands.Count name c) = no_grid s name ∷ tried_region c
+tried s (commands.Bounds name) = no_grid s name ∷ []
+tried s (commands.Census name) = no_grid s name ∷ []
 
 -- the first refusal of a list, if there is one
 abbrev pub first_of_all : List (Option Refusal) → Option Refusal
@@ -228,6 +245,9 @@ pub data Reply : Type 0 where
   Value : (cell : Cell Scalar) → Reply
   Listing : (voxels : List (Coord × Scalar)) → (more : Bool) → Reply
   Slice : (rows : List Row) → Reply
+  Count : (active : ℕ) → Reply
+  Bounds : (box : Option Box) → Reply
+  Census : (counts : Smallest) → Reply
 
 -- the first so many of some voxels, and whether there are more
 abbrev pub listing : ℕ → List (Coord × Scalar) → Reply
@@ -249,6 +269,9 @@ Answers s (commands.Prune name) reply = reply ≡ Done
 Answers s (commands.Voxelise name c) reply = reply ≡ Done
 Answers s (commands.List name c limit) reply = reply ≡ listing (count_of limit) (active vdb (field_at s name) (box_between c))
 Answers s (commands.Slice name z a) reply = reply ≡ Slice (rows (field_at s name) (box_between (flat z a)))
+Answers s (commands.Count name c) reply = reply ≡ Count (count (field_at s name) (region c))
+Answers s (commands.Bounds name) reply = (box : Option Box) × (reply ≡ Bounds box) × IsActiveBounds (field_at s name) box
+Answers s (commands.Census name) reply = reply ≡ Census (census scalar_eq vdb (field_at s name))
 
 -- ---- want of memory
 
@@ -277,6 +300,9 @@ takes_memory s (commands.Prune name) = false
 takes_memory s (commands.Voxelise name c) = true
 takes_memory s (commands.List name c limit) = false
 takes_memory s (commands.Slice name z a) = false
+takes_memory s (commands.Count name c) = false
+takes_memory s (commands.Bounds name) = false
+takes_memory s (commands.Census name) = false
 
 -- ---- one step
 

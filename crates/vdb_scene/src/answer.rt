@@ -4,7 +4,9 @@ ghost use Rattle.std.specs.Prelude.{◌≡◌};
 ghost use Rattle.vdb_scene.specs.Step.{of_tree};
 
 use crate::{Scalar, Slice, Voxels};
+use vdb_coord::Coord;
 use vdb_tree::TreeRefusal;
+use vdb_walk::Census;
 
 /// Why a line is refused, in the order in which the reasons are tried.
 #[derive(Clone, Copy, Debug, PartialEq, Eq)]
@@ -54,6 +56,12 @@ pub enum Answer<'a> {
     List(Voxels<'a>),
     /// The cells of a part of a plane.
     Slice(Slice<'a>),
+    /// How many voxels are active.
+    Count(u128),
+    /// The least and the greatest corner of the box around the active voxels, if there are any.
+    Bounds(Option<(Coord, Coord)>),
+    /// How large the smallest tree of the grid's cells is.
+    Census(Census),
 }
 
 impl From<TreeRefusal> for Refusal {

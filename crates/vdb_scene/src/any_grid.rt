@@ -1,9 +1,13 @@
 //! A grid of any kind.
 ghost use Rattle.std.specs.Prelude.{◌≡◌, false, IfErr, IfOk, IsOk, IsTrue, OnOk};
+ghost use Rattle.std.specs.Option.{unwrap_or};
 ghost use Rattle.vdb_coord.specs.Blocks.{vdb};
+ghost use Rattle.vdb_coord.specs.Space.{everywhere};
 ghost use Rattle.vdb_tree.specs.Field.{clip as clipped, fill as filled, new, write};
 ghost use Rattle.vdb_tree.specs.Outcome.{IsOutcome};
+ghost use Rattle.vdb_tree.specs.Plain.{count as active_count};
 ghost use Rattle.vdb_tree.specs.declared.refusal.TreeRefusal.TheVariants.{Memory};
+ghost use Rattle.vdb_walk.specs.Reports.{IsActiveBounds, census as census_of};
 ghost use Rattle.vdb_scene.specs.Scalars.{is_of, kind_of, scalar_eq};
 ghost use Rattle.vdb_scene.specs.Grids.{IsPruned, IsVoxelised, grid_field, grid_limit};
 ghost use Rattle.vdb_scene.specs.Step.{passes, write_takes_memory};
@@ -14,6 +18,7 @@ use vdb_coord::{Bounds, Coord};
 use vdb_pool::Steps;
 use vdb_tree::{Tree, TreeRefusal, Write};
 use vdb_value::{Cell, Kind};
+use vdb_walk::Census;
 
 /// A grid of one of the three kinds.
 #[derive(Drop)]
@@ -110,6 +115,40 @@ impl AnyGrid {
             AnyGrid::Bool(tree) => grid_tree::clip(tree, bounds, steps),
             AnyGrid::I32(tree) => grid_tree::clip(tree, bounds, steps),
             AnyGrid::I64(tree) => grid_tree::clip(tree, bounds, steps),
+        }
+    }
+
+    /// How many voxels of the box, or of all coordinates where there is no box, are active. It takes no memory.
+    pub fn count(&self, bounds: Option<Bounds>, steps: &mut Steps) -> u128
+        ensures { result ≡ active_count (grid_field self.now) (unwrap_or bounds everywhere) }
+    {
+        match self {
+            AnyGrid::Bool(tree) => grid_tree::count(tree, bounds, steps),
+            AnyGrid::I32(tree) => grid_tree::count(tree, bounds, steps),
+            AnyGrid::I64(tree) => grid_tree::count(tree, bounds, steps),
+        }
+    }
+
+    /// The least box that holds every active voxel; `None` where no voxel is active. It takes no memory.
+    pub fn active_bounds(&self, steps: &mut Steps) -> Option<Bounds>
+        ensures { IsActiveBounds (grid_field self.now) result }
+    {
+        match self {
+            AnyGrid::Bool(tree) => grid_tree::active_bounds(tree, steps),
+            AnyGrid::I32(tree) => grid_tree::active_bounds(tree, steps),
+            AnyGrid::I64(tree) => grid_tree::active_bounds(tree, steps),
+        }
+    }
+
+    /// How many root blocks aren't plain, and how many blocks of each level aren't constant, whatever nodes stand. It takes no
+    /// memory.
+    pub fn census(&self, steps: &mut Steps) -> Census
+        ensures { result ≡ census_of scalar_eq vdb (grid_field self.now) }
+    {
+        match self {
+            AnyGrid::Bool(tree) => grid_tree::census(tree, steps),
+            AnyGrid::I32(tree) => grid_tree::census(tree, steps),
+            AnyGrid::I64(tree) => grid_tree::census(tree, steps),
         }
     }
 

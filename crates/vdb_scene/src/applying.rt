@@ -78,7 +78,7 @@ fn scalar_of(kind: Kind, literal: Literal) -> Result<Scalar, Refusal>
 
 /// The box that a line names. `ValueRange` refuses a corner that is no coordinate, and then `Box` a minimum that is greater
 /// than its maximum.
-fn bounds_of(corners: &Corners) -> Result<Bounds, Refusal>
+pub(crate) fn bounds_of(corners: &Corners) -> Result<Bounds, Refusal>
     ensures places { IfOk result (λ bounds. are_places corners.now ≡ true) }
     ensures ordered { IfOk result (λ bounds. is_box (box_between corners.now) ≡ true) }
     ensures bounds { IfOk result (λ bounds. bounds ≡ box_between corners.now) }
@@ -419,6 +419,9 @@ impl Scene {
                 limit,
             } => self.list(name, corners, *limit),
             Command::Slice { name, z, area } => self.slice(name, *z, *area),
+            Command::Count { name, corners } => self.count(name, corners, steps),
+            Command::Bounds { name } => self.bounds(name, steps),
+            Command::Census { name } => self.census(name, steps),
         }
     }
 }

@@ -128,4 +128,17 @@ pub enum Command {
         z: Num,
         area: Area,
     },
+    /// Answers how many voxels of a box are active, or of the whole grid where there is no box.
+    Count {
+        name: Name,
+        corners: Option<Corners>,
+    },
+    /// Answers the least box that holds every active voxel.
+    Bounds {
+        name: Name,
+    },
+    /// Answers how large the smallest tree of the grid's cells is.
+    Census {
+        name: Name,
+    },
 }

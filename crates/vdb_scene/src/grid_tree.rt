@@ -1,15 +1,18 @@
 //! Calls on a tree of one type of values as a grid of any kind.
 
 ghost use Rattle.std.specs.Prelude.{◌≡◌, false, IfErr, IsOk, IsTrue};
+ghost use Rattle.std.specs.Option.{unwrap_or};
 ghost use Rattle.vdb_coord.specs.Blocks.{vdb};
+ghost use Rattle.vdb_coord.specs.Space.{everywhere};
 ghost use Rattle.vdb_tree.specs.Field.{as_cell_of, as_field_of, as_write_of, clip as clipped, fill as filled, write};
 ghost use Rattle.vdb_tree.specs.Layout.{field_of};
 ghost use Rattle.vdb_tree.specs.Outcome.{IsOutcome};
+ghost use Rattle.vdb_tree.specs.Plain.{count as active_count};
 ghost use Rattle.vdb_tree.specs.declared.refusal.TreeRefusal.TheVariants.{Memory};
 ghost use Rattle.vdb_scene.specs.Listings.{as_listed_of};
 ghost use Rattle.vdb_scene.specs.Scalars.{is_of, scalar_eq};
 ghost use Rattle.vdb_scene.specs.Step.{passes, write_takes_memory};
-ghost use Rattle.vdb_walk.specs.Reports.{HandsOut};
+ghost use Rattle.vdb_walk.specs.Reports.{HandsOut, IsActiveBounds, census as census_of};
 
 use crate::Scalar;
 use crate::scalar::GridValue;
@@ -17,7 +20,7 @@ use vdb_coord::{Bounds, Coord};
 use vdb_pool::Steps;
 use vdb_tree::{Tree, TreeRefusal, Write};
 use vdb_value::Cell;
-use vdb_walk::Listing;
+use vdb_walk::{Census, Listing};
 
 /// The cell of a voxel.
 pub fn get<V: GridValue>(tree: &Tree<V>, at: Coord, steps: &mut Steps) -> Cell<Scalar>
@@ -86,6 +89,27 @@ pub fn next_voxel<'a, V: GridValue>(
         Some((at, value)) => Some((at, value.scalar())),
         None => None,
     }
+}
+
+/// How many voxels of the box, or of all, are active.
+pub fn count<V: GridValue>(tree: &Tree<V>, bounds: Option<Bounds>, steps: &mut Steps) -> u128
+    ensures { result ≡ active_count (as_field_of V.as_scalar (field_of vdb tree.now)) (unwrap_or bounds everywhere) }
+{
+    vdb_walk::count(tree, bounds, steps)
+}
+
+/// The least box that holds every active voxel, if there is one.
+pub fn active_bounds<V: GridValue>(tree: &Tree<V>, steps: &mut Steps) -> Option<Bounds>
+    ensures { IsActiveBounds (as_field_of V.as_scalar (field_of vdb tree.now)) result }
+{
+    vdb_walk::active_bounds(tree, steps)
+}
+
+/// How large the smallest tree of the cells is.
+pub fn census<V: GridValue>(tree: &Tree<V>, steps: &mut Steps) -> Census
+    ensures { result ≡ census_of scalar_eq vdb (as_field_of V.as_scalar (field_of vdb tree.now)) }
+{
+    vdb_walk::census(tree, steps)
 }
 
 /// The cell of one kind that one of any is.

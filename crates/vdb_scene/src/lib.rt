@@ -7,6 +7,7 @@ mod applying;
 mod command;
 mod grid_tree;
 mod name;
+mod reporting;
 mod scalar;
 mod scene;
 mod slice;

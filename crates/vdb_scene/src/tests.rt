@@ -1,6 +1,7 @@
 //! Scenes with ample memory, and names.
 
 mod boxes;
+mod reports;
 
 use super::*;
 use std::process::Abort;

@@ -42,6 +42,13 @@ impl<'a> Voxels<'a> {
         }
     }
 
+    /// How many a listing hands out at most.
+    pub fn limit(&self) -> u32
+        ensures { result ≡ self.now.limit }
+    {
+        self.limit
+    }
+
     /// A listing of them, from the first one on.
     pub fn listing(&self) -> AnyListing<'a>
         ensures { listed_of result ≡ record { rest = voxels_of self.now; left = self.now.limit } }

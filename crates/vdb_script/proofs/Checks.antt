@@ -8,7 +8,8 @@ use Rattle.vdb_scene.specs.declared.command.Literal.TheVariants.{Number, Truth}
 use Rattle.vdb_scene.specs.declared.command.Num.TheVariants.{Near, Far}
 use Rattle.vdb_scene.specs.declared.answer.Refusal.TheVariants as refusals
 use Rattle.vdb_scene.specs.declared.scalar.Scalar.TheVariants.{I32, I64}
-use Rattle.vdb_scene.specs.Step.{Done, Refused, Value}
+use Rattle.vdb_coord.specs.Space.{coord}
+use Rattle.vdb_scene.specs.Step.{Done, Refused, Value, Count, Bounds, Census}
 use Rattle.vdb_script.specs.Lines.{lines, tokens}
 use Rattle.vdb_script.specs.Grammar.{number_of, parse}
 use Rattle.vdb_script.specs.Run.{read}
@@ -161,6 +162,31 @@ clip_read = refl
 clip_with_a_number_too_few : parse (codes "clip a 0 1 2 3 4") ≡ Err refusals.Syntax
 clip_with_a_number_too_few = refl
 
+count_read : parse (codes "count a 0 1 2 3 4 5")
+    ≡ Ok (Some (commands.Count (codes "a") (Some (record {
+      min = record { x = Near (pos 0); y = Near (pos 1); z = Near (pos 2) };
+      max = record { x = Near (pos 3); y = Near (pos 4); z = Near (pos 5) };
+    }))))
+count_read = refl
+
+count_of_all_read : parse (codes "count a all") ≡ Ok (Some (commands.Count (codes "a") None))
+count_of_all_read = refl
+
+count_of_all_and_a_box : parse (codes "count a all 1 2 3 4 5") ≡ Err refusals.Syntax
+count_of_all_and_a_box = refl
+
+count_of_nothing : parse (codes "count a") ≡ Err refusals.Syntax
+count_of_nothing = refl
+
+bounds_read : parse (codes "bounds a") ≡ Ok (Some (commands.Bounds (codes "a")))
+bounds_read = refl
+
+census_read : parse (codes "census a") ≡ Ok (Some (commands.Census (codes "a")))
+census_read = refl
+
+bounds_of_all : parse (codes "bounds a all") ≡ Err refusals.Syntax
+bounds_of_all = refl
+
 other_word : parse (codes "pruned a") ≡ Err refusals.Syntax
 other_word = refl
 
@@ -208,3 +234,18 @@ active_text = refl
 least_text : text (Value (record { value = I64 (negsuc 9223372036854775807); on = false })) ≡ codes "value -9223372036854775808 off\n"
 unfolding digits
 least_text = refl
+
+count_text : text (Count 79228162514264337593543950336) ≡ codes "count 79228162514264337593543950336\n"
+unfolding digits
+count_text = refl
+
+bounds_text : text (Bounds (Some (record { min = coord (negsuc 4) (negsuc 1) (pos 1); max = coord (pos 3) (pos 40) (pos 1) }))) ≡ codes "bounds -5 -2 1 3 40 1\n"
+unfolding digits
+bounds_text = refl
+
+no_bounds_text : text (Bounds None) ≡ codes "bounds none\n"
+no_bounds_text = refl
+
+census_text : text (Census (record { roots = 4096; upper = 1; lower = 0; leaf = 18446744073709551615 })) ≡ codes "census 4096 1 0 18446744073709551615\n"
+unfolding digits
+census_text = refl

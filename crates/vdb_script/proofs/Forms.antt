@@ -1,5 +1,5 @@
 -- Each form takes a number of tokens that is fixed.
-use Rattle.std.proofs.Common.{◌≡◌, ◌≢◌, ℕ, ◌+◌, ◌<◌, ◌≤◌, Bool, true, false, cond, List, [], ◌∷◌, Option, Some, None, Ok, Err, length, refl, ap, sym, ◌∙◌, arith, bytes_eq, get_or, ◌⊎◌, inl, inr}
+use Rattle.std.proofs.Common.{◌≡◌, ◌≢◌, ℕ, ◌+◌, ◌<◌, ◌≤◌, Bool, true, false, cond, List, [], ◌∷◌, Option, Some, None, Ok, Err, length, refl, ap, sym, ◌∙◌, arith, bytes_eq, codes, get_or, ◌⊎◌, inl, inr}
 use Rattle.std.specs.Prelude.{option_map, option_and_then, if◌then◌else◌}
 use Rattle.std.specs.List.{AllByRecursion}
 use Rattle.std.proofs.lemmas.Option.{option_and_then_some}
@@ -10,7 +10,7 @@ use Rattle.vdb_scene.specs.declared.command.Num.{Num}
 use Rattle.vdb_scene.specs.declared.command.Point.{Point}
 use Rattle.vdb_scene.specs.declared.answer.Refusal.TheVariants as refusals
 use Rattle.vdb_script.specs.Lines.{tokens}
-use Rattle.vdb_script.specs.Grammar.{Form, ◌>>=◌, give, one, point, corners, grid, drop, copy, get, voxel_value, state, fill, clip, prune, voxelise, slice, whole, command_forms, command_of, word_of, is_comment, meaning, parse, name_of, kind_of, state_of, literal_of, accessor_of, number_of}
+use Rattle.vdb_script.specs.Grammar.{Form, ◌>>=◌, give, one, point, corners, grid, drop, copy, get, voxel_value, state, fill, clip, prune, voxelise, all_of, count_box, count_all, count, bounds, census, or_else, list, slice, whole, command_forms, command_of, word_of, is_comment, meaning, parse, name_of, kind_of, state_of, literal_of, accessor_of, number_of}
 
 -- where a form is there, it takes so many tokens
 pub record Takes {A : Type 0} (n : ℕ) (form : Form A) : Type 0 where
@@ -114,11 +114,31 @@ state_takes = then_takes 1 5 _ _ (one_takes name_of) (λ name. then_takes 1 4 _ 
 pub prune_takes : Takes 1 prune
 prune_takes = then_takes 1 0 _ _ (one_takes name_of) (λ name. give_takes _)
 
+-- list NAME X0 Y0 Z0 X1 Y1 Z1 LIMIT
+pub list_takes : Takes 8 list
+list_takes = then_takes 1 7 _ _ (one_takes name_of) (λ name. then_takes 6 1 _ _ corners_takes (λ c. then_takes 1 0 _ _ (one_takes number_of) (λ limit. give_takes _)))
+
 -- slice NAME Z X0 Y0 X1 Y1
 pub slice_takes : Takes 6 slice
 slice_takes =
     then_takes 1 5 _ _ (one_takes name_of) (λ name. then_takes 1 4 _ _ (one_takes number_of) (λ z. then_takes 1 3 _ _ (one_takes number_of) (λ x0. then_takes 1 2 _ _ (one_takes number_of)
     (λ y0. then_takes 1 1 _ _ (one_takes number_of) (λ x1. then_takes 1 0 _ _ (one_takes number_of) (λ y1. give_takes _))))))
+
+-- count NAME X0 Y0 Z0 X1 Y1 Z1
+count_box_takes : Takes 7 count_box
+count_box_takes = then_takes 1 6 _ _ (one_takes name_of) (λ name. then_takes 6 0 _ _ corners_takes (λ c. give_takes _))
+
+-- count NAME all
+count_all_takes : Takes 2 count_all
+count_all_takes = then_takes 1 1 _ _ (one_takes name_of) (λ name. then_takes 1 0 _ _ (one_takes all_of) (λ c. give_takes _))
+
+-- bounds NAME
+pub bounds_takes : Takes 1 bounds
+bounds_takes = then_takes 1 0 _ _ (one_takes name_of) (λ name. give_takes _)
+
+-- census NAME
+pub census_takes : Takes 1 census
+census_takes = then_takes 1 0 _ _ (one_takes name_of) (λ name. give_takes _)
 
 no_whole : (found : Option (Command × List (List ℕ))) → ((c : Command) → found ≡ Some (c, []) → ⊥) → Err refusals.Syntax ≡ whole found
 no_whole None other = refl
@@ -138,6 +158,12 @@ seven (a ∷ b ∷ c ∷ e ∷ f ∷ []) d l = absurd (let n : 5 ≡ 7 = l in om
 seven (a ∷ b ∷ c ∷ e ∷ f ∷ g ∷ []) d l = absurd (let n : 6 ≡ 7 = l in omega (arith, n))
 seven (a ∷ b ∷ c ∷ e ∷ f ∷ g ∷ h ∷ i ∷ more) d l = absurd (omega (arith, l))
 
+-- eight items, one by one
+pub eight : {A : Type 0} (ts : List A) (d : A) → length ts ≡ 8
+    → ts ≡ get_or ts 0 d ∷ get_or ts 1 d ∷ get_or ts 2 d ∷ get_or ts 3 d ∷ get_or ts 4 d ∷ get_or ts 5 d ∷ get_or ts 6 d ∷ get_or ts 7 d ∷ []
+eight (a ∷ ts) d l = ap (λ us. a ∷ us) (seven ts d (omega (arith, l)))
+eight [] d l = absurd (let n : 0 ≡ 8 = l in omega (arith, n))
+
 -- nine items, one by one
 pub nine : {A : Type 0} (ts : List A) (d : A) → length ts ≡ 9
     → ts ≡ get_or ts 0 d ∷ get_or ts 1 d ∷ get_or ts 2 d ∷ get_or ts 3 d ∷ get_or ts 4 d ∷ get_or ts 5 d ∷ get_or ts 6 d ∷ get_or ts 7 d ∷ get_or ts 8 d ∷ []
@@ -149,6 +175,31 @@ nine [] d l = absurd (let n : 0 ≡ 9 = l in omega (arith, n))
 pub whole_takes : (n : ℕ) (form : Form Command) (tokens : List (List ℕ)) → Takes n form → length tokens ≢ n → Err refusals.Syntax ≡ whole (form tokens)
 whole_takes n form tokens takes other = no_whole (form tokens) (λ c e. other (let count : length tokens ≡ n + 0 = takes.count tokens c [] e in omega arith))
 
+or_neither : (a b : Option (Command × List (List ℕ))) → Err refusals.Syntax ≡ whole a → Err refusals.Syntax ≡ whole b → Err refusals.Syntax ≡ whole (or_else a b)
+or_neither None b h k = k
+or_neither (Some (c, rest)) b h k = h
+
+-- neither of the two forms of count takes another number of tokens
+pub no_count : (tokens : List (List ℕ)) → length tokens ≢ 2 → length tokens ≢ 7 → Err refusals.Syntax ≡ whole (count tokens)
+no_count tokens two seven =
+    or_neither (count_box tokens) (count_all tokens) (whole_takes 7 count_box tokens count_box_takes seven) (whole_takes 2 count_all tokens count_all_takes two)
+
+or_other : (a b : Option (Command × List (List ℕ))) → ((found : Command × List (List ℕ)) → a ≡ Some found → ⊥) → or_else a b ≡ b
+or_other None b none = refl
+or_other (Some found) b none = absurd (none found refl)
+
+-- two tokens are a count of all, or of nothing
+pub count_of_two : (tokens : List (List ℕ)) → length tokens ≡ 2 → count tokens ≡ count_all tokens
+count_of_two tokens two = or_other (count_box tokens) (count_all tokens) (λ found e. let many = count_box_takes.count tokens found.0 found.1 e in omega (arith, two, many))
+
+or_whole : (a b : Option (Command × List (List ℕ))) → Err refusals.Syntax ≡ whole b → whole (or_else a b) ≡ whole a
+or_whole None b h = sym h
+or_whole (Some (c, rest)) b h = refl
+
+-- seven are a count of a box, or of nothing
+pub count_of_seven : (tokens : List (List ℕ)) → length tokens ≡ 7 → whole (count tokens) ≡ whole (count_box tokens)
+count_of_seven tokens seven = or_whole (count_box tokens) (count_all tokens) (whole_takes 2 count_all tokens count_all_takes (omega (arith, seven)))
+
 picked : (test : Bool) (form : Form Command) (others : Option (Form Command)) (tokens : List (List ℕ)) → Err refusals.Syntax ≡ whole (form tokens)
     → Err refusals.Syntax ≡ whole (option_and_then (λ f. f tokens) others) → Err refusals.Syntax ≡ whole (option_and_then (λ f. f tokens) (cond test (Some form) others))
 picked true form others tokens h k = h
@@ -156,12 +207,13 @@ picked false form others tokens h k = k
 
 -- a command's form takes at most nine tokens
 record TakesFew (command : List ℕ × Form Command) : Type 0 where
-  n : ℕ
-  few : n ≤ 9
-  takes : Takes n command.1
+  none : (tokens : List (List ℕ)) → 9 < length tokens → Err refusals.Syntax ≡ whole (command.1 tokens)
 
 few : {command : List ℕ × Form Command} (n : ℕ) → n ≤ 9 → Takes n command.1 → TakesFew command
-few n bound takes = record { n = n; few = bound; takes = takes }
+few {command} n bound takes = record { none = λ tokens many. whole_takes n command.1 tokens takes (omega (arith, bound, many)) }
+
+count_takes_few : TakesFew (codes "count", count)
+count_takes_few = record { none = λ tokens many. no_count tokens (omega (arith, many)) (omega (arith, many)) }
 
 -- each command's form does
 commands_take_few : AllByRecursion TakesFew command_forms
@@ -181,7 +233,13 @@ commands_take_few = (
               few 6 (omega arith) (voxel_value_takes commands.Only),
               (
                 few 6 (omega arith) state_takes,
-                (few 9 (omega arith) fill_takes, (few 7 (omega arith) clip_takes, (few 1 (omega arith) prune_takes, (few 7 (omega arith) voxelise_takes, (few 6 (omega arith) slice_takes, tt))))),
+                (
+                  few 9 (omega arith) fill_takes,
+                  (
+                    few 7 (omega arith) clip_takes,
+                    (few 1 (omega arith) prune_takes, (few 7 (omega arith) voxelise_takes, (few 8 (omega arith) list_takes, (few 6 (omega arith) slice_takes, (count_takes_few, (few 1 (omega arith) bounds_takes, (few 1 (omega arith) census_takes, tt))))))),
+                  ),
+                ),
               ),
             ),
           ),
@@ -195,8 +253,7 @@ too_many_for : (commands : List (List ℕ × Form Command)) (word : List ℕ) (t
     → Err refusals.Syntax ≡ whole (option_and_then (λ form. form tokens) (word_of commands word))
 too_many_for [] word tokens take many = refl
 too_many_for (command ∷ commands) word tokens take many =
-    let other : length tokens ≢ take.0.n = omega (arith, take.0.few) in
-    picked (bytes_eq word command.0) command.1 (word_of commands word) tokens (whole_takes take.0.n command.1 tokens take.0.takes other) (too_many_for commands word tokens take.1 many)
+    picked (bytes_eq word command.0) command.1 (word_of commands word) tokens (take.0.none tokens many) (too_many_for commands word tokens take.1 many)
 
 -- no command has so many tokens
 too_many : (word : List ℕ) (tokens : List (List ℕ)) → 9 < length tokens → Err refusals.Syntax ≡ command_of word tokens

@@ -192,6 +192,14 @@ voxelise = do
   c ← corners
   give (commands.Voxelise name c)
 
+-- list NAME X0 Y0 Z0 X1 Y1 Z1 LIMIT
+abbrev pub list : Form Command
+list = do
+  name ← one name_of
+  c ← corners
+  limit ← one number_of
+  give (commands.List name c limit)
+
 -- slice NAME Z X0 Y0 X1 Y1
 abbrev pub slice : Form Command
 slice = do
@@ -203,13 +211,48 @@ slice = do
   y1 ← one number_of
   give (commands.Slice name z (record { min_x = x0; min_y = y0; max_x = x1; max_y = y1 }))
 
+-- the word for all coordinates, which is no box
+abbrev pub all_of : List ℕ → Option (Option Corners)
+all_of token = word_of ((codes "all", None) ∷ []) token
+
+-- count NAME X0 Y0 Z0 X1 Y1 Z1
+abbrev pub count_box : Form Command
+count_box = do
+  name ← one name_of
+  c ← corners
+  give (commands.Count name (Some c))
+
+-- count NAME all
+abbrev pub count_all : Form Command
+count_all = do
+  name ← one name_of
+  c ← one all_of
+  give (commands.Count name c)
+
+-- one of these
+abbrev pub count : Form Command
+count tokens = or_else (count_box tokens) (count_all tokens)
+
+-- bounds NAME
+abbrev pub bounds : Form Command
+bounds = do
+  name ← one name_of
+  give (commands.Bounds name)
+
+-- census NAME
+abbrev pub census : Form Command
+census = do
+  name ← one name_of
+  give (commands.Census name)
+
 -- ---- the commands
 
 -- each command's word, and the form of what stands behind it
 abbrev pub command_forms : List (List ℕ × Form Command)
 command_forms =
     (codes "grid", grid) ∷ (codes "drop", drop) ∷ (codes "copy", copy) ∷ (codes "get", get) ∷ (codes "set", set) ∷ (codes "unset", unset) ∷ (codes "only", only) ∷ (codes "state", state)
-    ∷ (codes "fill", fill) ∷ (codes "clip", clip) ∷ (codes "prune", prune) ∷ (codes "voxelise", voxelise) ∷ (codes "slice", slice) ∷ []
+    ∷ (codes "fill", fill) ∷ (codes "clip", clip) ∷ (codes "prune", prune) ∷ (codes "voxelise", voxelise) ∷ (codes "list", list) ∷ (codes "slice", slice) ∷ (codes "count", count) ∷ (codes "bounds", bounds)
+    ∷ (codes "census", census) ∷ []
 
 -- a command with no token left, or a syntax error
 abbrev pub whole : Option (Command × List (List ℕ)) → Result (Option Command) Refusal

@@ -1,10 +1,12 @@
 -- The text of an answer.
-use Rattle.std.specs.Prelude.{ℕ, Bool, if◌then◌else◌, List, [], ◌∷◌, ◌++◌, codes, length, map}
+use Rattle.std.specs.Prelude.{ℕ, Bool, if◌then◌else◌, List, [], ◌∷◌, ◌++◌, Option, Some, None, codes, length, map}
 use Rattle.std.specs.Fmt.{decimal, signed_decimal}
 use Rattle.std.specs.List.{join_with_byte, flat_map}
+use Rattle.vdb_coord.specs.Space.{Box}
+use Rattle.vdb_coord.specs.declared.Coord.{Coord}
 use Rattle.vdb_value.specs.declared.Cell.{Cell}
 use Rattle.vdb_scene.specs.Scalars.{scalar_text}
-use Rattle.vdb_scene.specs.Step.{Reply, Row, Done, Refused, Value, Slice}
+use Rattle.vdb_scene.specs.Step.{Reply, Row, Done, Refused, Value, Listing, Slice, Count, Bounds, Census}
 use Rattle.vdb_scene.specs.declared.answer.Refusal.{Refusal}
 use Rattle.vdb_scene.specs.declared.answer.Refusal.TheVariants as refusals
 use Rattle.vdb_scene.specs.declared.scalar.Scalar.{Scalar}
@@ -47,12 +49,33 @@ row_line r = line (codes "row" ∷ signed_decimal r.y ∷ map cell_text r.cells)
 abbrev pub last_line : List ℕ → ℕ → List ℕ
 last_line word count = line (word ∷ decimal count ∷ [])
 
+-- the components of a coordinate
+abbrev pub components : Coord → List (List ℕ)
+components p = signed_decimal p.x ∷ signed_decimal p.y ∷ signed_decimal p.z ∷ []
+
+-- the line of a voxel that is listed
+abbrev pub voxel_line : Coord × Scalar → List ℕ
+voxel_line voxel = line (components voxel.0 ++ scalar_text voxel.1 ∷ [])
+
+-- the word of the line behind those of a list
+abbrev pub more_word : Bool → List ℕ
+more_word more = if more then codes "more" else codes "end"
+
+-- the corners of a box, if there is one
+abbrev pub corners : Option Box → List (List ℕ)
+corners None = codes "none" ∷ []
+corners (Some box) = components box.min ++ components box.max
+
 -- the text of an answer
 abbrev pub text : Reply → List ℕ
 text Done = line (codes "ok" ∷ [])
 text (Refused r) = line (codes "error" ∷ word r ∷ [])
 text (Value c) = line (codes "value" ∷ scalar_text c.value ∷ state_text c.on ∷ [])
+text (Listing voxels more) = flat_map voxel_line voxels ++ last_line (more_word more) (length voxels)
 text (Slice rows) = flat_map row_line rows ++ last_line (codes "end") (length rows)
+text (Count active) = line (codes "count" ∷ decimal active ∷ [])
+text (Bounds box) = line (codes "bounds" ∷ corners box)
+text (Census c) = line (codes "census" ∷ decimal c.roots ∷ decimal c.upper ∷ decimal c.lower ∷ decimal c.leaf ∷ [])
 
 -- the texts of answers, one after another
 abbrev pub answers_text : List Reply → List ℕ

@@ -3,10 +3,12 @@
 
 mod line_text;
 mod lines;
+mod lists;
 mod numbers;
 mod output;
 mod parsing;
 mod printing;
+mod reports;
 mod slices;
 mod source;
 mod tokens;

@@ -5,7 +5,7 @@ ghost use Rattle.vdb_scene.specs.declared.command.Command.{Command};
 ghost use Rattle.vdb_scene.specs.declared.command.Literal.{Literal};
 ghost use Rattle.vdb_scene.specs.declared.command.Num.{Num};
 ghost use Rattle.vdb_scene.specs.declared.command.Point.{Point};
-ghost use Rattle.vdb_script.specs.Grammar.{name_of, kind_of, state_of, literal_of, accessor_of, point, corners, grid, drop, copy, get, voxel_value, set, unset, only, state, fill, clip, prune, voxelise, slice, whole, command_of, is_comment, parse};
+ghost use Rattle.vdb_script.specs.Grammar.{name_of, kind_of, state_of, literal_of, accessor_of, point, corners, grid, drop, copy, get, voxel_value, set, unset, only, state, fill, clip, prune, voxelise, all_of, count, bounds, census, list, slice, whole, command_of, is_comment, parse};
 
 use crate::numbers::number_of;
 use crate::tokens::{first_token, split_tokens};
@@ -261,6 +261,20 @@ fn voxelise_command(tokens: &[&[u8]]) -> Option<Command>
     }
 }
 
+/// The command `list NAME X0 Y0 Z0 X1 Y1 Z1 LIMIT`, from the tokens behind its word.
+fn list_command(tokens: &[&[u8]]) -> Option<Command>
+    ensures { ok_or (option_map Some result) Refusal.Syntax ≡ whole (list (map (λ t. t.now) tokens.now)) }
+{
+    match tokens {
+        [name, x0, y0, z0, x1, y1, z1, limit] => Some(Command::List {
+            name: name_of(name)?,
+            corners: corners_of(x0, y0, z0, x1, y1, z1)?,
+            limit: number_of(limit)?,
+        }),
+        _ => None,
+    }
+}
+
 /// The command `slice NAME Z X0 Y0 X1 Y1`, from the tokens behind its word.
 fn slice_command(tokens: &[&[u8]]) -> Option<Command>
     ensures { ok_or (option_map Some result) Refusal.Syntax ≡ whole (slice (map (λ t. t.now) tokens.now)) }
@@ -275,6 +289,57 @@ fn slice_command(tokens: &[&[u8]]) -> Option<Command>
                 max_x: number_of(x1)?,
                 max_y: number_of(y1)?,
             },
+        }),
+        _ => None,
+    }
+}
+
+/// No box, where a token is the word for all coordinates.
+fn all_of(token: &[u8]) -> Option<Option<Corners>>
+    ensures { result ≡ all_of token.now }
+{
+    match token {
+        b"all" => Some(None),
+        _ => None,
+    }
+}
+
+/// The command `count NAME X0 Y0 Z0 X1 Y1 Z1` or `count NAME all`, from the tokens behind its word.
+fn count_command(tokens: &[&[u8]]) -> Option<Command>
+    ensures { ok_or (option_map Some result) Refusal.Syntax ≡ whole (count (map (λ t. t.now) tokens.now)) }
+{
+    match tokens {
+        [name, all] => Some(Command::Count {
+            name: name_of(name)?,
+            corners: all_of(all)?,
+        }),
+        [name, x0, y0, z0, x1, y1, z1] => Some(Command::Count {
+            name: name_of(name)?,
+            corners: Some(corners_of(x0, y0, z0, x1, y1, z1)?),
+        }),
+        _ => None,
+    }
+}
+
+/// The command `bounds NAME`, from the tokens behind its word.
+fn bounds_command(tokens: &[&[u8]]) -> Option<Command>
+    ensures { ok_or (option_map Some result) Refusal.Syntax ≡ whole (bounds (map (λ t. t.now) tokens.now)) }
+{
+    match tokens {
+        [name] => Some(Command::Bounds {
+            name: name_of(name)?,
+        }),
+        _ => None,
+    }
+}
+
+/// The command `census NAME`, from the tokens behind its word.
+fn census_command(tokens: &[&[u8]]) -> Option<Command>
+    ensures { ok_or (option_map Some result) Refusal.Syntax ≡ whole (census (map (λ t. t.now) tokens.now)) }
+{
+    match tokens {
+        [name] => Some(Command::Census {
+            name: name_of(name)?,
         }),
         _ => None,
     }
@@ -315,8 +380,16 @@ fn command_of(word: &[u8], tokens: &[&[u8]]) -> Option<Command>
         prune_command(tokens)
     } else if is_word(word, b"voxelise") {
         voxelise_command(tokens)
+    } else if is_word(word, b"list") {
+        list_command(tokens)
     } else if is_word(word, b"slice") {
         slice_command(tokens)
+    } else if is_word(word, b"count") {
+        count_command(tokens)
+    } else if is_word(word, b"bounds") {
+        bounds_command(tokens)
+    } else if is_word(word, b"census") {
+        census_command(tokens)
     } else {
         None
     }

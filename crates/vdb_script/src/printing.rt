@@ -10,6 +10,8 @@ ghost use Rattle.vdb_script.specs.Text.{line, state_text, text, word};
 ghost use Rattle.vdb_script.specs.Writing.{Writes};
 
 use crate::output::{WriteFault, write_bytes};
+use crate::reports::{bounds_line, census_line, count_line};
+use crate::lists::print_list;
 use crate::slices::print_slice;
 use arrayvec::ArrayVec;
 use itoa::Buffer;
@@ -18,7 +20,7 @@ use vdb_pool::Steps;
 use vdb_scene::{Answer, Refusal, Scalar, Watched};
 
 /// The most bytes that the line of an answer has, its newline among them.
-pub(crate) const ANSWER_LIMIT: usize = 64;
+pub(crate) const ANSWER_LIMIT: usize = 96;
 
 /// The word of a refusal.
 fn refusal_word(refusal: Refusal) -> &'static [u8]
@@ -132,6 +134,10 @@ pub fn print<W: Write>(
         Answer::Done => write_bytes(writer, compose([b"ok".as_slice()].as_slice()).as_slice()),
         Answer::Refused(refusal) => write_bytes(writer, refusal_line(refusal).as_slice()),
         Answer::Value(value, on) => write_bytes(writer, value_line(value, on).as_slice()),
+        Answer::List(voxels) => print_list(voxels, writer, steps),
         Answer::Slice(slice) => print_slice(slice, writer, steps),
+        Answer::Count(active) => write_bytes(writer, count_line(active).as_slice()),
+        Answer::Bounds(corners) => write_bytes(writer, bounds_line(corners).as_slice()),
+        Answer::Census(counts) => write_bytes(writer, census_line(counts).as_slice()),
     }
 }

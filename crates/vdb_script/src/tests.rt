@@ -1,7 +1,9 @@
 use super::*;
 use std::io::{self, Read, Write};
+use vdb_coord::Coord;
 use vdb_pool::Steps;
 use vdb_scene::{Answer, Refusal, Scalar, Watched};
+use vdb_walk::Census;
 
 // ---- reading
 
@@ -222,6 +224,41 @@ fn print_all<W: Write>(writer: &mut Watched<W>, steps: &mut Steps) -> Result<(),
         print(Answer::Value(value, on), writer, steps)?;
     }
     Ok(())
+}
+
+/// A coordinate.
+fn at(x: i32, y: i32, z: i32) -> Coord {
+    Coord { x, y, z }
+}
+
+#[test]
+fn reports_are_lines(rt: HostRuntime) {
+    let (least, greatest) = (i32::MIN, i32::MAX);
+    let mut steps = Steps::new(&rt);
+    let mut writer = Watched::new(Vec::new(rt.alloc()));
+    for active in [0u128, 79228162514264337593543950336] {
+        assert!(rt; print(Answer::Count(active), &mut writer, &mut steps).is_ok());
+    }
+    for corners in [
+        None,
+        Some((at(-5, -2, 1), at(3, 4, 1))),
+        Some((at(least, least, least), at(-1, 0, 10))),
+        Some((at(least, least, least), at(greatest, greatest, greatest))),
+    ] {
+        assert!(rt; print(Answer::Bounds(corners), &mut writer, &mut steps).is_ok());
+    }
+    for counts in [[0u64, 0, 0, 0], [4096, 1, 23, 456], [u64::MAX; 4]] {
+        let census = Census {
+            roots: counts[0],
+            upper: counts[1],
+            lower: counts[2],
+            leaf: counts[3],
+        };
+        assert!(rt; print(Answer::Census(census), &mut writer, &mut steps).is_ok());
+    }
+    let wanted =
+        b"count 0\ncount 79228162514264337593543950336\nbounds none\nbounds -5 -2 1 3 4 1\nbounds -2147483648 -2147483648 -2147483648 -1 0 10\nbounds -2147483648 -2147483648 -2147483648 2147483647 2147483647 2147483647\ncensus 0 0 0 0\ncensus 4096 1 23 456\ncensus 18446744073709551615 18446744073709551615 18446744073709551615 18446744073709551615\n";
+    assert_eq!(rt; writer.get_ref().as_slice(), wanted.as_slice());
 }
 
 #[test]

@@ -104,11 +104,19 @@ fn expect(
 
 const FIRST: &[u8] = b"grid a i32 0\nset a - -1 -1 -1 7\nget a - -1 -1 -1";
 
+/// Counts, bounds and the census of a few voxels, and those that are refused.
+const REPORTS: &[u8] =
+    b"grid a bool true\ncount a all\nbounds a\nset a - 3 -2 1 false\nset a - -5 4 1 true\ncount a all\nbounds a\ncount a 3 -2 1 9 9 9\nfill a 0 0 0 4095 4095 4095 true on\ncount a all\nbounds a\nclip a 1 1 1 2 2 2\ncount a 0 0 0 2 1 1\nbounds a\ncensus a\nprune a\ncensus a\ncensus b\nbounds b\ncount b all\ncount a 0 0 0 0 0 2147483648\ncount a 1 0 0 0 0 0\ncount a\n";
+
+const REPORTED: &[u8] =
+    b"ok\ncount 0\nbounds none\nok\nok\ncount 2\nbounds -5 -2 1 3 4 1\ncount 1\nok\ncount 68719476738\nbounds -5 -2 0 4095 4095 4095\nok\ncount 2\nbounds 1 1 1 2 2 2\ncensus 1 1 1 1\nok\ncensus 1 1 1 1\nerror no-grid\nerror no-grid\nerror no-grid\nerror value-range\nerror box\nerror syntax\n";
+
 #[test]
 fn scripts_are_answered(rt: HostRuntime) {
     let mut steps = Steps::new(&rt);
     for (script, answers, status) in [
         (b"".as_slice(), b"".as_slice(), 0),
+        (REPORTS, REPORTED, 1),
         (FIRST, b"ok\nok\nvalue 7 on\n".as_slice(), 0),
         (
             b"grid a i32 0\nget a - 5 5 5\n".as_slice(),

@@ -1,9 +1,10 @@
--- Lemmas on boxes cut in two, on counts, on the keys of the table, and on block order.
+-- Lemmas on boxes cut in two, on counts, on the keys of the table, on least boxes, and on block order.
 pub mod Counts
 pub mod Cuts
 pub mod Keys
 pub mod OneCell
 pub mod Numbered
+pub mod Surrounds
 pub mod BoxOrder
 pub mod Firsts
 pub mod LeafSeeks

@@ -3,4 +3,5 @@ pub mod Halves
 pub mod Reports
 pub mod Passing
 pub mod Numbers
+pub mod Surround
 pub mod Firsts

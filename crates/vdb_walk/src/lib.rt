@@ -8,6 +8,7 @@ mod mixed;
 mod order;
 mod seeking;
 mod smallest;
+mod surround;
 #[cfg(test)]
 mod tests;
 mod uniformity;
@@ -17,4 +18,5 @@ pub use listing::{Listing, list};
 pub use mixed::census;
 pub use seeking::next_active;
 pub use smallest::Census;
+pub use surround::active_bounds;
 pub use uniformity::uniform;

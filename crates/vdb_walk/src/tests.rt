@@ -1,6 +1,7 @@
 //! Trees of both layouts and of the smallest nodes. Expected values are worked out by hand.
 
 mod census;
+mod surround;
 
 use crate::count;
 use std::process::Abort;

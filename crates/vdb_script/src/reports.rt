@@ -1,0 +1,72 @@
+//! Reports on a grid as text.
+ghost use Rattle.std.specs.Prelude.{◌≡◌, ◌≤◌, length, Some, option_map};
+ghost use Rattle.std.specs.Fmt.{signed_decimal};
+ghost use Rattle.vdb_scene.specs.Shown.{box_of_corners};
+ghost use Rattle.vdb_scene.specs.Step as replies;
+ghost use Rattle.vdb_script.specs.Text.{text};
+
+use crate::printing::{ANSWER_LIMIT, compose};
+use arrayvec::ArrayVec;
+use itoa::Buffer;
+use vdb_coord::Coord;
+use vdb_walk::Census;
+
+/// The line of a count.
+pub(crate) fn count_line(active: u128) -> ArrayVec<u8, ANSWER_LIMIT>
+    ensures { result.items ≡ text (replies.Count active) }
+{
+    let mut buffer = Buffer::new();
+    compose([b"count".as_slice(), buffer.format(active).as_bytes()].as_slice())
+}
+
+/// The line of the box around the active voxels, if there are any.
+pub(crate) fn bounds_line(corners: Option<(Coord, Coord)>) -> ArrayVec<u8, ANSWER_LIMIT>
+    ensures { result.items ≡ text (replies.Bounds (option_map box_of_corners corners)) }
+{
+    match corners {
+        Some((min, max)) => corners_line(min, max),
+        None => compose([b"bounds".as_slice(), b"none".as_slice()].as_slice()),
+    }
+}
+
+/// The line of a box, given by its corners.
+fn corners_line(min: Coord, max: Coord) -> ArrayVec<u8, ANSWER_LIMIT>
+    ensures { result.items ≡ text (replies.Bounds (Some (record { min = min; max = max }))) }
+{
+    let (mut x0, mut y0, mut z0) = (Buffer::new(), Buffer::new(), Buffer::new());
+    let (mut x1, mut y1, mut z1) = (Buffer::new(), Buffer::new(), Buffer::new());
+    let parts = [
+        b"bounds".as_slice(),
+        component_text(min.x, &mut x0),
+        component_text(min.y, &mut y0),
+        component_text(min.z, &mut z0),
+        component_text(max.x, &mut x1),
+        component_text(max.y, &mut y1),
+        component_text(max.z, &mut z1),
+    ];
+    compose(parts.as_slice())
+}
+
+/// The line of a census.
+pub(crate) fn census_line(counts: Census) -> ArrayVec<u8, ANSWER_LIMIT>
+    ensures { result.items ≡ text (replies.Census counts) }
+{
+    let (mut roots, mut upper) = (Buffer::new(), Buffer::new());
+    let (mut lower, mut leaf) = (Buffer::new(), Buffer::new());
+    let parts = [
+        b"census".as_slice(),
+        roots.format(counts.roots).as_bytes(),
+        upper.format(counts.upper).as_bytes(),
+        lower.format(counts.lower).as_bytes(),
+        leaf.format(counts.leaf).as_bytes(),
+    ];
+    compose(parts.as_slice())
+}
+
+/// The text of a component.
+pub(crate) fn component_text<'b>(component: i32, buffer: &'b mut Buffer) -> &'b [u8]
+    ensures text { result.now ≡ signed_decimal component }
+    ensures short { length result.now ≤ 11 }
+{
+    buffer.format(component).as_bytes()
+}
