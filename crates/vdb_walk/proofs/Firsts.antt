@@ -98,6 +98,14 @@ module _ (bits : Bits) where
   to_max : (b : Box) (q : Coord) → is_inside b q ≡ true → IsUpTo q b.max
   to_max b q h = ((between_x b q h).1, (between_y b q h).1, (between_z b q h).1)
 
+  -- none of its coordinates comes before the least corner
+  pub never_before_min : (b : Box) (q : Coord) → is_inside b q ≡ true → is_lt (block_cmp bits q b.min) ≡ false
+  never_before_min b q i = up_to_never b.min q (from_min b q i)
+
+  -- nor past the greatest
+  pub never_past_max : (b : Box) (q : Coord) → is_inside b q ≡ true → is_lt (block_cmp bits b.max q) ≡ false
+  never_past_max b q i = up_to_never q b.max (to_max b q i)
+
   -- the least corner is the first coordinate
   pub first_at_min : (Kind : Coord → Type 0) (b : Box) → is_box b ≡ true → Kind b.min → IsFirst bits Kind b (Some b.min)
   first_at_min Kind b h k = (min_inside b h, k, λ q inside _. up_to_never b.min q (from_min b q inside))

@@ -9,3 +9,4 @@ pub mod BoxOrder
 pub mod Firsts
 pub mod LeafSeeks
 pub mod InOrder
+pub mod PiecesInTurn

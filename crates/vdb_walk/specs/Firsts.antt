@@ -1,13 +1,16 @@
 -- The first coordinate of a box in block order, of those of some kind. The calls of this crate alone speak of it.
-use Rattle.std.specs.Prelude.{◌≡◌, ◌≤◌, Bool, true, false, IsTrue, List, Option, Some, None}
+use Rattle.std.specs.Prelude.{◌≡◌, ◌≤◌, Bool, true, false, IsTrue, List, Option, Some, None, IsSome}
 use Rattle.std.specs.Ordering.{is_lt}
-use Rattle.vdb_coord.specs.Blocks.{block_cmp, block_number, is_past, offset}
-use Rattle.vdb_coord.specs.Space.{Box, is_inside}
+use Rattle.vdb_coord.specs.Blocks.{block_cmp, block_number, is_past, key, offset}
+use Rattle.vdb_coord.specs.Space.{Box, everywhere, is_inside}
 use Rattle.vdb_coord.specs.declared.Bits.{Bits}
 use Rattle.vdb_coord.specs.declared.Coord.{Coord}
 use Rattle.vdb_coord.specs.declared.Level.TheVariants.{Leaf}
 use Rattle.vdb_mask.specs.Mask.{is_on}
 use Rattle.vdb_tree.specs.Field.{Field}
+use Rattle.vdb_tree.specs.Layout.{Layout, root_at}
+use Rattle.vdb_tree.specs.Pieces.{piece_around}
+use Rattle.vdb_tree.specs.Table.{IsPast}
 
 -- the first of the box of this kind, if there is one
 abbrev pub IsFirst : Bits → (Coord → Type 0) → Box → Option Coord → Type 0
@@ -33,3 +36,18 @@ IsOnFrom bits p states q = (offset bits Leaf p ≤ offset bits Leaf q) × (is_on
 -- the box lies in one leaf block
 abbrev pub IsInLeafBlock : Bits → Box → Type 0
 IsInLeafBlock bits box = (q : Coord) → IsTrue (is_inside box q) → block_number bits Leaf q ≡ block_number bits Leaf box.min
+
+-- ---- pieces
+
+module _ {V : Type 0} (bits : Bits) (t : Layout V) where
+  -- q's root block has an entry, under a key past this one
+  abbrev pub IsEntered : Option Coord → Coord → Type 0
+  IsEntered after q = IsSome (root_at t.root (key bits q)) × IsPast after (key bits q)
+
+  -- it has an entry, and q comes past the last coordinate
+  abbrev pub IsEnteredPast : Option Coord → Coord → Type 0
+  IsEnteredPast last q = IsSome (root_at t.root (key bits q)) × IsPastLast bits last q
+
+  -- q is the greatest coordinate of a piece under an entry
+  abbrev pub EndsPiece : Coord → Type 0
+  EndsPiece q = IsTrue (is_inside everywhere q) × IsSome (root_at t.root (key bits q)) × ((piece_around bits t q).max ≡ q)

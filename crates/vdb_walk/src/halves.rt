@@ -1,6 +1,6 @@
 //! Boxes cut in two, along the edges of blocks.
 
-ghost use Rattle.std.specs.Prelude.{◌≡◌, ◌≤◌, ◌^◌, ◌≤ℤ◌, ◌<ℤ◌, ◌-ℤ◌, pos, IfSome, IsNone, IsTrue};
+ghost use Rattle.std.specs.Prelude.{◌≡◌, ◌≤◌, ◌^◌, ◌≤ℤ◌, ◌<ℤ◌, pos, IfSome, IsNone, IsTrue};
 ghost use Rattle.vdb_coord.specs.Components.{first_of, number_at};
 ghost use Rattle.vdb_coord.specs.Entries.{AreBits};
 ghost use Rattle.vdb_coord.specs.Space.{is_box, is_inside};

@@ -1,6 +1,6 @@
 //! The coordinates of a box in block order.
 
-ghost use Rattle.std.specs.Prelude.{◌≡◌, IsTrue};
+ghost use Rattle.std.specs.Prelude.{◌≡◌};
 ghost use Rattle.vdb_coord.specs.Blocks.{is_past};
 ghost use Rattle.vdb_coord.specs.Entries.{AreBits};
 ghost use Rattle.vdb_walk.specs.Firsts.{IsFirst, IsPastLast};

@@ -1,4 +1,6 @@
 //! Trees of both layouts and of the smallest nodes. Expected values are worked out by hand.
+mod listing;
+mod passing;
 
 mod census;
 mod surround;
