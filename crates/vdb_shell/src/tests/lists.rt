@@ -65,7 +65,8 @@ fn add_number(text: &mut Vec<u8>, number: u8) -> Result<(), AllocError> {
     if number >= 10 {
         text.push(b'0' + number / 10)?;
     }
-    text.push(b'0' + number % 10)
+    text.push(b'0' + number % 10)?;
+    Ok(())
 }
 
 #[test]
