@@ -10,3 +10,4 @@ pub mod Firsts
 pub mod LeafSeeks
 pub mod InOrder
 pub mod PiecesInTurn
+pub mod Near

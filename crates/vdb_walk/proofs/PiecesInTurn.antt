@@ -101,7 +101,7 @@ up_from bits Lower p q e = upper_from_lower bits p q e
 up_from bits Leaf p q e = upper_from_lower bits p q (lower_from_leaf bits p q e)
 
 -- what doesn't come before one coordinate of a block, but before another, lies in the block
-together : (bits : Bits) (level : Level) (m n q : Coord) → block_number bits level m ≡ block_number bits level n → is_lt (block_cmp bits q m) ≡ false → is_lt (block_cmp bits q n) ≡ true
+pub together : (bits : Bits) (level : Level) (m n q : Coord) → block_number bits level m ≡ block_number bits level n → is_lt (block_cmp bits q m) ≡ false → is_lt (block_cmp bits q n) ≡ true
     → block_number bits level q ≡ block_number bits level n
 together bits level m n q same not_before before = by level same (precedes bits q n before)
   where

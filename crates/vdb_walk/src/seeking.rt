@@ -1,6 +1,6 @@
 //! The next active voxel in block order.
 
-ghost use Rattle.std.specs.Prelude.{◌≡◌, ◌≤◌, ◌*◌, IfSome, IsTrue};
+ghost use Rattle.std.specs.Prelude.{◌≡◌, ◌≤◌, ◌*◌, IfSome, IsTrue, Some};
 ghost use Rattle.std.specs.List.{find};
 ghost use Rattle.std.specs.Option.{option_map};
 ghost use Rattle.vdb_coord.specs.Blocks.{entries, is_past, offset};
@@ -41,7 +41,41 @@ pub fn next_active<
 ) -> Option<(Coord, V)>
     ensures { result ≡ find (λ item. is_past (bits_of U L F) after item.0) (active (bits_of U L F) (field_of (bits_of U L F) tree.now) bounds) }
 {
-    first_active(tree, after, bounds, steps)
+    let Some(last) = after else {
+        return first_active(tree, None, bounds, steps);
+    };
+    if let Some(item) = first_near(tree, last, Level::Leaf, bounds, steps) {
+        return Some(item);
+    }
+    match first_near(tree, last, Level::Lower, bounds, steps) {
+        Some(item) => Some(item),
+        None => first_active(tree, Some(last), bounds, steps),
+    }
+}
+
+/// The first active voxel of the box past the last one, if it lies in the level's block around that.
+fn first_near<
+    V: Stored<WU> + Stored<WL> + Stored<WF>,
+    const U: u32,
+    const L: u32,
+    const F: u32,
+    const WU: usize,
+    const WL: usize,
+    const WF: usize,
+>(
+    tree: &TreeOf<V, U, L, F, WU, WL, WF>,
+    last: Coord,
+    level: Level,
+    bounds: Bounds,
+    steps: &mut Steps,
+) -> Option<(Coord, V)>
+    ensures first { IfSome result (λ item. IsFirst (bits_of U L F) (IsActivePast (bits_of U L F) (Some last) (field_of (bits_of U L F) tree.now)) bounds (Some item.0)) }
+    ensures value { IfSome result (λ item. item.1 ≡ ((field_of (bits_of U L F) tree.now).cell item.0).value) }
+{
+    match bounds.intersect(last.block_in(tree.bits(), level)) {
+        Some(near) => first_active(tree, Some(last), near, steps),
+        None => None,
+    }
 }
 
 /// The first active voxel of the part past `after`. It halves the part until each lies within one piece or one leaf.
