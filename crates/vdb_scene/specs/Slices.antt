@@ -15,7 +15,7 @@ numbers_left (Some next) last = range next last
 
 -- the next of these numbers is handed out, or none where none is left
 abbrev pub HandsNumber : Option ℤ → ℤ → Option ℤ → Option ℤ → Type 0
-HandsNumber old last None new = numbers_left old last ≡ []
+HandsNumber old last None new = (numbers_left old last ≡ []) × (numbers_left new last ≡ [])
 HandsNumber old last (Some number) new = numbers_left old last ≡ number ∷ numbers_left new last
 
 -- the cell of a row at an x
@@ -32,10 +32,10 @@ rows_left s = map (row_at (grid_field s.grid.now) s.min.x s.max.x s.min.z) (numb
 
 -- a row hands out its next cell, or none where none is left
 abbrev pub HandsCell : SliceRow → Option (Cell Scalar) → SliceRow → Type 0
-HandsCell old None new = cells_left old ≡ []
+HandsCell old None new = (cells_left old ≡ []) × (cells_left new ≡ []) × (new.y ≡ old.y)
 HandsCell old (Some cell) new = (cells_left old ≡ cell ∷ cells_left new) × (new.y ≡ old.y)
 
 -- a slice hands out its next row, or none where none is left
 abbrev pub HandsRow : Slice → Option SliceRow → Slice → Type 0
-HandsRow old None new = rows_left old ≡ []
+HandsRow old None new = (rows_left old ≡ []) × (rows_left new ≡ [])
 HandsRow old (Some row) new = rows_left old ≡ record { y = row.y; cells = cells_left row } ∷ rows_left new
