@@ -1,5 +1,5 @@
 -- A walk over the blocks that meet a box.
-use Rattle.std.proofs.Common.{◌≡◌, ◌⊎◌, inl, inr, ℕ, ℤ, pos, ◌+ℤ◌, ◌≤ℤ◌, ◌<ℤ◌, ◌<◌, Bool, true, false, ◌&&◌, int_le, arith, ap, sym, ◌∙◌, refl, Some, None, IsTrue, SFits, w32, ◌^◌, ◌-ℤ◌, unsigned_abs}
+use Rattle.std.proofs.Common.{◌≡◌, ◌⊎◌, inl, inr, ℕ, ℤ, pos, ◌+ℤ◌, ◌≤ℤ◌, ◌<ℤ◌, ◌<◌, Bool, true, false, ◌&&◌, int_le, arith, ap, sym, ◌∙◌, refl, Some, None, SFits, w32, ◌^◌, ◌-ℤ◌, unsigned_abs}
 use Rattle.std.proofs.lemmas.Int.{ints}
 use Rattle.vdb_coord.specs.Blocks.{block_bits, block_number}
 use Rattle.vdb_coord.specs.Components.{first_of, last_of, number_at}
@@ -60,7 +60,7 @@ less_or_same m n h = elim (bool_of (int_le n m)) [
 
 -- ---- numbers of blocks
 
-same_number : (m n : Coord) → m.x ≡ n.x → m.y ≡ n.y → m.z ≡ n.z → m ≡ n
+pub same_number : (m n : Coord) → m.x ≡ n.x → m.y ≡ n.y → m.z ≡ n.z → m ≡ n
 same_number m n a b c = λ i. record { x = a i; y = b i; z = c i }
 
 up_to_z : (m n : Coord) → m.x ≡ n.x → m.y ≡ n.y → m.z ≤ℤ n.z → IsBefore m n ⊎ (m ≡ n)
@@ -75,7 +75,7 @@ up_to_y m n a h c = elim (less_or_same m.y n.y h) [
   | inr e ↦ up_to_z m n a e c
 ]
 
-up_to_x : (m n : Coord) → m.x ≤ℤ n.x → m.y ≤ℤ n.y → m.z ≤ℤ n.z → IsBefore m n ⊎ (m ≡ n)
+pub up_to_x : (m n : Coord) → m.x ≤ℤ n.x → m.y ≤ℤ n.y → m.z ≤ℤ n.z → IsBefore m n ⊎ (m ≡ n)
 up_to_x m n h b c = elim (less_or_same m.x n.x h) [
   | inl l ↦ inl (inl l)
   | inr e ↦ up_to_y m n e b c
@@ -83,7 +83,7 @@ up_to_x m n h b c = elim (less_or_same m.x n.x h) [
 
 -- ---- the next block
 
-inside_parts : (b : Box) (q : Coord) → is_inside b q ≡ true → ((b.min.x ≤ℤ q.x) × (q.x ≤ℤ b.max.x)) × ((b.min.y ≤ℤ q.y) × (q.y ≤ℤ b.max.y)) × ((b.min.z ≤ℤ q.z) × (q.z ≤ℤ b.max.z))
+pub inside_parts : (b : Box) (q : Coord) → is_inside b q ≡ true → ((b.min.x ≤ℤ q.x) × (q.x ≤ℤ b.max.x)) × ((b.min.y ≤ℤ q.y) × (q.y ≤ℤ b.max.y)) × ((b.min.z ≤ℤ q.z) × (q.z ≤ℤ b.max.z))
 inside_parts b q h =
     let t = three (int_le b.min.x q.x && int_le q.x b.max.x) (int_le b.min.y q.y && int_le q.y b.max.y) (int_le b.min.z q.z && int_le q.z b.max.z) h in
     (pair b.min.x q.x b.max.x t.0, pair b.min.y q.y b.max.y t.1, pair b.min.z q.z b.max.z t.2)
@@ -91,7 +91,7 @@ inside_parts b q h =
     pair : (a x c : ℤ) → (int_le a x && int_le x c) ≡ true → (a ≤ℤ x) × (x ≤ℤ c)
     pair a x c h = let s = both (int_le a x) (int_le x c) h in (le_from_test a x s.0, le_from_test x c s.1)
 
-inside_from : (b : Box) (q : Coord) → b.min.x ≤ℤ q.x → q.x ≤ℤ b.max.x → b.min.y ≤ℤ q.y → q.y ≤ℤ b.max.y → b.min.z ≤ℤ q.z → q.z ≤ℤ b.max.z → is_inside b q ≡ true
+pub inside_from : (b : Box) (q : Coord) → b.min.x ≤ℤ q.x → q.x ≤ℤ b.max.x → b.min.y ≤ℤ q.y → q.y ≤ℤ b.max.y → b.min.z ≤ℤ q.z → q.z ≤ℤ b.max.z → is_inside b q ≡ true
 inside_from b q a c d e f g =
     let pair : (a x c : ℤ) → a ≤ℤ x → x ≤ℤ c → (int_le a x && int_le x c) ≡ true = λ a x c h k. rw (test_from_le a x h, test_from_le x c k) refl in
     together _ _ _ (pair b.min.x q.x b.max.x a c) (pair b.min.y q.y b.max.y d e) (pair b.min.z q.z b.max.z f g)

@@ -1,7 +1,7 @@
 //! Boxes of coordinates.
 ghost use Rattle.std.specs.Prelude.{◌≡◌, ◌≤◌, ◌<◌, ◌^◌, ℕ, ◌&&◌, false, IsTrue, IfSome, IfNone};
 ghost use Rattle.std.specs.Int.{int_max, int_min};
-ghost use Rattle.vdb_coord.specs.Space.{coord, is_box, is_inside, is_within, volume};
+ghost use Rattle.vdb_coord.specs.Space.{coord, everywhere, is_box, is_inside, is_within, volume};
 ghost use Rattle.vdb_coord.specs.Boxes.{box_of, is_bounds, meets, overlap};
 ghost use Rattle.vdb_coord.specs.Blocks.{block_around, entries, sub_block, vdb};
 ghost use Rattle.vdb_coord.specs.Entries.{AreBits, blocks_meeting, numbers_over, place_of};
@@ -67,6 +67,31 @@ impl Bounds {
         } else {
             None
         }
+    }
+
+    /// The box of all coordinates.
+    pub fn all() -> Bounds
+        ensures { result ≡ everywhere }
+    {
+        let (least, greatest) = (i32::MIN, i32::MAX);
+        let min = Coord {
+            x: least,
+            y: least,
+            z: least,
+        };
+        let max = Coord {
+            x: greatest,
+            y: greatest,
+            z: greatest,
+        };
+        Bounds::between(min, max)
+    }
+
+    /// The box of one coordinate.
+    pub fn single(p: Coord) -> Bounds
+        ensures { result ≡ record { min = p; max = p } }
+    {
+        Bounds::between(p, p)
     }
 
     /// The box between two corners in order.

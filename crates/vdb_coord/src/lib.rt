@@ -2,6 +2,7 @@
 #![tactic(auto)]
 
 mod axis;
+mod block_order;
 mod block_walk;
 mod blocks;
 mod bounds;

@@ -178,6 +178,86 @@ fn blocks_that_meet_a_box_one_by_one(rt: HostRuntime) -> Result<(), Fail> {
     Ok(())
 }
 
+// The next place of the box past a block, from one of its coordinates on.
+fn next_place(bounds: Bounds, level: Level, p: Coord) -> Option<Coord> {
+    if !bounds.contains(p) {
+        return None;
+    }
+    bounds.next_place_in(Bits::VDB, level, p)
+}
+
+#[test]
+fn places_of_a_box_in_block_order(rt: HostRuntime) -> Result<(), Fail> {
+    let cube = Bounds::new(all(0), all(8)).expect(&rt, "a box");
+    let mut next = Some(all(0));
+    for (x, y, z) in [
+        (0, 0, 0),
+        (0, 0, 8),
+        (0, 8, 0),
+        (0, 8, 8),
+        (8, 0, 0),
+        (8, 0, 8),
+        (8, 8, 0),
+        (8, 8, 8),
+    ] {
+        let p = at(x, y, z);
+        assert_eq!(rt; next, Some(p));
+        next = next_place(cube, Level::Leaf, p);
+    }
+    assert_eq!(rt; next, None);
+    assert_eq!(rt; next_place(cube, Level::Lower, all(3)), None);
+    let corner = at(i32::MAX, i32::MAX, i32::MAX - 7);
+    let last = Bounds::new(at(i32::MAX, i32::MAX, i32::MAX - 8), all(i32::MAX)).expect(
+        &rt, "a box",
+    );
+    assert_eq!(rt; next_place(last, Level::Leaf, last.min()), Some(corner));
+    assert_eq!(rt; next_place(last, Level::Leaf, corner), None);
+    Ok(())
+}
+
+#[test]
+fn places_across_larger_blocks(rt: HostRuntime) -> Result<(), Fail> {
+    let wide = Bounds::new(at(0, 0, 120), at(8, 0, 130)).expect(&rt, "a box");
+    let tall = Bounds::new(at(-128, 0, 4000), at(0, 0, 4100)).expect(&rt, "a box");
+    let cases = [
+        (wide, Level::Leaf, at(3, 0, 125), Some(at(8, 0, 120))),
+        (wide, Level::Leaf, at(8, 0, 120), Some(at(0, 0, 128))),
+        (wide, Level::Leaf, at(0, 0, 130), Some(at(8, 0, 128))),
+        (wide, Level::Leaf, at(8, 0, 128), None),
+        (wide, Level::Lower, at(3, 0, 125), Some(at(0, 0, 128))),
+        (wide, Level::Lower, at(0, 0, 128), None),
+        (wide, Level::Upper, at(0, 0, 120), None),
+        (tall, Level::Lower, at(-1, 0, 4095), Some(at(-128, 0, 4096))),
+        (tall, Level::Lower, at(-128, 0, 4096), Some(at(0, 0, 4000))),
+        (tall, Level::Upper, at(-1, 0, 4096), Some(at(0, 0, 4000))),
+        (tall, Level::Upper, at(0, 0, 4000), Some(at(0, 0, 4096))),
+        (tall, Level::Upper, at(0, 0, 4100), None),
+    ];
+    for (bounds, level, p, next) in cases {
+        assert_eq!(rt; next_place(bounds, level, p), next);
+    }
+    Ok(())
+}
+
+#[test]
+fn all_coordinates_and_one(rt: HostRuntime) -> Result<(), Fail> {
+    let everywhere = Bounds::all();
+    assert_eq!(rt; everywhere.min(), all(i32::MIN));
+    assert_eq!(rt; everywhere.max(), all(i32::MAX));
+    let p = at(-1, i32::MIN, i32::MAX);
+    let one = Bounds::single(p);
+    assert_eq!(rt; Some(one), Bounds::new(p, p));
+    assert_eq!(rt; one.volume(), 1);
+    for level in LEVELS {
+        assert_eq!(rt; next_place(one, level, p), None);
+        assert_eq!(rt; next_place(everywhere, level, all(i32::MAX)), None);
+    }
+    let second = at(i32::MIN, i32::MIN, i32::MIN + 4096);
+    let first = next_place(everywhere, Level::Upper, all(i32::MIN));
+    assert_eq!(rt; first, Some(second));
+    Ok(())
+}
+
 #[test]
 fn neighbours(rt: HostRuntime) -> Result<(), Fail> {
     let p = at(i32::MAX, 5, i32::MIN);

@@ -1,10 +1,8 @@
-use Rattle.std.proofs.Common.{◌≡◌, ◌∙◌, ◌+ℤ◌, ◌<ℤ◌, ◌≤ℤ◌, SFits, Some, ap, arith, of_z, pos, refl, rules, sym, to_z, true, false, w32, ℤ}
+use Rattle.std.proofs.Common.{◌≡◌, ◌∙◌, ◌+ℤ◌, ◌<ℤ◌, ◌≤ℤ◌, SFits, ap, arith, of_z, pos, refl, rules, to_z, true, false, w32, ℤ}
 use lib.Signed.{lt_z}
 use Rattle.std.proofs.lemmas.Int.{ints, to_z-of_z}
 use Rattle.vdb_coord.specs.Blocks.{block_bits}
 use Rattle.vdb_coord.specs.Space.{Box, coord}
-use Rattle.vdb_coord.specs.Walk.{IsNextBlock, coordinates_after}
-use Rattle.vdb_coord.specs.declared.Coord.{Coord}
 use Rattle.vdb_coord.proofs.Walk.{few_after, nearer_x, nearer_y, nearer_z, next_x, next_y, next_z, no_next, own_end}
 use Rattle.vdb_coord.proofs.bounds.Bounds.next_block_in.Goals as goal
 
