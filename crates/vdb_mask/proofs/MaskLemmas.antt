@@ -4,7 +4,7 @@ use Rattle.std.specs.List.{count_by, range_with_len}
 use Rattle.std.proofs.lemmas.Bool.{cases_Bool, cases_lt}
 use Rattle.std.proofs.lemmas.Bool.Decides.{eqb_tells}
 use Rattle.std.proofs.lemmas.List.Sums.{sum_by-cons}
-use Rattle.vdb_mask.specs.Mask.{is_on, on_count, IsNext, IsNextAt}
+use Rattle.vdb_mask.specs.Mask.{is_on, on_count, IsFirstOn, IsNext, IsNextAt}
 
 count_by-range_more : (p : ℕ → Bool) (a n : ℕ) → count_by p (range_with_len a (suc n)) ≡ count_by p (range_with_len a n) + cond (p (a + n)) 1 0
 count_by-range_more p a zero =
@@ -155,3 +155,18 @@ pub IsNext-on_below : (mask : List Bool) (m n from : ℕ) (result : Option ℕ) 
 IsNext-on_below mask m n from (Some index) h off next =
     IsNextAt-below true mask m n from index (below_from_on mask m n index off next.within next.here) next
 IsNext-on_below mask m n from None h off next = λ i least below. next i least (omega (arith, below, h))
+
+-- of what is off from m on, the first index on and below n is the first below m
+pub IsFirstOn-below : (on : ℕ → Bool) (m n from : ℕ) (result : Option ℕ) → m ≤ n → ((i : ℕ) → m ≤ i → i < n → on i ≡ false)
+    → IsFirstOn on n from result → IsFirstOn on m from result
+IsFirstOn-below on m n from (Some index) h off first =
+    record {
+      within = elim (cases_lt index m) [
+        | inl below ↦ below
+        | inr past ↦ absurd (let there : on index ≡ false = off index past first.within in let here = first.here in cc)
+      ];
+      from_on = first.from_on;
+      here = first.here;
+      before = first.before;
+    }
+IsFirstOn-below on m n from None h off first = λ i least below. first i least (omega (arith, below, h))

@@ -1,9 +1,9 @@
 -- The bits of a row of words.
-use Rattle.std.proofs.Common.{◌≡◌, ◌≢◌, ◌+◌, ◌*◌, ◌/◌, ◌%◌, ◌^◌, ◌<◌, ◌≤◌, ℕ, false, List, length, get_or, set, replicate, refl, sym, ◌∙◌, inl, inr, arith, get_or-set_other, get_or-set_same}
+use Rattle.std.proofs.Common.{◌≡◌, ◌≢◌, ◌+◌, ◌*◌, ◌/◌, ◌%◌, ◌^◌, ◌<◌, ◌≤◌, ℕ, false, List, length, get_or, set, take, replicate, refl, sym, ◌∙◌, inl, inr, arith, get_or-set_other, get_or-set_same}
 use Rattle.std.specs.Int.{bit_at}
 use Rattle.std.proofs.lemmas.Bool.{cases_lt}
 use Rattle.std.proofs.lemmas.Bool.Decides.{eqb_tells}
-use Rattle.std.proofs.lemmas.List.{get_or_past, get_or-replicate, length-replicate}
+use Rattle.std.proofs.lemmas.List.{get_or_past, get_or-replicate, get_or-take, length-replicate}
 use Rattle.std.proofs.lemmas.List.FromFn.{get_or-map-range_with_len, length-map-range_with_len}
 use Rattle.vdb_mask.specs.Mask.{bit_of, bits_of, has_bit, is_on}
 use Rattle.vdb_mask.proofs.WordBits.{has_bit-zero, same_from_has_bit}
@@ -80,3 +80,8 @@ pub same_words : (words : List ℕ) (word k : ℕ) → get_or words k 0 < 2 ^ 64
     → get_or words k 0 ≡ word
 same_words words word k fits_row fits_word same =
     same_from_has_bit (get_or words k 0) word fits_row fits_word (λ j h. sym (is_on-at words k j h) ∙ same j h)
+
+-- the first k words of a row have its values
+pub is_on-take : (words : List ℕ) (k i : ℕ) → i < 64 * k → is_on (bits_of (take k words)) i ≡ is_on (bits_of words) i
+is_on-take words k i h =
+    is_on-bits_of (take k words) i ∙ (rw (get_or-take k words (i / 64) 0 (omega (arith, h))) refl) ∙ sym (is_on-bits_of words i)

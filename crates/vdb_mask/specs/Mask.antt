@@ -1,5 +1,5 @@
 -- What a contract sees of a mask: a list of truth values.
-use Rattle.std.specs.Prelude.{◌≡◌, ◌==◌, ◌*◌, ◌/◌, ◌%◌, ◌<◌, ◌≤◌, ℕ, Bool, false, not, List, length, map, slice_index_or, Option, Some, None}
+use Rattle.std.specs.Prelude.{◌≡◌, ◌==◌, ◌*◌, ◌/◌, ◌%◌, ◌<◌, ◌≤◌, ℕ, Bool, true, false, not, List, length, map, slice_index_or, Option, Some, None}
 use Rattle.std.specs.Int.{bit_at}
 use Rattle.std.specs.List.{count_by, range_with_len}
 
@@ -34,3 +34,20 @@ pub record IsNextAt (value : Bool) (mask : List Bool) (n from index : ℕ) : Typ
 abbrev pub IsNext : Bool → List Bool → ℕ → ℕ → Option ℕ → Type 0
 IsNext value mask n from (Some index) = IsNextAt value mask n from index
 IsNext value mask n from None = (i : ℕ) → from ≤ i → i < n → is_on mask i ≡ not value
+
+-- whether the value at an index is this one
+abbrev pub is_value : Bool → List Bool → ℕ → Bool
+is_value true mask i = is_on mask i
+is_value false mask i = not (is_on mask i)
+
+-- of the indices from `from` on and below n, this is the first that is on
+pub record IsFirstOnAt (on : ℕ → Bool) (n from index : ℕ) : Type 0 where
+  pub within : index < n
+  pub from_on : from ≤ index
+  pub here : on index ≡ true
+  pub before : (i : ℕ) → from ≤ i → i < index → on i ≡ false
+
+-- the first index from `from` on and below n that is on, and nothing where none is
+abbrev pub IsFirstOn : (ℕ → Bool) → ℕ → ℕ → Option ℕ → Type 0
+IsFirstOn on n from (Some index) = IsFirstOnAt on n from index
+IsFirstOn on n from None = (i : ℕ) → from ≤ i → i < n → on i ≡ false

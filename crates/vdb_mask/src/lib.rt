@@ -5,10 +5,12 @@
 #![tactic(auto)]
 
 ghost use Rattle.std.specs.Prelude.{◌≡◌, ◌≢◌, ◌+◌, ◌*◌, ◌/◌, ◌<◌, ◌≤◌, ◌↔◌, ◌&&◌, ◌||◌, ℕ, false, true, not, IsTrue};
-ghost use Rattle.vdb_mask.specs.Mask.{has_bit, is_on, on_count, IsNext};
+ghost use Rattle.vdb_mask.specs.Mask.{has_bit, is_on, is_value, on_count, IsFirstOn, IsNext};
 
 use std::marker::Model;
 
+mod either;
+mod runs;
 #[cfg(test)]
 mod tests;
 mod words;
@@ -93,6 +95,18 @@ impl<const W: usize> Mask<W> {
         self.words[(i / 64) as usize] &= !(1 << (i % 64));
     }
 
+    /// Makes each value from index `from` on and below `to` what `on` says; every other stays.
+    pub fn set_run(&mut self, from: u32, to: u32, on: bool)
+        requires few_words { W ≤ 512 }
+        requires in_order { from ≤ to }
+        requires within { to ≤ 64 * W }
+        ensures run { (i : ℕ) → from ≤ i → i < to → is_on self.new i ≡ on }
+        ensures before { (i : ℕ) → i < from → is_on self.new i ≡ is_on self.old i }
+        ensures after { (i : ℕ) → to ≤ i → is_on self.new i ≡ is_on self.old i }
+    {
+        runs::put(&mut self.words, from, to, on);
+    }
+
     /// The 64 values from index `64 * k` on, the first in the lowest bit: what
     /// `NodeMask::getWord(k)` gives to read.
     pub fn word(&self, k: u32) -> u64
@@ -165,6 +179,42 @@ impl<const W: usize> Mask<W> {
         ensures { IsNext false self.now (64 * W) from result }
     {
         words::next(&self.words, false, from)
+    }
+
+    /// The least index not below `from` whose value is on in this mask or in the other, or `None`
+    /// where there is none. `NodeMask::findNextOn(from)` of the two masks joined by `|`.
+    pub fn next_on_in_either(&self, other: &Mask<W>, from: u32) -> Option<u32>
+        requires few_words { W ≤ 512 }
+        requires from_within { from ≤ 64 * W }
+        ensures { IsFirstOn (λ i. is_on self.now i || is_on other.now i) (64 * W) from result }
+    {
+        either::next(&self.words, &other.words, true, from)
+    }
+
+    /// The least index not below `from`, and below `to`, whose value is on in this mask or `value` in
+    /// the other, or `None` where there is none.
+    pub fn next_on_or_other(&self, other: &Mask<W>, value: bool, from: u32, to: u32) -> Option<u32>
+        requires few_words { W ≤ 512 }
+        requires in_order { from ≤ to }
+        requires to_within { to ≤ 64 * W }
+        ensures { IsFirstOn (λ i. is_on self.now i || is_value value other.now i) to from result }
+    {
+        let last = to.div_ceil(64) as usize;
+        let index = either::next(&self.words[..last], &other.words[..last], value, from)?;
+        if index < to { Some(index) } else { None }
+    }
+
+    /// The least index not below `from`, and below `to`, that has this value, or `None` where there is
+    /// none.
+    pub fn next_before(&self, value: bool, from: u32, to: u32) -> Option<u32>
+        requires few_words { W ≤ 512 }
+        requires in_order { from ≤ to }
+        requires to_within { to ≤ 64 * W }
+        ensures { IsNext value self.now to from result }
+    {
+        let last = to.div_ceil(64) as usize;
+        let index = words::next(&self.words[..last], value, from)?;
+        if index < to { Some(index) } else { None }
     }
 
     /// Whether each of the `64 * W` values is on. `NodeMask::isOn()`.

@@ -147,3 +147,126 @@ fn next_indices(rt: HostRuntime) {
     assert_eq!(rt; mask.next_off(255), None, "off after the last");
     assert_eq!(rt; mask.next_off(256), None, "off from the end");
 }
+
+#[test]
+fn next_indices_of_two_masks(rt: HostRuntime) {
+    let mut one: Mask<4> = Mask::off();
+    one.set(70);
+    one.set(255);
+    let mut other: Mask<4> = Mask::off();
+    other.set(69);
+    other.set(130);
+    let either = [
+        (0, Some(69)),
+        (69, Some(69)),
+        (70, Some(70)),
+        (71, Some(130)),
+        (131, Some(255)),
+        (255, Some(255)),
+        (256, None),
+    ];
+    for (from, index) in either {
+        assert_eq!(rt;
+            one.next_on_in_either(&other, from),
+            index,
+            "one and other, from {from}"
+        );
+        assert_eq!(rt;
+            other.next_on_in_either(&one, from),
+            index,
+            "other and one, from {from}"
+        );
+    }
+    let off: Mask<4> = Mask::off();
+    assert_eq!(rt; off.next_on_in_either(&off, 0), None, "none on");
+    for (from, index) in either {
+        assert_eq!(rt;
+            one.next_on_or_other(&other, true, from, 256),
+            index,
+            "below the end, from {from}"
+        );
+    }
+    assert_eq!(rt;
+        one.next_on_or_other(&other, true, 71, 130),
+        None,
+        "on at the bound"
+    );
+    assert_eq!(rt;
+        one.next_on_or_other(&other, true, 71, 131),
+        Some(130),
+        "on below the bound"
+    );
+    assert_eq!(rt;
+        one.next_on_or_other(&other, false, 69, 256),
+        Some(70),
+        "off after one"
+    );
+    let filled: Mask<4> = Mask::filled(true);
+    assert_eq!(rt;
+        one.next_on_or_other(&filled, false, 0, 256),
+        Some(70),
+        "none off"
+    );
+    assert_eq!(rt;
+        one.next_on_or_other(&filled, false, 71, 255),
+        None,
+        "none off below"
+    );
+}
+
+#[test]
+fn next_indices_below_a_bound(rt: HostRuntime) {
+    let mut mask: Mask<4> = Mask::off();
+    mask.set(70);
+    mask.set(255);
+    let on = [
+        (0, 70, None),
+        (0, 71, Some(70)),
+        (71, 128, None),
+        (71, 255, None),
+        (71, 256, Some(255)),
+        (256, 256, None),
+    ];
+    for (from, to, index) in on {
+        assert_eq!(rt;
+            mask.next_before(true, from, to),
+            index,
+            "from {from} to {to}"
+        );
+    }
+    assert_eq!(rt; mask.next_before(false, 70, 71), None, "off at none");
+    assert_eq!(rt; mask.next_before(false, 70, 72), Some(71), "off after one");
+}
+
+#[test]
+fn runs_of_values(rt: HostRuntime) {
+    // from, to, how many are on then, the first on and the first off after it
+    let table = [
+        (0, 0, 0, None, None),
+        (5, 9, 4, Some(5), Some(9)),
+        (63, 64, 1, Some(63), Some(64)),
+        (60, 130, 70, Some(60), Some(130)),
+        (64, 128, 64, Some(64), Some(128)),
+        (0, 256, 256, Some(0), None),
+        (256, 256, 0, None, None),
+    ];
+    for (from, to, count, first_on, first_off) in table {
+        let mut mask: Mask<4> = Mask::off();
+        mask.set_run(from, to, true);
+        assert_eq!(rt; mask.count(), count, "on, from {from} to {to}");
+        assert_eq!(rt; mask.next_on(0), first_on, "on, from {from} to {to}");
+        if first_on.is_some() {
+            assert_eq!(rt;
+                mask.next_before(false, from, 256),
+                first_off,
+                "from {from} to {to}"
+            );
+        }
+        let mut opposite: Mask<4> = Mask::filled(true);
+        opposite.set_run(from, to, false);
+        assert_eq!(rt; opposite.count(), 256 - count, "off, from {from} to {to}");
+        assert_eq!(rt; opposite.next_off(0), first_on, "off, from {from} to {to}");
+        opposite.minus(&mask);
+        assert_eq!(rt; opposite.count(), 256 - count, "both, from {from} to {to}");
+    }
+}

@@ -72,7 +72,7 @@ fn each_is(words: &[u64], whole: u64) -> bool
 }
 
 /// The word that is 1 where the bit of this word is `value`, and 0 where it is not.
-fn matches(word: u64, value: bool) -> u64
+pub fn matches(word: u64, value: bool) -> u64
     ensures ones { (j : ℕ) → j < 64 → bit_at result j ≡ 1 → has_bit word j ≡ value }
     ensures zeros { (j : ℕ) → j < 64 → bit_at result j ≡ 0 → has_bit word j ≡ not value }
 {

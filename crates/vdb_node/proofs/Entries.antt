@@ -1,9 +1,9 @@
 -- What an internal node shows of its masks and its rows.
 use Rattle.std.proofs.Common.{◌≡◌, ◌≢◌, ◌<◌, ℕ, Bool, true, false, List, get_or, ap, sym, ◌∙◌, refl, inl, inr, arith}
-use Rattle.std.specs.Prelude.{◌↔◌, Option, Some, None}
+use Rattle.std.specs.Prelude.{◌↔◌, ◌||◌, Option, Some, None}
 use Rattle.std.proofs.lemmas.Bool.{cases_Bool, cases_lt}
-use Rattle.vdb_mask.specs.Mask.{is_on, IsNext}
-use Rattle.vdb_node.specs.Entries.{entry_of, HasChild, IsConstant, IsNextChild, SetsEntry}
+use Rattle.vdb_mask.specs.Mask.{is_on, IsFirstOn, IsNext}
+use Rattle.vdb_node.specs.Entries.{entry_of, HasChild, IsConstant, IsFirstWithout, IsInactiveTile, IsNextChild, IsTileOf, SetsEntry}
 use Rattle.vdb_node.specs.Nodes.{listed}
 use Rattle.vdb_node.specs.declared.Entry.{Entry}
 use Rattle.vdb_node.specs.declared.Entry.TheVariants.{Child, Tile}
@@ -36,6 +36,16 @@ pub same_cell : {V : Type 0} (a b : Cell V) → a.value ≡ b.value → a.on ≡
 same_cell {V} a b value on =
     ap (λ (v : V). let c : Cell V = record { value = v; on = a.on } in c) value
     ∙ ap (λ (o : Bool). let c : Cell V = record { value = b.value; on = o } in c) on
+
+-- of two truth values of which neither is true, the first is not
+or_false_l : (a b : Bool) → (a || b) ≡ false → a ≡ false
+or_false_l true b e = e
+or_false_l false b e = refl
+
+-- nor is the second
+pub or_false_r : (a b : Bool) → (a || b) ≡ false → b ≡ false
+or_false_r true b e = absurd (cc)
+or_false_r false b e = e
 
 module _ {V : Type 0} (children states : List Bool) (value_at : ℕ → V) (slots : List ℕ) where
   -- where the child mask is on stands the slot
@@ -99,6 +109,65 @@ module _ {V : Type 0} (children states : List Bool) (value_at : ℕ → V) (slot
         before = λ i least less. has_no_child n i (omega (arith, less, next.within)) (next.before i least less);
       }
   IsNextChild-listed n from None next = λ i least below. has_no_child n i below (next i least below)
+
+  has_child_no_tile : (n i : ℕ) → i < n → is_on children i ≡ true → (cell : Cell V) → IsTileOf cell (listed (entry_of children states value_at slots) n) i → ⊥
+  has_child_no_tile n i h on cell tile =
+      tile_child cell _
+      (sym (tile (Tile cell)) ∙ get_or-listed (entry_of children states value_at slots) n i (Tile cell) h ∙ entry_of-child i on)
+
+  tile_at : (n i : ℕ) → i < n → is_on children i ≡ false → (cell : Cell V) → IsTileOf cell (listed (entry_of children states value_at slots) n) i
+      → ◌≡◌ {A = Cell V} (record { value = value_at i; on = is_on states i }) cell
+  tile_at n i h off cell tile =
+      tile_tile _ cell
+      (sym (entry_of-tile i off) ∙ sym (get_or-listed (entry_of children states value_at slots) n i (Tile cell) h) ∙ tile (Tile cell))
+
+  -- an index that is off in both masks has an inactive tile
+  inactive_tile : (n i : ℕ) → i < n → (is_on children i || is_on states i) ≡ false → IsInactiveTile (listed (entry_of children states value_at slots) n) i
+  inactive_tile n i h off =
+      let no_child : is_on children i ≡ false = or_false_l (is_on children i) (is_on states i) off in
+      let no_state : is_on states i ≡ false = or_false_r (is_on children i) (is_on states i) off in (
+        value_at i,
+        λ d. get_or-listed (entry_of children states value_at slots) n i d h ∙ entry_of-tile i no_child ∙ rw no_state refl,
+      )
+
+  -- an index that is on in one of them has none
+  no_inactive_tile : (n i : ℕ) → i < n → (is_on children i || is_on states i) ≡ true → IsInactiveTile (listed (entry_of children states value_at slots) n) i → ⊥
+  no_inactive_tile n i h on (value, tile) =
+      elim (cases_Bool (is_on children i)) [
+        | inl child ↦ has_child_no_tile n i h child (record { value = value; on = false }) tile
+        | inr none ↦
+            let state : is_on states i ≡ false = ap (λ (c : Cell V). c.on) (tile_at n i h none (record { value = value; on = false }) tile) in
+            absurd (let both : (is_on children i || is_on states i) ≡ false = rw (none, state) refl in cc)
+      ]
+
+  -- the next index that is on in one of the masks has the next entry that is no inactive tile
+  pub IsFirstWithout-inactive : (n from : ℕ) (result : Option ℕ) → IsFirstOn (λ i. is_on children i || is_on states i) n from result
+      → IsFirstWithout (IsInactiveTile (listed (entry_of children states value_at slots) n)) n from result
+  IsFirstWithout-inactive n from (Some index) first =
+      record {
+        within = first.within;
+        from_on = first.from_on;
+        here = no_inactive_tile n index first.within first.here;
+        before = λ i least less. inactive_tile n i (omega (arith, less, first.within)) (first.before i least less);
+      }
+  IsFirstWithout-inactive n from None first = λ i least below. inactive_tile n i below (first i least below)
+
+  -- a tile of a cell stands where there is no child, and the value and the state are the cell's
+  pub tile_of : (n i : ℕ) (cell : Cell V) → i < n → is_on children i ≡ false → value_at i ≡ cell.value → is_on states i ≡ cell.on
+      → IsTileOf cell (listed (entry_of children states value_at slots) n) i
+  tile_of n i cell h off value on d =
+      get_or-listed (entry_of children states value_at slots) n i d h ∙ entry_of-tile i off ∙ rw (value, on) refl
+
+  -- it does not stand where one of these fails
+  pub no_tile_of : (n i : ℕ) (cell : Cell V) → i < n → (is_on children i ≡ false → value_at i ≡ cell.value → is_on states i ≡ cell.on → ⊥)
+      → IsTileOf cell (listed (entry_of children states value_at slots) n) i → ⊥
+  no_tile_of n i cell h differ tile =
+      elim (cases_Bool (is_on children i)) [
+        | inl child ↦ has_child_no_tile n i h child cell tile
+        | inr none ↦
+            let same = tile_at n i h none cell tile in
+            differ none (ap (λ (c : Cell V). c.value) same) (ap (λ (c : Cell V). c.on) same)
+      ]
 
   module _ (n : ℕ) (some : 0 < n) where
     -- where there is no child, the values are alike and the states are, the first tile is the one of all

@@ -1,9 +1,9 @@
 -- What a leaf shows of its row and its mask.
-use Rattle.std.proofs.Common.{◌≡◌, ◌≢◌, ◌<◌, ℕ, Bool, List, ap, sym, ◌∙◌, refl, inl, inr}
+use Rattle.std.proofs.Common.{◌≡◌, ◌≢◌, ◌<◌, ◌≤◌, ℕ, Bool, List, ap, sym, ◌∙◌, refl, inl, inr, arith}
 use Rattle.std.specs.Prelude.{◌↔◌, Some, None}
 use Rattle.std.proofs.lemmas.Bool.{cases_lt}
 use Rattle.vdb_mask.specs.Mask.{is_on}
-use Rattle.vdb_node.specs.Leaf.{Leaf, cell_in, IsConstantLeaf, SetsVoxel}
+use Rattle.vdb_node.specs.Leaf.{Leaf, cell_in, FillsRun, IsConstantLeaf, SetsVoxel}
 use Rattle.vdb_node.specs.Nodes.{listed}
 use Rattle.vdb_node.proofs.Listed.{get_or-listed, get_or-listed_past}
 use Rattle.vdb_value.specs.declared.Cell.{Cell}
@@ -49,6 +49,27 @@ SetsVoxel-leaf_of {V} old new n states states' i cell h here others here' others
             | inr past ↦
                 rw (get_or-listed_past new n j d.value past, get_or-listed_past old n j d.value past, others' j other) refl
           ];
+    }
+
+-- where the value and the state stay, the cell does
+cell_kept : {V : Type 0} (old new : ℕ → V) (n : ℕ) (states states' : List Bool) (d : Cell V) (i : ℕ) → new i ≡ old i → is_on states' i ≡ is_on states i
+    → cell_in d (leaf_of new n states') i ≡ cell_in d (leaf_of old n states) i
+cell_kept old new n states states' d i value state =
+    elim (cases_lt i n) [
+      | inl below ↦ cell_in-leaf_of new n states' d i below ∙ (rw (value, state) refl) ∙ sym (cell_in-leaf_of old n states d i below)
+      | inr past ↦ rw (get_or-listed_past new n i d.value past, get_or-listed_past old n i d.value past, state) refl
+    ]
+
+-- a run of the row and of the mask is changed
+pub FillsRun-leaf_of : {V : Type 0} (old new : ℕ → V) (n : ℕ) (states states' : List Bool) (from to : ℕ) (cell : Cell V) → to ≤ n
+    → ((i : ℕ) → from ≤ i → i < to → new i ≡ cell.value) → ((i : ℕ) → i < from → new i ≡ old i) → ((i : ℕ) → to ≤ i → new i ≡ old i)
+    → ((i : ℕ) → from ≤ i → i < to → is_on states' i ≡ cell.on) → ((i : ℕ) → i < from → is_on states' i ≡ is_on states i)
+    → ((i : ℕ) → to ≤ i → is_on states' i ≡ is_on states i) → FillsRun (leaf_of old n states) (leaf_of new n states') from to cell
+FillsRun-leaf_of old new n states states' from to cell h run before after run' before' after' =
+    record {
+      changed = λ d i least less. cell_in-leaf_of new n states' d i (omega (arith, h, less)) ∙ rw (run i least less, run' i least less) refl;
+      before = λ d i less. cell_kept old new n states states' d i (before i less) (before' i less);
+      after = λ d i past. cell_kept old new n states states' d i (after i past) (after' i past);
     }
 
 module _ {V : Type 0} (value_at : ℕ → V) (n : ℕ) (states : List Bool) (some : 0 < n) where

@@ -1,9 +1,10 @@
 -- What a contract sees of an internal node: a list of entries.
-use Rattle.std.specs.Prelude.{◌≡◌, ◌≢◌, ◌*◌, ◌<◌, ◌≤◌, if◌then◌else◌, ℕ, Bool, List, Option, Some, None, slice_index_or}
+use Rattle.std.specs.Prelude.{◌≡◌, ◌≢◌, ◌*◌, ◌<◌, ◌≤◌, if◌then◌else◌, ℕ, Bool, false, List, Option, Some, None, slice_index_or}
 use Rattle.vdb_mask.specs.Mask.{is_on}
 use Rattle.vdb_node.specs.Nodes.{entry_count, IsOffFrom}
 use Rattle.vdb_node.specs.declared.Entry.{Entry}
 use Rattle.vdb_node.specs.declared.Entry.TheVariants.{Child, Tile}
+use Rattle.vdb_value.specs.declared.Cell.{Cell}
 
 -- the child or the tile at an index of the masks and the rows
 abbrev pub entry_of : {V : Type 0} → List Bool → List Bool → (ℕ → V) → List ℕ → ℕ → Entry V
@@ -34,6 +35,26 @@ pub record IsNextChildAt {V : Type 0} (node : List (Entry V)) (n from index : �
 abbrev pub IsNextChild : {V : Type 0} → List (Entry V) → ℕ → ℕ → Option ℕ → Type 0
 IsNextChild node n from (Some index) = IsNextChildAt node n from index
 IsNextChild node n from None = (i : ℕ) → from ≤ i → i < n → HasChild node i → ⊥
+
+-- the entry at an index is a tile of this cell
+abbrev pub IsTileOf : {V : Type 0} → Cell V → List (Entry V) → ℕ → Type 0
+IsTileOf {V} cell node i = (d : Entry V) → slice_index_or node i d ≡ Tile cell
+
+-- the entry at an index is a tile of an inactive cell
+abbrev pub IsInactiveTile : {V : Type 0} → List (Entry V) → ℕ → Type 0
+IsInactiveTile {V} node i = (value : V) × IsTileOf (record { value = value; on = false }) node i
+
+-- of the indices from `from` on and below n, this is the first without what each before it has
+pub record IsFirstWithoutAt (Has : ℕ → Type 0) (n from index : ℕ) : Type 0 where
+  pub within : index < n
+  pub from_on : from ≤ index
+  pub here : Has index → ⊥
+  pub before : (i : ℕ) → from ≤ i → i < index → Has i
+
+-- the first index from `from` on and below n without this, and nothing where each has it
+abbrev pub IsFirstWithout : (ℕ → Type 0) → ℕ → ℕ → Option ℕ → Type 0
+IsFirstWithout Has n from (Some index) = IsFirstWithoutAt Has n from index
+IsFirstWithout Has n from None = (i : ℕ) → from ≤ i → i < n → Has i
 
 -- an internal node with so many bits and words has room for its entries, and no bit past them
 pub record IsSoundInternal (bits words row_len slots_len : ℕ) (children states : List Bool) : Type 0 where

@@ -29,6 +29,12 @@ pub record SetsVoxel {V : Type 0} (old new : Leaf V) (i : ℕ) (cell : Cell V) :
   pub changed : (d : Cell V) → cell_in d new i ≡ cell
   pub others : (d : Cell V) (j : ℕ) → j ≢ i → cell_in d new j ≡ cell_in d old j
 
+-- the new leaf has this cell from one index on and below another, and elsewhere what the old one has
+pub record FillsRun {V : Type 0} (old new : Leaf V) (from to : ℕ) (cell : Cell V) : Type 0 where
+  pub changed : (d : Cell V) (i : ℕ) → from ≤ i → i < to → cell_in d new i ≡ cell
+  pub before : (d : Cell V) (i : ℕ) → i < from → cell_in d new i ≡ cell_in d old i
+  pub after : (d : Cell V) (i : ℕ) → to ≤ i → cell_in d new i ≡ cell_in d old i
+
 -- each of the first n cells is this
 abbrev pub IsConstantLeaf : {V : Type 0} → Leaf V → ℕ → Cell V → Type 0
 IsConstantLeaf {V} leaf n cell = (d : Cell V) (i : ℕ) → i < n → cell_in d leaf i ≡ cell

@@ -1,12 +1,12 @@
 //! Internal nodes.
 
 ghost use Rattle.std.specs.Prelude.{◌≡◌, ◌*◌, ◌<◌, ◌≤◌, ◌↔◌, ℕ, slice_index_or, IfOk, Some};
-ghost use Rattle.vdb_node.specs.Entries.{IsConstant, IsNextChild, SetsEntry};
+ghost use Rattle.vdb_node.specs.Entries.{IsConstant, IsFirstWithout, IsInactiveTile, IsNextChild, IsTileOf, SetsEntry};
 ghost use Rattle.vdb_node.specs.Nodes.{entry_count};
 ghost use Rattle.vdb_node.specs.declared.Entry.{Entry};
 ghost use Rattle.vdb_node.specs.declared.Entry.TheVariants.{Child, Tile};
 
-use crate::uniform::{cut, entries, is_uniform, put};
+use crate::uniform::{cut, entries, is_uniform, next_marked, put};
 use crate::{Entry, Stored};
 use std::alloc::{AllocError, Global};
 use std::marker::Model;
@@ -143,6 +143,38 @@ impl<V: Stored<W>, const LOG2: u32, const W: usize> Internal<V, LOG2, W> {
         ensures { IsNextChild self.now (entry_count LOG2) from result }
     {
         self.children.next_on(from)
+    }
+
+    /// The least index not below `from` whose entry is a child or an active tile, or `None` where
+    /// there is none. What `beginChildOn()` and `beginValueOn()` go to, whichever comes first.
+    pub fn next_active(&self, from: u32) -> Option<u32>
+        requires { from ≤ entry_count LOG2 }
+        ensures { IsFirstWithout (IsInactiveTile self.now) (entry_count LOG2) from result }
+    {
+        self.children.next_on_in_either(&self.states, from)
+    }
+
+    /// The least index not below `from` whose entry is anything but a tile of this cell, or `None`
+    /// where each is one.
+    pub fn next_unlike(&self, cell: Cell<V>, from: u32) -> Option<u32>
+        requires { from ≤ entry_count LOG2 }
+        ensures { IsFirstWithout (IsTileOf cell self.now) (entry_count LOG2) from result }
+    {
+        let (children, states, values) = (&self.children, &self.states, &self.values);
+        let Cell { value, on } = cell;
+        let count = entries(LOG2);
+        let mut start = from;
+        // The masks are read only so far ahead of the values.
+        'parts: while start < count {
+            let end = count.min(start + 512);
+            let marked = next_marked(children, states, on, start, end);
+            let found = V::next_unlike(values, value, start, marked);
+            if found < end {
+                return Some(found);
+            }
+            start = end;
+        }
+        None
     }
 }
 

@@ -1,6 +1,6 @@
 //! The rows of the three kinds of values.
 
-ghost use Rattle.std.specs.Prelude.{◌≡◌, ◌*◌, ◌<◌, ◌↔◌, ℕ, pos, length, slice_index_or, IsTrue};
+ghost use Rattle.std.specs.Prelude.{◌≡◌, ◌≢◌, ◌*◌, ◌<◌, ◌≤◌, ◌↔◌, ℕ, pos, length, slice_index_or, IsTrue};
 ghost use Rattle.std.proofs.Common.{arith};
 ghost use Rattle.vdb_mask.specs.Mask.{is_on};
 
@@ -18,6 +18,41 @@ fn are_one<V: Voxel>(values: &[V]) -> bool
 {
     let first = values[0];
     values.iter().all(|each| *each == first)
+}
+
+/// The first index from `from` on and below `to` with another value than this, or `to` where there is
+/// none.
+fn next_other<V: Voxel>(values: &[V], value: V, from: u32, to: u32) -> u32
+    requires from_within { from ≤ to }
+    requires room { to ≤ length values.now }
+    ensures least { from ≤ result }
+    ensures within { result ≤ to }
+    ensures here { (d : V) → result < to → slice_index_or values.now result d ≢ value }
+    ensures before { (i : ℕ) (d : V) → from ≤ i → i < result
+        → slice_index_or values.now i d ≡ value }
+{
+    'values: for i in from..to {
+        if values[i as usize] != value {
+            return i;
+        }
+    }
+    to
+}
+
+/// Makes this the value at each index from `from` on and below `to`; every other stays.
+fn set_each<V: Voxel>(values: &mut [V], from: u32, to: u32, value: V)
+    requires in_order { from ≤ to }
+    requires within { to ≤ length values.old }
+    ensures room { length values.new ≡ length values.old }
+    ensures run { (i : ℕ) (d : V) → from ≤ i → i < to → slice_index_or values.new i d ≡ value }
+    ensures before { (i : ℕ) (d : V) → i < from
+        → slice_index_or values.new i d ≡ slice_index_or values.old i d }
+    ensures after { (i : ℕ) (d : V) → to ≤ i
+        → slice_index_or values.new i d ≡ slice_index_or values.old i d }
+{
+    'values: for i in from..to {
+        values[i as usize] = value;
+    }
 }
 
 impl<const W: usize> Stored<W> for bool {
@@ -43,8 +78,19 @@ impl<const W: usize> Stored<W> for bool {
         put(row, i, value);
     }
 
+    fn set_run(row: &mut Mask<W>, from: u32, to: u32, value: bool) {
+        row.set_run(from, to, value);
+    }
+
     fn are_alike(row: &Mask<W>, count: u32) -> bool {
         is_uniform(row, count)
+    }
+
+    fn next_unlike(row: &Mask<W>, value: bool, from: u32, to: u32) -> u32 {
+        match row.next_before(!value, from, to) {
+            Some(i) => i,
+            None => to,
+        }
     }
 
     ghost row_small = { (Prim.omega arith, Prim.omega arith) };
@@ -73,8 +119,16 @@ impl<const W: usize> Stored<W> for i32 {
         row[i as usize] = value;
     }
 
+    fn set_run(row: &mut Vec<i32>, from: u32, to: u32, value: i32) {
+        set_each(row, from, to, value);
+    }
+
     fn are_alike(row: &Vec<i32>, count: u32) -> bool {
         are_one(&row[..count as usize])
+    }
+
+    fn next_unlike(row: &Vec<i32>, value: i32, from: u32, to: u32) -> u32 {
+        next_other(row, value, from, to)
     }
 
     ghost row_small = { (Prim.omega arith, Prim.omega arith) };
@@ -103,8 +157,16 @@ impl<const W: usize> Stored<W> for i64 {
         row[i as usize] = value;
     }
 
+    fn set_run(row: &mut Vec<i64>, from: u32, to: u32, value: i64) {
+        set_each(row, from, to, value);
+    }
+
     fn are_alike(row: &Vec<i64>, count: u32) -> bool {
         are_one(&row[..count as usize])
+    }
+
+    fn next_unlike(row: &Vec<i64>, value: i64, from: u32, to: u32) -> u32 {
+        next_other(row, value, from, to)
     }
 
     ghost row_small = { (Prim.omega arith, Prim.omega arith) };

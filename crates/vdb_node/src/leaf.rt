@@ -2,7 +2,7 @@
 
 ghost use Rattle.std.specs.Prelude.{◌≡◌, ◌*◌, ◌<◌, ◌≤◌, ◌↔◌, ℕ, IfOk, IsOk, Some};
 ghost use Rattle.vdb_mask.specs.Mask.{is_on, on_count};
-ghost use Rattle.vdb_node.specs.Leaf.{cell_in, IsConstantLeaf, SetsVoxel};
+ghost use Rattle.vdb_node.specs.Leaf.{cell_in, FillsRun, IsConstantLeaf, SetsVoxel};
 ghost use Rattle.vdb_node.specs.Nodes.{entry_count, IsOffFrom};
 ghost use Rattle.vdb_value.specs.declared.Kind.TheVariants.{Bool as truths};
 
@@ -93,6 +93,17 @@ impl<V: Stored<W>, const LOG2: u32, const W: usize> Leaf<V, LOG2, W> {
     {
         V::set_value(&mut self.row, i, cell.value);
         put(&mut self.states, i, cell.on);
+    }
+
+    /// Makes this the cell at each index from `from` on and below `to`; every other stays. What
+    /// `LeafNode::fill(bbox, value, active)` does with each row of its box.
+    pub fn fill_run(&mut self, from: u32, to: u32, cell: Cell<V>)
+        requires in_order { from ≤ to }
+        requires within { to ≤ entry_count LOG2 }
+        ensures { FillsRun self.old self.new from to cell }
+    {
+        V::set_run(&mut self.row, from, to, cell.value);
+        self.states.set_run(from, to, cell.on);
     }
 
     /// The cell that every entry has, or `None` where two differ. `LeafNode::isConstant`, without

@@ -47,12 +47,33 @@ pub trait Stored<const W: usize>: Voxel {
         ensures here { value_in row.new i ≡ value }
         ensures others { (j : ℕ) → j ≢ i → value_in row.new j ≡ value_in row.old j };
 
+    /// Makes this the value at each index from `from` on and below `to`; every other stays.
+    fn set_run(row: &mut Self::Row, from: u32, to: u32, value: Self)
+        requires few_words { W ≤ 512 }
+        requires in_order { from ≤ to }
+        requires within { to ≤ row_len row.old }
+        ensures room { row_len row.new ≡ row_len row.old }
+        ensures run { (i : ℕ) → from ≤ i → i < to → value_in row.new i ≡ value }
+        ensures before { (i : ℕ) → i < from → value_in row.new i ≡ value_in row.old i }
+        ensures after { (i : ℕ) → to ≤ i → value_in row.new i ≡ value_in row.old i };
+
     /// Whether the first `count` values are one and the same.
     fn are_alike(row: &Self::Row, count: u32) -> bool
         requires few_words { W ≤ 512 }
         requires some { 0 < count }
         requires room { count ≤ row_len row.now }
         ensures { IsTrue result ↔ ((i : ℕ) → i < count → value_in row.now i ≡ value_in row.now 0) };
+
+    /// The first index from `from` on and below `to` with another value than this, or `to` where there
+    /// is none.
+    fn next_unlike(row: &Self::Row, value: Self, from: u32, to: u32) -> u32
+        requires few_words { W ≤ 512 }
+        requires from_within { from ≤ to }
+        requires room { to ≤ row_len row.now }
+        ensures least { from ≤ result }
+        ensures within { result ≤ to }
+        ensures here { result < to → value_in row.now result ≢ value }
+        ensures before { (i : ℕ) → from ≤ i → i < result → value_in row.now i ≡ value };
 
     /// A row's place takes at most 64 bytes more than a mask's, at addresses that 8 divides or a
     /// mask's place needs. (A law here cannot count a mask's bytes, `8 * W`.)

@@ -223,6 +223,109 @@ fn a_change_of_a_copy_leaves_its_source(rt: HostRuntime) -> Result<(), AllocErro
     try_internal_copy(&rt, rt.alloc(), 3, i64::MIN)
 }
 
+// A node of 4096 tiles in which a child, an active tile and a tile of another value are set, the next
+// entries of which are sought.
+fn try_next_entries<V: Stored<64>>(
+    rt: &impl Abort,
+    alloc: Global,
+    one: V,
+    other: V,
+) -> Result<(), AllocError> {
+    let mut node: Internal<V, 4, 64> = Internal::new_constant(alloc, off(one))?;
+    assert_eq!(rt; node.next_active(0), None);
+    assert_eq!(rt; node.next_unlike(off(one), 0), None);
+    assert_eq!(rt; node.next_unlike(on(one), 0), Some(0));
+    node.set_child(70, 9);
+    node.set_tile(130, on(one));
+    node.set_tile(1300, off(other));
+    node.set_tile(4095, on(other));
+    let active = [
+        (0, Some(70)),
+        (70, Some(70)),
+        (71, Some(130)),
+        (131, Some(4095)),
+        (4095, Some(4095)),
+        (4096, None),
+    ];
+    for (from, index) in active {
+        assert_eq!(rt; node.next_active(from), index, "active, from {from}");
+    }
+    let unlike = [
+        (0, Some(70)),
+        (70, Some(70)),
+        (71, Some(130)),
+        (131, Some(1300)),
+        (1300, Some(1300)),
+        (1301, Some(4095)),
+        (4096, None),
+    ];
+    for (from, index) in unlike {
+        assert_eq!(rt;
+            node.next_unlike(off(one), from),
+            index,
+            "unlike, from {from}"
+        );
+    }
+    assert_eq!(rt;
+        node.next_unlike(on(one), 130),
+        Some(131),
+        "after the active tile"
+    );
+    assert_eq!(rt;
+        node.next_unlike(off(other), 1300),
+        Some(1301),
+        "after the other tile"
+    );
+    assert_eq!(rt;
+        node.next_unlike(on(other), 4095),
+        None,
+        "after the last tile"
+    );
+    Ok(())
+}
+
+#[test]
+fn next_entries_of_every_kind(rt: HostRuntime) -> Result<(), AllocError> {
+    try_next_entries(&rt, rt.alloc(), false, true)?;
+    try_next_entries(&rt, rt.alloc(), true, false)?;
+    try_next_entries(&rt, rt.alloc(), 3, i32::MIN)?;
+    try_next_entries(&rt, rt.alloc(), 3, i64::MIN)
+}
+
+// A leaf of 512 entries in which runs are filled: across words, of no entry, of one word, of all.
+fn try_runs<V: Stored<8>>(
+    rt: &impl Abort,
+    alloc: Global,
+    one: V,
+    other: V,
+) -> Result<(), AllocError> {
+    let mut leaf: Leaf<V, 3, 8> = Leaf::new_constant(alloc, off(one))?;
+    leaf.fill_run(60, 130, on(other));
+    expect_leaf(rt, &leaf, 59, off(one), false, 70);
+    expect_leaf(rt, &leaf, 60, on(other), false, 70);
+    expect_leaf(rt, &leaf, 129, on(other), false, 70);
+    expect_leaf(rt, &leaf, 130, off(one), false, 70);
+    leaf.fill_run(100, 100, on(one));
+    expect_leaf(rt, &leaf, 100, on(other), false, 70);
+    leaf.fill_run(64, 128, off(one));
+    expect_leaf(rt, &leaf, 63, on(other), false, 6);
+    expect_leaf(rt, &leaf, 64, off(one), false, 6);
+    expect_leaf(rt, &leaf, 128, on(other), false, 6);
+    leaf.fill_run(200, 203, on(one));
+    expect_leaf(rt, &leaf, 202, on(one), false, 9);
+    leaf.fill_run(0, 512, on(other));
+    expect_leaf(rt, &leaf, 511, on(other), true, 512);
+    Ok(())
+}
+
+#[test]
+fn runs_of_every_kind(rt: HostRuntime) -> Result<(), AllocError> {
+    try_runs(&rt, rt.alloc(), false, true)?;
+    try_runs(&rt, rt.alloc(), true, false)?;
+    try_runs(&rt, rt.alloc(), 3, i32::MIN)?;
+    try_runs(&rt, rt.alloc(), 3, i64::MIN)
+}
+
 // A leaf of truth values is made and copied with no memory: that neither can fail is proved here, and
 // it passes with every allocation refused.
 #[test]

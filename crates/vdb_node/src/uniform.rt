@@ -1,6 +1,6 @@
 //! Masks of which only the first values stand for entries.
 
-ghost use Rattle.std.specs.Prelude.{◌≡◌, ◌≢◌, ◌*◌, ◌<◌, ◌≤◌, ◌↔◌, ℕ, IsTrue};
+ghost use Rattle.std.specs.Prelude.{◌≡◌, ◌≢◌, ◌*◌, ◌<◌, ◌≤◌, ◌↔◌, ℕ, false, IsTrue};
 ghost use Rattle.vdb_mask.specs.Mask.{is_on};
 ghost use Rattle.vdb_node.specs.Nodes.{entry_count, IsOffFrom};
 
@@ -54,5 +54,29 @@ pub fn cut<const W: usize>(mask: &mut Mask<W>, count: u32)
 {
     for i in count..64 * W as u32 {
         mask.clear(i);
+    }
+}
+
+/// The first index from `from` on and below `to` where the mask is on or the states are not `on`, or
+/// `to` where there is none.
+pub fn next_marked<const W: usize>(
+    mask: &Mask<W>,
+    states: &Mask<W>,
+    on: bool,
+    from: u32,
+    to: u32,
+) -> u32
+    requires few_words { W ≤ 512 }
+    requires from_within { from ≤ to }
+    requires room { to ≤ 64 * W }
+    ensures least { from ≤ result }
+    ensures within { result ≤ to }
+    ensures here { result < to → is_on mask.now result ≡ false → is_on states.now result ≢ on }
+    ensures unmarked { (i : ℕ) → from ≤ i → i < result → is_on mask.now i ≡ false }
+    ensures same { (i : ℕ) → from ≤ i → i < result → is_on states.now i ≡ on }
+{
+    match mask.next_on_or_other(states, !on, from, to) {
+        Some(i) => i,
+        None => to,
     }
 }
