@@ -19,7 +19,8 @@ pub mod Writes
 pub mod LeafBlocks
 pub mod LeafCounts
 pub mod Paths
-pub mod PieceCells
+pub mod PartWalks
+mod PieceCells
 pub mod Tiled
 pub mod Constants
 pub mod Passes

@@ -18,7 +18,7 @@ use Rattle.vdb_tree.proofs.Descents.{lower_by_block, root_by_block, tile_cell, t
 use Rattle.vdb_tree.proofs.Fields.{cell_inside}
 
 -- below a tile each cell of its block is its cell
-tile_block : {V : Type 0} (bits : Bits) (t : Layout V) (level : Level) (p q : Coord) (cell : Cell V) → entry_over bits level t p ≡ Tile cell
+pub tile_block : {V : Type 0} (bits : Bits) (t : Layout V) (level : Level) (p q : Coord) (cell : Cell V) → entry_over bits level t p ≡ Tile cell
     → block_number bits level q ≡ block_number bits level p → cell_at bits t q ≡ cell
 tile_block bits t Upper p q cell tile e = tile_cell bits t cell q (tile_lower bits t cell q (tile_upper bits t cell q (root_by_block bits t q p e ∙ tile)))
 tile_block bits t Lower p q cell tile e = tile_cell bits t cell q (tile_lower bits t cell q (upper_by_block bits t q p e ∙ tile))

@@ -6,6 +6,7 @@ pub mod Sound
 pub mod Table
 pub mod Paths
 pub mod Pieces
+pub mod Parts
 pub mod Leaves
 pub mod Outcome
 pub mod Ready

@@ -2,6 +2,7 @@
 
 ghost use Rattle.std.specs.Prelude.{◌≡◌, IfNone, IfSome, IsSome, IsTrue};
 ghost use Rattle.vdb_coord.specs.Blocks.{block_number, block_numbers};
+ghost use Rattle.vdb_coord.specs.Order.{ComesBefore};
 ghost use Rattle.vdb_coord.specs.Space.{everywhere, is_inside};
 ghost use Rattle.vdb_coord.specs.declared.Coord.{Coord};
 ghost use Rattle.vdb_coord.specs.declared.Level.TheVariants.{Upper};
@@ -47,6 +48,18 @@ impl<
         ensures inside { IfSome result (λ p. IsTrue (is_inside bounds p)) }
         ensures number { IfSome result (λ p. block_number (bits_of U L F) Upper p ≡ key) }
         ensures entered { IfSome result (λ p. IsSome (root_at self.now.root (block_number (bits_of U L F) Upper p))) }
+        ensures none { IfNone result ((q : Coord) → IsTrue (is_inside bounds q) → block_number (bits_of U L F) Upper q ≡ key → ⊥) }
+    {
+        self.first_within_root(bounds, key)
+    }
+
+    /// The first coordinate, in block order, of what the box has of the root block of a key, where there is one.
+    pub(crate) fn first_within_root(&self, bounds: Bounds, key: Coord) -> Option<Coord>
+        requires { IsSome (root_at self.now.root key) }
+        ensures inside { IfSome result (λ p. IsTrue (is_inside bounds p)) }
+        ensures number { IfSome result (λ p. block_number (bits_of U L F) Upper p ≡ key) }
+        ensures entered { IfSome result (λ p. IsSome (root_at self.now.root (block_number (bits_of U L F) Upper p))) }
+        ensures first { IfSome result (λ p. (q : Coord) → IsTrue (is_inside bounds q) → block_number (bits_of U L F) Upper q ≡ key → ComesBefore (bits_of U L F) q p → ⊥) }
         ensures none { IfNone result ((q : Coord) → IsTrue (is_inside bounds q) → block_number (bits_of U L F) Upper q ≡ key → ⊥) }
     {
         let block = self.key_corner(key).block_in(self.bits(), Level::Upper);

@@ -96,7 +96,7 @@ impl<
     }
 
     /// The leaf around p.
-    fn held_leaf(&self, slot: u32, p: Coord, steps: &mut Steps) -> &Leaf<V, F, WF>
+    pub(crate) fn held_leaf(&self, slot: u32, p: Coord, steps: &mut Steps) -> &Leaf<V, F, WF>
         requires { lower_entry (bits_of U L F) self.now p ≡ Child slot }
         ensures leaf { IsLeafAround (bits_of U L F) (field_of (bits_of U L F) self.now) p result.now }
         ensures steps { steps.new ≤ steps.old + 1 }

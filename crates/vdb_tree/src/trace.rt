@@ -94,7 +94,7 @@ impl<
     }
 
     /// The nodes of the path to `q` that contain `p`.
-    fn shared(
+    pub(crate) fn shared(
         &self,
         path: PathOf<Internal<V, U, WU>, Internal<V, L, WL>, Leaf<V, F, WF>>,
         q: Coord,
@@ -285,14 +285,14 @@ impl<
         }
     }
 
-    fn upper_place(&self, slot: u32, p: Coord) -> Place<Internal<V, U, WU>>
+    pub(crate) fn upper_place(&self, slot: u32, p: Coord) -> Place<Internal<V, U, WU>>
         requires { root_entry (bits_of U L F) self.now p ≡ Child slot }
         ensures { IsChildAt self.now.uppers (root_entry (bits_of U L F) self.now p) result }
     {
         held_place(&self.uppers, slot)
     }
 
-    fn lower_place(&self, slot: u32, p: Coord) -> Place<Internal<V, L, WL>>
+    pub(crate) fn lower_place(&self, slot: u32, p: Coord) -> Place<Internal<V, L, WL>>
         requires { upper_entry (bits_of U L F) self.now p ≡ Child slot }
         ensures { IsChildAt self.now.lowers (upper_entry (bits_of U L F) self.now p) result }
     {

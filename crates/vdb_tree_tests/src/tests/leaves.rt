@@ -1,11 +1,11 @@
 //! Leaves by their blocks, and in block order.
 
 use super::{all, at, expect_cells, expect_counts, off, on};
-use crate::{Tree, Tree433, TreeOf, TreeRefusal, Write};
 use std::process::Abort;
 use vdb_coord::Coord;
 use vdb_node::Stored;
 use vdb_pool::Steps;
+use vdb_tree::{Tree, Tree433, TreeOf, TreeRefusal, Write};
 
 #[test]
 fn leaves_by_their_blocks(rt: HostRuntime) -> Result<(), TreeRefusal> {

@@ -7,10 +7,10 @@ ghost use Rattle.vdb_coord.specs.declared.Coord.{Coord};
 ghost use Rattle.vdb_coord.specs.declared.Level.TheVariants.{Leaf};
 ghost use Rattle.vdb_tree.specs.Layout.{field_of};
 
-use crate::Tree;
 use vdb_coord::Coord;
 use vdb_node::Stored;
 use vdb_pool::Steps;
+use vdb_tree::Tree;
 
 /// Makes active what is active in the other tree, in the leaf block around p. False, and nothing done, where one of the trees
 /// has no leaf there.

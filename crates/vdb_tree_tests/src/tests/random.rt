@@ -3,12 +3,12 @@
 ghost use Rattle.std.specs.Prelude.{◌<◌};
 
 use super::{Tiny, at, off};
-use crate::{Tree, Tree433, TreeOf, TreeRefusal, Write};
 use std::alloc::{AllocError, Global};
 use std::collections::BTreeMap;
 use std::process::Abort;
 use vdb_coord::Coord;
 use vdb_pool::Steps;
+use vdb_tree::{Tree, Tree433, TreeOf, TreeRefusal, Write};
 use vdb_value::Cell;
 
 /// Knuth's generator of 64 bits, and the components that coordinates are drawn from.

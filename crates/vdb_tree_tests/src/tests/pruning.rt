@@ -1,11 +1,11 @@
 //! How many nodes a tree has, and which it gives back.
 
 use super::{Tiny, all, at, expect_cells, expect_counts, off, on};
-use crate::{PathOf, Tree, Tree433, TreeOf, TreeRefusal, Write};
 use std::process::Abort;
 use vdb_coord::Coord;
 use vdb_node::Stored;
 use vdb_pool::Steps;
+use vdb_tree::{PathOf, Tree, Tree433, TreeOf, TreeRefusal, Write};
 
 #[test]
 fn a_tree_of_one_voxel(rt: HostRuntime) -> Result<(), TreeRefusal> {

@@ -1,8 +1,8 @@
 //! Copies of trees, and what a write to one leaves of the other.
 
 use super::{Tiny, all, at, expect_cells, expect_counts, off, on};
-use crate::{Tree, Tree433, TreeRefusal, Write};
 use vdb_pool::Steps;
+use vdb_tree::{Tree, Tree433, TreeRefusal, Write};
 
 // Two lower nodes in a root block, one with a leaf and one with a tile in place of a leaf, whose slot is vacant; and a leaf in
 // each of two other root blocks.

@@ -13,11 +13,11 @@ mod union;
 mod voxels;
 mod writes;
 
-use crate::{NodeCounts, TreeOf};
 use std::process::Abort;
 use vdb_coord::Coord;
 use vdb_node::Stored;
 use vdb_pool::Steps;
+use vdb_tree::{NodeCounts, TreeOf};
 use vdb_value::Cell;
 
 /// A tree whose blocks span 2, 4 and 8 voxels along each axis, so that a few writes fill one.

@@ -1,11 +1,11 @@
 //! Leaves in place of active tiles.
 
 use super::{all, at, expect_cells, expect_counts, off, on};
-use crate::{Tree, Tree433, TreeOf, TreeRefusal, Write};
 use std::process::Abort;
 use vdb_coord::Bounds;
 use vdb_node::Stored;
 use vdb_pool::Steps;
+use vdb_tree::{Tree, Tree433, TreeOf, TreeRefusal, Write};
 
 // Writes all of the leaf block at 0, and makes a tile of it.
 fn write_tile<

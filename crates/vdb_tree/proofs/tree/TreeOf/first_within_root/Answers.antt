@@ -5,12 +5,13 @@ use Rattle.vdb_coord.specs.Space.{Box, is_box, is_inside}
 use Rattle.vdb_coord.specs.declared.Bits.{Bits}
 use Rattle.vdb_coord.specs.declared.Coord.{Coord}
 use Rattle.vdb_coord.specs.declared.Level.TheVariants.{Upper}
+use Rattle.vdb_coord.proofs.BlockOrder.{not_before_min}
 use Rattle.vdb_coord.proofs.Boxes.{and_true, both}
 use Rattle.vdb_coord.proofs.Nesting.{inside_numbered, number_in_block}
 use Rattle.vdb_coord.proofs.Walk.{min_inside}
 use Rattle.vdb_tree.specs.Layout.{bits_of, root_at}
 use Rattle.vdb_tree.proofs.Blocks.{never}
-use Rattle.vdb_tree.proofs.tree.TreeOf.within_root.Goals as goal
+use Rattle.vdb_tree.proofs.tree.TreeOf.first_within_root.Goals as goal
 
 -- the least corner of what the box and the block have in common lies in both
 corner : (bits : Bits) (box part : Box) (n : Coord) → ((p : Coord) → is_inside part p ≡ (is_inside box p && is_inside (block_around bits Upper n) p)) → is_box part ≡ true
@@ -34,6 +35,14 @@ returns-in-Some-clause-entered g c =
     let value = rw (c.block_in-block.ensures, c.bits.ensures.value) at c.in-Some.ensures.both in
     let number = (corner (bits_of g.row.U g.row.L g.row.F) c.args.bounds c.in-Some.part c.key_corner.result value (both _ _ c.min.ensures.bounds).0).1 ∙ c.key_corner.ensures.number in
     rw c.min.ensures.corner (subst (λ (k : Coord). IsSome (root_at c.args.self.now.root k)) (sym number) c.requires)
+
+pub returns-in-Some-clause-first : goal.returns-in-Some-clause-first
+returns-in-Some-clause-first g c = λ q inside same before.
+    let bits = bits_of g.row.U g.row.L g.row.F in
+    let n = c.key_corner.result in
+    let value = rw (c.block_in-block.ensures, c.bits.ensures.value) at c.in-Some.ensures.both in
+    let there = and_true (is_inside c.args.bounds q) (is_inside (block_around bits Upper n) q) inside (inside_numbered bits Upper (block_number bits Upper n) q (same ∙ sym c.key_corner.ensures.number)) in
+    not_before_min bits c.in-Some.part q (value q ∙ there) (rw c.min.ensures.corner at before)
 
 pub returns-in-None-clause-none : goal.returns-in-None-clause-none
 returns-in-None-clause-none g c = λ q inside same.

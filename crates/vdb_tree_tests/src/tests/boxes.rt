@@ -1,11 +1,11 @@
 //! Boxes split and painted.
 
 use super::{Tiny, all, at, expect_cells, expect_counts, off, on};
-use crate::{Tree, Tree433, TreeOf, TreeRefusal, Write};
 use std::process::Abort;
 use vdb_coord::Bounds;
 use vdb_node::Stored;
 use vdb_pool::Steps;
+use vdb_tree::{Tree, Tree433, TreeOf, TreeRefusal, Write};
 use vdb_value::Cell;
 
 fn fill<

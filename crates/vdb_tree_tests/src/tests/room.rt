@@ -1,9 +1,9 @@
-//! Entries for the root blocks that meet a box.
+//! Entries for the root blocks that meet a box, which `split` makes before it makes nodes.
 
 use super::{Tiny, all, at, expect_cells, expect_counts, off, on};
-use crate::{Tree, Tree433, TreeRefusal, Write};
 use vdb_coord::Bounds;
 use vdb_pool::Steps;
+use vdb_tree::{Tree, Tree433, TreeRefusal, Write};
 
 // The blocks at 0 and 4,096 are in use, so of a limit of 3 one entry is left.
 #[test]
@@ -19,16 +19,16 @@ fn as_many_root_blocks_as_the_limit(rt: HostRuntime) -> Result<(), TreeRefusal> 
         Bounds::new(all(-1), all(0)).expect(&rt, "a box"),
     ];
     for bounds in too_many {
-        let refused = tree.enter_box(bounds, on(1), &mut steps);
+        let refused = tree.split(bounds, on(1), &mut steps);
         assert_eq!(rt; refused, Err(TreeRefusal::RootLimit));
         expect_counts(&rt, &tree, [2, 2, 2, 2]);
     }
     let there = Bounds::new(at(0, 0, 0), at(8191, 4095, 4095)).expect(&rt, "a box");
-    tree.enter_box(there, on(1), &mut steps)?;
+    tree.split(there, on(1), &mut steps)?;
     expect_counts(&rt, &tree, [2, 2, 2, 2]);
-    let one_more = Bounds::new(at(4095, 5, 5), at(8192, 6, 6)).expect(&rt, "a box");
-    tree.enter_box(one_more, off(1), &mut steps)?;
-    expect_counts(&rt, &tree, [3, 2, 2, 2]);
+    let one_more = Bounds::new(at(8191, 5, 5), at(8192, 6, 6)).expect(&rt, "a box");
+    tree.split(one_more, off(1), &mut steps)?;
+    expect_counts(&rt, &tree, [3, 3, 4, 4]);
     expect_cells(&rt, &tree, &cells, &mut steps);
     expect_cells(&rt, &tree, &[(at(8192, 5, 5), off(0))], &mut steps);
     Ok(())
@@ -41,16 +41,16 @@ fn a_plain_entry_gives_way(rt: HostRuntime) -> Result<(), TreeRefusal> {
     let mut tree = Tree433::new(rt.alloc(), 7i64, 2);
     tree.write(all(0), Write::On(1), &mut steps)?;
     tree.write(at(1024, 0, 0), Write::On(2), &mut steps)?;
-    let beside = Bounds::new(at(-9, -9, -9), at(-1, -1, -1)).expect(&rt, "a box");
-    let refused = tree.enter_box(beside, on(3), &mut steps);
+    let beside = Bounds::new(all(-1), all(-1)).expect(&rt, "a box");
+    let refused = tree.split(beside, on(3), &mut steps);
     assert_eq!(rt; refused, Err(TreeRefusal::RootLimit));
     tree.write(at(1024, 0, 0), Write::Off(7), &mut steps)?;
     expect_counts(&rt, &tree, [2, 2, 2, 2]);
-    tree.enter_box(beside, on(3), &mut steps)?;
-    expect_counts(&rt, &tree, [2, 1, 1, 1]);
-    let elsewhere = Bounds::new(at(-9, 0, 1024), at(-1, 0, 1024)).expect(&rt, "a box");
-    tree.enter_box(elsewhere, on(3), &mut steps)?;
-    expect_counts(&rt, &tree, [2, 1, 1, 1]);
+    tree.split(beside, on(3), &mut steps)?;
+    expect_counts(&rt, &tree, [2, 2, 2, 2]);
+    let elsewhere = Bounds::new(at(-1, 0, 1024), at(-1, 0, 1024)).expect(&rt, "a box");
+    tree.split(elsewhere, on(3), &mut steps)?;
+    expect_counts(&rt, &tree, [2, 2, 2, 2]);
     expect_cells(
         &rt,
         &tree,
@@ -77,8 +77,8 @@ fn other_nodes_stay(rt: HostRuntime) -> Result<(), TreeRefusal> {
     tree.write(at(8, 0, 0), Write::Off(0), &mut steps)?;
     expect_counts(&rt, &tree, [2, 2, 2, 2]);
     let beside = Bounds::new(all(-1), all(-1)).expect(&rt, "a box");
-    tree.enter_box(beside, on(3), &mut steps)?;
-    expect_counts(&rt, &tree, [2, 1, 1, 1]);
+    tree.split(beside, on(3), &mut steps)?;
+    expect_counts(&rt, &tree, [2, 2, 2, 2]);
     assert!(rt; tree.leaf_at(all(0), &mut steps));
     tree.write(at(8, 8, 8), Write::On(4), &mut steps)?;
     expect_counts(&rt, &tree, [2, 2, 2, 2]);
@@ -99,9 +99,9 @@ fn the_whole_space(rt: HostRuntime) -> Result<(), TreeRefusal> {
     let space = Bounds::new(all(i32::MIN), all(i32::MAX)).expect(&rt, "a box");
     for limit in [0, 1, u32::MAX] {
         let mut tree = Tree::new(rt.alloc(), 0i32, limit);
-        tree.enter_box(space, off(0), &mut steps)?;
+        tree.split(space, off(0), &mut steps)?;
         for cell in [on(0), off(1), on(1)] {
-            let refused = tree.enter_box(space, cell, &mut steps);
+            let refused = tree.split(space, cell, &mut steps);
             assert_eq!(rt; refused, Err(TreeRefusal::RootLimit));
         }
         expect_counts(&rt, &tree, [0, 0, 0, 0]);

@@ -1,10 +1,10 @@
 //! The blocks of one cell where descents end.
 
 use super::{Tiny, all, at, off, on};
-use crate::{Piece, Tree, Tree433, TreeOf, TreeRefusal, Write};
 use std::process::Abort;
 use vdb_coord::{Bounds, Coord};
 use vdb_pool::Steps;
+use vdb_tree::{Piece, Tree, Tree433, TreeOf, TreeRefusal, Write};
 use vdb_value::Cell;
 
 // Each case: a coordinate, its piece's first and last one, its cell, and how many nodes are visited.

@@ -1,9 +1,9 @@
 //! Paths of nodes, and what a descent from one costs.
 
 use super::{all, at, off, on};
-use crate::{PathOf, Tree, TreeRefusal, Write};
 use vdb_coord::Coord;
 use vdb_pool::Steps;
+use vdb_tree::{PathOf, Tree, TreeRefusal, Write};
 use vdb_value::Cell;
 
 // In a tree of one root block: leaves around 0 and 9 of one lower node, and around 200 of another.

@@ -1,8 +1,8 @@
 //! Trees whose root table may get few entries.
 
 use super::{all, at, expect_cells, expect_counts, off, on};
-use crate::{Tree, Tree433, TreeRefusal, Write};
 use vdb_pool::Steps;
+use vdb_tree::{Tree, Tree433, TreeRefusal, Write};
 
 #[test]
 fn a_second_root_block_is_refused(rt: HostRuntime) -> Result<(), TreeRefusal> {

@@ -1,12 +1,12 @@
 //! What each write makes of a cell.
 
 use super::{Tiny, all, at, expect_cells, expect_counts, off, on};
-use crate::{Tree, Tree433, TreeOf, TreeRefusal, Write};
 use std::process::Abort;
 use std::test::Fail;
 use vdb_coord::Coord;
 use vdb_node::Stored;
 use vdb_pool::Steps;
+use vdb_tree::{Tree, Tree433, TreeOf, TreeRefusal, Write};
 use vdb_value::Cell;
 
 // A write, and again when it stands already. A voxel beside keeps the background.

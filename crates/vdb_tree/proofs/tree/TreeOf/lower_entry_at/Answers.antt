@@ -1,0 +1,21 @@
+use Rattle.std.proofs.Common.{◌≡◌, ◌∙◌, ℕ, ap, refl, subst, sym}
+use Rattle.std.specs.Prelude.{slice_index_or}
+use Rattle.vdb_node.specs.declared.Entry.TheVariants.{Tile}
+use Rattle.vdb_pool.specs.Contents.{node_at}
+use Rattle.vdb_tree.specs.Layout.{Layout, bits_of, plain}
+use Rattle.vdb_tree.proofs.Descents.{lower_node_entry}
+use Rattle.vdb_tree.proofs.Sizes.{internal_small}
+use Rattle.vdb_tree.proofs.tree.TreeOf.lower_entry_at.Goals as goal
+
+pub entry-requires : goal.entry-requires
+entry-requires g c =
+    let small = g.met.V.Stored-2.row_small in
+    (internal_small _ _ g.row.WL _ c.self.invariant.0.few_lower_words small.1 small.1 small.0, c.offset-offset.ensures.within)
+
+pub returns : goal.returns
+returns g c =
+    let t = c.args.self.now in
+    let was = sym (ap (λ (w : Layout g.row.V.Denot). node_at w.lowers c.args.lower.slot) c.self.view_is) ∙ c.at.ensures.node in
+    let node = c.at.result.now in
+    lower_node_entry (bits_of g.row.U g.row.L g.row.F) t c.args.p c.args.lower.slot node c.requires.child was c.args.p refl
+    ∙ subst (λ (n : ℕ). slice_index_or node n (Tile (plain t)) ≡ c.entry.result) c.offset-offset.ensures.value (c.entry.ensures (Tile (plain t)))

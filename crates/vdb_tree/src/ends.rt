@@ -1,0 +1,152 @@
+//! Where descents end: in a tile of some level, or in a leaf.
+
+ghost use Rattle.std.specs.Prelude.{◌≡◌};
+ghost use Rattle.vdb_node.specs.declared.Entry.TheVariants.{Child};
+ghost use Rattle.vdb_tree.specs.Layout.{bits_of, lower_entry, root_entry, upper_entry};
+ghost use Rattle.vdb_tree.specs.Parts.{IsEnd};
+ghost use Rattle.vdb_tree.specs.Paths.{IsChildAt, Lives};
+
+use crate::{PathOf, TreeOf};
+use vdb_coord::{Coord, Level};
+use vdb_node::{Entry, Internal, Leaf, Stored};
+use vdb_pool::{Place, Steps};
+use vdb_value::Cell;
+
+/// The tile of this level, or the leaf in this slot.
+#[derive(Clone, Copy)]
+pub(crate) enum End<V> {
+    Tile(Level, Cell<V>),
+    Leaf(u32),
+}
+
+/// A path with the end of the descent.
+#[derive(Drop)]
+pub(crate) struct Reached<Upper, Lower, Leaf, V> {
+    pub(crate) path: PathOf<Upper, Lower, Leaf>,
+    pub(crate) end: End<V>,
+}
+
+impl<
+    V: Stored<WU> + Stored<WL> + Stored<WF>,
+    const U: u32,
+    const L: u32,
+    const F: u32,
+    const WU: usize,
+    const WL: usize,
+    const WF: usize,
+> TreeOf<V, U, L, F, WU, WL, WF> {
+    /// Where the descent to `p` ends, from the lowest internal node of the path to `q` that contains `p`, with the internal
+    /// nodes on its way. A leaf isn't visited.
+    pub(crate) fn reached(
+        &self,
+        path: PathOf<Internal<V, U, WU>, Internal<V, L, WL>, Leaf<V, F, WF>>,
+        q: Coord,
+        p: Coord,
+        steps: &mut Steps,
+    ) -> Reached<Internal<V, U, WU>, Internal<V, L, WL>, Leaf<V, F, WF>, V>
+        requires { Lives (bits_of U L F) self.now path q }
+        ensures end { IsEnd (bits_of U L F) self.now p result.end }
+        ensures lives { Lives (bits_of U L F) self.now result.path p }
+    {
+        match self.shared(path, q, p) {
+            PathOf::Empty => self.reached_from_root(p, steps),
+            PathOf::ToUpper(upper) => self.reached_from_upper(upper, p, steps),
+            PathOf::ToLower(upper, lower) => self.reached_from_lower(upper, lower, p, steps),
+            PathOf::ToLeaf(upper, lower, _) => self.reached_from_lower(upper, lower, p, steps),
+        }
+    }
+
+    fn reached_from_root(
+        &self,
+        p: Coord,
+        steps: &mut Steps,
+    ) -> Reached<Internal<V, U, WU>, Internal<V, L, WL>, Leaf<V, F, WF>, V>
+        ensures end { IsEnd (bits_of U L F) self.now p result.end }
+        ensures lives { Lives (bits_of U L F) self.now result.path p }
+    {
+        match self.root_entry(p) {
+            Entry::Tile(cell) => Reached {
+                path: PathOf::Empty,
+                end: End::Tile(Level::Upper, cell),
+            },
+            Entry::Child(slot) => {
+                let upper = self.upper_place(slot, p);
+                self.reached_from_upper(upper, p, steps)
+            }
+        }
+    }
+
+    fn reached_from_upper(
+        &self,
+        upper: Place<Internal<V, U, WU>>,
+        p: Coord,
+        steps: &mut Steps,
+    ) -> Reached<Internal<V, U, WU>, Internal<V, L, WL>, Leaf<V, F, WF>, V>
+        requires { IsChildAt self.now.uppers (root_entry (bits_of U L F) self.now p) upper }
+        ensures end { IsEnd (bits_of U L F) self.now p result.end }
+        ensures lives { Lives (bits_of U L F) self.now result.path p }
+    {
+        match self.upper_entry_at(upper, p, steps) {
+            Entry::Tile(cell) => Reached {
+                path: PathOf::ToUpper(upper),
+                end: End::Tile(Level::Lower, cell),
+            },
+            Entry::Child(slot) => {
+                let lower = self.lower_place(slot, p);
+                self.reached_from_lower(upper, lower, p, steps)
+            }
+        }
+    }
+
+    fn reached_from_lower(
+        &self,
+        upper: Place<Internal<V, U, WU>>,
+        lower: Place<Internal<V, L, WL>>,
+        p: Coord,
+        steps: &mut Steps,
+    ) -> Reached<Internal<V, U, WU>, Internal<V, L, WL>, Leaf<V, F, WF>, V>
+        requires upper { IsChildAt self.now.uppers (root_entry (bits_of U L F) self.now p) upper }
+        requires lower { IsChildAt self.now.lowers (upper_entry (bits_of U L F) self.now p) lower }
+        ensures end { IsEnd (bits_of U L F) self.now p result.end }
+        ensures lives { Lives (bits_of U L F) self.now result.path p }
+    {
+        match self.lower_entry_at(lower, p, steps) {
+            Entry::Tile(cell) => Reached {
+                path: PathOf::ToLower(upper, lower),
+                end: End::Tile(Level::Leaf, cell),
+            },
+            Entry::Child(slot) => Reached {
+                path: PathOf::ToLower(upper, lower),
+                end: End::Leaf(slot),
+            },
+        }
+    }
+
+    /// The entry of this upper node that holds p.
+    fn upper_entry_at(
+        &self,
+        upper: Place<Internal<V, U, WU>>,
+        p: Coord,
+        steps: &mut Steps,
+    ) -> Entry<V>
+        requires { IsChildAt self.now.uppers (root_entry (bits_of U L F) self.now p) upper }
+        ensures { upper_entry (bits_of U L F) self.now p ≡ result }
+    {
+        let offset = self.offset(p, Level::Upper);
+        self.uppers.at(upper, steps).entry(offset)
+    }
+
+    /// The entry of this lower node that holds p.
+    fn lower_entry_at(
+        &self,
+        lower: Place<Internal<V, L, WL>>,
+        p: Coord,
+        steps: &mut Steps,
+    ) -> Entry<V>
+        requires { IsChildAt self.now.lowers (upper_entry (bits_of U L F) self.now p) lower }
+        ensures { lower_entry (bits_of U L F) self.now p ≡ result }
+    {
+        let offset = self.offset(p, Level::Lower);
+        self.lowers.at(lower, steps).entry(offset)
+    }
+}
