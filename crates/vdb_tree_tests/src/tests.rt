@@ -1,5 +1,6 @@
 //! Trees of each type of values, with the nodes of both layouts and with the smallest. Expected values are worked out by
 //! hand.
+mod acts;
 mod boxes;
 mod copies;
 mod leaves;
@@ -39,24 +40,13 @@ fn off<V>(value: V) -> Cell<V> {
     Cell { value, on: false }
 }
 
-// The entries of the root table and the upper, lower and leaf nodes.
-fn expect_counts<
-    V: Stored<WU> + Stored<WL> + Stored<WF>,
-    const U: u32,
-    const L: u32,
-    const F: u32,
-    const WU: usize,
-    const WL: usize,
-    const WF: usize,
->(rt: &impl Abort, tree: &TreeOf<V, U, L, F, WU, WL, WF>, counts: [u64; 4]) {
-    let [entries, upper, lower, leaf] = counts;
-    let wanted = NodeCounts {
+fn nodes(entries: u64, upper: u64, lower: u64, leaf: u64) -> NodeCounts {
+    NodeCounts {
         entries,
         upper,
         lower,
         leaf,
-    };
-    assert_eq!(rt; tree.node_counts(), wanted);
+    }
 }
 
 fn expect_cells<

@@ -1,94 +1,107 @@
 //! Copies of trees, and what a write to one leaves of the other.
 
-use super::{Tiny, all, at, expect_cells, expect_counts, off, on};
+use super::acts::{Act, run};
+use super::{Tiny, all, at, off, on};
+use std::process::Abort;
 use vdb_pool::Steps;
 use vdb_tree::{Tree, Tree433, TreeRefusal, Write};
 
 // Two lower nodes in a root block, one with a leaf and one with a tile in place of a leaf, whose slot is vacant; and a leaf in
 // each of two other root blocks.
-fn with_each_level(tree: &mut Tiny<i32>, steps: &mut Steps) -> Result<(), TreeRefusal> {
-    for x in [2, 3] {
-        for y in [4, 5] {
-            for z in [6, 7] {
-                tree.write(at(x, y, z), Write::On(8), steps)?;
-            }
-        }
-    }
-    tree.write(all(0), Write::On(5), steps)?;
-    tree.write(all(-1), Write::Off(1), steps)?;
-    tree.write(at(8, 0, 0), Write::State(true), steps)?;
-    tree.prune(steps);
-    Ok(())
+fn with_each_level(
+    rt: &impl Abort,
+    tree: &mut Tiny<i32>,
+    steps: &mut Steps,
+) -> Result<(), TreeRefusal> {
+    let acts = [
+        Act::Fill(at(2, 4, 6), 2, Write::On(8)),
+        Act::Write(all(0), Write::On(5)),
+        Act::Write(all(-1), Write::Off(1)),
+        Act::Write(at(8, 0, 0), Write::State(true)),
+        Act::Prune,
+    ];
+    run(rt, tree, &acts, steps)
+}
+
+// Acts on a copy of the tree, on the tree, and on the copy again.
+fn run_by_turns(
+    rt: &impl Abort,
+    tree: &mut Tiny<i32>,
+    of_copy: &[Act<i32>],
+    of_tree: &[Act<i32>],
+    at_end: &[Act<i32>],
+    steps: &mut Steps,
+) -> Result<(), TreeRefusal> {
+    let mut copy = tree.try_copy()?;
+    assert_eq!(rt; copy.background(), -2);
+    run(rt, &mut copy, of_copy, steps)?;
+    run(rt, tree, of_tree, steps)?;
+    run(rt, &mut copy, at_end, steps)
 }
 
 #[test]
 fn a_copy_has_each_level(rt: HostRuntime) -> Result<(), TreeRefusal> {
     let mut steps = Steps::new(&rt);
     let mut tree = Tiny::new(rt.alloc(), -2, 3);
-    with_each_level(&mut tree, &mut steps)?;
-    let mut copy = tree.try_copy()?;
-    assert_eq!(rt; copy.background(), -2);
-    assert_eq!(rt; copy.limit(), 3);
-    assert_eq!(rt; copy.root_blocks(&mut steps), 3);
-    let cells = [
-        (all(0), on(5)),
-        (all(1), off(-2)),
-        (at(2, 4, 6), on(8)),
-        (at(3, 5, 7), on(8)),
-        (at(3, 5, 5), off(-2)),
-        (all(-1), off(1)),
-        (all(-2), off(-2)),
-        (at(8, 0, 0), on(-2)),
-        (at(8, 0, 1), off(-2)),
-        (at(0, 8, 0), off(-2)),
-        (all(i32::MAX), off(-2)),
-        (all(i32::MIN), off(-2)),
+    with_each_level(&rt, &mut tree, &mut steps)?;
+    let both = [
+        Act::Counts([3, 3, 4, 3]),
+        Act::Cell(all(0), on(5)),
+        Act::Cell(all(1), off(-2)),
+        Act::Cell(at(2, 4, 6), on(8)),
+        Act::Cell(at(3, 5, 7), on(8)),
+        Act::Cell(at(3, 5, 5), off(-2)),
+        Act::Cell(all(-1), off(1)),
+        Act::Cell(all(-2), off(-2)),
+        Act::Cell(at(8, 0, 0), on(-2)),
+        Act::Cell(at(8, 0, 1), off(-2)),
+        Act::Cell(at(0, 8, 0), off(-2)),
+        Act::Cell(all(i32::MAX), off(-2)),
+        Act::Cell(all(i32::MIN), off(-2)),
     ];
-    for one in [&tree, &copy] {
-        expect_counts(&rt, one, [3, 3, 4, 3]);
-        expect_cells(&rt, one, &cells, &mut steps);
-    }
-    assert!(rt; copy.leaf_at(all(0), &mut steps));
-    assert!(rt; !copy.leaf_at(at(2, 4, 6), &mut steps));
-    let refused = copy.write(at(0, 8, 0), Write::On(1), &mut steps);
-    assert_eq!(rt; refused, Err(TreeRefusal::RootLimit));
-    Ok(())
+    let at_end = [
+        Act::Limit(3),
+        Act::RootBlocks(3),
+        Act::Leaf(all(0), true),
+        Act::Leaf(at(2, 4, 6), false),
+        Act::Refused(at(0, 8, 0), Write::On(1)),
+    ];
+    run_by_turns(&rt, &mut tree, &both, &both, &at_end, &mut steps)
 }
 
 #[test]
 fn a_write_to_one_leaves_the_other(rt: HostRuntime) -> Result<(), TreeRefusal> {
     let mut steps = Steps::new(&rt);
     let mut tree = Tiny::new(rt.alloc(), -2, 4);
-    with_each_level(&mut tree, &mut steps)?;
-    let mut copy = tree.try_copy()?;
+    with_each_level(&rt, &mut tree, &mut steps)?;
     // In a leaf, in a tile, and in a root block without an entry.
-    copy.write(all(0), Write::Off(6), &mut steps)?;
-    copy.write(at(2, 4, 6), Write::Off(8), &mut steps)?;
-    copy.write(at(0, 8, 0), Write::On(1), &mut steps)?;
-    tree.write(all(-1), Write::On(7), &mut steps)?;
-    tree.write(at(8, 0, 0), Write::Off(-2), &mut steps)?;
-    tree.prune(&mut steps);
-    let cells = [
-        (all(0), on(5)),
-        (at(2, 4, 6), on(8)),
-        (at(3, 5, 7), on(8)),
-        (at(0, 8, 0), off(-2)),
-        (all(-1), on(7)),
-        (at(8, 0, 0), off(-2)),
+    let of_copy = [
+        Act::Write(all(0), Write::Off(6)),
+        Act::Write(at(2, 4, 6), Write::Off(8)),
+        Act::Write(at(0, 8, 0), Write::On(1)),
     ];
-    expect_counts(&rt, &tree, [2, 2, 3, 2]);
-    expect_cells(&rt, &tree, &cells, &mut steps);
-    let cells = [
-        (all(0), off(6)),
-        (at(2, 4, 6), off(8)),
-        (at(3, 5, 7), on(8)),
-        (at(0, 8, 0), on(1)),
-        (all(-1), off(1)),
-        (at(8, 0, 0), on(-2)),
+    let of_tree = [
+        Act::Write(all(-1), Write::On(7)),
+        Act::Write(at(8, 0, 0), Write::Off(-2)),
+        Act::Prune,
+        Act::Counts([2, 2, 3, 2]),
+        Act::Cell(all(0), on(5)),
+        Act::Cell(at(2, 4, 6), on(8)),
+        Act::Cell(at(3, 5, 7), on(8)),
+        Act::Cell(at(0, 8, 0), off(-2)),
+        Act::Cell(all(-1), on(7)),
+        Act::Cell(at(8, 0, 0), off(-2)),
     ];
-    expect_counts(&rt, &copy, [4, 4, 5, 5]);
-    expect_cells(&rt, &copy, &cells, &mut steps);
-    Ok(())
+    let at_end = [
+        Act::Counts([4, 4, 5, 5]),
+        Act::Cell(all(0), off(6)),
+        Act::Cell(at(2, 4, 6), off(8)),
+        Act::Cell(at(3, 5, 7), on(8)),
+        Act::Cell(at(0, 8, 0), on(1)),
+        Act::Cell(all(-1), off(1)),
+        Act::Cell(at(8, 0, 0), on(-2)),
+    ];
+    run_by_turns(&rt, &mut tree, &of_copy, &of_tree, &at_end, &mut steps)
 }
 
 #[test]
@@ -97,12 +110,19 @@ fn a_copy_of_an_empty_tree(rt: HostRuntime) -> Result<(), TreeRefusal> {
     let tree = Tree::new(rt.alloc(), true, 0);
     let mut copy = tree.try_copy()?;
     assert_eq!(rt; copy.background(), true);
-    assert_eq!(rt; copy.limit(), 0);
-    expect_counts(&rt, &copy, [0, 0, 0, 0]);
-    expect_cells(&rt, &copy, &[(all(0), off(true))], &mut steps);
-    let refused = copy.write(all(0), Write::On(true), &mut steps);
-    assert_eq!(rt; refused, Err(TreeRefusal::RootLimit));
-    Ok(())
+    let acts = [
+        Act::Limit(0),
+        Act::Counts([0, 0, 0, 0]),
+        Act::Cell(all(0), off(true)),
+        Act::Refused(all(0), Write::On(true)),
+    ];
+    run(&rt, &mut copy, &acts, &mut steps)
+}
+
+// A copy of a copy, once the tree and its copy are gone.
+fn copied_twice(tree: Tree433<i64>) -> Result<Tree433<i64>, TreeRefusal> {
+    let copy = tree.try_copy()?;
+    copy.try_copy()
 }
 
 // A copy of a copy has what the first tree has, once that is gone; a plain entry and its nodes are copied with the others.
@@ -110,19 +130,19 @@ fn a_copy_of_an_empty_tree(rt: HostRuntime) -> Result<(), TreeRefusal> {
 fn a_copy_of_a_copy(rt: HostRuntime) -> Result<(), TreeRefusal> {
     let mut steps = Steps::new(&rt);
     let mut tree = Tree433::new(rt.alloc(), 0i64, 4096);
-    let ends = [(all(i32::MIN), i64::MIN), (all(i32::MAX), i64::MAX)];
-    for (p, value) in ends {
-        tree.write(p, Write::On(value), &mut steps)?;
-    }
-    tree.write(all(0), Write::On(1), &mut steps)?;
-    tree.write(all(0), Write::Off(0), &mut steps)?;
-    let copy = tree.try_copy()?.try_copy()?;
-    drop(tree);
-    expect_counts(&rt, &copy, [3, 3, 3, 3]);
-    assert_eq!(rt; copy.root_blocks(&mut steps), 2);
-    for (p, value) in ends {
-        expect_cells(&rt, &copy, &[(p, on(value))], &mut steps);
-    }
-    expect_cells(&rt, &copy, &[(all(0), off(0))], &mut steps);
-    Ok(())
+    let acts = [
+        Act::Write(all(i32::MIN), Write::On(i64::MIN)),
+        Act::Write(all(i32::MAX), Write::On(i64::MAX)),
+        Act::Write(all(0), Write::On(1)),
+        Act::Write(all(0), Write::Off(0)),
+    ];
+    run(&rt, &mut tree, &acts, &mut steps)?;
+    let acts = [
+        Act::Counts([3, 3, 3, 3]),
+        Act::RootBlocks(2),
+        Act::Cell(all(i32::MIN), on(i64::MIN)),
+        Act::Cell(all(i32::MAX), on(i64::MAX)),
+        Act::Cell(all(0), off(0)),
+    ];
+    run(&rt, &mut copied_twice(tree)?, &acts, &mut steps)
 }

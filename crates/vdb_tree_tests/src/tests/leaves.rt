@@ -1,20 +1,17 @@
 //! Leaves by their blocks, and in block order.
 
-use super::{all, at, expect_cells, expect_counts, off, on};
+use super::acts::{Act, run};
+use super::{all, at, expect_cells, nodes, off, on};
 use std::process::Abort;
 use vdb_coord::Coord;
 use vdb_node::Stored;
 use vdb_pool::Steps;
 use vdb_tree::{Tree, Tree433, TreeOf, TreeRefusal, Write};
 
-#[test]
-fn leaves_by_their_blocks(rt: HostRuntime) -> Result<(), TreeRefusal> {
-    let mut steps = Steps::new(&rt);
-    let mut tree = Tree::new(rt.alloc(), 0i32, 4096);
-    tree.write(at(1, 2, 3), Write::On(7), &mut steps)?;
-    tree.write(all(-8), Write::Off(6), &mut steps)?;
+// The leaf around `at(1, 2, 3)`, which alone is active.
+fn expect_first_leaf(rt: &impl Abort, tree: &Tree<i32>, steps: &mut Steps) {
     let before = steps.count();
-    match tree.leaf(all(7), &mut steps) {
+    match tree.leaf(all(7), steps) {
         Some(leaf) => {
             assert_eq!(rt; leaf.entry(83), on(7));
             assert_eq!(rt; leaf.entry(0), off(0));
@@ -24,13 +21,45 @@ fn leaves_by_their_blocks(rt: HostRuntime) -> Result<(), TreeRefusal> {
         None => assert!(rt; false, "no leaf"),
     }
     assert_eq!(rt; steps.count().wrapping_sub(before), 3);
-    match tree.leaf(all(-1), &mut steps) {
+}
+
+// The leaf around `all(-8)`, without an active voxel.
+fn expect_second_leaf(rt: &impl Abort, tree: &Tree<i32>, steps: &mut Steps) {
+    match tree.leaf(all(-1), steps) {
         Some(leaf) => {
             assert_eq!(rt; leaf.entry(0), off(6));
             assert_eq!(rt; leaf.count_on(), 0);
         }
         None => assert!(rt; false, "no leaf"),
     }
+}
+
+// Whether a leaf is there, and how many nodes are visited to tell.
+fn expect_leaf(
+    rt: &impl Abort,
+    tree: &Tree<i32>,
+    p: Coord,
+    there: bool,
+    visits: u64,
+    steps: &mut Steps,
+) {
+    let before = steps.count();
+    assert_eq!(rt; tree.leaf_at(p, steps), there, "at {p:?}");
+    assert_eq!(rt; steps.count().wrapping_sub(before), visits, "at {p:?}");
+    assert_eq!(rt; tree.leaf(p, steps).is_some(), there, "at {p:?}");
+}
+
+#[test]
+fn leaves_by_their_blocks(rt: HostRuntime) -> Result<(), TreeRefusal> {
+    let mut steps = Steps::new(&rt);
+    let mut tree = Tree::new(rt.alloc(), 0i32, 4096);
+    let acts = [
+        Act::Write(at(1, 2, 3), Write::On(7)),
+        Act::Write(all(-8), Write::Off(6)),
+    ];
+    run(&rt, &mut tree, &acts, &mut steps)?;
+    expect_first_leaf(&rt, &tree, &mut steps);
+    expect_second_leaf(&rt, &tree, &mut steps);
     let cases = [
         (all(0), true, 2),
         (all(-1), true, 2),
@@ -39,22 +68,36 @@ fn leaves_by_their_blocks(rt: HostRuntime) -> Result<(), TreeRefusal> {
         (all(4096), false, 0),
     ];
     for (p, there, visits) in cases {
-        let before = steps.count();
-        assert_eq!(rt; tree.leaf_at(p, &mut steps), there, "at {p:?}");
-        assert_eq!(rt; steps.count().wrapping_sub(before), visits, "at {p:?}");
-        assert_eq!(rt; tree.leaf(p, &mut steps).is_some(), there, "at {p:?}");
+        expect_leaf(&rt, &tree, p, there, visits, &mut steps);
     }
     Ok(())
+}
+
+// How many voxels of a leaf are active, and how many nodes are visited to tell.
+fn expect_active(
+    rt: &impl Abort,
+    tree: &Tree433<i32>,
+    p: Coord,
+    active: Option<u32>,
+    visits: u64,
+    steps: &mut Steps,
+) {
+    let before = steps.count();
+    assert_eq!(rt; tree.leaf_count(p, steps), active, "at {p:?}");
+    assert_eq!(rt; steps.count().wrapping_sub(before), visits, "at {p:?}");
 }
 
 #[test]
 fn active_voxels_of_a_leaf(rt: HostRuntime) -> Result<(), TreeRefusal> {
     let mut steps = Steps::new(&rt);
     let mut tree = Tree433::new(rt.alloc(), 0i32, 4096);
-    tree.write(at(1, 2, 3), Write::On(7), &mut steps)?;
-    tree.write(all(7), Write::State(true), &mut steps)?;
-    tree.write(all(6), Write::Off(5), &mut steps)?;
-    tree.write(all(-8), Write::Off(6), &mut steps)?;
+    let acts = [
+        Act::Write(at(1, 2, 3), Write::On(7)),
+        Act::Write(all(7), Write::State(true)),
+        Act::Write(all(6), Write::Off(5)),
+        Act::Write(all(-8), Write::Off(6)),
+    ];
+    run(&rt, &mut tree, &acts, &mut steps)?;
     let cases = [
         (all(0), Some(2), 3),
         (all(-1), Some(0), 3),
@@ -63,30 +106,19 @@ fn active_voxels_of_a_leaf(rt: HostRuntime) -> Result<(), TreeRefusal> {
         (all(1024), None, 0),
     ];
     for (p, active, visits) in cases {
-        let before = steps.count();
-        assert_eq!(rt; tree.leaf_count(p, &mut steps), active, "at {p:?}");
-        assert_eq!(rt; steps.count().wrapping_sub(before), visits, "at {p:?}");
+        expect_active(&rt, &tree, p, active, visits, &mut steps);
     }
     Ok(())
 }
 
-// One word of a leaf's states is made 101 from its lowest bit on; the values stay.
-fn try_states<
+// Makes one word of the states of the leaf at 0 equal 101 from its lowest bit on. Where no leaf is, states are refused.
+fn set_states<
     V: Stored<WU> + Stored<WL> + Stored<8>,
     const U: u32,
     const L: u32,
     const WU: usize,
     const WL: usize,
->(
-    rt: &impl Abort,
-    mut tree: TreeOf<V, U, L, 3, WU, WL, 8>,
-    zero: V,
-    one: V,
-    steps: &mut Steps,
-) -> Result<(), TreeRefusal> {
-    for p in [all(0), at(0, 0, 1), at(1, 2, 3), all(8)] {
-        tree.write(p, Write::On(one), steps)?;
-    }
+>(rt: &impl Abort, tree: &mut TreeOf<V, U, L, 3, WU, WL, 8>, steps: &mut Steps) {
     if let Some(leaf) = tree.leaf(all(5), steps) {
         let mut states = leaf.states().copied();
         states.set_word(0, 5);
@@ -96,6 +128,26 @@ fn try_states<
         let refused = tree.set_states(at(16, 0, 0), &states, steps);
         assert!(rt; !refused);
     }
+}
+
+// States change; the values stay.
+fn try_states<
+    V: Stored<WU> + Stored<WL> + Stored<8>,
+    const U: u32,
+    const L: u32,
+    const WU: usize,
+    const WL: usize,
+>(
+    rt: &impl Abort,
+    tree: &mut TreeOf<V, U, L, 3, WU, WL, 8>,
+    zero: V,
+    one: V,
+    steps: &mut Steps,
+) -> Result<(), TreeRefusal> {
+    for p in [all(0), at(0, 0, 1), at(1, 2, 3), all(8)] {
+        tree.write(p, Write::On(one), steps)?;
+    }
+    set_states(rt, tree, steps);
     let cells = [
         (all(0), on(one)),
         (at(0, 0, 1), off(one)),
@@ -106,25 +158,26 @@ fn try_states<
         (at(16, 0, 0), off(zero)),
         (at(16, 0, 2), off(zero)),
     ];
-    expect_cells(rt, &tree, &cells, steps);
-    expect_counts(rt, &tree, [1, 1, 1, 2]);
+    expect_cells(rt, tree, &cells, steps);
+    assert_eq!(rt; tree.node_counts(), nodes(1, 1, 1, 2));
     Ok(())
 }
 
 #[test]
 fn states_of_a_leaf(rt: HostRuntime) -> Result<(), TreeRefusal> {
     let mut steps = Steps::new(&rt);
+    let alloc = rt.alloc();
     try_states(
         &rt,
-        Tree::new(rt.alloc(), false, 1),
+        &mut Tree::new(alloc, false, 1),
         false,
         true,
         &mut steps,
     )?;
-    try_states(&rt, Tree::new(rt.alloc(), 0i32, 1), 0, 9, &mut steps)?;
+    try_states(&rt, &mut Tree::new(alloc, 0i32, 1), 0, 9, &mut steps)?;
     try_states(
         &rt,
-        Tree433::new(rt.alloc(), 4i64, 1),
+        &mut Tree433::new(alloc, 4i64, 1),
         4,
         i64::MIN,
         &mut steps,
@@ -141,31 +194,29 @@ fn try_order<
     const WF: usize,
 >(
     rt: &impl Abort,
-    mut tree: TreeOf<i32, U, L, F, WU, WL, WF>,
+    tree: &mut TreeOf<i32, U, L, F, WU, WL, WF>,
     order: [Coord; 5],
     seeks: [(Coord, Option<Coord>); 5],
     steps: &mut Steps,
 ) -> Result<(), TreeRefusal> {
-    assert_eq!(rt; tree.next_leaf(None, steps), None);
-    assert_eq!(rt; tree.next_key(None), None);
-    let voxels = [
-        at(5000, 0, 0),
-        at(63, 0, 0),
-        at(0, 0, -1),
-        at(0, 0, 64),
-        all(-1),
+    let acts = [
+        Act::NextLeaf(None, None),
+        Act::NextKey(None, None),
+        Act::Write(at(5000, 0, 0), Write::Value(1)),
+        Act::Write(at(63, 0, 0), Write::Value(1)),
+        Act::Write(at(0, 0, -1), Write::Value(1)),
+        Act::Write(at(0, 0, 64), Write::Value(1)),
+        Act::Write(all(-1), Write::Value(1)),
     ];
-    for p in voxels {
-        tree.write(p, Write::Value(1), steps)?;
-    }
+    run(rt, tree, &acts, steps)?;
     let mut after = None;
     for corner in order {
-        after = tree.next_leaf(after, steps);
-        assert_eq!(rt; after, Some(corner));
+        run(rt, tree, &[Act::NextLeaf(after, Some(corner))], steps)?;
+        after = Some(corner);
     }
-    assert_eq!(rt; tree.next_leaf(after, steps), None);
+    run(rt, tree, &[Act::NextLeaf(after, None)], steps)?;
     for (p, corner) in seeks {
-        assert_eq!(rt; tree.next_leaf(Some(p), steps), corner, "past {p:?}");
+        run(rt, tree, &[Act::NextLeaf(Some(p), corner)], steps)?;
     }
     Ok(())
 }
@@ -181,7 +232,7 @@ fn leaves_in_block_order(rt: HostRuntime) -> Result<(), TreeRefusal> {
     let last = at(5000, 0, 0);
     try_order(
         &rt,
-        Tree::new(rt.alloc(), 0, 4096),
+        &mut Tree::new(rt.alloc(), 0, 4096),
         [first, second, along_z, along_x, last],
         [
             (all(i32::MIN), Some(first)),
@@ -194,7 +245,7 @@ fn leaves_in_block_order(rt: HostRuntime) -> Result<(), TreeRefusal> {
     )?;
     try_order(
         &rt,
-        Tree433::new(rt.alloc(), 0, 4096),
+        &mut Tree433::new(rt.alloc(), 0, 4096),
         [first, second, along_x, along_z, last],
         [
             (all(i32::MIN), Some(first)),
@@ -211,20 +262,18 @@ fn leaves_in_block_order(rt: HostRuntime) -> Result<(), TreeRefusal> {
 fn keys_in_order(rt: HostRuntime) -> Result<(), TreeRefusal> {
     let mut steps = Steps::new(&rt);
     let mut tree = Tree433::new(rt.alloc(), false, 4096);
-    for p in [at(5000, 0, 0), at(0, 0, -1), all(1), all(-1)] {
-        tree.write(p, Write::On(true), &mut steps)?;
-    }
-    let cases = [
-        (None, Some(all(-1))),
-        (Some(at(-1, -1, -2)), Some(all(-1))),
-        (Some(all(-1)), Some(at(0, 0, -1))),
-        (Some(at(0, 0, -1)), Some(all(0))),
-        (Some(all(0)), Some(at(4, 0, 0))),
-        (Some(at(3, 9, 9)), Some(at(4, 0, 0))),
-        (Some(at(4, 0, 0)), None),
+    let acts = [
+        Act::Write(at(5000, 0, 0), Write::On(true)),
+        Act::Write(at(0, 0, -1), Write::On(true)),
+        Act::Write(all(1), Write::On(true)),
+        Act::Write(all(-1), Write::On(true)),
+        Act::NextKey(None, Some(all(-1))),
+        Act::NextKey(Some(at(-1, -1, -2)), Some(all(-1))),
+        Act::NextKey(Some(all(-1)), Some(at(0, 0, -1))),
+        Act::NextKey(Some(at(0, 0, -1)), Some(all(0))),
+        Act::NextKey(Some(all(0)), Some(at(4, 0, 0))),
+        Act::NextKey(Some(at(3, 9, 9)), Some(at(4, 0, 0))),
+        Act::NextKey(Some(at(4, 0, 0)), None),
     ];
-    for (after, key) in cases {
-        assert_eq!(rt; tree.next_key(after), key);
-    }
-    Ok(())
+    run(&rt, &mut tree, &acts, &mut steps)
 }

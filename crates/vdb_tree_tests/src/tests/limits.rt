@@ -1,6 +1,9 @@
 //! Trees whose root table may get few entries.
 
-use super::{all, at, expect_cells, expect_counts, off, on};
+use super::acts::{Act, run};
+use super::{all, at, off, on};
+use std::process::Abort;
+use vdb_coord::Coord;
 use vdb_pool::Steps;
 use vdb_tree::{Tree, Tree433, TreeRefusal, Write};
 
@@ -8,58 +11,44 @@ use vdb_tree::{Tree, Tree433, TreeRefusal, Write};
 fn a_second_root_block_is_refused(rt: HostRuntime) -> Result<(), TreeRefusal> {
     let mut steps = Steps::new(&rt);
     let mut tree = Tree::new(rt.alloc(), 0i32, 1);
-    assert_eq!(rt; tree.limit(), 1);
-    tree.write(all(0), Write::On(1), &mut steps)?;
-    for change in [
-        Write::On(2),
-        Write::Off(2),
-        Write::State(true),
-        Write::Value(2),
-    ] {
-        let refused = tree.write(at(4096, 0, 0), change, &mut steps);
-        assert_eq!(rt; refused, Err(TreeRefusal::RootLimit));
-    }
-    expect_cells(
-        &rt,
-        &tree,
-        &[(all(0), on(1)), (at(4096, 0, 0), off(0))],
-        &mut steps,
-    );
-    expect_counts(&rt, &tree, [1, 1, 1, 1]);
-    tree.write(at(4096, 0, 0), Write::Off(0), &mut steps)?;
-    tree.write(all(4095), Write::On(3), &mut steps)?;
-    expect_cells(
-        &rt,
-        &tree,
-        &[(all(0), on(1)), (all(4095), on(3))],
-        &mut steps,
-    );
-    expect_counts(&rt, &tree, [1, 1, 2, 2]);
-    assert_eq!(rt; tree.limit(), 1);
-    Ok(())
+    let acts = [
+        Act::Limit(1),
+        Act::Write(all(0), Write::On(1)),
+        Act::Refused(at(4096, 0, 0), Write::On(2)),
+        Act::Refused(at(4096, 0, 0), Write::Off(2)),
+        Act::Refused(at(4096, 0, 0), Write::State(true)),
+        Act::Refused(at(4096, 0, 0), Write::Value(2)),
+        Act::Cell(all(0), on(1)),
+        Act::Cell(at(4096, 0, 0), off(0)),
+        Act::Counts([1, 1, 1, 1]),
+        Act::Write(at(4096, 0, 0), Write::Off(0)),
+        Act::Write(all(4095), Write::On(3)),
+        Act::Cell(all(0), on(1)),
+        Act::Cell(all(4095), on(3)),
+        Act::Counts([1, 1, 2, 2]),
+        Act::Limit(1),
+    ];
+    run(&rt, &mut tree, &acts, &mut steps)
 }
 
 #[test]
 fn no_root_block_at_all(rt: HostRuntime) -> Result<(), TreeRefusal> {
     let mut steps = Steps::new(&rt);
     let mut tree = Tree433::new(rt.alloc(), true, 0);
-    assert_eq!(rt; tree.limit(), 0);
-    for change in [
-        Write::On(true),
-        Write::On(false),
-        Write::Off(false),
-        Write::State(true),
-        Write::Value(false),
-    ] {
-        let refused = tree.write(all(-1), change, &mut steps);
-        assert_eq!(rt; refused, Err(TreeRefusal::RootLimit));
-    }
-    for change in [Write::Off(true), Write::State(false), Write::Value(true)] {
-        tree.write(all(-1), change, &mut steps)?;
-    }
-    expect_cells(&rt, &tree, &[(all(-1), off(true))], &mut steps);
-    expect_counts(&rt, &tree, [0, 0, 0, 0]);
-    Ok(())
+    let acts = [
+        Act::Limit(0),
+        Act::Refused(all(-1), Write::On(true)),
+        Act::Refused(all(-1), Write::On(false)),
+        Act::Refused(all(-1), Write::Off(false)),
+        Act::Refused(all(-1), Write::State(true)),
+        Act::Refused(all(-1), Write::Value(false)),
+        Act::Write(all(-1), Write::Off(true)),
+        Act::Write(all(-1), Write::State(false)),
+        Act::Write(all(-1), Write::Value(true)),
+        Act::Cell(all(-1), off(true)),
+        Act::Counts([0, 0, 0, 0]),
+    ];
+    run(&rt, &mut tree, &acts, &mut steps)
 }
 
 // Entries whose blocks hold the background alone give way to a write elsewhere.
@@ -68,15 +57,47 @@ fn plain_entries_are_swept_out(rt: HostRuntime) -> Result<(), TreeRefusal> {
     let mut steps = Steps::new(&rt);
     let mut tree = Tree::new(rt.alloc(), 7i64, 1);
     for (p, value) in [(all(0), 1), (at(4096, 0, 0), 2), (all(-1), 3)] {
-        tree.write(p, Write::Value(value), &mut steps)?;
-        expect_cells(&rt, &tree, &[(p, off(value))], &mut steps);
-        expect_counts(&rt, &tree, [1, 1, 1, 1]);
-        assert_eq!(rt; tree.root_blocks(&mut steps), 1);
-        tree.write(p, Write::Off(7), &mut steps)?;
-        expect_counts(&rt, &tree, [1, 1, 1, 1]);
-        assert_eq!(rt; tree.root_blocks(&mut steps), 0);
+        let acts = [
+            Act::Write(p, Write::Value(value)),
+            Act::Cell(p, off(value)),
+            Act::Counts([1, 1, 1, 1]),
+            Act::RootBlocks(1),
+            Act::Write(p, Write::Off(7)),
+            Act::Counts([1, 1, 1, 1]),
+            Act::RootBlocks(0),
+        ];
+        run(&rt, &mut tree, &acts, &mut steps)?;
     }
     Ok(())
+}
+
+// Of two entries one becomes plain, and gives way to a third.
+fn give_up(
+    rt: &impl Abort,
+    tree: &mut Tree433<i32>,
+    kept: Coord,
+    given_up: Coord,
+    steps: &mut Steps,
+) -> Result<(), TreeRefusal> {
+    let third = at(-1, 0, 0);
+    let fourth = at(0, 0, -1);
+    let acts = [
+        Act::Write(kept, Write::On(1)),
+        Act::Write(given_up, Write::On(2)),
+        Act::Refused(third, Write::On(3)),
+        Act::Cell(kept, on(1)),
+        Act::Cell(given_up, on(2)),
+        Act::Cell(third, off(0)),
+        Act::Write(given_up, Write::Off(0)),
+        Act::Write(third, Write::On(3)),
+        Act::Refused(fourth, Write::On(4)),
+        Act::Cell(kept, on(1)),
+        Act::Cell(given_up, off(0)),
+        Act::Cell(third, on(3)),
+        Act::Cell(fourth, off(0)),
+        Act::Counts([2, 2, 2, 2]),
+    ];
+    run(rt, tree, &acts, steps)
 }
 
 // The entry that isn't plain stays, whichever of the two it is.
@@ -85,34 +106,7 @@ fn others_are_kept(rt: HostRuntime) -> Result<(), TreeRefusal> {
     let mut steps = Steps::new(&rt);
     for (kept, given_up) in [(at(0, 0, 0), at(0, 0, 1024)), (at(0, 0, 1024), at(0, 0, 0))] {
         let mut tree = Tree433::new(rt.alloc(), 0i32, 2);
-        let third = at(-1, 0, 0);
-        let fourth = at(0, 0, -1);
-        tree.write(kept, Write::On(1), &mut steps)?;
-        tree.write(given_up, Write::On(2), &mut steps)?;
-        let refused = tree.write(third, Write::On(3), &mut steps);
-        assert_eq!(rt; refused, Err(TreeRefusal::RootLimit));
-        expect_cells(
-            &rt,
-            &tree,
-            &[(kept, on(1)), (given_up, on(2)), (third, off(0))],
-            &mut steps,
-        );
-        tree.write(given_up, Write::Off(0), &mut steps)?;
-        tree.write(third, Write::On(3), &mut steps)?;
-        let refused = tree.write(fourth, Write::On(4), &mut steps);
-        assert_eq!(rt; refused, Err(TreeRefusal::RootLimit));
-        expect_cells(
-            &rt,
-            &tree,
-            &[
-                (kept, on(1)),
-                (given_up, off(0)),
-                (third, on(3)),
-                (fourth, off(0)),
-            ],
-            &mut steps,
-        );
-        expect_counts(&rt, &tree, [2, 2, 2, 2]);
+        give_up(&rt, &mut tree, kept, given_up, &mut steps)?;
     }
     Ok(())
 }

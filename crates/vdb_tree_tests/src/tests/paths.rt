@@ -1,6 +1,7 @@
 //! Paths of nodes, and what a descent from one costs.
 
 use super::{all, at, off, on};
+use std::process::Abort;
 use vdb_coord::Coord;
 use vdb_pool::Steps;
 use vdb_tree::{PathOf, Tree, TreeRefusal, Write};
@@ -18,6 +19,20 @@ fn write_leaves(tree: &mut Tree<i32>, steps: &mut Steps) -> Result<(), TreeRefus
 fn descended(tree: &Tree<i32>, from: Coord, to: Coord, steps: &mut Steps) -> Cell<i32> {
     let mut path = tree.trace(from, steps);
     tree.descend(&mut path, from, to, steps)
+}
+
+fn expect_descent(
+    rt: &impl Abort,
+    tree: &Tree<i32>,
+    ends: (Coord, Coord),
+    cell: Cell<i32>,
+    visits: u64,
+    steps: &mut Steps,
+) {
+    let (from, to) = ends;
+    let before = steps.count();
+    assert_eq!(rt; descended(tree, from, to, steps), cell, "to {to:?}");
+    assert_eq!(rt; steps.count().wrapping_sub(before), visits, "to {to:?}");
 }
 
 // As many visits as the first path has nodes, and then as there are on the way down from the lowest that both have.
@@ -43,9 +58,7 @@ fn descents_from_what_is_shared(rt: HostRuntime) -> Result<(), TreeRefusal> {
         (absent, at(4096, 1, 0), off(0), 0 + 0),
     ];
     for (from, to, cell, visits) in turns {
-        let before = steps.count();
-        assert_eq!(rt; descended(&tree, from, to, &mut steps), cell, "to {to:?}");
-        assert_eq!(rt; steps.count().wrapping_sub(before), visits, "to {to:?}");
+        expect_descent(&rt, &tree, (from, to), cell, visits, &mut steps);
     }
     Ok(())
 }
@@ -58,6 +71,10 @@ fn length<A, B, C>(path: PathOf<A, B, C>) -> u32 {
         PathOf::ToLower(..) => 2,
         PathOf::ToLeaf(..) => 3,
     }
+}
+
+fn expect_length(rt: &impl Abort, tree: &Tree<i32>, p: Coord, nodes: u32, steps: &mut Steps) {
+    assert_eq!(rt; length(tree.trace(p, steps)), nodes, "at {p:?}");
 }
 
 #[test]
@@ -74,7 +91,7 @@ fn traces_end_where_the_nodes_end(rt: HostRuntime) -> Result<(), TreeRefusal> {
         (all(-1), 0),
     ];
     for (p, nodes) in cases {
-        assert_eq!(rt; length(tree.trace(p, &mut steps)), nodes, "at {p:?}");
+        expect_length(&rt, &tree, p, nodes, &mut steps);
     }
     Ok(())
 }
@@ -83,6 +100,19 @@ fn traces_end_where_the_nodes_end(rt: HostRuntime) -> Result<(), TreeRefusal> {
 fn is_written_near(tree: &mut Tree<i32>, from: Coord, to: Coord, steps: &mut Steps) -> bool {
     let path = tree.trace(from, steps);
     tree.write_near(&path, from, to, Write::Value(9), steps)
+}
+
+fn expect_near(
+    rt: &impl Abort,
+    tree: &mut Tree<i32>,
+    ends: (Coord, Coord),
+    near: bool,
+    cell: Cell<i32>,
+    steps: &mut Steps,
+) {
+    let (from, to) = ends;
+    assert_eq!(rt; is_written_near(tree, from, to, steps), near, "to {to:?}");
+    assert_eq!(rt; tree.get(to, steps), cell, "to {to:?}");
 }
 
 #[test]
@@ -102,12 +132,7 @@ fn writes_in_the_leaf_of_a_path(rt: HostRuntime) -> Result<(), TreeRefusal> {
         (all(0), all(6), true, off(9)),
     ];
     for (from, to, near, cell) in cases {
-        assert_eq!(rt;
-            is_written_near(&mut tree, from, to, &mut steps),
-            near,
-            "to {to:?}"
-        );
-        assert_eq!(rt; tree.get(to, &mut steps), cell, "to {to:?}");
+        expect_near(&rt, &mut tree, (from, to), near, cell, &mut steps);
     }
     Ok(())
 }

@@ -4,10 +4,29 @@ use super::{Tiny, all, at, off, on};
 use std::process::Abort;
 use vdb_coord::{Bounds, Coord};
 use vdb_pool::Steps;
-use vdb_tree::{Piece, Tree, Tree433, TreeOf, TreeRefusal, Write};
+use vdb_tree::{Tree, Tree433, TreeOf, TreeRefusal, Write};
 use vdb_value::Cell;
 
-// Each case: a coordinate, its piece's first and last one, its cell, and how many nodes are visited.
+// A coordinate, its piece's first and last one, its cell, and how many nodes are visited.
+type Case = (Coord, Coord, Coord, Cell<i32>, u64);
+
+fn expect_piece<
+    const U: u32,
+    const L: u32,
+    const F: u32,
+    const WU: usize,
+    const WL: usize,
+    const WF: usize,
+>(rt: &impl Abort, tree: &TreeOf<i32, U, L, F, WU, WL, WF>, case: Case, steps: &mut Steps) {
+    let (p, min, max, cell, visits) = case;
+    let before = steps.count();
+    let piece = tree.piece(p, steps);
+    assert_eq!(rt; Some(piece.bounds), Bounds::new(min, max), "at {p:?}");
+    assert_eq!(rt; piece.cell, cell, "at {p:?}");
+    assert_eq!(rt; steps.count().wrapping_sub(before), visits, "at {p:?}");
+}
+
+// The pieces around the one voxel that is written.
 fn expect_pieces<
     const U: u32,
     const L: u32,
@@ -17,24 +36,20 @@ fn expect_pieces<
     const WF: usize,
 >(
     rt: &impl Abort,
-    tree: &TreeOf<i32, U, L, F, WU, WL, WF>,
-    cases: &[(Coord, Coord, Coord, Cell<i32>, u64)],
+    tree: &mut TreeOf<i32, U, L, F, WU, WL, WF>,
+    p: Coord,
+    change: Write<i32>,
+    cases: &[Case],
     steps: &mut Steps,
-) {
-    for (p, min, max, cell, visits) in cases {
-        let before = steps.count();
-        let piece = tree.piece(*p, steps);
-        assert_eq!(rt; Some(piece.bounds), Bounds::new(*min, *max), "at {p:?}");
-        assert_eq!(rt; piece.cell, *cell, "at {p:?}");
-        assert_eq!(rt; steps.count().wrapping_sub(before), *visits, "at {p:?}");
+) -> Result<(), TreeRefusal> {
+    tree.write(p, change, steps)?;
+    for case in cases {
+        expect_piece(rt, tree, *case, steps);
     }
+    Ok(())
 }
 
-#[test]
-fn pieces_of_each_level(rt: HostRuntime) -> Result<(), TreeRefusal> {
-    let mut steps = Steps::new(&rt);
-    let mut wide = Tree::new(rt.alloc(), 0, 4096);
-    wide.write(at(1, 2, 3), Write::On(7), &mut steps)?;
+fn try_wide(rt: &impl Abort, tree: &mut Tree<i32>, steps: &mut Steps) -> Result<(), TreeRefusal> {
     let cases = [
         (at(1, 2, 3), at(1, 2, 3), at(1, 2, 3), on(7), 3),
         (all(0), all(0), all(0), off(0), 3),
@@ -51,9 +66,14 @@ fn pieces_of_each_level(rt: HostRuntime) -> Result<(), TreeRefusal> {
         (all(i32::MAX), all(2147479552), all(i32::MAX), off(0), 0),
         (all(i32::MIN), all(i32::MIN), all(-2147479553), off(0), 0),
     ];
-    expect_pieces(&rt, &wide, &cases, &mut steps);
-    let mut narrow = Tree433::new(rt.alloc(), -1, 4096);
-    narrow.write(all(-1), Write::Off(7), &mut steps)?;
+    expect_pieces(rt, tree, at(1, 2, 3), Write::On(7), &cases, steps)
+}
+
+fn try_narrow(
+    rt: &impl Abort,
+    tree: &mut Tree433<i32>,
+    steps: &mut Steps,
+) -> Result<(), TreeRefusal> {
     let cases = [
         (all(-1), all(-1), all(-1), off(7), 3),
         (all(-2), all(-2), all(-2), off(-1), 3),
@@ -73,7 +93,25 @@ fn pieces_of_each_level(rt: HostRuntime) -> Result<(), TreeRefusal> {
             0,
         ),
     ];
-    expect_pieces(&rt, &narrow, &cases, &mut steps);
+    expect_pieces(rt, tree, all(-1), Write::Off(7), &cases, steps)
+}
+
+#[test]
+fn pieces_of_each_level(rt: HostRuntime) -> Result<(), TreeRefusal> {
+    let mut steps = Steps::new(&rt);
+    try_wide(&rt, &mut Tree::new(rt.alloc(), 0, 4096), &mut steps)?;
+    try_narrow(&rt, &mut Tree433::new(rt.alloc(), -1, 4096), &mut steps)
+}
+
+// Eight voxels of one leaf block, made alike.
+fn write_leaf(tree: &mut Tiny<i32>, steps: &mut Steps) -> Result<(), TreeRefusal> {
+    for x in [2, 3] {
+        for y in [4, 5] {
+            for z in [6, 7] {
+                tree.write(at(x, y, z), Write::On(8), steps)?;
+            }
+        }
+    }
     Ok(())
 }
 
@@ -82,23 +120,13 @@ fn pieces_of_each_level(rt: HostRuntime) -> Result<(), TreeRefusal> {
 fn a_pruned_leaf_is_one_piece(rt: HostRuntime) -> Result<(), TreeRefusal> {
     let mut steps = Steps::new(&rt);
     let mut tree = Tiny::new(rt.alloc(), 0, 1);
-    for x in [2, 3] {
-        for y in [4, 5] {
-            for z in [6, 7] {
-                tree.write(at(x, y, z), Write::On(8), &mut steps)?;
-            }
-        }
-    }
+    write_leaf(&mut tree, &mut steps)?;
     let p = at(3, 4, 7);
-    expect_pieces(&rt, &tree, &[(p, p, p, on(8), 3)], &mut steps);
+    expect_piece(&rt, &tree, (p, p, p, on(8), 3), &mut steps);
     assert!(rt; tree.leaf_at(p, &mut steps));
     tree.prune(&mut steps);
-    expect_pieces(
-        &rt,
-        &tree,
-        &[(p, at(2, 4, 6), at(3, 5, 7), on(8), 2)],
-        &mut steps,
-    );
+    let whole = (p, at(2, 4, 6), at(3, 5, 7), on(8), 2);
+    expect_piece(&rt, &tree, whole, &mut steps);
     assert!(rt; !tree.leaf_at(p, &mut steps));
     Ok(())
 }

@@ -92,7 +92,21 @@ impl Wanted {
     }
 }
 
-// Writes a voxel. Where the root limit refuses it, there would be a root block too many.
+// The root limit refuses a cell where there would be a root block too many.
+fn expect_too_many(
+    rt: &impl Abort,
+    wanted: &mut Wanted,
+    p: Coord,
+    new: Cell<i32>,
+    limit: u32,
+) -> Result<(), TreeRefusal> {
+    let old = wanted.cell(p);
+    wanted.put(p, new)?;
+    assert!(rt; wanted.root_blocks()? > u64::from(limit));
+    wanted.put(p, old)?;
+    Ok(())
+}
+
 fn change_one<
     const U: u32,
     const L: u32,
@@ -108,21 +122,60 @@ fn change_one<
     change: Write<i32>,
     steps: &mut Steps,
 ) -> Result<(), TreeRefusal> {
-    let old = wanted.cell(p);
-    let new = change.applied(old);
+    let new = change.applied(wanted.cell(p));
     match tree.write(p, change, steps) {
         Ok(()) => {
             wanted.put(p, new)?;
             assert_eq!(rt; tree.get(p, steps), new);
+            Ok(())
         }
-        Err(TreeRefusal::RootLimit) => {
-            wanted.put(p, new)?;
-            assert!(rt; wanted.root_blocks()? > u64::from(tree.limit()));
-            wanted.put(p, old)?;
-        }
-        Err(TreeRefusal::Memory) => return Err(TreeRefusal::Memory),
+        Err(TreeRefusal::RootLimit) => expect_too_many(rt, wanted, p, new, tree.limit()),
+        Err(TreeRefusal::Memory) => Err(TreeRefusal::Memory),
+    }
+}
+
+// The aligned cube of eight voxels around p.
+fn change_eight<
+    const U: u32,
+    const L: u32,
+    const F: u32,
+    const WU: usize,
+    const WL: usize,
+    const WF: usize,
+>(
+    rt: &impl Abort,
+    tree: &mut TreeOf<i32, U, L, F, WU, WL, WF>,
+    wanted: &mut Wanted,
+    p: Coord,
+    change: Write<i32>,
+    steps: &mut Steps,
+) -> Result<(), TreeRefusal> {
+    for i in 0..8 {
+        let q = at(
+            (p.x & !1) | (i & 1),
+            (p.y & !1) | ((i >> 1) & 1),
+            (p.z & !1) | (i >> 2),
+        );
+        change_one(rt, tree, wanted, q, change, steps)?;
     }
     Ok(())
+}
+
+fn expect_cell<
+    const U: u32,
+    const L: u32,
+    const F: u32,
+    const WU: usize,
+    const WL: usize,
+    const WF: usize,
+>(
+    rt: &impl Abort,
+    tree: &TreeOf<i32, U, L, F, WU, WL, WF>,
+    wanted: &Wanted,
+    p: Coord,
+    steps: &mut Steps,
+) {
+    assert_eq!(rt; tree.get(p, steps), wanted.cell(p), "at {p:?}");
 }
 
 fn expect_wanted<
@@ -142,8 +195,7 @@ fn expect_wanted<
     for x in components {
         for y in components {
             for z in components {
-                let p = at(*x, *y, *z);
-                assert_eq!(rt; tree.get(p, steps), wanted.cell(p), "at {p:?}");
+                expect_cell(rt, tree, wanted, at(*x, *y, *z), steps);
             }
         }
     }
@@ -151,7 +203,34 @@ fn expect_wanted<
     Ok(())
 }
 
-// Changes of single voxels and of aligned cubes of eight, with a prune now and then.
+// A change of a single voxel or of an aligned cube of eight, with a prune now and then.
+fn change_some<
+    const U: u32,
+    const L: u32,
+    const F: u32,
+    const WU: usize,
+    const WL: usize,
+    const WF: usize,
+>(
+    rt: &impl Abort,
+    tree: &mut TreeOf<i32, U, L, F, WU, WL, WF>,
+    wanted: &mut Wanted,
+    draws: &mut Draws,
+    steps: &mut Steps,
+) -> Result<(), TreeRefusal> {
+    let p = draws.coordinate();
+    let change = draws.change();
+    if draws.below(2) == 0 {
+        change_one(rt, tree, wanted, p, change, steps)?;
+    } else {
+        change_eight(rt, tree, wanted, p, change, steps)?;
+    }
+    if draws.below(10) == 0 {
+        tree.prune(steps);
+    }
+    Ok(())
+}
+
 fn try_changes<
     const U: u32,
     const L: u32,
@@ -161,34 +240,18 @@ fn try_changes<
     const WF: usize,
 >(
     rt: &impl Abort,
-    mut tree: TreeOf<i32, U, L, F, WU, WL, WF>,
+    tree: &mut TreeOf<i32, U, L, F, WU, WL, WF>,
     wanted: &mut Wanted,
     draws: &mut Draws,
     steps: &mut Steps,
 ) -> Result<(), TreeRefusal> {
     for _ in 0..100 {
-        let p = draws.coordinate();
-        let change = draws.change();
-        if draws.below(2) == 0 {
-            change_one(rt, &mut tree, wanted, p, change, steps)?;
-        } else {
-            for i in 0..8 {
-                let q = at(
-                    (p.x & !1) | (i & 1),
-                    (p.y & !1) | ((i >> 1) & 1),
-                    (p.z & !1) | (i >> 2),
-                );
-                change_one(rt, &mut tree, wanted, q, change, steps)?;
-            }
-        }
-        if draws.below(10) == 0 {
-            tree.prune(steps);
-        }
+        change_some(rt, tree, wanted, draws, steps)?;
     }
     let components = draws.components;
-    expect_wanted(rt, &tree, wanted, &components, steps)?;
+    expect_wanted(rt, tree, wanted, &components, steps)?;
     tree.prune(steps);
-    expect_wanted(rt, &tree, wanted, &components, steps)?;
+    expect_wanted(rt, tree, wanted, &components, steps)?;
     assert_eq!(rt; tree.node_counts().entries, wanted.root_blocks()?);
     Ok(())
 }
@@ -208,7 +271,7 @@ fn changes_beside_a_map(rt: HostRuntime) -> Result<(), TreeRefusal> {
         };
         try_changes(
             &rt,
-            Tree::new(alloc, 0, limit),
+            &mut Tree::new(alloc, 0, limit),
             &mut wanted,
             &mut draws,
             &mut steps,
@@ -220,7 +283,7 @@ fn changes_beside_a_map(rt: HostRuntime) -> Result<(), TreeRefusal> {
         };
         try_changes(
             &rt,
-            Tree433::new(alloc, 0, limit),
+            &mut Tree433::new(alloc, 0, limit),
             &mut wanted,
             &mut draws,
             &mut steps,
@@ -232,7 +295,7 @@ fn changes_beside_a_map(rt: HostRuntime) -> Result<(), TreeRefusal> {
         };
         try_changes(
             &rt,
-            Tiny::new(alloc, 0, limit),
+            &mut Tiny::new(alloc, 0, limit),
             &mut wanted,
             &mut draws,
             &mut steps,

@@ -1,76 +1,51 @@
 //! Leaves in place of active tiles.
 
-use super::{all, at, expect_cells, expect_counts, off, on};
-use std::process::Abort;
-use vdb_coord::Bounds;
-use vdb_node::Stored;
+use super::acts::{Act, run};
+use super::{all, off, on};
 use vdb_pool::Steps;
-use vdb_tree::{Tree, Tree433, TreeOf, TreeRefusal, Write};
-
-// Writes all of the leaf block at 0, and makes a tile of it.
-fn write_tile<
-    V: Stored<WU> + Stored<WL> + Stored<WF>,
-    const U: u32,
-    const L: u32,
-    const F: u32,
-    const WU: usize,
-    const WL: usize,
-    const WF: usize,
->(
-    tree: &mut TreeOf<V, U, L, F, WU, WL, WF>,
-    change: Write<V>,
-    steps: &mut Steps,
-) -> Result<(), TreeRefusal> {
-    for x in 0..8 {
-        for y in 0..8 {
-            for z in 0..8 {
-                tree.write(at(x, y, z), change, steps)?;
-            }
-        }
-    }
-    tree.prune(steps);
-    Ok(())
-}
+use vdb_tree::{Tree, Tree433, TreeRefusal, Write};
 
 #[test]
 fn an_active_tile_becomes_a_leaf_and_a_tile_again(rt: HostRuntime) -> Result<(), TreeRefusal> {
     let mut steps = Steps::new(&rt);
     let mut tree = Tree::new(rt.alloc(), 0i32, 4096);
-    write_tile(&mut tree, Write::On(3), &mut steps)?;
-    expect_counts(&rt, &tree, [1, 1, 1, 0]);
-    let beside = Bounds::new(all(8), all(40)).expect(&rt, "a box");
-    tree.voxelise(beside, &mut steps)?;
-    expect_counts(&rt, &tree, [1, 1, 1, 0]);
-    let across = Bounds::new(all(7), all(8)).expect(&rt, "a box");
-    tree.voxelise(across, &mut steps)?;
-    assert!(rt; tree.leaf_at(all(0), &mut steps));
-    assert!(rt; !tree.leaf_at(all(8), &mut steps));
-    expect_counts(&rt, &tree, [1, 1, 1, 1]);
-    let cells = [(all(0), on(3)), (all(7), on(3)), (all(8), off(0))];
-    expect_cells(&rt, &tree, &cells, &mut steps);
-    tree.prune(&mut steps);
-    assert!(rt; !tree.leaf_at(all(0), &mut steps));
-    expect_counts(&rt, &tree, [1, 1, 1, 0]);
-    expect_cells(&rt, &tree, &cells, &mut steps);
-    Ok(())
+    let acts = [
+        Act::Fill(all(0), 8, Write::On(3)),
+        Act::Prune,
+        Act::Counts([1, 1, 1, 0]),
+        Act::Voxelise(all(8), all(40)),
+        Act::Counts([1, 1, 1, 0]),
+        Act::Voxelise(all(7), all(8)),
+        Act::Leaf(all(0), true),
+        Act::Leaf(all(8), false),
+        Act::Counts([1, 1, 1, 1]),
+        Act::Cell(all(0), on(3)),
+        Act::Cell(all(7), on(3)),
+        Act::Cell(all(8), off(0)),
+        Act::Prune,
+        Act::Leaf(all(0), false),
+        Act::Counts([1, 1, 1, 0]),
+        Act::Cell(all(0), on(3)),
+        Act::Cell(all(7), on(3)),
+        Act::Cell(all(8), off(0)),
+    ];
+    run(&rt, &mut tree, &acts, &mut steps)
 }
 
 #[test]
 fn an_inactive_tile_stays(rt: HostRuntime) -> Result<(), TreeRefusal> {
     let mut steps = Steps::new(&rt);
     let mut tree = Tree433::new(rt.alloc(), true, 4096);
-    write_tile(&mut tree, Write::Off(false), &mut steps)?;
-    let all_of_it = Bounds::new(all(-9), all(17)).expect(&rt, "a box");
-    tree.voxelise(all_of_it, &mut steps)?;
-    assert!(rt; !tree.leaf_at(all(0), &mut steps));
-    expect_counts(&rt, &tree, [1, 1, 1, 0]);
-    expect_cells(
-        &rt,
-        &tree,
-        &[(all(0), off(false)), (all(-1), off(true))],
-        &mut steps,
-    );
-    Ok(())
+    let acts = [
+        Act::Fill(all(0), 8, Write::Off(false)),
+        Act::Prune,
+        Act::Voxelise(all(-9), all(17)),
+        Act::Leaf(all(0), false),
+        Act::Counts([1, 1, 1, 0]),
+        Act::Cell(all(0), off(false)),
+        Act::Cell(all(-1), off(true)),
+    ];
+    run(&rt, &mut tree, &acts, &mut steps)
 }
 
 #[test]
@@ -78,11 +53,13 @@ fn boxes_at_both_ends_of_the_range(rt: HostRuntime) -> Result<(), TreeRefusal> {
     let mut steps = Steps::new(&rt);
     let mut tree = Tree::new(rt.alloc(), 0i64, 4096);
     for corner in [all(i32::MIN), all(i32::MAX)] {
-        tree.write(corner, Write::On(1), &mut steps)?;
-        let one = Bounds::new(corner, corner).expect(&rt, "a box");
-        tree.voxelise(one, &mut steps)?;
-        assert!(rt; tree.leaf_at(corner, &mut steps));
-        assert_eq!(rt; tree.get(corner, &mut steps), on(1));
+        let acts = [
+            Act::Write(corner, Write::On(1)),
+            Act::Voxelise(corner, corner),
+            Act::Leaf(corner, true),
+            Act::Cell(corner, on(1)),
+        ];
+        run(&rt, &mut tree, &acts, &mut steps)?;
     }
     Ok(())
 }

@@ -1,6 +1,7 @@
 //! What each write makes of a cell.
 
-use super::{Tiny, all, at, expect_cells, expect_counts, off, on};
+use super::acts::{Act, run};
+use super::{Tiny, all, at, expect_cells, nodes, off, on};
 use std::process::Abort;
 use std::test::Fail;
 use vdb_coord::Coord;
@@ -8,6 +9,32 @@ use vdb_node::Stored;
 use vdb_pool::Steps;
 use vdb_tree::{Tree, Tree433, TreeOf, TreeRefusal, Write};
 use vdb_value::Cell;
+
+// Writes of the background to a fresh tree, which needs nothing for them.
+fn try_plain_writes<
+    V: Stored<WU> + Stored<WL> + Stored<WF>,
+    const U: u32,
+    const L: u32,
+    const F: u32,
+    const WU: usize,
+    const WL: usize,
+    const WF: usize,
+>(
+    rt: &impl Abort,
+    tree: &mut TreeOf<V, U, L, F, WU, WL, WF>,
+    p: Coord,
+    zero: V,
+    steps: &mut Steps,
+) -> Result<(), TreeRefusal> {
+    let fresh = steps.count();
+    assert!(rt; tree.background() == zero);
+    tree.write(p, Write::State(false), steps)?;
+    tree.write(p, Write::Value(zero), steps)?;
+    tree.write(p, Write::Off(zero), steps)?;
+    assert_eq!(rt; tree.node_counts(), nodes(0, 0, 0, 0));
+    assert_eq!(rt; steps.count(), fresh);
+    Ok(())
+}
 
 // A write, and again when it stands already. A voxel beside keeps the background.
 fn try_write<
@@ -27,16 +54,39 @@ fn try_write<
     steps: &mut Steps,
 ) -> Result<(), TreeRefusal> {
     let beside = at(p.x, p.y, p.z ^ 1);
+    let cells = [(p, cell), (beside, off(tree.background()))];
     for _ in 0..2 {
         tree.write(p, change, steps)?;
-        assert!(rt; tree.get(p, steps) == cell);
-        assert!(rt; tree.get(beside, steps) == off(tree.background()));
-        expect_counts(rt, tree, [1, 1, 1, 1]);
+        expect_cells(rt, tree, &cells, steps);
+        assert_eq!(rt; tree.node_counts(), nodes(1, 1, 1, 1));
     }
     Ok(())
 }
 
-// The four writes in turn. The fresh tree has the background `zero`, and needs nothing for a write of it.
+// The four writes in turn, after one that leaves the cell `on(one)`.
+fn try_each_write<
+    V: Stored<WU> + Stored<WL> + Stored<WF>,
+    const U: u32,
+    const L: u32,
+    const F: u32,
+    const WU: usize,
+    const WL: usize,
+    const WF: usize,
+>(
+    rt: &impl Abort,
+    tree: &mut TreeOf<V, U, L, F, WU, WL, WF>,
+    p: Coord,
+    zero: V,
+    one: V,
+    steps: &mut Steps,
+) -> Result<(), TreeRefusal> {
+    try_write(rt, tree, p, Write::Off(one), off(one), steps)?;
+    try_write(rt, tree, p, Write::State(true), on(one), steps)?;
+    try_write(rt, tree, p, Write::Value(zero), on(zero), steps)?;
+    try_write(rt, tree, p, Write::State(false), off(zero), steps)
+}
+
+// Writes to a fresh tree with the background `zero`.
 fn try_writes<
     V: Stored<WU> + Stored<WL> + Stored<WF>,
     const U: u32,
@@ -47,41 +97,33 @@ fn try_writes<
     const WF: usize,
 >(
     rt: &impl Abort,
-    mut tree: TreeOf<V, U, L, F, WU, WL, WF>,
+    tree: &mut TreeOf<V, U, L, F, WU, WL, WF>,
     zero: V,
     one: V,
     steps: &mut Steps,
 ) -> Result<(), TreeRefusal> {
     let p = at(-9, 4100, 64);
-    let fresh = steps.count();
-    assert!(rt; tree.background() == zero);
-    tree.write(p, Write::State(false), steps)?;
-    tree.write(p, Write::Value(zero), steps)?;
-    tree.write(p, Write::Off(zero), steps)?;
-    expect_counts(rt, &tree, [0, 0, 0, 0]);
-    assert_eq!(rt; steps.count(), fresh);
-    try_write(rt, &mut tree, p, Write::On(one), on(one), steps)?;
-    try_write(rt, &mut tree, p, Write::Off(one), off(one), steps)?;
-    try_write(rt, &mut tree, p, Write::State(true), on(one), steps)?;
-    try_write(rt, &mut tree, p, Write::Value(zero), on(zero), steps)?;
-    try_write(rt, &mut tree, p, Write::State(false), off(zero), steps)?;
-    try_write(rt, &mut tree, p, Write::Value(one), off(one), steps)?;
-    try_write(rt, &mut tree, p, Write::On(zero), on(zero), steps)
+    try_plain_writes(rt, tree, p, zero, steps)?;
+    try_write(rt, tree, p, Write::On(one), on(one), steps)?;
+    try_each_write(rt, tree, p, zero, one, steps)?;
+    try_write(rt, tree, p, Write::Value(one), off(one), steps)?;
+    try_write(rt, tree, p, Write::On(zero), on(zero), steps)
 }
 
 #[test]
 fn writes_of_truth_values(rt: HostRuntime) -> Result<(), TreeRefusal> {
     let mut steps = Steps::new(&rt);
+    let alloc = rt.alloc();
     try_writes(
         &rt,
-        Tree::new(rt.alloc(), false, 4096),
+        &mut Tree::new(alloc, false, 4096),
         false,
         true,
         &mut steps,
     )?;
     try_writes(
         &rt,
-        Tree433::new(rt.alloc(), true, 1),
+        &mut Tree433::new(alloc, true, 1),
         true,
         false,
         &mut steps,
@@ -91,40 +133,43 @@ fn writes_of_truth_values(rt: HostRuntime) -> Result<(), TreeRefusal> {
 #[test]
 fn writes_of_numbers(rt: HostRuntime) -> Result<(), TreeRefusal> {
     let mut steps = Steps::new(&rt);
+    let alloc = rt.alloc();
     try_writes(
         &rt,
-        Tree::new(rt.alloc(), 3i32, 4096),
+        &mut Tree::new(alloc, 3i32, 4096),
         3,
         i32::MIN,
         &mut steps,
     )?;
-    try_writes(&rt, Tiny::new(rt.alloc(), 3i32, 1), 3, i32::MAX, &mut steps)
+    try_writes(&rt, &mut Tiny::new(alloc, 3i32, 1), 3, i32::MAX, &mut steps)
 }
 
 #[test]
 fn writes_of_large_numbers(rt: HostRuntime) -> Result<(), TreeRefusal> {
     let mut steps = Steps::new(&rt);
+    let alloc = rt.alloc();
     try_writes(
         &rt,
-        Tree::new(rt.alloc(), -1i64, 4096),
+        &mut Tree::new(alloc, -1i64, 4096),
         -1,
         i64::MIN,
         &mut steps,
     )?;
     try_writes(
         &rt,
-        Tree433::new(rt.alloc(), -1i64, 1),
+        &mut Tree433::new(alloc, -1i64, 1),
         -1,
         i64::MAX,
         &mut steps,
     )
 }
 
-// The first and the last coordinate along each axis: eight root blocks.
-#[test]
-fn cells_at_both_ends(rt: HostRuntime) -> Result<(), TreeRefusal> {
-    let mut steps = Steps::new(&rt);
-    let mut tree = Tree::new(rt.alloc(), 0i32, 8);
+// Writes, and then reads, the first and the last coordinate along each axis: eight root blocks.
+fn write_corners(
+    rt: &impl Abort,
+    tree: &mut Tree<i32>,
+    steps: &mut Steps,
+) -> Result<(), TreeRefusal> {
     let corners = [
         all(i32::MIN),
         at(i32::MIN, i32::MIN, i32::MAX),
@@ -136,42 +181,48 @@ fn cells_at_both_ends(rt: HostRuntime) -> Result<(), TreeRefusal> {
         all(i32::MAX),
     ];
     for p in corners {
-        tree.write(p, Write::On(p.x), &mut steps)?;
-        tree.write(p, Write::State(p.y == i32::MIN), &mut steps)?;
+        let acts = [
+            Act::Write(p, Write::On(p.x)),
+            Act::Write(p, Write::State(p.y == i32::MIN)),
+        ];
+        run(rt, tree, &acts, steps)?;
     }
     for p in corners {
-        assert_eq!(rt; tree.get(p, &mut steps).value, p.x);
-        assert_eq!(rt; tree.get(p, &mut steps).on, p.y == i32::MIN);
+        let cell = Cell {
+            value: p.x,
+            on: p.y == i32::MIN,
+        };
+        run(rt, tree, &[Act::Cell(p, cell)], steps)?;
     }
-    assert_eq!(rt; tree.get(at(i32::MIN, i32::MIN, 0), &mut steps), off(0));
-    assert_eq!(rt; tree.get(all(i32::MAX - 1), &mut steps), off(0));
-    expect_counts(&rt, &tree, [8, 8, 8, 8]);
-    assert_eq!(rt; tree.root_blocks(&mut steps), 8);
-    assert_eq!(rt; tree.next_key(None), Some(all(-524288)));
-    assert_eq!(rt;
-        tree.next_key(Some(at(524287, 524287, 0))),
-        Some(all(524287))
-    );
-    assert_eq!(rt; tree.next_key(Some(all(524287))), None);
-    assert_eq!(rt; tree.next_leaf(None, &mut steps), Some(all(i32::MIN)));
-    let last = all(2147483640);
-    assert_eq!(rt;
-        tree.next_leaf(Some(all(0)), &mut steps),
-        Some(at(2147483640, i32::MIN, i32::MIN))
-    );
-    assert_eq!(rt;
-        tree.next_leaf(Some(at(i32::MAX, i32::MAX, i32::MIN)), &mut steps),
-        Some(last)
-    );
-    assert_eq!(rt; tree.next_leaf(Some(last), &mut steps), None);
-    let refused = tree.write(all(0), Write::On(1), &mut steps);
-    assert_eq!(rt; refused, Err(TreeRefusal::RootLimit));
     Ok(())
+}
+
+#[test]
+fn cells_at_both_ends(rt: HostRuntime) -> Result<(), TreeRefusal> {
+    let mut steps = Steps::new(&rt);
+    let mut tree = Tree::new(rt.alloc(), 0i32, 8);
+    write_corners(&rt, &mut tree, &mut steps)?;
+    let last = all(2147483640);
+    let acts = [
+        Act::Cell(at(i32::MIN, i32::MIN, 0), off(0)),
+        Act::Cell(all(i32::MAX - 1), off(0)),
+        Act::Counts([8, 8, 8, 8]),
+        Act::RootBlocks(8),
+        Act::NextKey(None, Some(all(-524288))),
+        Act::NextKey(Some(at(524287, 524287, 0)), Some(all(524287))),
+        Act::NextKey(Some(all(524287)), None),
+        Act::NextLeaf(None, Some(all(i32::MIN))),
+        Act::NextLeaf(Some(all(0)), Some(at(2147483640, i32::MIN, i32::MIN))),
+        Act::NextLeaf(Some(at(i32::MAX, i32::MAX, i32::MIN)), Some(last)),
+        Act::NextLeaf(Some(last), None),
+        Act::Refused(all(0), Write::On(1)),
+    ];
+    run(&rt, &mut tree, &acts, &mut steps)
 }
 
 // Refused for want of memory at a run with refused allocations.
 #[test]
-fn a_refused_write_keeps_every_cell(rt: HostRuntime) {
+fn a_refused_write_keeps_every_cell(rt: HostRuntime) -> Result<(), TreeRefusal> {
     let mut steps = Steps::new(&rt);
     let mut tree = Tree::new(rt.alloc(), 0i64, 4096);
     let mut wanted = [off(0); 3];
@@ -181,17 +232,13 @@ fn a_refused_write_keeps_every_cell(rt: HostRuntime) {
         }
     }
     let [first, second, third] = wanted;
-    expect_cells(
-        &rt,
-        &tree,
-        &[
-            (all(0), first),
-            (all(1), second),
-            (all(64), third),
-            (all(2), off(0)),
-        ],
-        &mut steps,
-    );
+    let acts = [
+        Act::Cell(all(0), first),
+        Act::Cell(all(1), second),
+        Act::Cell(all(64), third),
+        Act::Cell(all(2), off(0)),
+    ];
+    run(&rt, &mut tree, &acts, &mut steps)
 }
 
 #[test]
