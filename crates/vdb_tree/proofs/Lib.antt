@@ -20,7 +20,7 @@ pub mod LeafBlocks
 pub mod LeafCounts
 pub mod Paths
 pub mod PartWalks
-mod PieceCells
+pub mod PieceCells
 pub mod Tiled
 pub mod Constants
 pub mod Passes
