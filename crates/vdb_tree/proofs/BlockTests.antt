@@ -1,16 +1,13 @@
 -- Tests of whether a block has one cell all over.
-use Rattle.std.proofs.Common.{◌≡◌, ◌⊎◌, inl, inr, ℕ, ◌+◌, ◌<◌, ◌≤◌, Bool, true, false, arith, refl, sym, ap, subst, ◌∙◌, IsTrue}
+use Rattle.std.proofs.Common.{◌≡◌, ℕ, ◌<◌, Bool, true, false, arith, refl, sym, ap, subst, ◌∙◌, IsTrue}
 use Rattle.std.specs.Prelude.{◌↔◌, Option, Some, None}
-use Rattle.vdb_coord.specs.Blocks.{block_around, block_number, entries, offset, sub_block}
+use Rattle.vdb_coord.specs.Blocks.{block_number, offset}
 use Rattle.vdb_coord.specs.Entries.{entry_number}
-use Rattle.vdb_coord.specs.Space.{Box}
 use Rattle.vdb_coord.specs.declared.Bits.{Bits}
 use Rattle.vdb_coord.specs.declared.Coord.{Coord}
 use Rattle.vdb_coord.specs.declared.Level.{Level}
 use Rattle.vdb_coord.specs.declared.Level.TheVariants.{Lower, Upper}
-use Rattle.vdb_coord.proofs.Loops.{corner}
-use Rattle.vdb_coord.proofs.Nesting.{block_from_entry, corner_of_entry, entry_from_offset, offset_from_entry}
-use Rattle.vdb_coord.proofs.Places.{offset_below}
+use Rattle.vdb_coord.proofs.Nesting.{block_from_entry, entry_from_offset, offset_from_entry}
 use Rattle.vdb_node.specs.declared.Entry.TheVariants.{Child, Tile}
 use Rattle.vdb_value.specs.declared.Cell.{Cell}
 use Rattle.vdb_tree.specs.Changes.{IsConstantAt, IsConstantBlock}
@@ -28,14 +25,6 @@ same_some x y e = cc
 
 none_is_some : {A : Type 0} (x : A) → ◌≡◌ {A = Option A} None (Some x) → ⊥
 none_is_some x e = cc
-
--- the least coordinate of an entry's block stands in the node, at that entry
-pub entry_corner : (bits : Bits) (level : Level) (p c : Coord) (i : ℕ) (block : Box) (used : Bits) → c ≡ block.min → block ≡ sub_block used level (block_around used level p) i → used ≡ bits → i < entries bits level
-    → (block_number bits level c ≡ block_number bits level p) × (offset bits level c ≡ i)
-entry_corner bits level p c i block used least is same small =
-    let one : c ≡ corner bits level p i = least ∙ ap (λ (b : Box). b.min) is ∙ ap (λ (b : Bits). corner b level p i) same in
-    let at = corner_of_entry bits level p i small in
-    (ap (block_number bits level) one ∙ at.0, ap (offset bits level) one ∙ at.1)
 
 module _ {V : Type 0} (eq : V → V → Bool) (exact : (x y : V) → eq x y ≡ true → x ≡ y) (itself : (x : V) → eq x x ≡ true) (bits : Bits) (t : Layout V) where
   -- the test of a tile's cell
@@ -62,9 +51,6 @@ module _ {V : Type 0} (bits : Bits) (t : Layout V) where
   pub none_test : (level : Level) (p : Coord) (cell : Cell V) (o : Option (Cell V)) → o ≡ None → ((c : Cell V) → (o ≡ Some c) ↔ IsConstantBlock bits level t p c) → IsTrue false ↔ IsConstantBlock bits level t p cell
   none_test level p cell o was found = ((λ h. absurd (false_true h)), (λ h. absurd (none_is_some cell (sym was ∙ (found cell).1 h))))
 
-  earlier_or_here : (a i : ℕ) → a < i + 1 → (a < i) ⊎ (a ≡ i)
-  earlier_or_here a i h = grind arith
-
   -- the cells of p's block of the level at entries below an index
   abbrev pub IsConstantBelow : Level → Coord → Cell V → ℕ → Type 0
   IsConstantBelow level p cell n = (q : Coord) → block_number bits level q ≡ block_number bits level p → offset bits level q < n → cell_at bits t q ≡ cell
@@ -79,14 +65,6 @@ module _ {V : Type 0} (bits : Bits) (t : Layout V) where
       where
         never : (n : ℕ) → n < 0 → ⊥
         never n h = omega (arith, h)
-
-    -- one more entry is the cell
-    pub next_below : (i : ℕ) → IsConstantBelow level p cell i → IsConstantAt bits level t p i cell → IsConstantBelow level p cell (i + 1)
-    next_below i before here q b h = elim (earlier_or_here (offset bits level q) i h) [ inl k ↦ before q b k | inr d ↦ here q b d ]
-
-    -- all of them are
-    pub all_below : (n : ℕ) → entries bits level ≤ n → IsConstantBelow level p cell n → IsConstantBlock bits level t p cell
-    all_below n end before q b = let k = offset_below bits level q in before q b (omega (arith, k, end))
 
     -- an entry that isn't the cell
     pub entry_differs : (i : ℕ) → (same : Bool) → same ≡ false → (IsTrue same ↔ IsConstantAt bits level t p i cell) → IsTrue false ↔ IsConstantBlock bits level t p cell

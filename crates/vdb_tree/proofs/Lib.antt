@@ -40,6 +40,9 @@ pub mod Voxels
 pub mod Erasing
 pub mod Rooms
 pub mod RoomWalks
+pub mod VoxelRuns
 pub mod PaintedVoxels
 pub mod Paints
 pub mod PaintedRoots
+pub mod UnlikeEntries
+pub mod PartStarts

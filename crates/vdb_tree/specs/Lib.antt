@@ -17,3 +17,4 @@ pub mod Changes
 pub mod Corners
 pub mod Seeks
 pub mod Paints
+pub mod Unlike

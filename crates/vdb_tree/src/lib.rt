@@ -7,6 +7,7 @@
 ghost use Rattle.std.specs.Prelude.{◌≡◌};
 ghost use Rattle.vdb_tree.specs.Field.{written};
 
+mod constant;
 mod copying;
 mod counts;
 mod descent;

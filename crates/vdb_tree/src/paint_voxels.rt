@@ -1,8 +1,10 @@
 //! The voxels of a leaf, painted within a box.
 
 ghost use Rattle.std.specs.Prelude.{◌≡◌, ◌<◌, ◌≤◌, IfSome, IsTrue};
+ghost use Rattle.std.specs.Int.{int_min};
+ghost use Rattle.vdb_coord.specs.Blocks.{block_around};
 ghost use Rattle.vdb_coord.specs.Entries.{AreBits};
-ghost use Rattle.vdb_coord.specs.Space.{is_inside};
+ghost use Rattle.vdb_coord.specs.Space.{coord, is_inside};
 ghost use Rattle.vdb_coord.specs.Walk.{IsNextBlock, coordinates_after};
 ghost use Rattle.vdb_coord.specs.declared.Level.TheVariants.{Leaf as leaf_level};
 ghost use Rattle.vdb_tree.specs.Paints.{PaintsVoxels, voxels};
@@ -11,7 +13,7 @@ use vdb_coord::{Bits, Bounds, Coord, Level};
 use vdb_node::{Leaf, Stored};
 use vdb_value::Cell;
 
-/// Gives the leaf's voxels at the coordinates of the part this cell. The part lies in one leaf block.
+/// Gives the leaf's voxels at the coordinates of the part this cell, a row along z at a time. The part lies in one leaf block.
 pub(crate) fn paint_voxels<V: Stored<W>, const F: u32, const W: usize>(
     leaf: &mut Leaf<V, F, W>,
     bits: Bits,
@@ -25,11 +27,28 @@ pub(crate) fn paint_voxels<V: Stored<W>, const F: u32, const W: usize>(
 {
     let mut p = part.min();
     loop {
-        leaf.set(u32::from(p.offset_in(bits, Level::Leaf)), cell);
-        match next_voxel(part, p) {
+        let last = run_end(bits, part, p);
+        let from = u32::from(p.offset_in(bits, Level::Leaf));
+        let to = u32::from(last.offset_in(bits, Level::Leaf)) + 1;
+        leaf.fill_run(from, to, cell);
+        match next_voxel(part, last) {
             Some(next) => p = next,
             None => return,
         }
+    }
+}
+
+/// The last coordinate from p along z that lies both in the part and in p's leaf block. The offsets from p's up to its own are
+/// those of the coordinates between.
+fn run_end(bits: Bits, part: Bounds, p: Coord) -> Coord
+    requires { AreBits bits }
+    ensures { result ≡ coord p.x p.y (int_min part.max.z (block_around bits leaf_level p).max.z) }
+{
+    let block = p.block_in(bits, Level::Leaf);
+    Coord {
+        x: p.x,
+        y: p.y,
+        z: part.max().z.min(block.max().z),
     }
 }
 

@@ -1,14 +1,14 @@
 //! The parts of a tree in block order, one after another.
 
-ghost use Rattle.std.specs.Prelude.{◌≡◌, ◌<◌, IfNone, IfSome, IsTrue, Some, None, false};
-ghost use Rattle.vdb_coord.specs.Blocks.{block_number};
-ghost use Rattle.vdb_coord.specs.Order.{coordinates_past};
+ghost use Rattle.std.specs.Prelude.{◌≡◌, ◌*◌, ◌<◌, ◌≤◌, IfNone, IfSome, IsTrue, Some, None, false};
+ghost use Rattle.vdb_coord.specs.Blocks.{block_number, entries};
+ghost use Rattle.vdb_coord.specs.Order.{ComesBefore, coordinates_past};
 ghost use Rattle.vdb_coord.specs.Space.{is_inside};
 ghost use Rattle.vdb_coord.specs.declared.Coord.{Coord};
 ghost use Rattle.vdb_coord.specs.declared.Level.TheVariants.{Leaf as leaf_level, Lower, Upper};
 ghost use Rattle.vdb_node.specs.declared.Entry.TheVariants.{Tile};
 ghost use Rattle.vdb_tree.specs.Layout.{bits_of, entry_over, field_of, plain};
-ghost use Rattle.vdb_tree.specs.Parts.{IsEnd, IsNextAbove, IsPartAround, IsPartOfLeaf, IsPlaceAfter, IsPlaceWithin, IsSkipped, IsWalk, OnLeaf, OnTile, Passes, YieldsBox, end_level, left_count};
+ghost use Rattle.vdb_tree.specs.Parts.{IsEnd, IsNextAbove, IsPartAround, IsPartOfLeaf, IsPlace, IsPlaceAfter, IsPlaceWithin, IsSkipped, IsWalk, OnLeaf, OnTile, Passes, YieldsBox, end_level, is_left, left_count};
 
 use crate::ends::End;
 use crate::{PathOf, TreeOf};
@@ -135,7 +135,9 @@ impl<
         ensures bounds { result.box ≡ bounds }
         ensures skip { result.skip ≡ skip }
         ensures at { result.at ≡ Some bounds.min }
+        ensures few_words { WF ≤ 512 }
     {
+        let _ = &self.root;
         Walk {
             bounds,
             skip,
@@ -143,6 +145,60 @@ impl<
             path: PathOf::Empty,
             near: bounds.min(),
         }
+    }
+
+    /// The walk of `parts`, from the part around `start` on; from the first on where the box doesn't have `start`.
+    pub fn parts_from(
+        &self,
+        bounds: Bounds,
+        skip: Skip,
+        start: Coord,
+        steps: &mut Steps,
+    ) -> Walk<Internal<V, U, WU>, Internal<V, L, WL>, Leaf<V, F, WF>>
+        ensures walk { IsWalk (bits_of U L F) self.now result }
+        ensures bounds { result.box ≡ bounds }
+        ensures skip { result.skip ≡ skip }
+        ensures earlier { (q : Coord) → IsTrue (is_inside bounds q) → is_left (bits_of U L F) result.at q ≡ false → ComesBefore (bits_of U L F) q start }
+    {
+        let mut walk = self.parts(bounds, skip);
+        if bounds.contains(start) {
+            let end = self.end_at(&mut walk, start, steps);
+            let place = self.place_around(bounds, start, end);
+            walk.go_to(Some(place));
+        }
+        walk
+    }
+
+    /// The first coordinate, in block order, of what the box has of the tile or the leaf around `p`.
+    fn place_around(&self, bounds: Bounds, p: Coord, end: End<V>) -> Coord
+        requires inside { IsTrue (is_inside bounds p) }
+        requires end { IsEnd (bits_of U L F) self.now p end }
+        ensures place { IsPlace (bits_of U L F) self.now bounds result }
+        ensures earlier { (q : Coord) → ComesBefore (bits_of U L F) q result → ComesBefore (bits_of U L F) q p }
+    {
+        match end {
+            End::Tile(level, _) => self.part(bounds, level, p).min(),
+            End::Leaf(_) => self.part(bounds, Level::Leaf, p).min(),
+        }
+    }
+
+    /// A law of every tree, which takes no work: the mask of a leaf has room for its voxels, in 512 words at most.
+    pub fn has_leaf_words(&self)
+        ensures few { WF ≤ 512 }
+        ensures room { entries (bits_of U L F) leaf_level ≤ 64 * WF }
+    {
+        let _ = &self.root;
+    }
+
+    /// How many words the masks of its nodes have: of an upper node, of a lower node and of a leaf.
+    pub fn mask_words(&self) -> (usize, usize, usize)
+        ensures words { result ≡ (WU, WL, WF) }
+        ensures upper { WU ≤ 512 }
+        ensures lower { WL ≤ 512 }
+        ensures leaf { WF ≤ 512 }
+    {
+        let _ = &self.root;
+        (WU, WL, WF)
     }
 
     /// The next part of a walk; `None` where none is left. It takes no memory, and visits the internal nodes below the lowest

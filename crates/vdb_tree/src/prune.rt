@@ -328,7 +328,7 @@ impl<
 }
 
 /// The least coordinate of the entry at this offset in the level's node around p.
-fn entry_corner(p: Coord, bits: Bits, level: Level, offset: u32) -> Coord
+pub(crate) fn entry_corner(p: Coord, bits: Bits, level: Level, offset: u32) -> Coord
     requires configured { AreBits bits }
     requires within { offset < entries bits level }
     ensures { result ≡ (sub_block bits level (block_around bits level p) offset).min }

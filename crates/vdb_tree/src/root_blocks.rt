@@ -1,14 +1,17 @@
 //! How many root blocks hold something.
 
-ghost use Rattle.std.specs.Prelude.{◌≡◌, ◌<◌, ◌↔◌, IsTrue};
+ghost use Rattle.std.specs.Prelude.{◌≡◌, ◌<◌, ◌≤◌, ◌↔◌, IsTrue};
 ghost use Rattle.vdb_coord.specs.Blocks.{block_number, entries, offset};
 ghost use Rattle.vdb_coord.specs.declared.Level.TheVariants.{Leaf, Lower, Upper};
 ghost use Rattle.vdb_node.specs.declared.Entry.TheVariants.{Child};
 ghost use Rattle.vdb_tree.specs.Changes.{IsConstantAt, IsConstantBlock};
 ghost use Rattle.vdb_tree.specs.Layout.{bits_of, field_of, lower_entry, root_entry, upper_entry};
 ghost use Rattle.vdb_tree.specs.Plain.{roots};
+ghost use Rattle.vdb_tree.specs.Unlike.{IsNextUnlike};
 
 use crate::TreeOf;
+use crate::nodes::held_place;
+use crate::prune::entry_corner;
 use vdb_coord::{Coord, Level};
 use vdb_node::{Entry, Stored};
 use vdb_pool::Steps;
@@ -60,23 +63,44 @@ impl<
         requires { root_entry (bits_of U L F) self.now p ≡ Child upper }
         ensures { IsTrue result ↔ IsConstantBlock (bits_of U L F) Upper self.now p cell }
     {
-        for index in 0..self.bits().entries(Level::Upper) {
+        let _ = &self.root;
+        let mut from = 0;
+        while let Some(index) = self.next_unlike_lower(upper, p, cell, from, steps) {
             if !self.lower_entry_is(upper, p, index, cell, steps) {
                 return false;
             }
+            from = index + 1;
         }
         true
     }
 
+    /// The index, from this one on, of the first entry of the upper node around p that isn't a tile of this cell; `None` where
+    /// there is none.
+    fn next_unlike_lower(
+        &self,
+        upper: u32,
+        p: Coord,
+        cell: Cell<V>,
+        from: u32,
+        steps: &mut Steps,
+    ) -> Option<u32>
+        requires child { root_entry (bits_of U L F) self.now p ≡ Child upper }
+        requires within { from ≤ entries (bits_of U L F) Upper }
+        ensures { IsNextUnlike (bits_of U L F) self.now Upper p cell from result }
+    {
+        let place = held_place(&self.uppers, upper);
+        self.uppers.at(place, steps).next_unlike(cell, from)
+    }
+
     /// The first coordinate of an entry of the upper node around p.
-    fn lower_corner(&self, upper: u32, p: Coord, index: u16) -> Coord
+    fn lower_corner(&self, upper: u32, p: Coord, index: u32) -> Coord
         requires child { root_entry (bits_of U L F) self.now p ≡ Child upper }
         requires within { index < entries (bits_of U L F) Upper }
         ensures block { block_number (bits_of U L F) Upper result ≡ block_number (bits_of U L F) Upper p }
         ensures entry { offset (bits_of U L F) Upper result ≡ index }
         ensures inside { root_entry (bits_of U L F) self.now result ≡ Child upper }
     {
-        p.entry_block_in(self.bits(), Level::Upper, index).min()
+        entry_corner(p, self.bits(), Level::Upper, index)
     }
 
     /// Whether each voxel of this entry of the upper node around p is this cell.
@@ -84,7 +108,7 @@ impl<
         &self,
         upper: u32,
         p: Coord,
-        index: u16,
+        index: u32,
         cell: Cell<V>,
         steps: &mut Steps,
     ) -> bool
@@ -97,7 +121,13 @@ impl<
     }
 
     /// Whether each voxel of the lower block around p, in an upper node, is this cell.
-    fn lower_block_is(&self, upper: u32, p: Coord, cell: Cell<V>, steps: &mut Steps) -> bool
+    pub(crate) fn lower_block_is(
+        &self,
+        upper: u32,
+        p: Coord,
+        cell: Cell<V>,
+        steps: &mut Steps,
+    ) -> bool
         requires { root_entry (bits_of U L F) self.now p ≡ Child upper }
         ensures { IsTrue result ↔ IsConstantBlock (bits_of U L F) Lower self.now p cell }
     {
@@ -112,23 +142,44 @@ impl<
         requires { upper_entry (bits_of U L F) self.now p ≡ Child lower }
         ensures { IsTrue result ↔ IsConstantBlock (bits_of U L F) Lower self.now p cell }
     {
-        for index in 0..self.bits().entries(Level::Lower) {
+        let _ = &self.root;
+        let mut from = 0;
+        while let Some(index) = self.next_unlike_leaf(lower, p, cell, from, steps) {
             if !self.leaf_entry_is(lower, p, index, cell, steps) {
                 return false;
             }
+            from = index + 1;
         }
         true
     }
 
+    /// The index, from this one on, of the first entry of the lower node around p that isn't a tile of this cell; `None` where
+    /// there is none.
+    fn next_unlike_leaf(
+        &self,
+        lower: u32,
+        p: Coord,
+        cell: Cell<V>,
+        from: u32,
+        steps: &mut Steps,
+    ) -> Option<u32>
+        requires child { upper_entry (bits_of U L F) self.now p ≡ Child lower }
+        requires within { from ≤ entries (bits_of U L F) Lower }
+        ensures { IsNextUnlike (bits_of U L F) self.now Lower p cell from result }
+    {
+        let place = held_place(&self.lowers, lower);
+        self.lowers.at(place, steps).next_unlike(cell, from)
+    }
+
     /// The first coordinate of an entry of the lower node around p.
-    fn leaf_corner(&self, lower: u32, p: Coord, index: u16) -> Coord
+    fn leaf_corner(&self, lower: u32, p: Coord, index: u32) -> Coord
         requires child { upper_entry (bits_of U L F) self.now p ≡ Child lower }
         requires within { index < entries (bits_of U L F) Lower }
         ensures block { block_number (bits_of U L F) Lower result ≡ block_number (bits_of U L F) Lower p }
         ensures entry { offset (bits_of U L F) Lower result ≡ index }
         ensures inside { upper_entry (bits_of U L F) self.now result ≡ Child lower }
     {
-        p.entry_block_in(self.bits(), Level::Lower, index).min()
+        entry_corner(p, self.bits(), Level::Lower, index)
     }
 
     /// Whether each voxel of this entry of the lower node around p is this cell.
@@ -136,7 +187,7 @@ impl<
         &self,
         lower: u32,
         p: Coord,
-        index: u16,
+        index: u32,
         cell: Cell<V>,
         steps: &mut Steps,
     ) -> bool
@@ -160,7 +211,7 @@ impl<
     }
 
     /// Whether each voxel of the leaf around p is this cell.
-    fn leaf_is(&self, leaf: u32, p: Coord, cell: Cell<V>, steps: &mut Steps) -> bool
+    pub(crate) fn leaf_is(&self, leaf: u32, p: Coord, cell: Cell<V>, steps: &mut Steps) -> bool
         requires { lower_entry (bits_of U L F) self.now p ≡ Child leaf }
         ensures { IsTrue result ↔ IsConstantBlock (bits_of U L F) Leaf self.now p cell }
     {

@@ -3,24 +3,25 @@ use Rattle.vdb_coord.specs.Blocks.{entries}
 use Rattle.vdb_coord.specs.declared.Bits.{Bits}
 use Rattle.vdb_coord.specs.declared.Level.TheVariants.{Upper}
 use Rattle.vdb_tree.specs.Layout.{bits_of}
-use Rattle.vdb_tree.proofs.BlockTests.{entry_corner, same_root}
+use Rattle.vdb_tree.proofs.BlockTests.{same_root}
+use Rattle.vdb_tree.proofs.UnlikeEntries.{entry_at}
 use Rattle.vdb_tree.proofs.tree.TreeOf.lower_corner.Goals as goal
 
-pub entry_block_in-requires-clause-within : goal.entry_block_in-requires-clause-within
-entry_block_in-requires-clause-within g c = subst (λ (b : Bits). c.args.index < entries b Upper) (sym c.bits.ensures.value) c.requires.within
+pub entry_corner-requires-clause-within : goal.entry_corner-requires-clause-within
+entry_corner-requires-clause-within g c = subst (λ (b : Bits). c.args.index < entries b Upper) (sym c.bits.ensures.value) c.requires.within
 
 pub returns-clause-block : goal.returns-clause-block
 returns-clause-block g c =
     let bits = bits_of g.row.U g.row.L g.row.F in
-    (entry_corner bits Upper c.args.p c.min.result c.args.index c.entry_block_in.result c.bits.result c.min.ensures.corner c.entry_block_in.ensures c.bits.ensures.value c.requires.within).0
+    (entry_at bits Upper c.args.p c.entry_corner.result c.args.index c.bits.result c.entry_corner.ensures c.bits.ensures.value c.requires.within).0
 
 pub returns-clause-entry : goal.returns-clause-entry
 returns-clause-entry g c =
     let bits = bits_of g.row.U g.row.L g.row.F in
-    (entry_corner bits Upper c.args.p c.min.result c.args.index c.entry_block_in.result c.bits.result c.min.ensures.corner c.entry_block_in.ensures c.bits.ensures.value c.requires.within).1
+    (entry_at bits Upper c.args.p c.entry_corner.result c.args.index c.bits.result c.entry_corner.ensures c.bits.ensures.value c.requires.within).1
 
 pub returns-clause-inside : goal.returns-clause-inside
 returns-clause-inside g c =
     let bits = bits_of g.row.U g.row.L g.row.F in
-    let at = entry_corner bits Upper c.args.p c.min.result c.args.index c.entry_block_in.result c.bits.result c.min.ensures.corner c.entry_block_in.ensures c.bits.ensures.value c.requires.within in
-    same_root bits c.args.self.now c.args.p c.args.upper c.min.result at.0 c.requires.child
+    let at = entry_at bits Upper c.args.p c.entry_corner.result c.args.index c.bits.result c.entry_corner.ensures c.bits.ensures.value c.requires.within in
+    same_root bits c.args.self.now c.args.p c.args.upper c.entry_corner.result at.0 c.requires.child

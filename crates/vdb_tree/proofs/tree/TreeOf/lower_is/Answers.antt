@@ -1,21 +1,39 @@
-use Rattle.std.proofs.Common.{◌≡◌, ◌∙◌, ◌≤◌, ℕ, ap, refl, subst}
-use Rattle.vdb_coord.specs.Blocks.{entries}
-use Rattle.vdb_coord.specs.declared.Bits.{Bits}
+use Rattle.std.proofs.Common.{arith, refl}
 use Rattle.vdb_coord.specs.declared.Level.TheVariants.{Lower}
 use Rattle.vdb_tree.specs.Layout.{bits_of}
-use Rattle.vdb_tree.proofs.BlockTests.{all_below, entry_differs, next_below}
+use Rattle.vdb_tree.proofs.BlockTests.{entry_differs, none_below}
+use Rattle.vdb_tree.proofs.Constants.{entries_few}
+use Rattle.vdb_tree.proofs.UnlikeEntries.{below_all, below_next, index_after, index_fits, least, nearer}
 use Rattle.vdb_tree.proofs.tree.TreeOf.lower_is.Goals as goal
+
+pub loop-index-init : goal.loop-index-init
+loop-index-init g c =
+    record {
+      below = none_below (bits_of g.row.U g.row.L g.row.F) c.args.self.now Lower c.args.p c.args.cell;
+      within = least _;
+    }
 
 pub returns-then-not-leaf_entry_is : goal.returns-then-not-leaf_entry_is
 returns-then-not-leaf_entry_is g c =
-    entry_differs (bits_of g.row.U g.row.L g.row.F) c.args.self.now Lower c.args.p c.args.cell c.loop-index.index c.leaf_entry_is.result c.if-not-leaf_entry_is.true c.leaf_entry_is.ensures
+    entry_differs (bits_of g.row.U g.row.L g.row.F) c.args.self.now Lower c.args.p c.args.cell c.in-Some.index c.leaf_entry_is.result c.if-not-leaf_entry_is.true c.leaf_entry_is.ensures
+
+pub overflow_add-from : goal.overflow_add-from
+overflow_add-from g c = let k = index_fits c.in-Some.index _ c.in-Some.ensures.within (entries_few (bits_of g.row.U g.row.L g.row.F) Lower c.self.invariant.0.bits) in omega (arith, k)
 
 pub loop-index-preserved : goal.loop-index-preserved
 loop-index-preserved g c =
-    next_below (bits_of g.row.U g.row.L g.row.F) c.args.self.now Lower c.args.p c.args.cell c.loop-index.index c.loop-index.invariant (c.leaf_entry_is.ensures.0 c.if-not-leaf_entry_is.false)
+    record {
+      below =
+          below_next (bits_of g.row.U g.row.L g.row.F) c.args.self.now Lower c.args.p c.args.cell c.loop-index.from c.in-Some.index c.loop-index.invariant.below c.in-Some.ensures
+          (c.leaf_entry_is.ensures.0 c.if-not-leaf_entry_is.false);
+      within = index_after c.in-Some.index _ c.in-Some.ensures.within;
+    }
+
+pub loop-index-smaller : goal.loop-index-smaller
+loop-index-smaller g c = nearer c.loop-index.from c.in-Some.index _ c.in-Some.ensures.from_on c.in-Some.ensures.within
 
 pub returns : goal.returns
-returns g c =
-    let bits = bits_of g.row.U g.row.L g.row.F in
-    let end : c.entries-index-end.result ≡ entries bits Lower = c.entries-index-end.ensures ∙ ap (λ (b : Bits). entries b Lower) c.bits.ensures.value in
-    ((λ _. all_below bits c.args.self.now Lower c.args.p c.args.cell c.loop-index.index (subst (λ (n : ℕ). n ≤ c.loop-index.index) end c.loop-index-test.false) c.loop-index.invariant), (λ _. refl))
+returns g c = (
+  (λ _. below_all (bits_of g.row.U g.row.L g.row.F) c.args.self.now Lower c.args.p c.args.cell c.loop-index.from c.loop-index.invariant.below c.in_default.ensures),
+  (λ _. refl),
+)

@@ -1,7 +1,17 @@
+use Rattle.std.proofs.Common.{◌≤◌, ◌-◌}
+use Rattle.vdb_coord.specs.Blocks.{entries}
 use Rattle.vdb_coord.specs.declared.Level.TheVariants.{Lower}
 use Rattle.vdb_tree.specs.Layout.{bits_of}
 use Rattle.vdb_tree.proofs.BlockTests.{IsConstantBelow}
 use Rattle.vdb_tree.proofs.tree.TreeOf.lower_is.Given as goal
 
 abbrev pub invariant-loop-index : goal.invariant-loop-index
-invariant-loop-index g l = IsConstantBelow (bits_of g.row.U g.row.L g.row.F) l.self Lower l.p l.cell l.index
+invariant-loop-index g l =
+    let bits = bits_of g.row.U g.row.L g.row.F in
+    record {
+      below : IsConstantBelow bits l.self Lower l.p l.cell l.from;
+      within : l.from ≤ entries bits Lower;
+    }
+
+abbrev pub decreases-loop-index : goal.decreases-loop-index
+decreases-loop-index g l = entries (bits_of g.row.U g.row.L g.row.F) Lower - l.from

@@ -1,0 +1,73 @@
+//! Blocks of one cell.
+
+ghost use Rattle.std.specs.Prelude.{◌≡◌, ◌↔◌, is_some, IsTrue, Some};
+ghost use Rattle.vdb_coord.specs.Blocks.{block_around};
+ghost use Rattle.vdb_coord.specs.declared.Level.TheVariants.{Leaf, Lower};
+ghost use Rattle.vdb_tree.specs.Changes.{IsConstantBlock};
+ghost use Rattle.vdb_tree.specs.Layout.{bits_of, field_of};
+ghost use Rattle.vdb_tree.specs.Plain.{is_constant};
+ghost use Rattle.vdb_tree.specs.Unlike.{IsOneCell};
+
+use crate::TreeOf;
+use vdb_coord::{Coord, Level};
+use vdb_node::{Entry, Stored};
+use vdb_pool::Steps;
+use vdb_value::Cell;
+
+impl<
+    V: Stored<WU> + Stored<WL> + Stored<WF>,
+    const U: u32,
+    const L: u32,
+    const F: u32,
+    const WU: usize,
+    const WL: usize,
+    const WF: usize,
+> TreeOf<V, U, L, F, WU, WL, WF> {
+    /// The one cell of the level's block around a coordinate, or `None` where two of its cells differ in value or state
+    /// (OpenVDB's `InternalNode::isConstant` and `LeafNode::isConstant`, of all that is below a node and without a tolerance).
+    /// It takes no memory, visits the nodes of the block in order, reads the masks of each before its values, and ends at the
+    /// first difference.
+    pub fn constant(&self, level: Level, p: Coord, steps: &mut Steps) -> Option<Cell<V>>
+        ensures cell { (cell : Cell V) → (result ≡ Some cell) ↔ IsOneCell (bits_of U L F) level (field_of (bits_of U L F) self.now) p cell }
+        ensures test { is_some result ≡ is_constant V.eq (field_of (bits_of U L F) self.now) (block_around (bits_of U L F) level p) }
+    {
+        let _ = &self.root;
+        let cell = self.cell(p, steps);
+        if self.block_is(level, p, cell, steps) {
+            Some(cell)
+        } else {
+            None
+        }
+    }
+
+    /// Whether each voxel of the level's block around p is this cell.
+    fn block_is(&self, level: Level, p: Coord, cell: Cell<V>, steps: &mut Steps) -> bool
+        ensures { IsTrue result ↔ IsConstantBlock (bits_of U L F) level self.now p cell }
+    {
+        match level {
+            Level::Upper => self.root_block_is(p, cell, steps),
+            Level::Lower => self.block_of_lower_is(p, cell, steps),
+            Level::Leaf => self.block_of_leaf_is(p, cell, steps),
+        }
+    }
+
+    /// Whether each voxel of the lower block around p, wherever it lies, is this cell.
+    fn block_of_lower_is(&self, p: Coord, cell: Cell<V>, steps: &mut Steps) -> bool
+        ensures { IsTrue result ↔ IsConstantBlock (bits_of U L F) Lower self.now p cell }
+    {
+        match self.root_entry(p) {
+            Entry::Tile(tile) => tile == cell,
+            Entry::Child(upper) => self.lower_block_is(upper, p, cell, steps),
+        }
+    }
+
+    /// Whether each voxel of the leaf block around p, wherever it lies, is this cell.
+    fn block_of_leaf_is(&self, p: Coord, cell: Cell<V>, steps: &mut Steps) -> bool
+        ensures { IsTrue result ↔ IsConstantBlock (bits_of U L F) Leaf self.now p cell }
+    {
+        match self.leaf_entry(p, steps) {
+            Entry::Tile(tile) => tile == cell,
+            Entry::Child(leaf) => self.leaf_is(leaf, p, cell, steps),
+        }
+    }
+}
