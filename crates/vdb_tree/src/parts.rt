@@ -135,9 +135,7 @@ impl<
         ensures bounds { result.box ≡ bounds }
         ensures skip { result.skip ≡ skip }
         ensures at { result.at ≡ Some bounds.min }
-        ensures few_words { WF ≤ 512 }
     {
-        let _ = &self.root;
         Walk {
             bounds,
             skip,

@@ -11,3 +11,6 @@ pub mod LeafSeeks
 pub mod InOrder
 pub mod PiecesInTurn
 pub mod Near
+pub mod PartCounts
+pub mod VoxelSeeks
+pub mod VoxelCounts

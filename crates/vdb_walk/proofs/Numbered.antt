@@ -4,7 +4,7 @@ use Rattle.std.specs.List.{filter}
 use Rattle.std.specs.Prelude.{Some, None}
 use Rattle.std.specs.Set.{is_member}
 use Rattle.std.proofs.lemmas.List.Sums.{count_by-le-length, length-filter}
-use Rattle.vdb_coord.specs.Blocks.{block, block_bits, block_number}
+use Rattle.vdb_coord.specs.Blocks.{block, block_around, block_bits, block_number}
 use Rattle.vdb_coord.specs.Boxes.{box_of, is_bounds}
 use Rattle.vdb_coord.specs.Space.{Box, coord_eq, coordinates, is_box, is_inside}
 use Rattle.vdb_coord.specs.declared.Bits.{Bits}
@@ -19,7 +19,7 @@ use Rattle.vdb_coord.proofs.Nesting.{number_in_block}
 use Rattle.vdb_coord.proofs.Volume.{length_coordinates}
 use Rattle.vdb_coord.proofs.Walk.{min_inside}
 use Rattle.vdb_tree.specs.Field.{Field}
-use Rattle.vdb_tree.specs.Plain.{is_constant, is_uniform}
+use Rattle.vdb_tree.specs.Plain.{is_constant}
 use Rattle.vdb_tree.proofs.PieceCells.{only_self}
 use Rattle.vdb_tree.proofs.Rooted.{one_more}
 use Rattle.vdb_tree.proofs.Uniform.{uniform_from}
@@ -124,10 +124,10 @@ module _ {V : Type 0} (eq : V → V → Bool) (bits : Bits) (level : Level) (f :
         let bound = volume_few b k in
         omega (arith, whole, few, size, bound)
 
-  -- one block counts by its cells
-  module _ (b : Box) (one : b.min ≡ b.max) (ordered : is_box b ≡ true) (c : Cell V) (at : f.cell (spanned bits level b).min ≡ c) (same : Bool) (test : same ≡ is_uniform eq f (spanned bits level b) c) where
+  -- one block counts by the test of its cells
+  module _ (b : Box) (one : b.min ≡ b.max) (ordered : is_box b ≡ true) (p : Coord) (at : p ≡ (spanned bits level b).min) (same : Bool) (test : same ≡ is_constant eq f (block_around bits level p)) where
     constant_is : is_constant eq f (block bits level b.min) ≡ same
-    constant_is = ap (is_constant eq f) (sym (spanned_one bits level b one)) ∙ ap (is_uniform eq f (spanned bits level b)) at ∙ sym test
+    constant_is = ap (λ (n : Coord). is_constant eq f (block bits level n)) (sym (ap (block_number bits level) at ∙ number_of_corner bits level b.min)) ∙ sym test
 
     pub one_constant : same ≡ true → 0 ≡ mixed_among eq bits level f b
     one_constant h = sym (counted b ∙ none_passes b one ordered is_mixed (ap not (constant_is ∙ h)))

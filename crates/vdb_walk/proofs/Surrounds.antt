@@ -1,28 +1,30 @@
 -- Least boxes: two joined, and one found part by part.
-use Rattle.std.proofs.Common.{◌≡◌, ◌⊎◌, sym, ap, ◌∙◌, refl, subst, ℕ, ◌+◌, ◌*◌, ◌<◌, ◌≤◌, ℤ, Bool, true, false, ◌&&◌, ◌||◌, inl, inr, int_le, List, Option, Some, None, arith, IsTrue}
+use Rattle.std.proofs.Common.{◌≡◌, ◌⊎◌, sym, ap, ◌∙◌, refl, subst, ℕ, ◌+◌, ◌<◌, ◌≤◌, ℤ, Bool, true, false, not, ◌&&◌, ◌||◌, inl, inr, int_le, List, Option, Some, None, arith, IsTrue}
 use Rattle.std.specs.Int.{int_max, int_min}
+use Rattle.std.specs.Ordering.{is_lt}
 use Rattle.std.specs.Prelude.{IfSome, if◌then◌else◌}
 use Rattle.std.proofs.lemmas.Int.{ints}
-use Rattle.vdb_coord.specs.Blocks.{block_around, block_number, entries, offset, sub_block}
-use Rattle.vdb_coord.specs.Boxes.{box_of, is_bounds}
-use Rattle.vdb_coord.specs.Space.{Box, coord, everywhere, is_between, is_box, is_inside, is_within}
+use Rattle.vdb_coord.specs.Blocks.{block_cmp, offset}
+use Rattle.vdb_coord.specs.Boxes.{box_of}
+use Rattle.vdb_coord.specs.Space.{Box, coord, everywhere, is_between, is_box, is_inside}
 use Rattle.vdb_coord.specs.declared.Bits.{Bits}
 use Rattle.vdb_coord.specs.declared.Coord.{Coord}
 use Rattle.vdb_coord.specs.declared.Level.TheVariants.{Leaf}
+use Rattle.vdb_coord.proofs.BlockOrder.{not_before_min}
 use Rattle.vdb_coord.proofs.Boxes.{and_true, both, box_of_none, box_of_some, three, together}
-use Rattle.vdb_coord.proofs.Meeting.{within_each}
-use Rattle.vdb_coord.proofs.Nesting.{entry_holds, in_entry, inside_numbered, number_in_block}
-use Rattle.vdb_node.specs.Leaf.{Leaf as LeafOf}
-use Rattle.vdb_node.specs.Nodes.{IsOffFrom}
-use Rattle.vdb_mask.specs.Mask.{IsNext, IsNextAt, is_on}
 use Rattle.vdb_tree.specs.Field.{Field, off}
-use Rattle.vdb_tree.specs.Leaves.{IsLeafAround}
 use Rattle.vdb_tree.specs.Layout.{Layout, cell_at, field_of}
+use Rattle.vdb_tree.specs.Parts.{IsSkipped, Passes, TreeWalk, YieldsBox, is_left}
+use Rattle.vdb_tree.specs.declared.parts.Skip.{Skip}
+use Rattle.vdb_tree.specs.declared.parts.Skip.TheVariants.{Inactive}
+use Rattle.vdb_tree.proofs.Levels.{bool_cases}
 use Rattle.vdb_tree.proofs.Rooted.{or_cases, or_first, or_second}
 use Rattle.vdb_value.specs.declared.Cell.{Cell}
-use Rattle.vdb_walk.specs.Halves.{IsHalved}
+use Rattle.vdb_walk.specs.Firsts.{IsInLeafBlock}
 use Rattle.vdb_walk.specs.Reports.{IsActiveBounds}
-use Rattle.vdb_walk.specs.Surround.{AreLeafStates, HasStates, Surrounds, is_in, is_wanted, is_wanted_by}
+use Rattle.vdb_walk.specs.Surround.{Surrounds, is_in, is_wanted, is_wanted_by}
+use Rattle.vdb_walk.specs.Voxels.{IsNextSet, IsNextSetAt, is_set}
+use Rattle.vdb_walk.proofs.VoxelSeeks.{before_or_at, same_entry}
 
 -- ---- two boxes joined
 
@@ -157,33 +159,6 @@ module _ {V : Type 0} (f : Field V) where
         ])
         s
 
-  -- a part in two, the first of which is gone through before the second
-  pub in_turn : (found : Option Box) (b c d : Box) → IsHalved b c d → (nearer result : Option Box) → Surrounds (is_wanted f found c) nearer → Surrounds (is_wanted f nearer d) result → Surrounds (is_wanted f found b) result
-  in_turn found b c d halved nearer result first second = record {
-    holds = λ p w. elim (or_cases (is_in found p) (is_inside b p && on p) w) [
-      | inl i ↦ after p (first.holds p (or_first (is_in found p) (is_inside c p && on p) i))
-      | inr a ↦
-          let t = both (is_inside b p) (on p) a in
-          elim (or_cases (is_inside c p) (is_inside d p) (sym (halved.each p) ∙ t.0)) [
-            | inl i ↦ after p (first.holds p (or_second (is_in found p) (is_inside c p && on p) (and_true (is_inside c p) (on p) i t.1)))
-            | inr i ↦ second.holds p (or_second (is_in nearer p) (is_inside d p && on p) (and_true (is_inside d p) (on p) i t.1))
-          ]
-    ];
-    least = λ other h p i. second.least other (λ q w. elim (or_cases (is_in nearer q) (is_inside d q && on q) w) [
-      | inl j ↦ first.least other (λ r v. h r (elim (or_cases (is_in found r) (is_inside c r && on r) v) [
-        | inl k ↦ or_first (is_in found r) (is_inside b r && on r) k
-        | inr a ↦ let t = both (is_inside c r) (on r) a in whole r (halved.each r ∙ or_first (is_inside c r) (is_inside d r) t.0) t.1
-      ])) q j
-      | inr a ↦ let t = both (is_inside d q) (on q) a in h q (whole q (halved.each q ∙ or_second (is_inside c q) (is_inside d q) t.0) t.1)
-    ]) p i;
-  }
-    where
-      after : (p : Coord) → is_in nearer p ≡ true → is_in result p ≡ true
-      after p i = second.holds p (or_first (is_in nearer p) (is_inside d p && on p) i)
-
-      whole : (p : Coord) → is_inside b p ≡ true → on p ≡ true → is_wanted f found b p ≡ true
-      whole p i e = or_second (is_in found p) (is_inside b p && on p) (and_true (is_inside b p) (on p) i e)
-
 -- ---- all of a field
 
 module _ {V : Type 0} (bits : Bits) (t : Layout V) where
@@ -211,105 +186,168 @@ module _ {V : Type 0} (bits : Bits) (t : Layout V) where
         and_true (is_inside other box.min) (is_inside other box.max) (each box.min (min_inside box order)) (each box.max (max_inside box order)),
   )
 
+-- ---- a walk that passes over what is inactive
+
+turned : (b : Bool) → b ≡ false → not b ≡ true
+turned b h = rw h refl
+
+unturned : (b : Bool) → not b ≡ true → b ≡ false
+unturned true h = cc
+unturned false h = refl
+
+apart : (b : Bool) → b ≡ false → b ≡ true → ⊥
+apart b h k = let never : false ≡ true = sym h ∙ k in cc
+
+module _ {V : Type 0} (bits : Bits) (t : Layout V) where
+  abbrev active : Coord → Bool
+  active p = ((field_of bits t).cell p).on
+
+  -- whether the coordinate is active, and isn't left
+  abbrev pub is_found : Option Coord → Coord → Bool
+  is_found at p = is_inside everywhere p && (active p && not (is_left bits at p))
+
+  found_is : (at : Option Coord) (p : Coord) → is_inside everywhere p ≡ true → active p ≡ true → is_left bits at p ≡ false → is_found at p ≡ true
+  found_is at p i o l = and_true (is_inside everywhere p) (active p && not (is_left bits at p)) i (and_true (active p) (not (is_left bits at p)) o (turned (is_left bits at p) l))
+
+  is_parts : (at : Option Coord) (p : Coord) → is_found at p ≡ true → (is_inside everywhere p ≡ true) × (active p ≡ true) × (is_left bits at p ≡ false)
+  is_parts at p h =
+      let first = both (is_inside everywhere p) (active p && not (is_left bits at p)) h in
+      let rest = both (active p) (not (is_left bits at p)) first.1 in
+      (first.0, rest.0, unturned (is_left bits at p) rest.1)
+
+  -- at its start nothing is found
+  pub found_first : Surrounds (is_found (Some everywhere.min)) None
+  found_first = record {
+    holds = λ p w. let h = is_parts (Some everywhere.min) p w in absurd (not_before_min bits everywhere p h.0 (before (is_lt (block_cmp bits p everywhere.min)) h.2));
+    least = λ other h p i. absurd (apart false refl i);
+  }
+    where
+      before : (b : Bool) → not b ≡ false → b ≡ true
+      before true h = refl
+      before false h = cc
+
+  module _ (old new : TreeWalk V) (box : old.box ≡ everywhere) (skip : old.skip ≡ Inactive) where
+    off_now : (but : Coord → Bool) → Passes bits t old new but → (p : Coord) → is_inside everywhere p ≡ true → is_left bits old.at p ≡ true → is_left bits new.at p ≡ false → but p ≡ false → active p ≡ false
+    off_now but passes p i l gone out =
+        subst (λ (s : Skip). IsSkipped bits s t p) skip (passes.passed p (subst (λ (b : Box). is_inside b p ≡ true) (sym box) i) l gone out)
+
+    -- a part adds its own
+    pub found_more : (part : Box) → YieldsBox bits t old new part → (found result : Option Box) → Surrounds (is_found old.at) found → Surrounds (is_wanted (field_of bits t) found part) result → Surrounds (is_found new.at) result
+    found_more part y found result first second = record {
+      holds = λ p w. let h = is_parts new.at p w in elim (bool_cases (is_left bits old.at p)) [
+        | inl l ↦ elim (bool_cases (is_inside part p)) [
+          | inl i ↦ second.holds p (or_second (is_in found p) (is_inside part p && active p) (and_true (is_inside part p) (active p) i h.1))
+          | inr out ↦ absurd (apart (active p) (off_now (is_inside part) y.passes p h.0 l h.2 out) h.1)
+        ]
+        | inr l ↦ second.holds p (or_first (is_in found p) (is_inside part p && active p) (first.holds p (found_is old.at p h.0 h.1 l)))
+      ];
+      least = λ other h p i. second.least other (λ q w. elim (or_cases (is_in found q) (is_inside part q && active q) w) [
+        | inl j ↦ first.least other (λ r v. let k = is_parts old.at r v in h r (found_is new.at r k.0 k.1 (still r k.2))) q j
+        | inr a ↦
+            let k = both (is_inside part q) (active q) a in
+            h q (found_is new.at q (subst (λ (b : Box). is_inside b q ≡ true) box (y.inside q k.0)) k.1 (y.gone q k.0))
+      ]) p i;
+    }
+      where
+        still : (r : Coord) → is_left bits old.at r ≡ false → is_left bits new.at r ≡ false
+        still r l = never_left (is_left bits new.at r) (λ n. apart (is_left bits old.at r) l (y.passes.later r n))
+          where
+            never_left : (b : Bool) → (b ≡ true → ⊥) → b ≡ false
+            never_left true n = absurd (n refl)
+            never_left false n = refl
+
+    -- at its end all is found
+    pub found_all : Passes bits t old new (λ q. false) → new.at ≡ None → (found : Option Box) → Surrounds (is_found old.at) found → Surrounds (is_wanted (field_of bits t) None everywhere) found
+    found_all passes none found s =
+        same_wanted (is_found old.at) (is_wanted (field_of bits t) None everywhere) found
+        (λ p w. let h = is_parts old.at p w in and_true (is_inside everywhere p) (active p) h.0 h.1)
+        (λ p w.
+        let h = both (is_inside everywhere p) (active p) w in
+        elim (bool_cases (is_left bits old.at p)) [
+          | inl l ↦ absurd (apart (active p) (off_now (λ q. false) passes p h.0 l (ap (λ (o : Option Coord). is_left bits o p) none) refl) h.1)
+          | inr l ↦ found_is old.at p h.0 h.1 l
+        ])
+        s
+
 -- ---- the voxels of a leaf
 
 below_or_from : (i n : ℕ) → (i < n) ⊎ (n ≤ i)
 below_or_from i n = grind arith
 
-module _ (bits : Bits) (states : List Bool) (found : Option Box) (box : Box) where
-  -- the box around what was found and the voxels before an index
+self_between : (x y : ℤ) → is_between x x y ≡ true → y ≡ x
+self_between x y h = grind (arith, ints)
+
+-- the box of one coordinate holds no other
+only_self : (p : Coord) (box : Box) → box ≡ record { min = p; max = p } → (q : Coord) → is_inside box q ≡ true → q ≡ p
+only_self p box is q inside =
+    let hs = three (is_between p.x p.x q.x) (is_between p.y p.y q.y) (is_between p.z p.z q.z) (subst (λ (b : Box). is_inside b q ≡ true) is inside) in
+    let x = self_between p.x q.x hs.0 in
+    let y = self_between p.y q.y hs.1 in
+    let z = self_between p.z q.z hs.2 in
+    λ i. record { x = x i; y = y i; z = z i }
+
+module _ (bits : Bits) (states : List Bool) (found : Option Box) (part : Box) where
+  -- the box around what was found and the voxels of the part before an entry
   pub record Reaches (from : ℕ) (around : Option Box) : Type 0 where
     pub former : (p : Coord) → is_in found p ≡ true → is_in around p ≡ true
-    pub passed : (p : Coord) → is_inside box p ≡ true → is_on states (offset bits Leaf p) ≡ true → offset bits Leaf p < from → is_in around p ≡ true
-    pub least : (other : Box) → ((p : Coord) → is_wanted_by bits states found box p ≡ true → is_inside other p ≡ true) → (p : Coord) → is_in around p ≡ true → is_inside other p ≡ true
+    pub passed : (p : Coord) → is_inside part p ≡ true → is_set bits states p ≡ true → offset bits Leaf p < from → is_in around p ≡ true
+    pub least : (other : Box) → ((p : Coord) → is_wanted_by bits states found part p ≡ true → is_inside other p ≡ true) → (p : Coord) → is_in around p ≡ true → is_inside other p ≡ true
 
   -- none passed
   pub reaches_none : Reaches 0 found
   reaches_none = record {
     former = λ p i. i;
     passed = λ p i o below. absurd (omega (arith, below));
-    least = λ other h p i. h p (or_first (is_in found p) (is_inside box p && is_on states (offset bits Leaf p)) i);
+    least = λ other h p i. h p (or_first (is_in found p) (is_inside part p && is_set bits states p) i);
   }
-
-  -- the voxel of an index
-  abbrev voxel_at : ℕ → Box
-  voxel_at index = sub_block bits Leaf (block_around bits Leaf box.min) index
-
-  before_or_at : (o from index : ℕ) → o < index + 1 → (o < from) ⊎ ((from ≤ o) × (o < index)) ⊎ (o ≡ index)
-  before_or_at o from index h = grind arith
 
   -- the next one
-  pub reaches_next : (words : ℕ) → AreLeafStates bits box states → (from index : ℕ) (around result : Option Box) → Reaches from around → IsNextAt true states (64 * words) from index
-      → Surrounds (λ p. is_in around p || is_inside (voxel_at index) p) result → Reaches (index + 1) result
-  reaches_next words leaf from index around result old next s = record {
-    former = λ p i. s.holds p (or_first (is_in around p) (is_inside (voxel_at index) p) (old.former p i));
-    passed = λ p i o below. s.holds p (step p i o (before_or_at (offset bits Leaf p) from index below));
-    least = λ other h p i. s.least other (λ q w. elim (or_cases (is_in around q) (is_inside (voxel_at index) q) w) [
-      | inl j ↦ old.least other h q j
-      | inr j ↦ h q (or_second (is_in found q) (is_inside box q && is_on states (offset bits Leaf q)) (its_voxel q j))
-    ]) p i;
+  pub reaches_next : IsInLeafBlock bits part → (from entry : ℕ) (p : Coord) (voxel : Box) (around result : Option Box) → Reaches from around → IsNextSetAt bits states part from entry p
+      → voxel ≡ record { min = p; max = p } → Surrounds (λ q. is_in around q || is_inside voxel q) result → Reaches (entry + 1) result
+  reaches_next block from entry p voxel around result old next one s = record {
+    former = λ q i. s.holds q (or_first (is_in around q) (is_inside voxel q) (old.former q i));
+    passed = λ q i o below. s.holds q (step q i o (below_or_from (offset bits Leaf q) from) (before_or_at (offset bits Leaf q) entry below));
+    least = λ other h q i. s.least other (λ r w. elim (or_cases (is_in around r) (is_inside voxel r) w) [
+      | inl j ↦ old.least other h r j
+      | inr j ↦ subst (λ (a : Coord). is_inside other a ≡ true) (sym (only_self p voxel one r j)) (h p (or_second (is_in found p) (is_inside part p && is_set bits states p) (and_true (is_inside part p) (is_set bits states p) next.inside next.here)))
+    ]) q i;
   }
     where
-      small : index < entries bits Leaf
-      small = elim (below_or_from index (entries bits Leaf)) [
-        | inl h ↦ h
-        | inr h ↦ absurd (let never : false ≡ true = sym (leaf.within index h) ∙ next.here in cc)
-      ]
+      there : is_inside voxel p ≡ true
+      there = subst (λ (b : Box). is_inside b p ≡ true) (sym one)
+          (together _ _ _ (and_true _ _ (same_le p.x) (same_le p.x)) (and_true _ _ (same_le p.y) (same_le p.y)) (and_true _ _ (same_le p.z) (same_le p.z)))
 
-      its_voxel : (q : Coord) → is_inside (voxel_at index) q ≡ true → (is_inside box q && is_on states (offset bits Leaf q)) ≡ true
-      its_voxel q j =
-          let at = in_entry bits Leaf box.min q index small j in
-          and_true (is_inside box q) (is_on states (offset bits Leaf q))
-          (subst (λ (b : Box). is_inside b q ≡ true) (sym leaf.block) (inside_numbered bits Leaf (block_number bits Leaf box.min) q at.0))
-          (ap (is_on states) at.1 ∙ next.here)
-
-      step : (p : Coord) → is_inside box p ≡ true → is_on states (offset bits Leaf p) ≡ true → (offset bits Leaf p < from) ⊎ ((from ≤ offset bits Leaf p) × (offset bits Leaf p < index)) ⊎ (offset bits Leaf p ≡ index)
-          → (is_in around p || is_inside (voxel_at index) p) ≡ true
-      step p i o (inl below) = or_first (is_in around p) (is_inside (voxel_at index) p) (old.passed p i o below)
-      step p i o (inr (inl between)) = absurd (let never : false ≡ true = sym (next.before (offset bits Leaf p) between.0 between.1) ∙ o in cc)
-      step p i o (inr (inr same)) =
-          or_second (is_in around p) (is_inside (voxel_at index) p)
-          (entry_holds bits Leaf box.min p index small (number_in_block bits Leaf (block_number bits Leaf box.min) p (subst (λ (b : Box). is_inside b p ≡ true) leaf.block i)) same)
+      step : (q : Coord) → is_inside part q ≡ true → is_set bits states q ≡ true → (offset bits Leaf q < from) ⊎ (from ≤ offset bits Leaf q) → (offset bits Leaf q < entry) ⊎ (offset bits Leaf q ≡ entry)
+          → (is_in around q || is_inside voxel q) ≡ true
+      step q i o (inl below) later = or_first (is_in around q) (is_inside voxel q) (old.passed q i o below)
+      step q i o (inr from_on) (inl between) = absurd (apart (is_set bits states q) (next.before q i from_on between) o)
+      step q i o (inr from_on) (inr same) =
+          or_second (is_in around q) (is_inside voxel q) (subst (λ (r : Coord). is_inside voxel r ≡ true) (same_entry bits part block p q next.inside i (next.at ∙ sym same)) there)
 
   -- no further one
-  pub reaches_all : (words : ℕ) → AreLeafStates bits box states → IsOffFrom states (64 * words) → (from : ℕ) (around : Option Box) → Reaches from around → IsNext true states (64 * words) from None → Surrounds (is_wanted_by bits states found box) around
-  reaches_all words leaf past_end from around old none = record {
-    holds = λ p w. elim (or_cases (is_in found p) (is_inside box p && is_on states (offset bits Leaf p)) w) [
+  pub reaches_all : (from : ℕ) (around : Option Box) → Reaches from around → IsNextSet bits states part from None → Surrounds (is_wanted_by bits states found part) around
+  reaches_all from around old none = record {
+    holds = λ p w. elim (or_cases (is_in found p) (is_inside part p && is_set bits states p) w) [
       | inl i ↦ old.former p i
       | inr a ↦
-          let t = both (is_inside box p) (is_on states (offset bits Leaf p)) a in
+          let t = both (is_inside part p) (is_set bits states p) a in
           elim (below_or_from (offset bits Leaf p) from) [
             | inl below ↦ old.passed p t.0 t.1 below
-            | inr further ↦ absurd (let never : false ≡ true = sym (later (offset bits Leaf p) further) ∙ t.1 in cc)
+            | inr further ↦ absurd (apart (is_set bits states p) (none p t.0 further) t.1)
           ]
     ];
     least = old.least;
   }
-    where
-      later : (i : ℕ) → from ≤ i → is_on states i ≡ false
-      later i h = elim (below_or_from i (64 * words)) [
-        | inl below ↦ none i h below
-        | inr past ↦ past_end i past
-      ]
 
   -- the active voxels of a field with these states
-  pub by_states : {V : Type 0} (f : Field V) (around : Option Box) → HasStates bits states f box → Surrounds (is_wanted_by bits states found box) around → Surrounds (is_wanted f found box) around
-  by_states f around h = same_wanted (is_wanted_by bits states found box) (is_wanted f found box) around
-      (λ p w. elim (or_cases (is_in found p) (is_inside box p && is_on states (offset bits Leaf p)) w) [
-        | inl i ↦ or_first (is_in found p) (is_inside box p && (f.cell p).on) i
-        | inr a ↦ let t = both (is_inside box p) (is_on states (offset bits Leaf p)) a in or_second (is_in found p) (is_inside box p && (f.cell p).on) (and_true (is_inside box p) (f.cell p).on t.0 (h p t.0 ∙ t.1))
+  pub by_states : {V : Type 0} (f : Field V) (around : Option Box) → ((p : Coord) → is_inside part p ≡ true → (f.cell p).on ≡ is_set bits states p) → Surrounds (is_wanted_by bits states found part) around
+      → Surrounds (is_wanted f found part) around
+  by_states f around h = same_wanted (is_wanted_by bits states found part) (is_wanted f found part) around
+      (λ p w. elim (or_cases (is_in found p) (is_inside part p && is_set bits states p) w) [
+        | inl i ↦ or_first (is_in found p) (is_inside part p && (f.cell p).on) i
+        | inr a ↦ let t = both (is_inside part p) (is_set bits states p) a in or_second (is_in found p) (is_inside part p && (f.cell p).on) (and_true (is_inside part p) (f.cell p).on t.0 (h p t.0 ∙ t.1))
       ])
-      (λ p w. elim (or_cases (is_in found p) (is_inside box p && (f.cell p).on) w) [
-        | inl i ↦ or_first (is_in found p) (is_inside box p && is_on states (offset bits Leaf p)) i
-        | inr a ↦ let t = both (is_inside box p) (f.cell p).on a in or_second (is_in found p) (is_inside box p && is_on states (offset bits Leaf p)) (and_true (is_inside box p) (is_on states (offset bits Leaf p)) t.0 (sym (h p t.0) ∙ t.1))
+      (λ p w. elim (or_cases (is_in found p) (is_inside part p && (f.cell p).on) w) [
+        | inl i ↦ or_first (is_in found p) (is_inside part p && is_set bits states p) i
+        | inr a ↦ let t = both (is_inside part p) (f.cell p).on a in or_second (is_in found p) (is_inside part p && is_set bits states p) (and_true (is_inside part p) (is_set bits states p) t.0 (sym (h p t.0) ∙ t.1))
       ])
-
--- the states of a leaf are those of its block
-pub leaf_has_states : {V : Type 0} (bits : Bits) (f : Field V) (box : Box) (leaf : LeafOf V) → is_bounds box ≡ true → box ≡ block_around bits Leaf box.min → IsLeafAround bits f box.min leaf → HasStates bits leaf.states f box
-leaf_has_states bits f box leaf bounds block around p inside =
-    ap (λ (c : Cell _). c.on) (around p (within_each box everywhere p (both (is_box box) (is_within box everywhere) bounds).1 inside)
-    (number_in_block bits Leaf (block_number bits Leaf box.min) p (subst (λ (b : Box). is_inside b p ≡ true) block inside)))
-
--- a box found equal to the block around its least corner
-pub leaf_block : (part found : Box) (bits given : Bits) (p : Coord) → part ≡ found → found ≡ block_around given Leaf p → given ≡ bits → p ≡ part.min → part ≡ block_around bits Leaf part.min
-leaf_block part found bits given p e f g h = e ∙ f ∙ ap (λ (b : Bits). block_around b Leaf p) g ∙ ap (block_around bits Leaf) h

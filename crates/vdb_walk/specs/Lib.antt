@@ -5,3 +5,4 @@ pub mod Passing
 pub mod Numbers
 pub mod Surround
 pub mod Firsts
+pub mod Voxels

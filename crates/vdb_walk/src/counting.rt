@@ -1,22 +1,31 @@
 //! Active voxels counted.
 
-ghost use Rattle.std.specs.Prelude.{◌≡◌, ◌≤◌, ◌^◌, false, IfSome, IsTrue};
+ghost use Rattle.std.specs.Prelude.{◌≡◌, ◌*◌, ◌≤◌, ◌^◌, false, IsTrue};
 ghost use Rattle.std.specs.Option.{unwrap_or};
+ghost use Rattle.vdb_coord.specs.Blocks.{entries};
+ghost use Rattle.vdb_coord.specs.Entries.{AreBits};
 ghost use Rattle.vdb_coord.specs.Space.{everywhere, is_inside};
 ghost use Rattle.vdb_coord.specs.declared.Coord.{Coord};
+ghost use Rattle.vdb_coord.specs.declared.Level.TheVariants.{Leaf as leaf_level};
+ghost use Rattle.vdb_node.specs.Nodes.{IsOffFrom};
 ghost use Rattle.vdb_tree.specs.Field.{off};
 ghost use Rattle.vdb_tree.specs.Layout.{bits_of, field_of};
+ghost use Rattle.vdb_tree.specs.Parts.{IsPartOfLeaf};
 ghost use Rattle.vdb_tree.specs.Plain.{count as active_count};
+ghost use Rattle.vdb_walk.specs.Firsts.{IsInLeafBlock};
+ghost use Rattle.vdb_walk.specs.Voxels.{set_count};
 
-use crate::halves::halves;
-use vdb_coord::{Bounds, Coord, Level};
-use vdb_node::Stored;
+use crate::voxels::next_set;
+use vdb_coord::{Bits, Bounds, Coord, Level};
+use vdb_mask::Mask;
+use vdb_node::{Leaf, Stored};
 use vdb_pool::Steps;
-use vdb_tree::TreeOf;
+use vdb_tree::{Content, Part, Skip, TreeOf};
+use vdb_value::Cell;
 
 /// How many voxels of the box are active, or of all coordinates where there is no box (OpenVDB's `tools::countActiveVoxels` and
-/// `Tree::activeVoxelCount`). What the box has of a tile counts at once, and so does a leaf that lies within the box. It takes
-/// no memory.
+/// `Tree::activeVoxelCount`). What the box has of an active tile counts at once, and so does a leaf that lies within the box.
+/// It takes no memory.
 pub fn count<
     V: Stored<WU> + Stored<WL> + Stored<WF>,
     const U: u32,
@@ -30,33 +39,12 @@ pub fn count<
     ensures bound { result ≤ 2 ^ 96 }
 {
     match bounds {
-        Some(part) => count_in(tree, part, steps),
-        None => count_in(tree, all(), steps),
+        Some(bounds) => count_in(tree, bounds, steps),
+        None => count_in(tree, Bounds::all(), steps),
     }
 }
 
-/// The box of all coordinates.
-pub(crate) fn all() -> Bounds
-    ensures { result ≡ everywhere }
-{
-    let (least, greatest) = (i32::MIN, i32::MAX);
-    let min = Coord {
-        x: least,
-        y: least,
-        z: least,
-    };
-    let max = Coord {
-        x: greatest,
-        y: greatest,
-        z: greatest,
-    };
-    match Bounds::new(min, max) {
-        Some(bounds) => bounds,
-        None => unreachable!(),
-    }
-}
-
-/// How many voxels of the part are active. It cuts the part in two until each lies within one piece of the tree.
+/// How many voxels of the box are active.
 fn count_in<
     V: Stored<WU> + Stored<WL> + Stored<WF>,
     const U: u32,
@@ -65,27 +53,41 @@ fn count_in<
     const WU: usize,
     const WL: usize,
     const WF: usize,
->(tree: &TreeOf<V, U, L, F, WU, WL, WF>, part: Bounds, steps: &mut Steps) -> u128
-    ensures value { result ≡ active_count (field_of (bits_of U L F) tree.now) part }
+>(tree: &TreeOf<V, U, L, F, WU, WL, WF>, bounds: Bounds, steps: &mut Steps) -> u128
+    ensures value { result ≡ active_count (field_of (bits_of U L F) tree.now) bounds }
     ensures bound { result ≤ 2 ^ 96 }
 {
-    if !has_keys(tree, part) {
-        return 0;
+    let _ = (tree.mask_words(), bounds.min()); // no nodes are too great, nor does the sum overflow
+    let mut walk = tree.parts(bounds, Skip::Inactive);
+    let mut total = 0;
+    'parts: while let Some(part) = tree.next_part(&mut walk, steps) {
+        let Part { bounds, content } = part;
+        match content {
+            Content::Tile(cell) => total += count_tile(tree, cell, bounds),
+            Content::Leaf(leaf) => total += count_leaf(tree, leaf, bounds),
+        }
     }
-    let piece = tree.piece(part.min(), steps);
-    if piece.bounds.covers(part) {
-        return if piece.cell.on { part.volume() } else { 0 };
-    }
-    if let Some(active) = count_leaf(tree, part, steps) {
-        return active;
-    }
-    match halves(part, tree.bits()) {
-        Some((first, second)) => count_in(tree, first, steps) + count_in(tree, second, steps),
-        None => unreachable!(),
-    }
+    total
 }
 
-/// How many voxels of the part are active, if it is the block of a leaf.
+/// How many voxels of the part are active, if each has this cell.
+fn count_tile<
+    V: Stored<WU> + Stored<WL> + Stored<WF>,
+    const U: u32,
+    const L: u32,
+    const F: u32,
+    const WU: usize,
+    const WL: usize,
+    const WF: usize,
+>(tree: &TreeOf<V, U, L, F, WU, WL, WF>, cell: Cell<V>, part: Bounds) -> u128
+    requires { (q : Coord) → IsTrue (is_inside part q) → (field_of (bits_of U L F) tree.now).cell q ≡ cell }
+    ensures { result ≡ active_count (field_of (bits_of U L F) tree.now) part }
+{
+    let _ = tree;
+    if cell.on { part.volume() } else { 0 }
+}
+
+/// How many voxels of the part, which lies in the block of the leaf, are active.
 fn count_leaf<
     V: Stored<WU> + Stored<WL> + Stored<WF>,
     const U: u32,
@@ -94,18 +96,41 @@ fn count_leaf<
     const WU: usize,
     const WL: usize,
     const WF: usize,
->(tree: &TreeOf<V, U, L, F, WU, WL, WF>, part: Bounds, steps: &mut Steps) -> Option<u128>
-    ensures value { IfSome result (λ active. active ≡ active_count (field_of (bits_of U L F) tree.now) part) }
-    ensures bound { IfSome result (λ active. active ≤ 2 ^ 96) }
+>(tree: &TreeOf<V, U, L, F, WU, WL, WF>, leaf: &Leaf<V, F, WF>, part: Bounds) -> u128
+    requires few_words { WF ≤ 512 }
+    requires leaf { IsPartOfLeaf (bits_of U L F) (field_of (bits_of U L F) tree.now) part leaf.now }
+    ensures { result ≡ active_count (field_of (bits_of U L F) tree.now) part }
 {
-    let p = part.min();
-    if part != p.block_in(tree.bits(), Level::Leaf) {
-        return None;
+    let bits = tree.bits();
+    if part != part.min().block_in(bits, Level::Leaf) {
+        return u128::from(count_states(&leaf.states().copied(), bits, part));
     }
-    match tree.leaf_count(p, steps) {
-        Some(active) => Some(u128::from(active)),
-        None => None,
+    u128::from(leaf.count_on())
+}
+
+/// How many voxels of the part, which lies in the block of the leaf with these states, are on.
+fn count_states<const W: usize>(states: &Mask<W>, bits: Bits, part: Bounds) -> u32
+    requires configured { AreBits bits }
+    requires few_words { W ≤ 512 }
+    requires past_end { IsOffFrom states.now (entries bits leaf_level) }
+    requires past_words { IsOffFrom states.now (64 * W) }
+    requires block { IsInLeafBlock bits part }
+    ensures { result ≡ set_count bits states.now part }
+{
+    let mut total = 0;
+    let mut from = 0;
+    'voxels: while let Some((entry, _)) = next_set(states, bits, part, from) {
+        total += 1;
+        from = entry + 1;
     }
+    total
+}
+
+/// The box of all coordinates.
+pub(crate) fn all() -> Bounds
+    ensures { result ≡ everywhere }
+{
+    Bounds::all()
 }
 
 /// Whether the root table has a key between those of the part's least and its greatest corner, in the order of keys. Where it

@@ -13,6 +13,7 @@ mod surround;
 #[cfg(test)]
 mod tests;
 mod uniformity;
+mod voxels;
 
 pub use counting::count;
 pub use listing::{Listing, list};

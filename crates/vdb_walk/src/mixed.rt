@@ -13,9 +13,8 @@ ghost use Rattle.vdb_walk.specs.Numbers.{mixed_among, spanned};
 ghost use Rattle.vdb_walk.specs.Reports.{census as census_of};
 
 use crate::Census;
-use crate::counting::{all, has_keys};
+use crate::counting::has_keys;
 use crate::halves::cut;
-use crate::uniformity::has_only;
 use vdb_coord::{Bits, Bounds, Level};
 use vdb_node::Stored;
 use vdb_pool::Steps;
@@ -62,7 +61,7 @@ fn mixed_blocks<
     if node_count(tree, level) == 0 {
         return 0;
     }
-    let numbers = all().block_numbers_in(tree.bits(), level);
+    let numbers = Bounds::all().block_numbers_in(tree.bits(), level);
     mixed_in(tree, level, numbers, steps) as u64
 }
 
@@ -102,8 +101,8 @@ fn mixed_in<
     ensures bound { result ≤ 2 ^ 96 }
 {
     let part = blocks_box(numbers, tree.bits(), level);
-    let piece = tree.piece(part.min(), steps);
-    if piece.bounds.covers(part) {
+    let corner = part.min();
+    if tree.piece(corner, steps).bounds.covers(part) {
         return 0;
     }
     if let Some((first, second)) = number_halves(numbers, tree.bits(), level) {
@@ -112,7 +111,7 @@ fn mixed_in<
         }
         return mixed_in(tree, level, first, steps) + mixed_in(tree, level, second, steps);
     }
-    if has_only(tree, part, piece.cell, steps) {
+    if tree.constant(level, corner, steps).is_some() {
         0
     } else {
         1

@@ -1,19 +1,25 @@
 //! The box around the active voxels.
 
-ghost use Rattle.std.specs.Prelude.{◌≡◌, ◌≤◌, ◌&&◌, ◌||◌, IfSome, IsTrue};
+ghost use Rattle.std.specs.Prelude.{◌≡◌, ◌*◌, ◌≤◌, ◌||◌, IfSome, IsTrue};
+ghost use Rattle.vdb_coord.specs.Blocks.{entries};
 ghost use Rattle.vdb_coord.specs.Entries.{AreBits};
-ghost use Rattle.vdb_coord.specs.Space.{is_box, is_inside, is_within};
+ghost use Rattle.vdb_coord.specs.Space.{is_box, is_inside};
+ghost use Rattle.vdb_coord.specs.declared.Coord.{Coord};
+ghost use Rattle.vdb_coord.specs.declared.Level.TheVariants.{Leaf as leaf_level};
+ghost use Rattle.vdb_node.specs.Nodes.{IsOffFrom};
 ghost use Rattle.vdb_tree.specs.Layout.{bits_of, field_of};
+ghost use Rattle.vdb_tree.specs.Parts.{IsPartOfLeaf};
+ghost use Rattle.vdb_walk.specs.Firsts.{IsInLeafBlock};
 ghost use Rattle.vdb_walk.specs.Reports.{IsActiveBounds};
-ghost use Rattle.vdb_walk.specs.Surround.{AreLeafStates, HasStates, Surrounds, is_in, is_wanted, is_wanted_by};
+ghost use Rattle.vdb_walk.specs.Surround.{Surrounds, is_in, is_wanted, is_wanted_by};
 
-use crate::counting::{all, has_keys};
-use crate::halves::halves;
-use vdb_coord::{Bits, Bounds, Level};
+use crate::voxels::next_set;
+use vdb_coord::{Bits, Bounds};
 use vdb_mask::Mask;
-use vdb_node::Stored;
+use vdb_node::{Leaf, Stored};
 use vdb_pool::Steps;
-use vdb_tree::TreeOf;
+use vdb_tree::{Content, Part, Skip, TreeOf};
+use vdb_value::Cell;
 
 /// The least box that holds every active voxel, those inside active tiles too; `None` where no voxel is active (OpenVDB's
 /// `Tree::evalActiveVoxelBoundingBox`). What lies within the box found so far is passed over at once, and a tile counts at
@@ -29,12 +35,21 @@ pub fn active_bounds<
 >(tree: &TreeOf<V, U, L, F, WU, WL, WF>, steps: &mut Steps) -> Option<Bounds>
     ensures { IsActiveBounds (field_of (bits_of U L F) tree.now) result }
 {
-    surround(tree, all(), None, steps)
+    let _ = tree.mask_words();
+    let mut walk = tree.parts(Bounds::all(), Skip::Inactive);
+    let mut found = None;
+    'parts: while let Some(part) = tree.next_part(&mut walk, steps) {
+        let Part { bounds, content } = part;
+        found = match content {
+            Content::Tile(cell) => around_tile(tree, cell, bounds, found),
+            Content::Leaf(leaf) => around_leaf(tree, leaf, bounds, found),
+        };
+    }
+    found
 }
 
-/// The least box that holds what was found so far and every active voxel of the part. It cuts the part in two until each
-/// lies within the box found so far or within one piece of the tree.
-fn surround<
+/// The least box that holds what was found so far and every active voxel of the part, if each of its voxels has this cell.
+fn around_tile<
     V: Stored<WU> + Stored<WL> + Stored<WF>,
     const U: u32,
     const L: u32,
@@ -44,44 +59,24 @@ fn surround<
     const WF: usize,
 >(
     tree: &TreeOf<V, U, L, F, WU, WL, WF>,
+    cell: Cell<V>,
     part: Bounds,
     found: Option<Bounds>,
-    steps: &mut Steps,
 ) -> Option<Bounds>
+    requires { (q : Coord) → IsTrue (is_inside part q) → (field_of (bits_of U L F) tree.now).cell q ≡ cell }
     ensures least { Surrounds (is_wanted (field_of (bits_of U L F) tree.now) found part) result }
     ensures order { IfSome result (λ box. IsTrue (is_box box)) }
 {
-    if lies_within(part, &found) {
-        return found;
-    }
-    if !has_keys(tree, part) {
-        return found;
-    }
-    let piece = tree.piece(part.min(), steps);
-    if piece.bounds.covers(part) {
-        if piece.cell.on {
-            return Some(joined(found, part));
-        }
-        return found;
-    }
-    // always so: a leaf has no more words
-    if WF <= 512 {
-        if let Some(states) = leaf_states(tree, part, steps) {
-            return around_voxels(states, tree.bits(), part, found);
-        }
-    }
-    match halves(part, tree.bits()) {
-        Some((first, second)) => {
-            let nearer = surround(tree, first, found, steps);
-            surround(tree, second, nearer, steps)
-        }
-        None => unreachable!(),
+    let _ = tree;
+    if cell.on {
+        Some(joined(found, part))
+    } else {
+        found
     }
 }
 
-/// The states of the leaf whose block the part is, if it is one.
-fn leaf_states<
-    'a,
+/// The least box that holds what was found so far and every active voxel of the part, which lies in the block of the leaf.
+fn around_leaf<
     V: Stored<WU> + Stored<WL> + Stored<WF>,
     const U: u32,
     const L: u32,
@@ -89,42 +84,44 @@ fn leaf_states<
     const WU: usize,
     const WL: usize,
     const WF: usize,
->(tree: &'a TreeOf<V, U, L, F, WU, WL, WF>, part: Bounds, steps: &mut Steps) -> Option<&'a Mask<WF>>
-    requires { WF ≤ 512 }
-    ensures leaf { IfSome result (λ states. AreLeafStates (bits_of U L F) part states.now) }
-    ensures states { IfSome result (λ states. HasStates (bits_of U L F) states.now (field_of (bits_of U L F) tree.now) part) }
+>(
+    tree: &TreeOf<V, U, L, F, WU, WL, WF>,
+    leaf: &Leaf<V, F, WF>,
+    part: Bounds,
+    found: Option<Bounds>,
+) -> Option<Bounds>
+    requires few_words { WF ≤ 512 }
+    requires leaf { IsPartOfLeaf (bits_of U L F) (field_of (bits_of U L F) tree.now) part leaf.now }
+    ensures least { Surrounds (is_wanted (field_of (bits_of U L F) tree.now) found part) result }
+    ensures order { IfSome result (λ box. IsTrue (is_box box)) }
 {
-    let p = part.min();
-    if part != p.block_in(tree.bits(), Level::Leaf) {
-        return None;
+    if lies_within(part, &found) {
+        return found;
     }
-    match tree.leaf(p, steps) {
-        Some(leaf) => Some(leaf.states()),
-        None => None,
-    }
+    around_voxels(&leaf.states().copied(), tree.bits(), part, found)
 }
 
-/// The least box that holds what was found so far and every voxel of the leaf's block whose state is on, which it finds by
-/// the words of the states.
+/// The least box that holds what was found so far and every voxel of the part, which lies in the block of the leaf with these
+/// states, whose state is on. It finds them by the words of the states.
 fn around_voxels<const W: usize>(
     states: &Mask<W>,
     bits: Bits,
-    block: Bounds,
+    part: Bounds,
     found: Option<Bounds>,
 ) -> Option<Bounds>
     requires configured { AreBits bits }
     requires few_words { W ≤ 512 }
-    requires leaf { AreLeafStates bits block states.now }
-    ensures least { Surrounds (is_wanted_by bits states.now found block) result }
+    requires past_end { IsOffFrom states.now (entries bits leaf_level) }
+    requires past_words { IsOffFrom states.now (64 * W) }
+    requires block { IsInLeafBlock bits part }
+    ensures least { Surrounds (is_wanted_by bits states.now found part) result }
     ensures order { IfSome result (λ box. IsTrue (is_box box)) }
 {
-    let states = states.copied();
     let mut around = found;
     let mut from = 0;
-    while let Some(index) = states.next_on(from) {
-        let voxel = block.min().entry_block_in(bits, Level::Leaf, index as u16);
-        around = Some(joined(around, voxel));
-        from = index + 1;
+    'voxels: while let Some((entry, p)) = next_set(states, bits, part, from) {
+        around = Some(joined(around, Bounds::single(p)));
+        from = entry + 1;
     }
     around
 }

@@ -18,9 +18,9 @@ returns-then-covers-clause-value g t c =
     let bits = bits_of g.row.U g.row.L g.row.F in
     let f : Field g.row.V.Denot = field_of bits c.args.tree.now in
     let part : c.blocks_box-part.result ≡ spanned bits c.args.level c.args.numbers = c.blocks_box-part.ensures.value ∙ ap (λ (b : Bits). spanned b c.args.level c.args.numbers) c.bits.ensures.value in
-    let piece = c.piece-piece.result in
+    let piece = c.piece.result in
     none_mixed g.V.PartialEq.eq exact g.met.V.Eq.laws.refl bits c.args.level f c.args.numbers piece.cell
-    (λ q i. c.piece-piece.ensures.cells q (within_each c.blocks_box-part.result piece.bounds q (sym c.covers.ensures ∙ c.if-covers.true) (ap (λ (b : Box). is_inside b q) part ∙ i)))
+    (λ q i. c.piece.ensures.cells q (within_each c.blocks_box-part.result piece.bounds q (sym c.covers.ensures ∙ c.if-covers.true) (ap (λ (b : Box). is_inside b q) part ∙ i)))
 
 pub returns-then-not-has_keys-clause-value : goal.returns-then-not-has_keys-clause-value
 returns-then-not-has_keys-clause-value g t c =
@@ -51,26 +51,20 @@ returns-in-Some-clause-bound g t c =
     let bits = bits_of g.row.U g.row.L g.row.F in
     both_mixed_few g.V.PartialEq.eq bits c.args.level (field_of bits c.args.tree.now) c.args.numbers _ _ c.in-Some.ensures.some c.mixed_in.result c.mixed_in-in-Some.result c.mixed_in.ensures.value c.mixed_in-in-Some.ensures.value c.blocks_box-part.ensures.numbers
 
-pub returns-then-has_only-clause-value : goal.returns-then-has_only-clause-value
-returns-then-has_only-clause-value g t c =
-    let exact = exact_by g.V.PartialEq.eq g.V.Ord.cmp g.met.V.Ord.matches_eq g.met.V.Voxel.exact in
+pub returns-then-is_some-clause-value : goal.returns-then-is_some-clause-value
+returns-then-is_some-clause-value g t c =
     let bits = bits_of g.row.U g.row.L g.row.F in
     let f : Field g.row.V.Denot = field_of bits c.args.tree.now in
     let part : c.blocks_box-part.result ≡ spanned bits c.args.level c.args.numbers = c.blocks_box-part.ensures.value ∙ ap (λ (b : Bits). spanned b c.args.level c.args.numbers) c.bits.ensures.value in
-    let piece = c.piece-piece.result in
-    let at = ap (λ (b : Box). f.cell b.min) (sym part) ∙ ap f.cell (sym c.min.ensures.corner) ∙ c.piece-piece.ensures.cells c.min.result c.piece-piece.ensures.holds in
-    let test = c.has_only.ensures ∙ ap (λ (b : Box). is_uniform g.V.PartialEq.eq f b piece.cell) part in
+    let at = c.min-corner.ensures.corner ∙ ap (λ (b : Box). b.min) part in
     let ordered = (both _ _ c.blocks_box-part.ensures.numbers).0 in
-    one_constant g.V.PartialEq.eq bits c.args.level f c.args.numbers (c.in_default.ensures.none (search rules)) ordered piece.cell at c.has_only.result test c.if-has_only.true
+    one_constant g.V.PartialEq.eq bits c.args.level f c.args.numbers (c.in_default.ensures.none (search rules)) ordered c.min-corner.result at c.is_some.result (c.is_some.ensures ∙ c.constant.ensures.test) c.if-is_some.true
 
-pub returns-else-has_only-clause-value : goal.returns-else-has_only-clause-value
-returns-else-has_only-clause-value g t c =
-    let exact = exact_by g.V.PartialEq.eq g.V.Ord.cmp g.met.V.Ord.matches_eq g.met.V.Voxel.exact in
+pub returns-else-is_some-clause-value : goal.returns-else-is_some-clause-value
+returns-else-is_some-clause-value g t c =
     let bits = bits_of g.row.U g.row.L g.row.F in
     let f : Field g.row.V.Denot = field_of bits c.args.tree.now in
     let part : c.blocks_box-part.result ≡ spanned bits c.args.level c.args.numbers = c.blocks_box-part.ensures.value ∙ ap (λ (b : Bits). spanned b c.args.level c.args.numbers) c.bits.ensures.value in
-    let piece = c.piece-piece.result in
-    let at = ap (λ (b : Box). f.cell b.min) (sym part) ∙ ap f.cell (sym c.min.ensures.corner) ∙ c.piece-piece.ensures.cells c.min.result c.piece-piece.ensures.holds in
-    let test = c.has_only.ensures ∙ ap (λ (b : Box). is_uniform g.V.PartialEq.eq f b piece.cell) part in
+    let at = c.min-corner.ensures.corner ∙ ap (λ (b : Box). b.min) part in
     let ordered = (both _ _ c.blocks_box-part.ensures.numbers).0 in
-    one_mixed g.V.PartialEq.eq bits c.args.level f c.args.numbers (c.in_default.ensures.none (search rules)) ordered piece.cell at c.has_only.result test c.if-has_only.false
+    one_mixed g.V.PartialEq.eq bits c.args.level f c.args.numbers (c.in_default.ensures.none (search rules)) ordered c.min-corner.result at c.is_some.result (c.is_some.ensures ∙ c.constant.ensures.test) c.if-is_some.false
