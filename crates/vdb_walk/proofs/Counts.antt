@@ -1,5 +1,5 @@
 -- Active voxels of boxes, counted.
-use Rattle.std.proofs.Common.{◌≡◌, sym, ap, ◌∙◌, refl, ℕ, ◌+◌, ◌≤◌, ◌^◌, Bool, true, false, not, ◌&&◌, ◌||◌, List, [], length, arith, IsTrue}
+use Rattle.std.proofs.Common.{◌≡◌, sym, ap, ◌∙◌, refl, ◌+◌, ◌≤◌, ◌^◌, Bool, true, false, not, ◌&&◌, ◌||◌, List, [], length, arith, IsTrue}
 use Rattle.std.specs.List.{IsDistinct, filter}
 use Rattle.std.proofs.lemmas.List.Filters.{length-filter_both}
 use Rattle.std.proofs.lemmas.List.Sums.{count_by-le-length, length-filter}
@@ -16,7 +16,6 @@ use Rattle.vdb_coord.proofs.Members.{coord_equiv, coord_exact, member_coordinate
 use Rattle.vdb_coord.proofs.Volume.{length_coordinates}
 use Rattle.vdb_tree.specs.Field.{Field}
 use Rattle.vdb_tree.specs.Plain.{count}
-use Rattle.vdb_value.specs.declared.Cell.{Cell}
 use Rattle.vdb_walk.specs.Halves.{IsHalved}
 
 -- ---- truth values
@@ -82,13 +81,6 @@ module _ {V : Type 0} (f : Field V) where
   counted : (b : Box) → count f b ≡ length (filter on (coordinates b))
   counted b = sym (length-filter on (coordinates b))
 
-  -- those of a box are those of its halves
-  pub count_halved : (b c d : Box) → IsHalved b c d → count f c + count f d ≡ count f b
-  count_halved b c d h =
-      let whole = halved on b c d h in
-      let eb = counted b in let ec = counted c in let ed = counted d in
-      omega (arith, whole, eb, ec, ed)
-
   -- they are no more than its coordinates
   pub count_few : (b : Box) → count f b ≤ volume b
   count_few b = let few = count_by-le-length on (coordinates b) in let size = length_coordinates b in omega (arith, few, size)
@@ -104,17 +96,6 @@ module _ {V : Type 0} (f : Field V) where
   pub count_none : (b : Box) → ((p : Coord) → IsTrue (is_inside b p) → (f.cell p).on ≡ false) → count f b ≡ 0
   count_none b h = counted b ∙ count_by_members b on [] nothing_apart (λ p. none_on (is_inside b p) (on p) (h p))
 
-  -- a part of a piece, whose cells are all one
-  module _ (b piece : Box) (cell : Cell V) (within : is_within b piece ≡ true) (cells : (p : Coord) → IsTrue (is_inside piece p) → f.cell p ≡ cell) where
-    state : (p : Coord) → IsTrue (is_inside b p) → (f.cell p).on ≡ cell.on
-    state p inside = ap (λ (c : Cell V). c.on) (cells p (within_each b piece p within inside))
-
-    pub count_active : cell.on ≡ true → volume b ≡ count f b
-    count_active e = sym (count_all b (λ p inside. state p inside ∙ e))
-
-    pub count_inactive : cell.on ≡ false → 0 ≡ count f b
-    count_inactive e = sym (count_none b (λ p inside. state p inside ∙ e))
-
 -- ---- how many there can be
 
 -- a box within the range has no more coordinates than all
@@ -126,10 +107,3 @@ volume_few b h =
     let size = length_coordinates b in
     let all : length (coordinates everywhere) ≡ 2 ^ 96 = length_coordinates everywhere in
     omega (arith, few, size, all)
-
-module _ {V : Type 0} (f : Field V) (b c d : Box) (halved : IsHalved b c d) (m n : ℕ) (first : m ≡ count f c) (second : n ≡ count f d) where
-  pub both_counted : m + n ≡ count f b
-  both_counted = let whole = count_halved f b c d halved in omega (arith, first, second, whole)
-
-  pub both_few : is_bounds b ≡ true → m + n ≤ 2 ^ 96
-  both_few h = let whole = both_counted in let few = count_few f b in let bound = volume_few b h in omega (arith, whole, few, bound)

@@ -2,7 +2,6 @@
 pub mod Counts
 pub mod Cuts
 pub mod Keys
-pub mod OneCell
 pub mod Numbered
 pub mod Surrounds
 pub mod BoxOrder
@@ -14,3 +13,4 @@ pub mod Near
 pub mod PartCounts
 pub mod VoxelSeeks
 pub mod VoxelCounts
+pub mod PartCells

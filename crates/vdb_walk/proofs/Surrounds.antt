@@ -293,14 +293,6 @@ module _ (bits : Bits) (states : List Bool) (found : Option Box) (part : Box) wh
     pub passed : (p : Coord) → is_inside part p ≡ true → is_set bits states p ≡ true → offset bits Leaf p < from → is_in around p ≡ true
     pub least : (other : Box) → ((p : Coord) → is_wanted_by bits states found part p ≡ true → is_inside other p ≡ true) → (p : Coord) → is_in around p ≡ true → is_inside other p ≡ true
 
-  -- none passed
-  pub reaches_none : Reaches 0 found
-  reaches_none = record {
-    former = λ p i. i;
-    passed = λ p i o below. absurd (omega (arith, below));
-    least = λ other h p i. h p (or_first (is_in found p) (is_inside part p && is_set bits states p) i);
-  }
-
   -- the next one
   pub reaches_next : IsInLeafBlock bits part → (from entry : ℕ) (p : Coord) (voxel : Box) (around result : Option Box) → Reaches from around → IsNextSetAt bits states part from entry p
       → voxel ≡ record { min = p; max = p } → Surrounds (λ q. is_in around q || is_inside voxel q) result → Reaches (entry + 1) result

@@ -1,5 +1,5 @@
 -- The voxels of a leaf in a box counted by the states of the leaf.
-use Rattle.std.proofs.Common.{◌≡◌, ◌⊎◌, inl, inr, refl, sym, ap, ◌∙◌, subst, ℕ, ◌+◌, ◌<◌, ◌≤◌, Bool, true, false, not, ◌&&◌, ◌||◌, List, [], ◌∷◌, arith, nat_lt}
+use Rattle.std.proofs.Common.{◌≡◌, inl, inr, refl, sym, ap, ◌∙◌, subst, ℕ, ◌+◌, ◌<◌, ◌≤◌, Bool, true, false, not, ◌&&◌, ◌||◌, List, [], ◌∷◌, arith, nat_lt}
 use Rattle.std.specs.Prelude.{None}
 use Rattle.std.specs.List.{IsDistinct, count_by}
 use Rattle.std.proofs.lemmas.Bool.Decides.{nat_tests}
@@ -32,10 +32,6 @@ one_apart : (p : Coord) → IsDistinct coord_eq (p ∷ [])
 unfolding IsDistinct
 one_apart p = (tt, tt)
 
-also : (o l : Bool) → l ≡ true → (o && l) ≡ o
-also true l h = h
-also false l h = refl
-
 idle : (o l : Bool) → (l ≡ true → o ≡ false) → (o && l) ≡ false
 idle true true h = h refl
 idle true false h = refl
@@ -67,10 +63,6 @@ module _ (bits : Bits) (states : List Bool) (part : Box) where
   -- how many of the part's voxels from an entry on have their states on
   abbrev pub set_from : ℕ → ℕ
   set_from from = count_by (λ q. is_set bits states q && is_from from q) (coordinates part)
-
-  -- from the first on they are all
-  pub set_all : set_from 0 ≡ set_count bits states part
-  set_all = count_alike part (λ q. is_set bits states q && is_from 0 q) (is_set bits states) (λ q i. also (is_set bits states q) (is_from 0 q) (le_from 0 (at q) (omega arith)))
 
   -- none is left
   pub set_end : (from : ℕ) → IsNextSet bits states part from None → set_from from ≡ 0

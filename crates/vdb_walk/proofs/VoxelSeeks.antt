@@ -10,7 +10,7 @@ use Rattle.vdb_coord.proofs.Nesting.{corner_of_entry, voxel_from_leaf}
 use Rattle.vdb_mask.specs.Mask.{IsNextAt, is_on}
 use Rattle.vdb_node.specs.Nodes.{IsOffFrom}
 use Rattle.vdb_walk.specs.Firsts.{IsInLeafBlock}
-use Rattle.vdb_walk.specs.Voxels.{IsNextSet, IsNextSetAt, is_set}
+use Rattle.vdb_walk.specs.Voxels.{IsNextSet, is_set}
 
 false_true : false ≡ true → ⊥
 false_true e = cc
@@ -30,9 +30,6 @@ module _ (bits : Bits) (states : List Bool) (part : Box) (from : ℕ) where
   pub record IsIdleTo (at : ℕ) : Type 0 where
     pub from_on : from ≤ at
     pub idle : (q : Coord) → is_inside part q ≡ true → from ≤ offset bits Leaf q → offset bits Leaf q < at → is_set bits states q ≡ false
-
-  pub idle_first : IsIdleTo from
-  idle_first = record { from_on = omega arith; idle = λ q i h k. absurd (omega (arith, h, k)) }
 
   module _ (at n : ℕ) (done : IsIdleTo at) where
     module _ (index : ℕ) (next : IsNextAt true states n at index) where

@@ -6,3 +6,4 @@ pub mod Numbers
 pub mod Surround
 pub mod Firsts
 pub mod Voxels
+pub mod PartCells

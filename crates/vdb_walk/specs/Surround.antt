@@ -1,5 +1,5 @@
 -- Least boxes around coordinates, of which private functions and proofs alone speak.
-use Rattle.std.specs.Prelude.{◌≡◌, Bool, false, ◌&&◌, ◌||◌, List, Option, Some, None, IsTrue}
+use Rattle.std.specs.Prelude.{Bool, false, ◌&&◌, ◌||◌, List, Option, Some, None, IsTrue}
 use Rattle.vdb_coord.specs.Space.{Box, is_inside}
 use Rattle.vdb_coord.specs.declared.Bits.{Bits}
 use Rattle.vdb_coord.specs.declared.Coord.{Coord}

@@ -1,4 +1,4 @@
-use Rattle.std.proofs.Common.{◌≡◌, ap, arith, rules, subst, sym, ◌∙◌, Option, Some}
+use Rattle.std.proofs.Common.{◌≡◌, arith, rules, subst, sym, ◌∙◌, Option}
 use Rattle.vdb_coord.specs.declared.Coord.{Coord}
 use Rattle.vdb_tree.specs.Layout.{bits_of, field_of}
 use Rattle.vdb_tree.specs.Plain.{count}

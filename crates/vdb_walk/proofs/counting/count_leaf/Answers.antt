@@ -1,5 +1,5 @@
 use Rattle.std.proofs.Common.{ap, rules, subst, sym, ◌∙◌, Bool, List}
-use Rattle.vdb_coord.specs.Blocks.{block_around, entries}
+use Rattle.vdb_coord.specs.Blocks.{entries}
 use Rattle.vdb_coord.specs.declared.Bits.{Bits}
 use Rattle.vdb_coord.specs.declared.Level.TheVariants.{Leaf}
 use Rattle.vdb_coord.proofs.Places.{entries_is}

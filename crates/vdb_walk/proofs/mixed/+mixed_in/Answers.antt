@@ -6,7 +6,6 @@ use Rattle.vdb_coord.proofs.Boxes.{both}
 use Rattle.vdb_coord.proofs.Meeting.{within_each}
 use Rattle.vdb_tree.specs.Field.{Field}
 use Rattle.vdb_tree.specs.Layout.{bits_of, field_of}
-use Rattle.vdb_tree.specs.Plain.{is_uniform}
 use Rattle.vdb_tree.proofs.Uniform.{exact_by}
 use Rattle.vdb_walk.specs.Numbers.{spanned}
 use Rattle.vdb_walk.proofs.Numbered.{both_mixed, both_mixed_few, first_within, none_mixed, one_constant, one_mixed, second_within}
