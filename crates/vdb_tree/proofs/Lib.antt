@@ -20,6 +20,7 @@ pub mod LeafBlocks
 pub mod LeafCounts
 pub mod Paths
 pub mod PartWalks
+pub mod Jumps
 pub mod PieceCells
 pub mod Tiled
 pub mod Constants

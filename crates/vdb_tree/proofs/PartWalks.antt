@@ -1,24 +1,24 @@
 -- Walks over the parts of a tree: places, and what lies between them.
-use Rattle.std.proofs.Common.{◌≡◌, ◌⊎◌, inl, inr, ℕ, ◌+◌, ◌<◌, ◌≤◌, Bool, true, false, arith, ap, refl, sym, subst, ◌∙◌}
+use Rattle.std.proofs.Common.{◌≡◌, ◌⊎◌, inl, inr, ℕ, ◌<◌, Bool, true, false, arith, ap, refl, sym, subst, ◌∙◌}
 use Rattle.std.specs.Prelude.{not, ◌&&◌, if◌then◌else◌, Option, Some, None, IfNone, IfSome, IsSome, IsTrue, is_some}
 use Rattle.std.specs.Ordering.{is_gt, is_lt, ordering_reverse}
 use Rattle.std.specs.declared.cmp.Ordering.{Ordering}
 use Rattle.std.specs.declared.cmp.Ordering.TheVariants.{Less, Equal, Greater}
 use Rattle.vdb_coord.specs.Blocks.{block_around, block_cmp, block_number, key}
-use Rattle.vdb_coord.specs.Entries.{AreBits}
-use Rattle.vdb_coord.specs.Order.{ComesBefore, IsFirstPast, IsNextPlace, IsUpToBlock, coordinates_past}
+use Rattle.vdb_coord.specs.Order.{ComesBefore, IsUpToBlock, coordinates_past}
 use Rattle.vdb_coord.specs.Space.{Box, coord_cmp, everywhere, is_inside}
 use Rattle.vdb_coord.specs.declared.Bits.{Bits}
 use Rattle.vdb_coord.specs.declared.Coord.{Coord}
 use Rattle.vdb_coord.specs.declared.Level.{Level}
 use Rattle.vdb_coord.specs.declared.Level.TheVariants.{Leaf, Lower, Upper}
-use Rattle.vdb_coord.proofs.BlockOrder.{comes_on, contiguous, fewer_past, from_key, key_equal, not_before_min, not_both, not_itself, which_first}
+use Rattle.vdb_coord.proofs.BlockOrder.{comes_on, contiguous, fewer_past, from_key, key_equal, not_before_min, not_both, not_past_max, which_first}
 use Rattle.vdb_coord.proofs.Members.{coord_total}
 use Rattle.vdb_coord.proofs.Nesting.{inside_numbered, lower_from_leaf, number_in_block, upper_from_lower}
 use Rattle.vdb_node.specs.declared.Entry.{Entry}
 use Rattle.vdb_node.specs.declared.Entry.TheVariants.{Child, Tile}
+use Rattle.vdb_tree.specs.Jumps.{IsJumpAt, IsLast}
 use Rattle.vdb_tree.specs.Layout.{Layout, cell_at, entry_over, field_of, plain, root_at, root_entry, upper_entry}
-use Rattle.vdb_tree.specs.Parts.{IsNextAbove, IsPartAround, IsPlace, IsPlaceAfter, IsPlaceAfterAt, IsPlaceWithin, IsSkipped, IsWalk, Passes, TreeWalk, YieldsBox, end_level, if_tile, is_left, left_count}
+use Rattle.vdb_tree.specs.Parts.{IsPartAround, IsPlace, IsPlaceAfter, IsSkipped, IsWalk, Passes, TreeWalk, YieldsBox, end_level, if_tile, is_left, left_count}
 use Rattle.vdb_tree.specs.declared.parts.Skip.{Skip}
 use Rattle.vdb_tree.specs.declared.parts.Skip.TheVariants.{Absent, Background, Inactive}
 use Rattle.vdb_value.specs.declared.Cell.{Cell}
@@ -143,58 +143,47 @@ module _ {V : Type 0} (bits : Bits) (t : Layout V) where
 
     -- ---- within a block of the outer level
 
-    module _ (outer level : Level) (up : (q n : Coord) → block_number bits level q ≡ block_number bits level n → block_number bits outer q ≡ block_number bits outer n)
-        (skip : Skip) (p : Coord) (here : IsTrue (is_inside box p)) where
-      within_least : (n : Coord) → IsPlaceWithin bits box outer level p (Some n)
-          → (q : Coord) → IsTrue (is_inside box q) → block_number bits level q ≡ block_number bits level n → ComesBefore bits q n → ⊥
-      within_least n found q i e b =
-          let again : block_number bits level n ≡ block_number bits level p → ⊥ = λ s. not_itself bits n (found.2 n found.0 s) in
-          elim (found.3 q i (up q n e ∙ found.1) b) [
-            | inl c ↦
-                let next : ComesBefore bits p n = found.2 p here refl in
-                again (sym e ∙ sym (contiguous bits level q p n (not_both bits q p c) (not_both bits p n next) e))
-            | inr s ↦ again (sym e ∙ s)
-          ]
-
-      pub within_found : (n : Coord) → IsPlaceWithin bits box outer level p (Some n) → EndsWithin level n → IsPlaceAfter bits t box skip level p (Some n)
-      within_found n found ends = record {
-        place = place_from level n found.0 (within_least n found) ends;
-        past = found.2;
+    module _ (outer level : Level) (skip : Skip) (p : Coord) where
+      jump_found : (n : Coord) → IsJumpAt bits t skip box outer level p n → EndsWithin level n → IsPlaceAfter bits t box skip level p (Some n)
+      jump_found n found ends = record {
+        place = place_from level n found.inside found.first ends;
+        past = found.past;
         between = λ q i b. elim (which_first bits q p) [
           | inl c ↦ inl (inl c)
           | inr r ↦ elim r [
             | inl e ↦ inl (inr (ap (block_number bits level) e))
-            | inr c ↦ inl (found.3 q i (contiguous bits outer p q n (not_both bits p q c) (not_both bits q n b) (sym found.1)) b)
+            | inr c ↦ found.between q i (contiguous bits outer p q n (not_both bits p q c) (not_both bits q n b) (sym found.outer_block)) b
           ]
         ];
       }
 
-      within_none : IsPlaceWithin bits box outer level p None → (q : Coord) → IsTrue (is_inside box q) → IsUpToBlock bits outer p q ⊎ IsSkipped bits skip t q → IsUpToBlock bits level p q ⊎ IsSkipped bits skip t q
-      within_none none q i h = elim h [
-        | inl u ↦ elim u [ inl c ↦ inl (inl c) | inr e ↦ inl (none q i e) ]
+      jump_last : IsLast bits t skip box outer level p → (q : Coord) → IsTrue (is_inside box q) → IsUpToBlock bits outer p q ⊎ IsSkipped bits skip t q → IsUpToBlock bits level p q ⊎ IsSkipped bits skip t q
+      jump_last none q i h = elim h [
+        | inl u ↦ elim u [ inl c ↦ inl (inl c) | inr e ↦ none.passed q i e ]
         | inr s ↦ inr s
       ]
 
-      pub within_outer : IsPlaceWithin bits box outer level p None → (found : Option Coord) → IsPlaceAfter bits t box skip outer p found → IsPlaceAfter bits t box skip level p found
-      within_outer none None h = λ q i. within_none none q i (h q i)
-      within_outer none (Some n) h = record {
+      jump_outer : ((q n : Coord) → block_number bits level q ≡ block_number bits level n → block_number bits outer q ≡ block_number bits outer n)
+          → IsLast bits t skip box outer level p → (found : Option Coord) → IsPlaceAfter bits t box skip outer p found → IsPlaceAfter bits t box skip level p found
+      jump_outer up none None h = λ q i. jump_last none q i (h q i)
+      jump_outer up none (Some n) h = record {
         place = h.place;
         past = λ q i e. h.past q i (up q p e);
-        between = λ q i b. within_none none q i (h.between q i b);
+        between = λ q i b. jump_last none q i (h.between q i b);
       }
 
   -- past a leaf block in a lower node, and past a lower block in an upper node
-  pub leaf_found : (box : Box) (skip : Skip) (p : Coord) → IsTrue (is_inside box p) → end_level bits t p ≡ Leaf → (n : Coord) → IsPlaceWithin bits box Lower Leaf p (Some n) → IsPlaceAfter bits t box skip Leaf p (Some n)
-  leaf_found box skip p here node n found = within_found box Lower Leaf (lower_from_leaf bits) skip p here n found (ends_in_leaf p n node found.1)
+  pub leaf_found : (box : Box) (skip : Skip) (p : Coord) → end_level bits t p ≡ Leaf → (n : Coord) → IsJumpAt bits t skip box Lower Leaf p n → IsPlaceAfter bits t box skip Leaf p (Some n)
+  leaf_found box skip p node n found = jump_found box Lower Leaf skip p n found (ends_in_leaf p n node found.outer_block)
 
-  pub lower_found : (box : Box) (skip : Skip) (p : Coord) → IsTrue (is_inside box p) → (end_level bits t p ≡ Upper → ⊥) → (n : Coord) → IsPlaceWithin bits box Upper Lower p (Some n) → IsPlaceAfter bits t box skip Lower p (Some n)
-  lower_found box skip p here node n found = within_found box Upper Lower (upper_from_lower bits) skip p here n found (ends_in_lower p n node found.1)
+  pub lower_found : (box : Box) (skip : Skip) (p : Coord) → (end_level bits t p ≡ Upper → ⊥) → (n : Coord) → IsJumpAt bits t skip box Upper Lower p n → IsPlaceAfter bits t box skip Lower p (Some n)
+  lower_found box skip p node n found = jump_found box Upper Lower skip p n found (ends_in_lower p n node found.outer_block)
 
-  pub leaf_none : (box : Box) (skip : Skip) (p : Coord) → IsTrue (is_inside box p) → IsPlaceWithin bits box Lower Leaf p None → (found : Option Coord) → IsPlaceAfter bits t box skip Lower p found → IsPlaceAfter bits t box skip Leaf p found
-  leaf_none box skip p here = within_outer box Lower Leaf (lower_from_leaf bits) skip p here
+  pub leaf_none : (box : Box) (skip : Skip) (p : Coord) → IsLast bits t skip box Lower Leaf p → (found : Option Coord) → IsPlaceAfter bits t box skip Lower p found → IsPlaceAfter bits t box skip Leaf p found
+  leaf_none box skip p = jump_outer box Lower Leaf skip p (lower_from_leaf bits)
 
-  pub lower_none : (box : Box) (skip : Skip) (p : Coord) → IsTrue (is_inside box p) → IsPlaceWithin bits box Upper Lower p None → (found : Option Coord) → IsPlaceAfter bits t box skip Upper p found → IsPlaceAfter bits t box skip Lower p found
-  lower_none box skip p here = within_outer box Upper Lower (upper_from_lower bits) skip p here
+  pub lower_none : (box : Box) (skip : Skip) (p : Coord) → IsLast bits t skip box Upper Lower p → (found : Option Coord) → IsPlaceAfter bits t box skip Upper p found → IsPlaceAfter bits t box skip Lower p found
+  lower_none box skip p = jump_outer box Upper Lower skip p (upper_from_lower bits)
 
   -- a leaf isn't an upper tile
   pub leaf_below : (p : Coord) → end_level bits t p ≡ Leaf → end_level bits t p ≡ Upper → ⊥
@@ -287,6 +276,27 @@ module _ {V : Type 0} (bits : Bits) (t : Layout V) where
     | inr r ↦ elim r [
       | inl same ↦ inl (inr same)
       | inr later ↦ inr (absent_skipped skip q (elim (done.absent q i later) [ inl l ↦ none (key bits q) l | inr absent ↦ absent ]))
+    ]
+  ]
+
+  -- the keys of a box come no later than that of its greatest corner
+  not_past_last : (box : Box) (q : Coord) → IsTrue (is_inside box q) → coord_cmp (key bits box.max) (key bits q) ≡ Less → ⊥
+  not_past_last box q i h = not_past_max bits box q i (from_key bits box.max q h)
+
+  -- the next key comes past them
+  pub keys_stop : (box : Box) (p passed : Coord) → IsKeysPassed box p passed → (k : Coord) → IsNextKey t.root (Some passed) (Some k) → coord_cmp (key bits box.max) k ≡ Less
+      → (skip : Skip) → IsPlaceAfter bits t box skip Upper p None
+  keys_stop box p passed done k next past skip q i = elim (key_ways (key bits q) (key bits p)) [
+    | inl less ↦ inl (inl (from_key bits q p less))
+    | inr r ↦ elim r [
+      | inl same ↦ inl (inr same)
+      | inr later ↦ elim (no_earlier box p passed done k next q i later) [
+        | inl l ↦ elim l [
+          | inl e ↦ absurd (not_past_last box q i (subst (λ (b : Coord). coord_cmp (key bits box.max) b ≡ Less) (sym e) past))
+          | inr after ↦ absurd (not_past_last box q i (coord_total.trans (key bits box.max) k (key bits q) past after))
+        ]
+        | inr absent ↦ inr (absent_skipped skip q absent)
+      ]
     ]
   ]
 
@@ -497,34 +507,6 @@ module _ {V : Type 0} (bits : Bits) (t : Layout V) where
   -- a walk at its start
   pub passes_none : (a : TreeWalk V) → Passes bits t a a (λ q. false)
   passes_none a = record { box = refl; skip = refl; later = λ q l. l; passed = λ q i l gone out. absurd (false_true (sym gone ∙ l)) }
-
-in_outer : (bits : Bits) (outer level : Level) → IsNextAbove outer level → (q p : Coord) → block_number bits level q ≡ block_number bits level p → block_number bits outer q ≡ block_number bits outer p
-in_outer bits Upper Lower above q p e = upper_from_lower bits q p e
-in_outer bits Lower Leaf above q p e = lower_from_leaf bits q p e
-in_outer bits Upper Upper above q p e = absurd above
-in_outer bits Upper Leaf above q p e = absurd above
-in_outer bits Lower Upper above q p e = absurd above
-in_outer bits Lower Lower above q p e = absurd above
-in_outer bits Leaf level above q p e = not_in_leaf level above
-  where
-    not_in_leaf : {A : Type 0} (l : Level) → IsNextAbove Leaf l → A
-    not_in_leaf Upper h = absurd h
-    not_in_leaf Lower h = absurd h
-    not_in_leaf Leaf h = absurd h
-
--- the first coordinate of what a box has of a block of the outer level, past an inner block
-pub within_is : (bits : Bits) (box part : Box) (outer level : Level) (p : Coord) → IsTrue (is_inside box p)
-    → ((q : Coord) → IsTrue (is_inside part q) → IsTrue (is_inside box q) × (block_number bits outer q ≡ block_number bits outer p))
-    → ((q : Coord) → IsTrue (is_inside box q) → block_number bits outer q ≡ block_number bits outer p → IsTrue (is_inside part q))
-    → IsNextAbove outer level → (found : Option Coord) → IsNextPlace bits level part p found → IsPlaceWithin bits box outer level p found
-within_is bits box part outer level p here within all above None next = λ q i o. next q (all q i o)
-within_is bits box part outer level p here within all above (Some n) next =
-    let at = within n next.inside in (
-      at.0,
-      at.1,
-      λ q i e. next.past q (all q i (in_outer bits outer level above q p e)) e,
-      λ q i o b. next.between q (all q i o) b,
-    )
 
 -- where none is found under a key, no coordinate of the box lies there
 pub none_under : (bits : Bits) (box : Box) (k : Coord) (found : Option Coord) → is_some found ≡ false → IfNone found ((q : Coord) → IsTrue (is_inside box q) → key bits q ≡ k → ⊥)

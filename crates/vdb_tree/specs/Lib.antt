@@ -7,6 +7,7 @@ pub mod Table
 pub mod Paths
 pub mod Pieces
 pub mod Parts
+pub mod Jumps
 pub mod Leaves
 pub mod Outcome
 pub mod Ready

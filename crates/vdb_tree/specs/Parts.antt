@@ -1,5 +1,5 @@
 -- The parts of a tree in block order: its leaves, and the blocks of its tiles.
-use Rattle.std.specs.Prelude.{◌≡◌, ◌⊎◌, ℕ, zero, suc, Bool, true, false, not, ◌&&◌, List, Option, Some, None, IfSome, IsTrue}
+use Rattle.std.specs.Prelude.{◌≡◌, ◌⊎◌, ℕ, zero, suc, Bool, false, not, ◌&&◌, List, Option, Some, None, IfSome, IsTrue}
 use Rattle.std.specs.Ordering.{is_lt}
 use Rattle.vdb_coord.specs.Blocks.{block_around, block_cmp, block_number, key, offset}
 use Rattle.vdb_coord.specs.Order.{ComesBefore, IsUpToBlock, coordinates_past}
@@ -132,12 +132,3 @@ abbrev pub IsNextAbove : Level → Level → Type 0
 IsNextAbove Upper Lower = Unit {0}
 IsNextAbove Lower leaf_level = Unit {0}
 IsNextAbove outer level = ⊥
-
-module _ (bits : Bits) (box : Box) where
-  -- the first coordinate of the box past the inner level's block around p and in the outer level's, if there is one
-  abbrev pub IsPlaceWithin : Level → Level → Coord → Option Coord → Type 0
-  IsPlaceWithin outer level p None = (q : Coord) → IsTrue (is_inside box q) → block_number bits outer q ≡ block_number bits outer p → IsUpToBlock bits level p q
-  IsPlaceWithin outer level p (Some next) =
-      IsTrue (is_inside box next) × (block_number bits outer next ≡ block_number bits outer p)
-      × ((q : Coord) → IsTrue (is_inside box q) → block_number bits level q ≡ block_number bits level p → ComesBefore bits q next)
-      × ((q : Coord) → IsTrue (is_inside box q) → block_number bits outer q ≡ block_number bits outer p → ComesBefore bits q next → IsUpToBlock bits level p q)

@@ -22,6 +22,7 @@ mod paint_voxels;
 mod parts;
 mod path;
 mod pieces;
+mod places;
 mod prune;
 mod ready;
 mod refusal;

@@ -8,7 +8,8 @@ ghost use Rattle.vdb_coord.specs.declared.Coord.{Coord};
 ghost use Rattle.vdb_coord.specs.declared.Level.TheVariants.{Leaf as leaf_level, Lower, Upper};
 ghost use Rattle.vdb_node.specs.declared.Entry.TheVariants.{Tile};
 ghost use Rattle.vdb_tree.specs.Layout.{bits_of, entry_over, field_of, plain};
-ghost use Rattle.vdb_tree.specs.Parts.{IsEnd, IsNextAbove, IsPartAround, IsPartOfLeaf, IsPlace, IsPlaceAfter, IsPlaceWithin, IsSkipped, IsWalk, OnLeaf, OnTile, Passes, YieldsBox, end_level, is_left, left_count};
+ghost use Rattle.vdb_tree.specs.Parts.{IsEnd, IsPartAround, IsPartOfLeaf, IsPlace, IsSkipped, IsWalk, OnLeaf, OnTile, Passes, YieldsBox, end_level, is_left, left_count};
+ghost use Rattle.vdb_tree.specs.Paths.{Lives};
 
 use crate::ends::End;
 use crate::{PathOf, TreeOf};
@@ -242,7 +243,7 @@ impl<
     {
         let end = self.end_at(walk, p, steps);
         let (bounds, skip) = (walk.bounds(), walk.skip());
-        let next = self.place_after(bounds, skip, p, end);
+        let next = self.place_after(bounds, skip, p, end, walk.path(), steps);
         let part = self.part_around(bounds, skip, p, end, steps);
         walk.go_to(next);
         part
@@ -257,6 +258,7 @@ impl<
     ) -> End<V>
         requires { IsWalk (bits_of U L F) self.now walk.old }
         ensures end { IsEnd (bits_of U L F) self.now p result }
+        ensures lives { Lives (bits_of U L F) self.now walk.new.path p }
         ensures walk { IsWalk (bits_of U L F) self.now walk.new }
         ensures bounds { walk.new.box ≡ walk.old.box }
         ensures skip { walk.new.skip ≡ walk.old.skip }
@@ -331,86 +333,16 @@ impl<
     fn is_background(&self, cell: Cell<V>) -> bool
         ensures { IsTrue result → cell ≡ plain self.now }
     {
-        cell == Cell {
+        cell == self.plain()
+    }
+
+    /// The cell of what was never written: the background, inactive.
+    pub(crate) fn plain(&self) -> Cell<V>
+        ensures { result ≡ plain self.now }
+    {
+        Cell {
             value: self.background,
             on: false,
         }
-    }
-
-    /// The first place of the box past the part around `p`, where the descent ends so.
-    fn place_after(&self, bounds: Bounds, skip: Skip, p: Coord, end: End<V>) -> Option<Coord>
-        requires inside { IsTrue (is_inside bounds p) }
-        requires end { IsEnd (bits_of U L F) self.now p end }
-        ensures next { IsPlaceAfter (bits_of U L F) self.now bounds skip (end_level (bits_of U L F) self.now p) p result }
-        ensures nearer { IfSome result (λ next. coordinates_past (bits_of U L F) next < coordinates_past (bits_of U L F) p) }
-    {
-        match self.place_past(bounds, skip, p, end) {
-            Some(next) => Some(next),
-            None => None,
-        }
-    }
-
-    fn place_past(&self, bounds: Bounds, skip: Skip, p: Coord, end: End<V>) -> Option<Coord>
-        requires inside { IsTrue (is_inside bounds p) }
-        requires end { IsEnd (bits_of U L F) self.now p end }
-        ensures { IsPlaceAfter (bits_of U L F) self.now bounds skip (end_level (bits_of U L F) self.now p) p result }
-    {
-        match end {
-            End::Tile(Level::Upper, _) => self.place_after_key(bounds, skip, p),
-            End::Tile(Level::Lower, _) => self.place_after_lower(bounds, skip, p),
-            End::Tile(Level::Leaf, _) => self.place_after_leaf(bounds, skip, p),
-            End::Leaf(_) => self.place_after_leaf(bounds, skip, p),
-        }
-    }
-
-    /// The first place past the leaf block around `p`, over which a lower node stands.
-    fn place_after_leaf(&self, bounds: Bounds, skip: Skip, p: Coord) -> Option<Coord>
-        requires inside { IsTrue (is_inside bounds p) }
-        requires node { end_level (bits_of U L F) self.now p ≡ leaf_level }
-        ensures { IsPlaceAfter (bits_of U L F) self.now bounds skip leaf_level p result }
-    {
-        match self.place_within(bounds, Level::Lower, Level::Leaf, p) {
-            Some(next) => Some(next),
-            None => self.place_after_lower(bounds, skip, p),
-        }
-    }
-
-    /// The first place past the lower block around `p`, over which an upper node stands.
-    fn place_after_lower(&self, bounds: Bounds, skip: Skip, p: Coord) -> Option<Coord>
-        requires inside { IsTrue (is_inside bounds p) }
-        requires node { end_level (bits_of U L F) self.now p ≡ Upper → ⊥ }
-        ensures { IsPlaceAfter (bits_of U L F) self.now bounds skip Lower p result }
-    {
-        match self.place_within(bounds, Level::Upper, Level::Lower, p) {
-            Some(next) => Some(next),
-            None => self.place_after_key(bounds, skip, p),
-        }
-    }
-
-    /// The first coordinate of the box past the level's block around `p` that lies in the outer block around `p`.
-    fn place_within(&self, bounds: Bounds, outer: Level, level: Level, p: Coord) -> Option<Coord>
-        requires inside { IsTrue (is_inside bounds p) }
-        requires next_above { IsNextAbove outer level }
-        ensures { IsPlaceWithin (bits_of U L F) bounds outer level p result }
-    {
-        self.part(bounds, outer, p)
-            .next_place_in(self.bits(), level, p)
-    }
-
-    /// The first place under the keys past that of `p`.
-    fn place_after_key(&self, bounds: Bounds, skip: Skip, p: Coord) -> Option<Coord>
-        requires { IsTrue (is_inside bounds p) }
-        ensures { IsPlaceAfter (bits_of U L F) self.now bounds skip Upper p result }
-    {
-        let _ = skip;
-        let mut passed = self.key(p);
-        while let Some(key) = self.next_key(Some(passed)) {
-            let found = self.first_within_root(bounds, key);
-            if found.is_some() {
-                return found;
-            }
-            passed = key;
-        }
-        None
     }
 }

@@ -1,0 +1,38 @@
+use Rattle.std.proofs.Common.{◌≡◌, ◌+◌, ◌<◌, ℕ, ap, arith, sym, subst}
+use Rattle.std.specs.Prelude.{None, Some}
+use Rattle.vdb_coord.specs.Blocks.{entries}
+use Rattle.vdb_coord.specs.declared.Bits.{Bits}
+use Rattle.vdb_coord.specs.declared.Level.TheVariants.{Upper}
+use Rattle.vdb_coord.proofs.Places.{entries_is}
+use Rattle.vdb_pool.specs.Contents.{node_at}
+use Rattle.vdb_tree.specs.Layout.{bits_of}
+use Rattle.vdb_tree.specs.declared.parts.Skip.TheVariants.{Inactive}
+use Rattle.vdb_tree.proofs.EntryCounts.{next_fits}
+use Rattle.vdb_tree.proofs.Jumps.{upper_active, part_at}
+use Rattle.vdb_tree.proofs.tree.TreeOf.next_active_in_upper.Goals as goal
+
+pub overflow_add-from : goal.overflow_add-from
+overflow_add-from g c = let h = next_fits c.offset-from.result g.row.U c.self.invariant.0.bits.0.1 c.offset-from.ensures.within in omega (arith, h)
+
+pub entry_block_in-requires-clause-within : goal.entry_block_in-requires-clause-within
+entry_block_in-requires-clause-within g c =
+    let bits = bits_of g.row.U g.row.L g.row.F in
+    subst (λ (b : Bits). c.in-Some.index < entries b Upper) (sym c.bits.ensures.value)
+    (subst (λ (n : ℕ). c.in-Some.index < n) (sym (entries_is bits Upper)) c.in-Some.ensures.within)
+
+pub returns-in-Some : goal.returns-in-Some
+returns-in-Some g c =
+    let bits = bits_of g.row.U g.row.L g.row.F in
+    let t = c.args.self.now in
+    let was : node_at t.uppers c.args.upper.slot ≡ Some c.at.result.now = rw (← c.self.view_is) c.at.ensures.node in
+    let next = upper_active bits t c.args.p c.args.upper.slot c.at.result.now (c.offset-from.result + 1) (Some c.in-Some.index) c.requires.child was
+    (ap (λ (n : ℕ). n + 1) c.offset-from.ensures.value) c.in-Some.ensures in
+    part_at bits t Inactive Upper c.args.p c.in-Some.index next c.bits.result c.bits.ensures.value c.entry_block_in.result c.entry_block_in.ensures
+
+pub returns-in-None : goal.returns-in-None
+returns-in-None g c =
+    let bits = bits_of g.row.U g.row.L g.row.F in
+    let t = c.args.self.now in
+    let was : node_at t.uppers c.args.upper.slot ≡ Some c.at.result.now = rw (← c.self.view_is) c.at.ensures.node in
+    upper_active bits t c.args.p c.args.upper.slot c.at.result.now (c.offset-from.result + 1) None c.requires.child was
+    (ap (λ (n : ℕ). n + 1) c.offset-from.ensures.value) c.in-None.ensures
