@@ -2,6 +2,7 @@
 //! hand.
 mod acts;
 mod boxes;
+mod constant;
 mod copies;
 mod leaves;
 mod limits;

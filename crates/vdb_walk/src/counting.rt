@@ -125,13 +125,6 @@ fn count_states<const W: usize>(states: &Mask<W>, bits: Bits, part: Bounds) -> u
     total
 }
 
-/// The box of all coordinates.
-pub(crate) fn all() -> Bounds
-    ensures { result ≡ everywhere }
-{
-    Bounds::all()
-}
-
 /// Whether the root table has a key between those of the part's least and its greatest corner, in the order of keys. Where it
 /// has none, each voxel of the part is the background, inactive.
 pub(crate) fn has_keys<
