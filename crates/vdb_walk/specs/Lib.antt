@@ -7,4 +7,3 @@ pub mod Surround
 pub mod Firsts
 pub mod Voxels
 pub mod PartCells
-pub mod Listings

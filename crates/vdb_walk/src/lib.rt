@@ -3,7 +3,6 @@
 
 mod counting;
 mod halves;
-mod held;
 mod listing;
 mod mixed;
 mod order;
