@@ -199,7 +199,8 @@ fn boxes_that_cut_leaves(rt: HostRuntime) -> Result<(), TreeRefusal> {
     Ok(())
 }
 
-// A leaf within the box counts by its states alone: three visits find its piece, and three the leaf.
+// A leaf within the box counts by its states alone: two visits find it and one reads it, and one of each node over it finds no
+// other part.
 #[test]
 fn leaves_count_at_once(rt: HostRuntime) -> Result<(), TreeRefusal> {
     let mut steps = Steps::new(&rt);
@@ -210,7 +211,7 @@ fn leaves_count_at_once(rt: HostRuntime) -> Result<(), TreeRefusal> {
     let before = steps.count();
     let cases = [(at(8, -8, 16), at(15, -1, 23), 2)];
     expect_counts(&rt, &tree, &cases, &mut steps);
-    assert_eq!(rt; steps.count().wrapping_sub(before), 6);
+    assert_eq!(rt; steps.count().wrapping_sub(before), 5);
     let cases = [
         (at(8, -8, 16), at(15, -1, 22), 1),
         (at(9, -8, 16), at(15, -1, 23), 1),
