@@ -4,6 +4,7 @@ pub mod Scalars
 pub mod Scene
 pub mod Step
 pub mod Grids
+pub mod Readers
 pub mod Slices
 pub mod Listings
 pub mod Shown

@@ -3,6 +3,7 @@ use Rattle.std.specs.Prelude.{◌≡◌, ℤ, List, [], ◌∷◌, map, Option, 
 use Rattle.vdb_coord.specs.Space.{coord, range}
 use Rattle.vdb_value.specs.declared.Cell.{Cell}
 use Rattle.vdb_scene.specs.Grids.{grid_field}
+use Rattle.vdb_scene.specs.Readers.{field_read}
 use Rattle.vdb_scene.specs.Step.{Row, row_at}
 use Rattle.vdb_scene.specs.declared.scalar.Scalar.{Scalar}
 use Rattle.vdb_scene.specs.declared.slice.Slice.{Slice}
@@ -20,7 +21,7 @@ HandsNumber old last (Some number) new = numbers_left old last ≡ number ∷ nu
 
 -- the cell of a row at an x
 abbrev pub cell_at : SliceRow → ℤ → Cell Scalar
-cell_at r x = (grid_field r.grid.now).cell (coord x r.y r.z)
+cell_at r x = (field_read r.cells).cell (coord x r.y r.z)
 
 -- the cells that a row has yet to hand out
 abbrev pub cells_left : SliceRow → List (Cell Scalar)

@@ -7,6 +7,7 @@ mod applying;
 mod command;
 mod grid_tree;
 mod name;
+mod reader;
 mod reporting;
 mod scalar;
 mod scene;

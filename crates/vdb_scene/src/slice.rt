@@ -5,6 +5,7 @@ ghost use Rattle.vdb_scene.specs.Grids.{grid_field};
 ghost use Rattle.vdb_scene.specs.Slices.{HandsCell, HandsNumber, HandsRow, cell_at, rows_left};
 ghost use Rattle.vdb_scene.specs.Step.{rows};
 
+use crate::reader::AnyReader;
 use crate::{AnyGrid, Scalar};
 use vdb_coord::{Bounds, Coord};
 use vdb_pool::Steps;
@@ -23,7 +24,7 @@ pub struct Slice<'a> {
 /// The cells of a row, by rising x. It lends the grid.
 #[derive(Drop)]
 pub struct SliceRow<'a> {
-    grid: &'a AnyGrid,
+    cells: AnyReader<'a>,
     y: i32,
     z: i32,
     /// The x of the next cell, if there is one.
@@ -61,7 +62,7 @@ impl<'a> Slice<'a> {
     {
         match advance(&mut self.y, self.max.y) {
             Some(y) => Some(SliceRow {
-                grid: self.grid,
+                cells: AnyReader::new(self.grid),
                 y,
                 z: self.min.z,
                 x: Some(self.min.x),
@@ -91,11 +92,12 @@ impl<'a> SliceRow<'a> {
     }
 
     /// The cell at an x.
-    fn cell(&self, x: i32, steps: &mut Steps) -> Cell<Scalar>
-        ensures { result ≡ cell_at self.now x }
+    fn cell(&mut self, x: i32, steps: &mut Steps) -> Cell<Scalar>
+        ensures cell { result ≡ cell_at self.old x }
+        ensures same { self.new ≡ self.old }
     {
         let (y, z) = (self.y, self.z);
-        self.grid.get(Coord { x, y, z }, steps)
+        self.cells.get(Coord { x, y, z }, steps)
     }
 }
 

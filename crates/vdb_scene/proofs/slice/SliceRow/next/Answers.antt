@@ -10,4 +10,4 @@ returns-in-Some c =
     let x = c.in-Some.x in
     let ahead : numbers_left row.x row.last ≡ x ∷ numbers_left c.advance.new.next row.last = search rules in
     let cell : cell_at row x ≡ c.cell.result = search rules in
-    (ap (map (cell_at row)) ahead ∙ ap (λ (first : Cell Scalar). first ∷ map (cell_at row) (numbers_left c.advance.new.next row.last)) cell, refl)
+    rw c.cell.ensures.same (ap (map (cell_at row)) ahead ∙ ap (λ (first : Cell Scalar). first ∷ map (cell_at row) (numbers_left c.advance.new.next row.last)) cell, refl)

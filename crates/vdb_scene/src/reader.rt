@@ -1,0 +1,97 @@
+//! The cells of a grid, one after another, each by the path to the one before.
+
+ghost use Rattle.std.specs.Prelude.{◌≡◌};
+ghost use Rattle.vdb_coord.specs.Blocks.{vdb};
+ghost use Rattle.vdb_tree.specs.Field.{as_field_of};
+ghost use Rattle.vdb_tree.specs.Layout.{field_of};
+ghost use Rattle.vdb_scene.specs.Grids.{grid_field};
+ghost use Rattle.vdb_scene.specs.Readers.{field_read};
+
+use crate::scalar::GridValue;
+use crate::{AnyGrid, Scalar};
+use std::marker::Model;
+use vdb_coord::Coord;
+use vdb_pool::Steps;
+use vdb_tree::{Path, PathOf, Tree};
+use vdb_value::Cell;
+
+/// Reads cells of a tree. Each descent begins at the lowest node of the path to the last cell that contains the next one, so a
+/// cell of the same leaf takes one visit (OpenVDB's `ValueAccessor`). It lends the tree.
+#[derive(Drop)]
+pub struct CellReader<'a, V: GridValue> {
+    tree: &'a Tree<V>,
+    path: Path<V>,
+    /// The coordinate to which the path leads.
+    near: Coord,
+}
+
+impl<'a, V: GridValue> Model for CellReader<'a, V> {
+    ghost use Rattle.vdb_coord.specs.Blocks.{vdb};
+    ghost use Rattle.vdb_tree.specs.Layout.{Layout};
+    ghost use Rattle.vdb_tree.specs.Paths.{Lives};
+
+    ghost Value = { Layout V };
+
+    ghost view = { λ r. r.tree.now };
+
+    ghost invariant = { λ r. Lives vdb r.tree.now r.path r.near };
+}
+
+/// Reads cells of a grid of any kind, as a `CellReader` does those of a tree. It lends the grid.
+#[derive(Drop)]
+pub enum AnyReader<'a> {
+    Bool(CellReader<'a, bool>),
+    I32(CellReader<'a, i32>),
+    I64(CellReader<'a, i64>),
+}
+
+impl<'a, V: GridValue> CellReader<'a, V> {
+    /// A reader that has no path yet, so its first descent begins at the root.
+    pub fn new(tree: &'a Tree<V>) -> CellReader<'a, V>
+        ensures { result ≡ tree.now }
+    {
+        CellReader {
+            tree,
+            path: PathOf::empty(),
+            near: Coord { x: 0, y: 0, z: 0 },
+        }
+    }
+
+    /// The cell of a voxel, with its value as one of any kind.
+    pub fn get(&mut self, at: Coord, steps: &mut Steps) -> Cell<Scalar>
+        ensures cell { result ≡ (as_field_of V.as_scalar (field_of vdb self.old)).cell at }
+        ensures same { self.new ≡ self.old }
+    {
+        let cell = self.tree.descend(&mut self.path, self.near, at, steps);
+        self.near = at;
+        Cell {
+            value: cell.value.scalar(),
+            on: cell.on,
+        }
+    }
+}
+
+impl<'a> AnyReader<'a> {
+    /// A reader of a grid's cells that has no path yet.
+    pub fn new(grid: &'a AnyGrid) -> AnyReader<'a>
+        ensures { field_read result ≡ grid_field grid.now }
+    {
+        match grid {
+            AnyGrid::Bool(tree) => AnyReader::Bool(CellReader::new(tree)),
+            AnyGrid::I32(tree) => AnyReader::I32(CellReader::new(tree)),
+            AnyGrid::I64(tree) => AnyReader::I64(CellReader::new(tree)),
+        }
+    }
+
+    /// The cell of a voxel.
+    pub fn get(&mut self, at: Coord, steps: &mut Steps) -> Cell<Scalar>
+        ensures cell { result ≡ (field_read self.old).cell at }
+        ensures same { self.new ≡ self.old }
+    {
+        match self {
+            AnyReader::Bool(reader) => reader.get(at, steps),
+            AnyReader::I32(reader) => reader.get(at, steps),
+            AnyReader::I64(reader) => reader.get(at, steps),
+        }
+    }
+}
