@@ -75,10 +75,14 @@ pub past_on : (after : Option Coord) (k l : Coord) → IsPast after k → coord_
 past_on None k l h later = tt
 past_on (Some a) k l h later = coord_total.trans a k l h later
 
--- past the next key there are fewer
-pub fewer_past : {V : Type 0} (root : List (Coord × Entry V)) (passed : Option Coord) (k : Coord) → IsNextKey root passed (Some k) → keys_past (Some k) root < keys_past passed root
-fewer_past root passed k next =
-    fewer_keys (is_key_past (Some k)) (is_key_past passed) (λ l h. past_test passed l (past_on passed k l next.1 (less_of (coord_cmp k l) h))) k itself (past_test passed k next.1) root next.0
+-- past a key of the table there are fewer than before it
+pub fewer_beyond : {V : Type 0} (root : List (Coord × Entry V)) (passed : Option Coord) (k : Coord) → IsSome (root_at root k) → IsPast passed k → keys_past (Some k) root < keys_past passed root
+fewer_beyond root passed k held past =
+    fewer_keys (is_key_past (Some k)) (is_key_past passed) (λ l h. past_test passed l (past_on passed k l past (less_of (coord_cmp k l) h))) k itself (past_test passed k past) root held
   where
     itself : is_lt (coord_cmp k k) ≡ false
     itself = elim (bool_cases (is_lt (coord_cmp k k))) [ inl e ↦ absurd (less_apart k k (less_of (coord_cmp k k) e) refl) | inr e ↦ e ]
+
+-- past the next key there are fewer
+pub fewer_past : {V : Type 0} (root : List (Coord × Entry V)) (passed : Option Coord) (k : Coord) → IsNextKey root passed (Some k) → keys_past (Some k) root < keys_past passed root
+fewer_past root passed k next = fewer_beyond root passed k next.0 next.1

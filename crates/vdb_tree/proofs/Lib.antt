@@ -29,6 +29,7 @@ pub mod Sweeps
 pub mod BlockOrder
 pub mod KeysPast
 pub mod Covered
+pub mod KeysMet
 pub mod Readiness
 pub mod EntryCounts
 pub mod NextChild
@@ -44,6 +45,7 @@ pub mod RoomWalks
 pub mod VoxelRuns
 pub mod PaintedVoxels
 pub mod Paints
+pub mod Clears
 pub mod PaintedRoots
 pub mod UnlikeEntries
 pub mod PartStarts

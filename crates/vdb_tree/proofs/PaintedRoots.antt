@@ -16,7 +16,8 @@ use Rattle.vdb_tree.specs.Field.{fill}
 use Rattle.vdb_tree.specs.Layout.{Layout, cell_at, entry_over, field_of, plain, root_at}
 use Rattle.vdb_tree.specs.Paints.{ArePainted, AreReady, IsPainted, KeepsOutside}
 use Rattle.vdb_tree.specs.Ready.{IsCovered, IsReady}
-use Rattle.vdb_tree.specs.Table.{IsNextKey, IsPast}
+use Rattle.vdb_tree.specs.Room.{IsNextMet}
+use Rattle.vdb_tree.specs.Table.{IsPast}
 use Rattle.vdb_tree.proofs.Blocks.{never}
 use Rattle.vdb_tree.proofs.Equations.{same_field}
 use Rattle.vdb_tree.proofs.Fields.{cell_inside}
@@ -49,9 +50,9 @@ module _ {V : Type 0} (bits : Bits) (box : Box) (cell : Cell V) where
   }
 
   -- the next key of the table, as the table was at first
-  pub next_at_first : (old mid : Layout V) (passed : Option Coord) (k : Coord) → PaintsRootsTo old mid passed → IsNextKey mid.root passed (Some k) → IsNextKey old.root passed (Some k)
+  pub next_at_first : (old mid : Layout V) (passed : Option Coord) (k : Coord) → PaintsRootsTo old mid passed → IsNextMet bits box mid.root passed (Some k) → IsNextMet bits box old.root passed (Some k)
   next_at_first old mid passed k paints next =
-      (rw (← paints.ahead k next.1) next.0, next.1, λ j past some. next.2 j past (rw (paints.ahead j past) some))
+      (rw (← paints.ahead k next.1) next.0, next.1, λ j past met some. next.2 j past met (rw (paints.ahead j past) some))
 
   module _ (old : Layout V) (entered : (q : Coord) → IsTrue (is_inside box q) → (cell ≡ plain old) ⊎ IsSome (root_at old.root (key bits q))) where
     -- a root block without an entry is painted, since the cell is plain
@@ -64,7 +65,7 @@ module _ {V : Type 0} (bits : Bits) (box : Box) (cell : Cell V) where
       | inr some ↦ absurd (some_held (root_at t.root (key bits q)) (keys (key bits q) some) none)
     ]
 
-    module _ (mid new : Layout V) (passed : Option Coord) (k : Coord) (so_far : PaintsRootsTo old mid passed) (next : IsNextKey mid.root passed (Some k)) (outside : KeepsOutside bits box Upper mid new k)
+    module _ (mid new : Layout V) (passed : Option Coord) (k : Coord) (so_far : PaintsRootsTo old mid passed) (next : IsNextMet bits box mid.root passed (Some k)) (outside : KeepsOutside bits box Upper mid new k)
         (painted : ArePainted bits box cell Upper Upper new k) (table : (j : Coord) → j ≢ k → root_at new.root j ≡ root_at mid.root j) (there : IsSome (root_at new.root k)) where
       new_head : KeepsHead old new
       new_head = head_trans old mid new so_far.head outside.head
@@ -89,7 +90,7 @@ module _ {V : Type 0} (bits : Bits) (box : Box) (cell : Cell V) where
                 | inr before ↦ painted_moved bits box cell Upper mid new q (outside.cells q (λ _ same. d same)) (outside.entries q (λ _ same. d same)) (so_far.done q inside before)
                 | inl past ↦
                     elim (some_or_none (root_at mid.root (key bits q))) [
-                      | inl x ↦ absurd (d (sym (same_keys k (key bits q) (equal_left (coord_cmp k (key bits q)) (next.2 (key bits q) past (is_some_from _ x.0 x.1)) not_past))))
+                      | inl x ↦ absurd (d (sym (same_keys k (key bits q) (equal_left (coord_cmp k (key bits q)) (next.2 (key bits q) past (q, inside, refl) (is_some_from _ x.0 x.1)) not_past))))
                       | inr none ↦ absent_painted new new_head new_keys q inside (table (key bits q) d ∙ none)
                     ]
               ]
@@ -101,11 +102,11 @@ module _ {V : Type 0} (bits : Bits) (box : Box) (cell : Cell V) where
 
     -- ---- where no key is left
 
-    module _ (new : Layout V) (passed : Option Coord) (paints : PaintsRootsTo old new passed) (none : IsNextKey new.root passed None) where
+    module _ (new : Layout V) (passed : Option Coord) (paints : PaintsRootsTo old new passed) (none : IsNextMet bits box new.root passed None) where
       all_painted : (q : Coord) → IsTrue (is_inside box q) → IsPainted bits box cell Upper new q
       all_painted q inside = elim (past_or_not passed (key bits q)) [
         | inr before ↦ paints.done q inside before
-        | inl past ↦ absent_painted new paints.head paints.keys q inside (none (key bits q) past)
+        | inl past ↦ absent_painted new paints.head paints.keys q inside (none (key bits q) past (q, inside, refl))
       ]
 
       pub painted_field : field_of bits new ≡ fill box cell (field_of bits old)

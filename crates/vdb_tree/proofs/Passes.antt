@@ -1,6 +1,5 @@
 -- What a pass over the children of a node has done.
-use Rattle.std.proofs.Common.{◌≡◌, ◌≢◌, ◌⊎◌, inl, inr, ℕ, ◌+◌, ◌-◌, ◌*◌, ◌^◌, ◌<◌, ◌≤◌, refl, sym, ap, ◌∙◌, arith}
-use Rattle.std.proofs.lemmas.Nat.{pow-add}
+use Rattle.std.proofs.Common.{◌≡◌, ◌≢◌, ◌⊎◌, inl, inr, ℕ, ◌+◌, ◌<◌, ◌≤◌, refl, sym, ap, ◌∙◌, arith}
 use Rattle.std.specs.Prelude.{◌↔◌, IfSome, Option, Some, None}
 use Rattle.vdb_coord.specs.Blocks.{block_number, entries, offset}
 use Rattle.vdb_coord.specs.Entries.{entry_number}
@@ -12,7 +11,7 @@ use Rattle.vdb_coord.proofs.Nesting.{block_from_entry, corner_of_entry, entry_fr
 use Rattle.vdb_node.specs.declared.Entry.{Entry}
 use Rattle.vdb_node.specs.declared.Entry.TheVariants.{Child, Tile}
 use Rattle.vdb_value.specs.declared.Cell.{Cell}
-use Rattle.vdb_tree.specs.Changes.{AreNeeded, Fills, IsConstantBlock, IsMixedBlock, IsNeeded, IsNeededTo, Keeps, KeepsHead, KeepsUppers, Passes, PassesTo, SameDescent}
+use Rattle.vdb_tree.specs.Changes.{AreNeeded, Fills, IsConstantBlock, IsMixedBlock, IsNeeded, IsNeededTo, Keeps, KeepsHead, KeepsUppers, PassesTo, SameDescent}
 use Rattle.vdb_tree.specs.Corners.{IsChildless, IsNextCornerAt, IsTiled}
 use Rattle.vdb_tree.specs.Layout.{Layout, cell_at, entry_over, lower_entry, root_entry, upper_entry}
 use Rattle.vdb_tree.proofs.Descents.{lower_by_block, root_by_block, tile_cell, tile_lower, tile_upper, upper_by_block}
@@ -20,18 +19,6 @@ use Rattle.vdb_tree.proofs.Levels.{coord_cases, tile_no_child, tile_or_child}
 
 never : (j : ℕ) → j < 0 → ⊥
 never j h = omega (arith, h)
-
-reached : (from i turns : ℕ) → from + 2 ^ turns ≤ i → from ≤ i
-reached from i turns h = omega (arith, h)
-
-doubled : (from i j turns : ℕ) → 1 ≤ turns → from + 2 ^ (turns - 1) ≤ i → i + 2 ^ (turns - 1) ≤ j → from + 2 ^ turns ≤ j
-doubled from i j turns some a b =
-    let e : turns ≡ turns - 1 + 1 = omega (arith, some) in
-    let d : 2 ^ turns ≡ 2 ^ (turns - 1) * 2 ^ 1 = ap (λ t. 2 ^ t) e ∙ pow-add 2 (turns - 1) 1 in
-    omega (arith, a, b, d)
-
-ends : (next n m : ℕ) → m ≡ n → 0 + m ≤ next → next ≤ n → next ≡ n
-ends next n m e a b = omega (arith, e, a, b)
 
 below_or : (a b : ℕ) → (a < b) ⊎ (b ≤ a)
 below_or a b = grind arith
@@ -177,15 +164,14 @@ module _ {V : Type 0} (bits : Bits) where
           ];
     }
 
-    -- so many, and as many more
-    pub passes_twice : (old mid new : Layout V) (from i turns : ℕ) (o : Option ℕ) → 1 ≤ turns → Passes bits level inner old mid p from (turns - 1) (Some i) → Passes bits level inner mid new p i (turns - 1) o → Passes bits level inner old new p from turns o
-    passes_twice old mid new from i turns None some first then = passes_join old mid new from i (entries bits level) (reached from i (turns - 1) first.1) first.0 then
-    passes_twice old mid new from i turns (Some j) some first then =
-        (passes_join old mid new from i j (reached from i (turns - 1) first.1) first.0 then.0, doubled from i j turns some first.1 then.1, then.2)
-
-    pub passes_all : (old new : Layout V) (turns : ℕ) (o : Option ℕ) → 2 ^ turns ≡ entries bits level → Passes bits level inner old new p 0 turns o → PassesTo bits level inner old new p 0 (entries bits level)
-    passes_all old new turns None e h = h
-    passes_all old new turns (Some next) e h = let same : next ≡ entries bits level = ends next (entries bits level) (2 ^ turns) e h.1 h.2 in rw (← same) h.0
+    -- nothing is done yet
+    pub passes_none : (t : Layout V) → PassesTo bits level inner t t p 0 0
+    passes_none t = record {
+      keeps = keeps_same t;
+      others = λ q d over. refl;
+      before = λ q b less over. refl;
+      done = λ q b more less. absurd (never (offset bits level q) less);
+    }
 
     -- the last entries are no children
     pub passes_end : (t : Layout V) (from : ℕ) → IsChildless bits level (entry_over bits inner t) p from (entries bits level) → PassesTo bits level inner t t p from (entries bits level)

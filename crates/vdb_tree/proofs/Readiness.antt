@@ -14,7 +14,8 @@ use Rattle.vdb_value.specs.declared.Cell.{Cell}
 use Rattle.vdb_tree.specs.Changes.{AddsNodes, Keeps}
 use Rattle.vdb_tree.specs.Layout.{Layout, entry_over, plain, root_at}
 use Rattle.vdb_tree.specs.Ready.{IsCovered, IsReady, IsReadyAt, IsReadyTo}
-use Rattle.vdb_tree.specs.Table.{IsNextKey, IsPast}
+use Rattle.vdb_tree.specs.Room.{IsNextMet}
+use Rattle.vdb_tree.specs.Table.{IsPast}
 use Rattle.vdb_tree.proofs.Covered.{leaf_covered, lower_covered}
 use Rattle.vdb_tree.proofs.Descents.{tile_lower, tile_upper}
 use Rattle.vdb_tree.proofs.KeysPast.{past_on}
@@ -90,12 +91,12 @@ module _ {V : Type 0} (bits : Bits) (box : Box) (cell : Cell V) where
 
   module _ (old t n : Layout V) (passed : Option Coord) (so_far : SplitsRoots old t passed) where
     -- the next key of the table, as the table was at first
-    pub next_at_first : (next : Option Coord) → IsNextKey t.root passed next → IsNextKey old.root passed next
-    next_at_first None next = λ k past. sym (so_far.ahead k past) ∙ next k past
-    next_at_first (Some k) next = (rw (← so_far.ahead k next.1) next.0, next.1, λ j past some. next.2 j past (rw (so_far.ahead j past) some))
+    pub next_at_first : (next : Option Coord) → IsNextMet bits box t.root passed next → IsNextMet bits box old.root passed next
+    next_at_first None next = λ k past met. sym (so_far.ahead k past) ∙ next k past met
+    next_at_first (Some k) next = (rw (← so_far.ahead k next.1) next.0, next.1, λ j past met some. next.2 j past met (rw (so_far.ahead j past) some))
 
     module _ (keeps : Keeps bits t n) (adds : AddsNodes bits t n) where
-      pub roots_next : (k : Coord) → IsNextKey t.root passed (Some k) → ((j : Coord) → j ≢ k → root_at n.root j ≡ root_at t.root j)
+      pub roots_next : (k : Coord) → IsNextMet bits box t.root passed (Some k) → ((j : Coord) → j ≢ k → root_at n.root j ≡ root_at t.root j)
           → ((q : Coord) → IsTrue (is_inside box q) → key bits q ≡ k → IsReadyTo bits box cell Upper n q) → SplitsRoots old n (Some k)
       roots_next k next table ready = record {
         keeps = keeps_twice bits old t n so_far.keeps keeps;
@@ -108,19 +109,19 @@ module _ {V : Type 0} (bits : Bits) (box : Box) (cell : Cell V) where
                   let was : IsSome (root_at t.root (key bits q)) = rw (← table (key bits q) d) some in
                   elim (past_or_not passed (key bits q)) [
                     | inr before ↦ ready_stays Upper t n q adds (so_far.done q inside before was)
-                    | inl past ↦ absurd (d (sym (same_keys k (key bits q) (equal_left (coord_cmp k (key bits q)) (next.2 (key bits q) past was) not_past))))
+                    | inl past ↦ absurd (d (sym (same_keys k (key bits q) (equal_left (coord_cmp k (key bits q)) (next.2 (key bits q) past (q, inside, refl) was) not_past))))
                   ]
             ];
       }
 
       -- where no key is left, all of the box is ready
-      pub roots_end : IsNextKey t.root passed None → ((k : Coord) → root_at n.root k ≡ root_at t.root k) → (q : Coord) → IsTrue (is_inside box q) → (cell ≡ plain n) ⊎ IsSome (root_at n.root (key bits q)) → IsReadyTo bits box cell Upper n q
+      pub roots_end : IsNextMet bits box t.root passed None → ((k : Coord) → root_at n.root k ≡ root_at t.root k) → (q : Coord) → IsTrue (is_inside box q) → (cell ≡ plain n) ⊎ IsSome (root_at n.root (key bits q)) → IsReadyTo bits box cell Upper n q
       roots_end next same q inside entered =
           elim (some_or_none (root_at n.root (key bits q))) [
             | inl x ↦
                 let held = is_some_from (root_at n.root (key bits q)) x.0 x.1 in
                 let was : IsSome (root_at t.root (key bits q)) = rw (← same (key bits q)) held in
-                ready_stays Upper t n q adds (so_far.done q inside (λ past. some_held (root_at t.root (key bits q)) was (next (key bits q) past)) was)
+                ready_stays Upper t n q adds (so_far.done q inside (λ past. some_held (root_at t.root (key bits q)) was (next (key bits q) past (q, inside, refl))) was)
             | inr none ↦ elim entered [
               | inl e ↦ ready_tiled Upper n q (absent_entry bits n q none ∙ ap Tile (sym e))
               | inr some ↦ absurd (some_held (root_at n.root (key bits q)) some none)

@@ -1,5 +1,5 @@
 -- How a call changes what the descents meet. The calls of this crate alone speak of it: above, a change is an equation of fields.
-use Rattle.std.specs.Prelude.{IsSome, ◌≡◌, ◌≢◌, ◌+◌, ◌^◌, ◌<◌, ◌≤◌, ℕ, Option, Some, None}
+use Rattle.std.specs.Prelude.{IsSome, ◌≡◌, ◌≢◌, ◌<◌, ◌≤◌, ℕ, Option, Some, None}
 use Rattle.vdb_coord.specs.Blocks.{block_number, entries, key, offset}
 use Rattle.vdb_coord.specs.declared.Bits.{Bits}
 use Rattle.vdb_coord.specs.declared.Coord.{Coord}
@@ -67,7 +67,13 @@ module _ {V : Type 0} (bits : Bits) where
   abbrev pub SameDescent : Layout V → Layout V → Coord → Type 0
   SameDescent old new q = (level : Level) → entry_over bits level new q ≡ entry_over bits level old q
 
-  -- the same of the level and each one below
+  -- each coordinate beyond p's block of the level keeps its cell and what stands over it
+  pub record KeepsBeyond (level : Level) (old new : Layout V) (p : Coord) : Type 0 where
+    pub head : KeepsHead old new
+    pub cells : (q : Coord) → block_number bits level q ≢ block_number bits level p → cell_at bits new q ≡ cell_at bits old q
+    pub entries : (q : Coord) → block_number bits level q ≢ block_number bits level p → SameDescent old new q
+
+  -- a node that stands is needed: the same of the level and each one below
   abbrev pub IsNeededTo : Level → Layout V → Coord → Type 0
   IsNeededTo Leaf t q = IsNeeded Leaf t q
   IsNeededTo Lower t q = IsNeeded Leaf t q × IsNeeded Lower t q
@@ -93,10 +99,10 @@ module _ {V : Type 0} (bits : Bits) where
     pub before : (q : Coord) → block_number bits level q ≡ block_number bits level p → offset bits level q < from → SameDescent old new q
     pub done : (q : Coord) → block_number bits level q ≡ block_number bits level p → from ≤ offset bits level q → offset bits level q < to → IsNeededTo inner new q
 
-  -- the same up to the offset that is answered, which leaves out 2 to the power `turns` at least, or up to the end
-  abbrev pub Passes : Level → Level → Layout V → Layout V → Coord → ℕ → ℕ → Option ℕ → Type 0
-  Passes level inner old new p from turns (Some next) = PassesTo level inner old new p from next × (from + 2 ^ turns ≤ next) × (next ≤ entries bits level)
-  Passes level inner old new p from turns None = PassesTo level inner old new p from (entries bits level)
+  -- the same up to the offset that is answered, or up to the end
+  abbrev pub PassesFrom : Level → Level → Layout V → Layout V → Coord → ℕ → Option ℕ → Type 0
+  PassesFrom level inner old new p from (Some next) = PassesTo level inner old new p from next
+  PassesFrom level inner old new p from None = PassesTo level inner old new p from (entries bits level)
 
   -- The root block of this key is pruned: each node over it is needed, and it has no entry if it is plain. Nothing else changes,
   -- and every cell stays.

@@ -28,3 +28,9 @@ module _ {V : Type 0} (bits : Bits) (level : Level) (entry : Coord → Entry V) 
   -- each of its entries is a tile of this cell
   abbrev pub IsTiled : Cell V → Type 0
   IsTiled cell = (q : Coord) → block_number bits level q ≡ block_number bits level p → entry q ≡ Tile cell
+
+module _ {V : Type 0} (bits : Bits) (level : Level) (p : Coord) (old new : Coord → Entry V) where
+  -- where no entry before one offset was a child, none is before the offset that is answered, or none at all
+  abbrev pub ClearsFrom : ℕ → Option ℕ → Type 0
+  ClearsFrom from (Some next) = IsChildless bits level old p 0 from → IsChildless bits level new p 0 next
+  ClearsFrom from None = IsChildless bits level old p 0 from → IsChildless bits level new p 0 (entries bits level)

@@ -1,18 +1,28 @@
 -- Root blocks that have an entry, together with those that meet a box: whether the table has room for both.
-use Rattle.std.specs.Prelude.{◌≡◌, ◌⊎◌, ◌<◌, ◌≤◌, List, length, true, IsSome, IsTrue}
+use Rattle.std.specs.Prelude.{◌≡◌, ◌⊎◌, ◌<◌, ◌≤◌, List, Option, Some, None, length, true, false, IsSome, IsTrue}
 use Rattle.std.specs.List.{IsDistinct}
+use Rattle.std.specs.Ordering.{is_gt}
 use Rattle.std.specs.Set.{is_member}
 use Rattle.vdb_coord.specs.Blocks.{key}
-use Rattle.vdb_coord.specs.Space.{Box, coord_eq, is_inside}
+use Rattle.vdb_coord.specs.Space.{Box, coord_cmp, coord_eq, is_inside}
 use Rattle.vdb_coord.specs.declared.Bits.{Bits}
 use Rattle.vdb_coord.specs.declared.Coord.{Coord}
+use Rattle.vdb_node.specs.declared.Entry.{Entry}
 use Rattle.vdb_tree.specs.Layout.{Layout, root_at}
+use Rattle.vdb_tree.specs.Table.{IsPast}
 
 -- a coordinate of the box lies in the root block of this key
 abbrev pub MeetsRoot : Bits → Box → Coord → Type 0
 MeetsRoot bits box k = (p : Coord) × IsTrue (is_inside box p) × (key bits p ≡ k)
 
 module _ {V : Type 0} (bits : Bits) where
+  -- a key of the table past `after`, before which no key of the table past `after` meets the box; none where none does
+  abbrev pub IsNextMet : Box → List (Coord × Entry V) → Option Coord → Option Coord → Type 0
+  IsNextMet box root after None = (k : Coord) → IsPast after k → MeetsRoot bits box k → root_at root k ≡ None
+  IsNextMet box root after (Some next) =
+      IsSome (root_at root next) × IsPast after next
+      × ((k : Coord) → IsPast after k → MeetsRoot bits box k → IsSome (root_at root k) → is_gt (coord_cmp next k) ≡ false)
+
   -- the keys of the table and of the box are among so many as the limit
   pub record HasRoomFor (t : Layout V) (box : Box) : Type 0 where
     pub keys : List Coord

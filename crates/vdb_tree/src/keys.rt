@@ -1,12 +1,13 @@
 //! The keys of the root table, in their order.
 
-ghost use Rattle.std.specs.Prelude.{◌≡◌, IfNone, IfSome, IsSome, IsTrue};
+ghost use Rattle.std.specs.Prelude.{◌≡◌, IfNone, IfSome, IsSome, IsTrue, None};
 ghost use Rattle.vdb_coord.specs.Blocks.{block_number, block_numbers};
 ghost use Rattle.vdb_coord.specs.Order.{ComesBefore};
 ghost use Rattle.vdb_coord.specs.Space.{everywhere, is_inside};
 ghost use Rattle.vdb_coord.specs.declared.Coord.{Coord};
 ghost use Rattle.vdb_coord.specs.declared.Level.TheVariants.{Upper};
 ghost use Rattle.vdb_tree.specs.Layout.{bits_of, root_at};
+ghost use Rattle.vdb_tree.specs.Room.{IsNextMet};
 ghost use Rattle.vdb_tree.specs.Table.{IsNextKey};
 
 use crate::TreeOf;
@@ -67,5 +68,42 @@ impl<
             Some(part) => Some(part.min()),
             None => None,
         }
+    }
+
+    /// The next key of the table past `after` whose root block may meet the box, or the first; `None` where no other does. It
+    /// passes over the keys before that of the box's least corner, which is looked up itself, and those past that of its
+    /// greatest. So a box in one root block looks at one key or two of however large a table, and a box over a small table at
+    /// no more keys than that has.
+    pub(crate) fn next_key_in(&self, bounds: Bounds, after: Option<Coord>) -> Option<Coord>
+        ensures { IsNextMet (bits_of U L F) bounds self.now.root after result }
+    {
+        let Some(key) = self.key_from(bounds, after) else {
+            return None;
+        };
+        if self.key(bounds.max()) < key {
+            return None;
+        }
+        Some(key)
+    }
+
+    /// The next key of the table past `after`, or the first that doesn't come before the box's least corner.
+    fn key_from(&self, bounds: Bounds, after: Option<Coord>) -> Option<Coord>
+        ensures { IsNextMet (bits_of U L F) bounds self.now.root after result }
+    {
+        match after {
+            Some(_) => self.next_key(after),
+            None => self.first_key_in(bounds),
+        }
+    }
+
+    /// The first key of the table that doesn't come before that of the box's least corner.
+    fn first_key_in(&self, bounds: Bounds) -> Option<Coord>
+        ensures { IsNextMet (bits_of U L F) bounds self.now.root None result }
+    {
+        let first = self.key(bounds.min());
+        if self.root.get(first).is_some() {
+            return Some(first);
+        }
+        self.next_key(Some(first))
     }
 }

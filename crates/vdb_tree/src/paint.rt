@@ -13,7 +13,7 @@ ghost use Rattle.vdb_tree.specs.Field.{fill};
 ghost use Rattle.vdb_tree.specs.Layout.{bits_of, cell_at, entry_over, field_of, lower_entry, root_at, root_entry, upper_entry};
 ghost use Rattle.vdb_tree.specs.Paints.{ArePainted, AreReady, KeepsOutside};
 ghost use Rattle.vdb_tree.specs.Ready.{IsCovered, IsReady};
-ghost use Rattle.vdb_tree.specs.Table.{IsNextKey};
+ghost use Rattle.vdb_tree.specs.Room.{IsNextMet};
 
 use crate::TreeOf;
 use crate::nodes::held_place;
@@ -49,7 +49,7 @@ impl<
         }
     }
 
-    /// Paints the box in the first root block past a key, or in the first of all, and gives that block's key.
+    /// Paints the box in the next root block that `next_key_in` finds past a key, or in the first, and gives that block's key.
     fn paint_next_root(
         &mut self,
         bounds: Bounds,
@@ -58,14 +58,14 @@ impl<
         steps: &mut Steps,
     ) -> Option<Coord>
         requires { AreReady (bits_of U L F) bounds cell self.old }
-        ensures next { IsNextKey self.old.root after result }
+        ensures next { IsNextMet (bits_of U L F) bounds self.old.root after result }
         ensures none { IsNone result → self.new ≡ self.old }
         ensures outside { IfSome result (λ k. KeepsOutside (bits_of U L F) bounds Upper self.old self.new k) }
         ensures painted { IfSome result (λ k. ArePainted (bits_of U L F) bounds cell Upper Upper self.new k) }
         ensures table { IfSome result (λ k. (j : Coord) → j ≢ k → root_at self.new.root j ≡ root_at self.old.root j) }
         ensures entered { IfSome result (λ k. IsSome (root_at self.new.root k)) }
     {
-        let key = self.next_key(after)?;
+        let key = self.next_key_in(bounds, after)?;
         if let Some(p) = self.within_root(bounds, key) {
             self.paint_root_block(bounds, p, cell, steps);
         }
@@ -91,34 +91,13 @@ impl<
             }
             Entry::Child(upper) => {
                 if covered {
-                    self.tile_lower_blocks(upper, bounds, p, cell, steps);
+                    self.drop_lowers(upper, p, cell, steps);
                     self.drop_upper(upper, p, cell, steps);
                 } else {
                     self.paint_lower_blocks(upper, bounds, p, cell, steps);
                 }
             }
         }
-    }
-
-    /// Makes a tile of each lower block of the upper node around p, which lies within the box.
-    fn tile_lower_blocks(
-        &mut self,
-        upper: u32,
-        bounds: Bounds,
-        p: Coord,
-        cell: Cell<V>,
-        steps: &mut Steps,
-    )
-        requires inside { IsTrue (is_inside bounds p) }
-        requires covered { IsCovered (bits_of U L F) bounds Upper p }
-        requires upper { root_entry (bits_of U L F) self.old p ≡ Child upper }
-        requires ready { AreReady (bits_of U L F) bounds cell self.old }
-        ensures root { self.new.root ≡ self.old.root }
-        ensures outside { KeepsOutside (bits_of U L F) bounds Upper self.old self.new (block_number (bits_of U L F) Upper p) }
-        ensures upper { root_entry (bits_of U L F) self.new p ≡ Child upper }
-        ensures childless { (q : Coord) (slot : ℕ) → block_number (bits_of U L F) Upper q ≡ block_number (bits_of U L F) Upper p → upper_entry (bits_of U L F) self.new q ≡ Child slot → ⊥ }
-    {
-        self.paint_lower_blocks(upper, bounds, p, cell, steps);
     }
 
     /// Paints the box in each lower block of the upper node around p.
@@ -174,35 +153,13 @@ impl<
             }
             Entry::Child(lower) => {
                 if covered {
-                    self.tile_leaf_blocks(lower, bounds, p, cell, steps);
+                    self.drop_leaves(lower, p, cell, steps);
                     self.drop_lower(upper, lower, p, cell, steps);
                 } else {
                     self.paint_leaf_blocks(lower, bounds, p, cell, steps);
                 }
             }
         }
-    }
-
-    /// Makes a tile of each leaf block of the lower node around p, which lies within the box.
-    fn tile_leaf_blocks(
-        &mut self,
-        lower: u32,
-        bounds: Bounds,
-        p: Coord,
-        cell: Cell<V>,
-        steps: &mut Steps,
-    )
-        requires inside { IsTrue (is_inside bounds p) }
-        requires covered { IsCovered (bits_of U L F) bounds Lower p }
-        requires lower { upper_entry (bits_of U L F) self.old p ≡ Child lower }
-        requires ready { AreReady (bits_of U L F) bounds cell self.old }
-        ensures above { KeepsUppers self.old self.new }
-        ensures outside { KeepsOutside (bits_of U L F) bounds Lower self.old self.new (block_number (bits_of U L F) Lower p) }
-        ensures upper { (slot : ℕ) → root_entry (bits_of U L F) self.old p ≡ Child slot → root_entry (bits_of U L F) self.new p ≡ Child slot }
-        ensures lower { upper_entry (bits_of U L F) self.new p ≡ Child lower }
-        ensures childless { (q : Coord) (slot : ℕ) → block_number (bits_of U L F) Lower q ≡ block_number (bits_of U L F) Lower p → lower_entry (bits_of U L F) self.new q ≡ Child slot → ⊥ }
-    {
-        self.paint_leaf_blocks(lower, bounds, p, cell, steps);
     }
 
     /// Paints the box in each leaf block of the lower node around p.

@@ -5,8 +5,9 @@ ghost use Rattle.vdb_coord.specs.Blocks.{block_around, block_number, entries, ke
 ghost use Rattle.vdb_coord.specs.Entries.{AreBits};
 ghost use Rattle.vdb_coord.specs.declared.Coord.{Coord};
 ghost use Rattle.vdb_coord.specs.declared.Level.TheVariants.{Leaf, Lower, Upper};
+ghost use Rattle.vdb_node.specs.Nodes.{entry_count};
 ghost use Rattle.vdb_node.specs.declared.Entry.TheVariants.{Child, Tile};
-ghost use Rattle.vdb_tree.specs.Changes.{AreNeeded, IsConstantBlock, IsNeededTo, IsSwept, Keeps, KeepsUppers, Passes, PassesTo, PrunesRoot, SameDescent};
+ghost use Rattle.vdb_tree.specs.Changes.{AreNeeded, IsConstantBlock, IsNeededTo, IsSwept, Keeps, KeepsUppers, PassesFrom, PassesTo, PrunesRoot, SameDescent};
 ghost use Rattle.vdb_tree.specs.Corners.{IsNextCorner, IsTiled};
 ghost use Rattle.vdb_tree.specs.Layout.{bits_of, field_of, lower_entry, plain, root_at, root_entry, upper_entry};
 ghost use Rattle.vdb_tree.specs.Smallest.{IsLeast};
@@ -75,7 +76,7 @@ impl<
         steps: &mut Steps,
     ) -> Option<(u32, Coord)>
         requires lower { upper_entry (bits_of U L F) self.now p ≡ Child lower }
-        requires within { from ≤ entries (bits_of U L F) Lower }
+        requires within { from ≤ entry_count L }
         ensures corner { IsNextCorner (bits_of U L F) Lower (lower_entry (bits_of U L F) self.now) p from result }
         ensures inside { IfSome result (λ next. upper_entry (bits_of U L F) self.now next.1 ≡ Child lower) }
         ensures few { IfSome result (λ next. next.0 < 32768) }
@@ -97,7 +98,7 @@ impl<
         steps: &mut Steps,
     ) -> Option<(u32, Coord)>
         requires upper { root_entry (bits_of U L F) self.now p ≡ Child upper }
-        requires within { from ≤ entries (bits_of U L F) Upper }
+        requires within { from ≤ entry_count U }
         ensures corner { IsNextCorner (bits_of U L F) Upper (upper_entry (bits_of U L F) self.now) p from result }
         ensures inside { IfSome result (λ next. root_entry (bits_of U L F) self.now next.1 ≡ Child upper) }
         ensures few { IfSome result (λ next. next.0 < 32768) }
@@ -130,39 +131,16 @@ impl<
     /// Does so for the first leaf of the lower node around p from this offset on, and answers the offset behind it.
     fn prune_next_leaf(&mut self, lower: u32, p: Coord, from: u32, steps: &mut Steps) -> Option<u32>
         requires lower { upper_entry (bits_of U L F) self.old p ≡ Child lower }
-        requires within { from ≤ entries (bits_of U L F) Lower }
+        requires within { from ≤ entry_count L }
         ensures above { KeepsUppers self.old self.new }
-        ensures passes { Passes (bits_of U L F) Lower Leaf self.old self.new p from 0 result }
+        ensures passes { PassesFrom (bits_of U L F) Lower Leaf self.old self.new p from result }
+        ensures further { IfSome result (λ next. (from < next) × (next ≤ entry_count L)) }
     {
         match self.next_leaf_corner(lower, p, from, steps) {
             Some((offset, corner)) => {
                 self.prune_leaf(lower, corner, steps);
                 Some(offset + 1)
             }
-            None => None,
-        }
-    }
-
-    /// Does so for the next 2 to the power `turns` of them, or for those that are left, and answers the offset behind them
-    /// where there may be more. It calls itself, `turns` deep, in place of a loop.
-    fn prune_next_leaves(
-        &mut self,
-        lower: u32,
-        p: Coord,
-        from: u32,
-        turns: u32,
-        steps: &mut Steps,
-    ) -> Option<u32>
-        requires lower { upper_entry (bits_of U L F) self.old p ≡ Child lower }
-        requires within { from ≤ entries (bits_of U L F) Lower }
-        ensures above { KeepsUppers self.old self.new }
-        ensures passes { Passes (bits_of U L F) Lower Leaf self.old self.new p from turns result }
-    {
-        if turns == 0 {
-            return self.prune_next_leaf(lower, p, from, steps);
-        }
-        match self.prune_next_leaves(lower, p, from, turns - 1, steps) {
-            Some(middle) => self.prune_next_leaves(lower, p, middle, turns - 1, steps),
             None => None,
         }
     }
@@ -175,8 +153,10 @@ impl<
         ensures lower { upper_entry (bits_of U L F) self.new p ≡ Child lower }
         ensures done { PassesTo (bits_of U L F) Lower Leaf self.old self.new p 0 (entries (bits_of U L F) Lower) }
     {
-        let turns = 3 * self.bits().node_bits(Level::Lower);
-        let _ = self.prune_next_leaves(lower, p, 0, turns, steps);
+        let mut from = 0;
+        while let Some(next) = self.prune_next_leaf(lower, p, from, steps) {
+            from = next;
+        }
     }
 
     /// Makes a tile of the lower node around p, if there is one, where its cells are all one after its leaves were pruned.
@@ -206,39 +186,16 @@ impl<
         steps: &mut Steps,
     ) -> Option<u32>
         requires upper { root_entry (bits_of U L F) self.old p ≡ Child upper }
-        requires within { from ≤ entries (bits_of U L F) Upper }
+        requires within { from ≤ entry_count U }
         ensures above { self.new.root ≡ self.old.root }
-        ensures passes { Passes (bits_of U L F) Upper Lower self.old self.new p from 0 result }
+        ensures passes { PassesFrom (bits_of U L F) Upper Lower self.old self.new p from result }
+        ensures further { IfSome result (λ next. (from < next) × (next ≤ entry_count U)) }
     {
         match self.next_lower_corner(upper, p, from, steps) {
             Some((offset, corner)) => {
                 self.prune_lower(upper, corner, steps);
                 Some(offset + 1)
             }
-            None => None,
-        }
-    }
-
-    /// Does so for the next 2 to the power `turns` of them, or for those that are left, and answers the offset behind them
-    /// where there may be more. It calls itself, `turns` deep, in place of a loop.
-    fn prune_next_lowers(
-        &mut self,
-        upper: u32,
-        p: Coord,
-        from: u32,
-        turns: u32,
-        steps: &mut Steps,
-    ) -> Option<u32>
-        requires upper { root_entry (bits_of U L F) self.old p ≡ Child upper }
-        requires within { from ≤ entries (bits_of U L F) Upper }
-        ensures above { self.new.root ≡ self.old.root }
-        ensures passes { Passes (bits_of U L F) Upper Lower self.old self.new p from turns result }
-    {
-        if turns == 0 {
-            return self.prune_next_lower(upper, p, from, steps);
-        }
-        match self.prune_next_lowers(upper, p, from, turns - 1, steps) {
-            Some(middle) => self.prune_next_lowers(upper, p, middle, turns - 1, steps),
             None => None,
         }
     }
@@ -250,8 +207,10 @@ impl<
         ensures upper { root_entry (bits_of U L F) self.new p ≡ Child upper }
         ensures done { PassesTo (bits_of U L F) Upper Lower self.old self.new p 0 (entries (bits_of U L F) Upper) }
     {
-        let turns = 3 * self.bits().node_bits(Level::Upper);
-        let _ = self.prune_next_lowers(upper, p, 0, turns, steps);
+        let mut from = 0;
+        while let Some(next) = self.prune_next_lower(upper, p, from, steps) {
+            from = next;
+        }
     }
 
     /// Makes a tile of the upper node around p, if there is one, where its cells are all one after its lower nodes were

@@ -11,7 +11,7 @@ ghost use Rattle.vdb_tree.specs.Field.{fill};
 ghost use Rattle.vdb_tree.specs.Layout.{bits_of, field_of, plain, root_at, root_entry, upper_entry};
 ghost use Rattle.vdb_tree.specs.Outcome.{ObeysLimit};
 ghost use Rattle.vdb_tree.specs.Ready.{IsReady, IsReadyTo};
-ghost use Rattle.vdb_tree.specs.Table.{IsNextKey};
+ghost use Rattle.vdb_tree.specs.Room.{IsNextMet};
 ghost use Rattle.vdb_tree.specs.declared.refusal.TreeRefusal.TheVariants.{Memory};
 
 use crate::{TreeOf, TreeRefusal};
@@ -76,7 +76,7 @@ impl<
         }
     }
 
-    /// Makes the first root block past a key ready, or the first of all, where it meets the box. It gives the key.
+    /// Makes the next root block that `next_key_in` finds past a key, or the first, ready where it meets the box. It gives the key.
     fn split_next_root(
         &mut self,
         bounds: Bounds,
@@ -86,13 +86,13 @@ impl<
     ) -> Result<Option<Coord>, TreeRefusal>
         ensures keeps { Keeps (bits_of U L F) self.old self.new }
         ensures adds { AddsNodes (bits_of U L F) self.old self.new }
-        ensures next { IfOk result (λ next. IsNextKey self.old.root after next) }
+        ensures next { IfOk result (λ next. IsNextMet (bits_of U L F) bounds self.old.root after next) }
         ensures ready { IfOk result (λ next. IfSome next (λ k. (q : Coord) → IsTrue (is_inside bounds q) → key (bits_of U L F) q ≡ k
             → IsReadyTo (bits_of U L F) bounds cell Upper self.new q)) }
         ensures table { IfOk result (λ next. (k : Coord) → next ≢ Some k → root_at self.new.root k ≡ root_at self.old.root k) }
         ensures memory { IfErr result (λ refusal. refusal ≡ Memory) }
     {
-        let Some(key) = self.next_key(after) else {
+        let Some(key) = self.next_key_in(bounds, after) else {
             return Ok(None);
         };
         if let Some(p) = self.within_root(bounds, key) {

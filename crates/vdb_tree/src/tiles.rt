@@ -1,13 +1,15 @@
 //! Tiles in place of nodes, and of other tiles. Each node is given back to its pool once its block has tiles alone, so that what
 //! stands in between is a sound tree.
 
-ghost use Rattle.std.specs.Prelude.{◌≡◌, ℕ, IsSome, Some, if◌then◌else◌};
+ghost use Rattle.std.specs.Prelude.{◌≡◌, ◌<◌, ◌≤◌, ℕ, IfSome, IsSome, Some, if◌then◌else◌};
 ghost use Rattle.vdb_coord.specs.Blocks.{block_number, key};
 ghost use Rattle.vdb_coord.specs.Space.{coord_eq};
 ghost use Rattle.vdb_coord.specs.declared.Coord.{Coord};
 ghost use Rattle.vdb_coord.specs.declared.Level.TheVariants.{Leaf, Lower, Upper};
+ghost use Rattle.vdb_node.specs.Nodes.{entry_count};
 ghost use Rattle.vdb_node.specs.declared.Entry.TheVariants.{Child, Tile};
-ghost use Rattle.vdb_tree.specs.Changes.{Fills, KeepsUppers, Turns};
+ghost use Rattle.vdb_tree.specs.Changes.{Fills, KeepsBeyond, KeepsUppers, Turns};
+ghost use Rattle.vdb_tree.specs.Corners.{ClearsFrom};
 ghost use Rattle.vdb_tree.specs.Layout.{bits_of, lower_entry, root_at, root_entry, upper_entry};
 
 use crate::TreeOf;
@@ -125,5 +127,86 @@ impl<
         let from = held_place(&self.uppers, upper);
         let _ = self.uppers.take(from, steps);
         self.root.set(key, Entry::Tile(cell));
+    }
+
+    /// Makes a tile of each leaf of the lower node around p. It goes from leaf to leaf by the node's mask of children.
+    pub(crate) fn drop_leaves(&mut self, lower: u32, p: Coord, cell: Cell<V>, steps: &mut Steps)
+        requires { upper_entry (bits_of U L F) self.old p ≡ Child lower }
+        ensures above { KeepsUppers self.old self.new }
+        ensures beyond { KeepsBeyond (bits_of U L F) Lower self.old self.new p }
+        ensures childless { (q : Coord) (slot : ℕ) → block_number (bits_of U L F) Lower q ≡ block_number (bits_of U L F) Lower p → lower_entry (bits_of U L F) self.new q ≡ Child slot → ⊥ }
+    {
+        let mut from = 0;
+        while let Some(next) = self.drop_next_leaf(lower, p, cell, from, steps) {
+            from = next;
+        }
+    }
+
+    /// Makes a tile of the first leaf of the lower node around p from this offset on, and answers the offset behind it.
+    fn drop_next_leaf(
+        &mut self,
+        lower: u32,
+        p: Coord,
+        cell: Cell<V>,
+        from: u32,
+        steps: &mut Steps,
+    ) -> Option<u32>
+        requires lower { upper_entry (bits_of U L F) self.old p ≡ Child lower }
+        requires within { from ≤ entry_count L }
+        ensures above { KeepsUppers self.old self.new }
+        ensures beyond { KeepsBeyond (bits_of U L F) Lower self.old self.new p }
+        ensures clears { ClearsFrom (bits_of U L F) Lower p (lower_entry (bits_of U L F) self.old) (lower_entry (bits_of U L F) self.new) from result }
+        ensures further { IfSome result (λ next. (from < next) × (next ≤ entry_count L)) }
+    {
+        let Some((offset, corner)) = self.next_leaf_corner(lower, p, from, steps) else {
+            return None;
+        };
+        let leaf = match self.lower_entry(lower, corner, steps) {
+            Entry::Child(leaf) => leaf,
+            Entry::Tile(_) => unreachable!(),
+        };
+        self.drop_leaf(lower, leaf, corner, cell, steps);
+        Some(offset + 1)
+    }
+
+    /// Makes a tile of each lower node of the upper node around p, and gives the leaves of each back before it.
+    pub(crate) fn drop_lowers(&mut self, upper: u32, p: Coord, cell: Cell<V>, steps: &mut Steps)
+        requires { root_entry (bits_of U L F) self.old p ≡ Child upper }
+        ensures root { self.new.root ≡ self.old.root }
+        ensures beyond { KeepsBeyond (bits_of U L F) Upper self.old self.new p }
+        ensures childless { (q : Coord) (slot : ℕ) → block_number (bits_of U L F) Upper q ≡ block_number (bits_of U L F) Upper p → upper_entry (bits_of U L F) self.new q ≡ Child slot → ⊥ }
+    {
+        let mut from = 0;
+        while let Some(next) = self.drop_next_lower(upper, p, cell, from, steps) {
+            from = next;
+        }
+    }
+
+    /// Makes a tile of the first lower node of the upper node around p from this offset on, and answers the offset behind it.
+    fn drop_next_lower(
+        &mut self,
+        upper: u32,
+        p: Coord,
+        cell: Cell<V>,
+        from: u32,
+        steps: &mut Steps,
+    ) -> Option<u32>
+        requires upper { root_entry (bits_of U L F) self.old p ≡ Child upper }
+        requires within { from ≤ entry_count U }
+        ensures root { self.new.root ≡ self.old.root }
+        ensures beyond { KeepsBeyond (bits_of U L F) Upper self.old self.new p }
+        ensures clears { ClearsFrom (bits_of U L F) Upper p (upper_entry (bits_of U L F) self.old) (upper_entry (bits_of U L F) self.new) from result }
+        ensures further { IfSome result (λ next. (from < next) × (next ≤ entry_count U)) }
+    {
+        let Some((offset, corner)) = self.next_lower_corner(upper, p, from, steps) else {
+            return None;
+        };
+        let lower = match self.upper_entry(upper, corner, steps) {
+            Entry::Child(lower) => lower,
+            Entry::Tile(_) => unreachable!(),
+        };
+        self.drop_leaves(lower, corner, cell, steps);
+        self.drop_lower(upper, lower, corner, cell, steps);
+        Some(offset + 1)
     }
 }

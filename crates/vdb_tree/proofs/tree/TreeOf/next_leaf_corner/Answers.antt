@@ -18,7 +18,7 @@ less i n h k = omega (arith, h, k)
 pub next_child-requires : goal.next_child-requires
 next_child-requires g c =
     let small = g.met.V.Stored-2.row_small in
-    (internal_small _ _ g.row.WL _ c.self.invariant.0.few_lower_words small.1 small.1 small.0, rw (entries_is (bits_of g.row.U g.row.L g.row.F) Lower) at c.requires.within)
+    (internal_small _ _ g.row.WL _ c.self.invariant.0.few_lower_words small.1 small.1 small.0, c.requires.within)
 
 pub entry_corner-requires-clause-within : goal.entry_corner-requires-clause-within
 entry_corner-requires-clause-within g c = rw (c.bits-bits.ensures.value, entries_is (bits_of g.row.U g.row.L g.row.F) Lower) c.in-Some.ensures.within

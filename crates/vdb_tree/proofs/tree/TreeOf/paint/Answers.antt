@@ -8,7 +8,7 @@ use Rattle.vdb_value.specs.declared.Cell.{Cell}
 use Rattle.vdb_tree.specs.Field.{fill}
 use Rattle.vdb_tree.specs.Layout.{Layout, bits_of, entry_over, field_of}
 use Rattle.vdb_tree.specs.Ready.{IsCovered, IsReady}
-use Rattle.vdb_tree.proofs.KeysPast.{fewer_past}
+use Rattle.vdb_tree.proofs.KeysPast.{fewer_beyond}
 use Rattle.vdb_tree.proofs.PaintedRoots.{next_at_first, painted_again, painted_apart, painted_field, painted_tiles, roots_next, roots_none, roots_ready}
 use Rattle.vdb_tree.proofs.tree.TreeOf.paint.Goals as goal
 
@@ -17,8 +17,8 @@ loop-key-init g c = (roots_none (bits_of g.row.U g.row.L g.row.F) c.args.bounds 
 
 pub loop-key-smaller : goal.loop-key-smaller
 loop-key-smaller g c =
-    fewer_past c.args.self.now.root c.loop-key.passed c.in-Some.key
-    (next_at_first (bits_of g.row.U g.row.L g.row.F) c.args.bounds c.args.cell c.args.self.now c.loop-key.self c.loop-key.passed c.in-Some.key c.loop-key.invariant.0 c.in-Some.ensures.next)
+    let first = next_at_first (bits_of g.row.U g.row.L g.row.F) c.args.bounds c.args.cell c.args.self.now c.loop-key.self c.loop-key.passed c.in-Some.key c.loop-key.invariant.0 c.in-Some.ensures.next in
+    fewer_beyond c.args.self.now.root c.loop-key.passed c.in-Some.key first.0 first.1
 
 pub loop-key-preserved : goal.loop-key-preserved
 loop-key-preserved g c =

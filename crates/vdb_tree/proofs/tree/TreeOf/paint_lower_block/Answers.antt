@@ -3,6 +3,7 @@ use Rattle.vdb_coord.specs.Blocks.{block_number}
 use Rattle.vdb_coord.specs.declared.Level.TheVariants.{Lower}
 use Rattle.vdb_tree.specs.Layout.{bits_of}
 use Rattle.vdb_tree.proofs.Blocks.{never}
+use Rattle.vdb_tree.proofs.Clears.{beyond_outside}
 use Rattle.vdb_tree.proofs.Paints.{filled_outside, outside_twice, tiles_painted, uncovered_lower, uncovered_tile}
 use Rattle.vdb_tree.proofs.Passes.{descent_by, root_entry_same}
 use Rattle.vdb_tree.proofs.tree.TreeOf.paint_lower_block.Goals as goal
@@ -30,10 +31,11 @@ returns-else-covered-clause-painted g c =
 pub returns-then-covered-2-clause-outside : goal.returns-then-covered-2-clause-outside
 returns-then-covered-2-clause-outside g c =
     let bits = bits_of g.row.U g.row.L g.row.F in
-    let mid = c.tile_leaf_blocks.new.self in
+    let mid = c.drop_leaves.new.self in
     let new = c.drop_lower.new.self in
     let made = c.drop_lower.ensures in
-    outside_twice bits c.args.bounds Lower c.args.self.now mid new (block_number bits Lower c.args.p) c.tile_leaf_blocks.ensures.outside
+    outside_twice bits c.args.bounds Lower c.args.self.now mid new (block_number bits Lower c.args.p)
+    (beyond_outside bits c.args.bounds Lower c.args.self.now mid c.args.p (c.is_covered-covered.ensures.0 c.if-covered-2.true) c.drop_leaves.ensures.beyond)
     (filled_outside bits c.args.bounds Lower mid new c.args.p c.args.cell (c.is_covered-covered.ensures.0 c.if-covered-2.true) made.fills
     (λ q d. descent_by bits mid new q (root_entry_same bits mid new made.fills.head made.root q) (made.uppers.there q d) (made.lowers.there q d)))
 

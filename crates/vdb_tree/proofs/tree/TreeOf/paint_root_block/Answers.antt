@@ -5,6 +5,7 @@ use Rattle.vdb_coord.specs.declared.Level.TheVariants.{Upper}
 use Rattle.vdb_node.specs.declared.Entry.TheVariants.{Tile}
 use Rattle.vdb_tree.specs.Layout.{bits_of, root_at}
 use Rattle.vdb_tree.proofs.Blocks.{never}
+use Rattle.vdb_tree.proofs.Clears.{beyond_outside}
 use Rattle.vdb_tree.proofs.Needed.{is_some_from}
 use Rattle.vdb_tree.proofs.Paints.{filled_outside, outside_twice, tiles_painted, uncovered_tile, uncovered_upper}
 use Rattle.vdb_tree.proofs.Passes.{descent_by}
@@ -40,11 +41,12 @@ returns-then-covered-clause-entered g c =
 pub returns-then-covered-2-clause-outside : goal.returns-then-covered-2-clause-outside
 returns-then-covered-2-clause-outside g c =
     let bits = bits_of g.row.U g.row.L g.row.F in
-    let old = c.tile_lower_blocks.new.self in
+    let old = c.drop_lowers.new.self in
     let new = c.drop_upper.new.self in
     let made = c.drop_upper.ensures in
     let roots = root_turns bits old new c.args.p (Tile c.args.cell) made.fills.head.background made.table in
-    outside_twice bits c.args.bounds Upper c.args.self.now old new (block_number bits Upper c.args.p) c.tile_lower_blocks.ensures.outside
+    outside_twice bits c.args.bounds Upper c.args.self.now old new (block_number bits Upper c.args.p)
+    (beyond_outside bits c.args.bounds Upper c.args.self.now old c.args.p (c.is_covered-covered.ensures.0 c.if-covered-2.true) c.drop_lowers.ensures.beyond)
     (filled_outside bits c.args.bounds Upper old new c.args.p c.args.cell (c.is_covered-covered.ensures.0 c.if-covered-2.true) made.fills
     (λ q d. descent_by bits old new q (roots.there q d) (made.uppers.there q d) (made.lowers.there q d)))
 
@@ -52,16 +54,16 @@ pub returns-then-covered-2-clause-painted : goal.returns-then-covered-2-clause-p
 returns-then-covered-2-clause-painted g c =
     let bits = bits_of g.row.U g.row.L g.row.F in
     let new = c.drop_upper.new.self in
-    let roots = root_turns bits c.tile_lower_blocks.new.self new c.args.p (Tile c.args.cell) c.drop_upper.ensures.fills.head.background c.drop_upper.ensures.table in
+    let roots = root_turns bits c.drop_lowers.new.self new c.args.p (Tile c.args.cell) c.drop_upper.ensures.fills.head.background c.drop_upper.ensures.table in
     tiles_painted bits c.args.bounds c.args.cell Upper new c.args.p (roots.here c.args.p refl)
 
 pub returns-then-covered-2-clause-table : goal.returns-then-covered-2-clause-table
-returns-then-covered-2-clause-table g c = λ k d. other_key c.tile_lower_blocks.new.self.root c.drop_upper.new.self.root (key (bits_of g.row.U g.row.L g.row.F) c.args.p) k (Some (Tile c.args.cell)) c.drop_upper.ensures.table d ∙ ap (λ root. root_at root k) c.tile_lower_blocks.ensures.root
+returns-then-covered-2-clause-table g c = λ k d. other_key c.drop_lowers.new.self.root c.drop_upper.new.self.root (key (bits_of g.row.U g.row.L g.row.F) c.args.p) k (Some (Tile c.args.cell)) c.drop_upper.ensures.table d ∙ ap (λ root. root_at root k) c.drop_lowers.ensures.root
 
 pub returns-then-covered-2-clause-entered : goal.returns-then-covered-2-clause-entered
 returns-then-covered-2-clause-entered g c =
     let at = key (bits_of g.row.U g.row.L g.row.F) c.args.p in
-    is_some_from (root_at c.drop_upper.new.self.root at) (Tile c.args.cell) (that_key c.tile_lower_blocks.new.self.root c.drop_upper.new.self.root at (Some (Tile c.args.cell)) c.drop_upper.ensures.table)
+    is_some_from (root_at c.drop_upper.new.self.root at) (Tile c.args.cell) (that_key c.drop_lowers.new.self.root c.drop_upper.new.self.root at (Some (Tile c.args.cell)) c.drop_upper.ensures.table)
 
 pub returns-else-covered-clause-painted : goal.returns-else-covered-clause-painted
 returns-else-covered-clause-painted g c =

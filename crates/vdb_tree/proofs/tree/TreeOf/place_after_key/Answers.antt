@@ -1,9 +1,8 @@
-use Rattle.std.proofs.Common.{◌≡◌, ◌∙◌, refl, sym, true}
+use Rattle.std.proofs.Common.{◌∙◌, sym}
 use Rattle.std.specs.Prelude.{Some}
-use Rattle.std.specs.Ordering.{int_cmp, is_lt, is_some_and, ordering_then, partial_ordering_then}
-use Rattle.std.specs.declared.cmp.Ordering.{Ordering}
-use Rattle.std.specs.declared.cmp.Ordering.TheVariants.{Less, Equal, Greater}
+use Rattle.std.specs.Ordering.{int_cmp}
 use Rattle.vdb_tree.specs.Layout.{bits_of}
+use Rattle.vdb_tree.proofs.KeysMet.{comes_past}
 use Rattle.vdb_tree.proofs.KeysPast.{fewer_past}
 use Rattle.vdb_tree.proofs.PartWalks.{found_keys, keys_end, keys_next, keys_start, keys_stop, none_under}
 use Rattle.vdb_tree.proofs.tree.TreeOf.place_after_key.Goals as goal
@@ -28,16 +27,6 @@ loop-key-smaller g c = fewer_past c.args.self.now.root (Some c.loop-key.passed) 
 
 pub returns : goal.returns
 returns g c = keys_end (bits_of g.row.U g.row.L g.row.F) c.args.self.now c.args.bounds c.args.p c.loop-key.passed c.loop-key.invariant c.in_default.ensures.least c.args.skip
-
--- what the derived test means
-comes_past : (a b c : Ordering) → is_some_and is_lt (partial_ordering_then (Some a) (partial_ordering_then (Some b) (Some c))) ≡ true → ordering_then a (ordering_then b c) ≡ Less
-comes_past Less b c h = refl
-comes_past Equal Less c h = refl
-comes_past Equal Equal Less h = refl
-comes_past Equal Equal Equal h = cc
-comes_past Equal Equal Greater h = cc
-comes_past Equal Greater c h = cc
-comes_past Greater b c h = cc
 
 pub returns-then-lt : goal.returns-then-lt
 returns-then-lt g c =

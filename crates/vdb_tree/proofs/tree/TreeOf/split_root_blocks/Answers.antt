@@ -6,8 +6,8 @@ use Rattle.vdb_coord.specs.declared.Coord.{Coord}
 use Rattle.vdb_coord.specs.declared.Level.TheVariants.{Upper}
 use Rattle.vdb_tree.specs.Layout.{bits_of, root_at}
 use Rattle.vdb_tree.specs.Ready.{IsReadyTo}
-use Rattle.vdb_tree.specs.Table.{IsNextKey}
-use Rattle.vdb_tree.proofs.KeysPast.{fewer_past}
+use Rattle.vdb_tree.specs.Room.{IsNextMet}
+use Rattle.vdb_tree.proofs.KeysPast.{fewer_beyond}
 use Rattle.vdb_tree.proofs.Readiness.{next_at_first, roots_end, roots_next, roots_none}
 use Rattle.vdb_tree.proofs.Splits.{adds_twice}
 use Rattle.vdb_tree.proofs.tree.TreeOf.split_root_blocks.Goals as goal
@@ -22,9 +22,9 @@ returns-in_err-key-clause-adds g c =
 pub loop-key-smaller : goal.loop-key-smaller
 loop-key-smaller g c =
     let bits = bits_of g.row.U g.row.L g.row.F in
-    let next = subst (λ (o : Option Coord). IsNextKey c.loop-key.self.root c.loop-key.passed o) c.in-Some.is c.in_ok-key.ensures.next in
-    fewer_past c.args.self.now.root c.loop-key.passed c.in-Some.key
-    (next_at_first bits c.args.bounds c.args.cell c.args.self.now c.loop-key.self c.loop-key.self c.loop-key.passed c.loop-key.invariant (Some c.in-Some.key) next)
+    let next = subst (λ (o : Option Coord). IsNextMet bits c.args.bounds c.loop-key.self.root c.loop-key.passed o) c.in-Some.is c.in_ok-key.ensures.next in
+    let first = next_at_first bits c.args.bounds c.args.cell c.args.self.now c.loop-key.self c.loop-key.self c.loop-key.passed c.loop-key.invariant (Some c.in-Some.key) next in
+    fewer_beyond c.args.self.now.root c.loop-key.passed c.in-Some.key first.0 first.1
 
 some_same : (j k : Coord) → ◌≡◌ {A = Option Coord} (Some k) (Some j) → j ≡ k
 some_same j k e = cc
@@ -35,7 +35,7 @@ loop-key-preserved g c =
     let k = c.in-Some.key in
     let t = c.loop-key.self in
     let n = c.split_next_root.new.self in
-    let next = subst (λ (o : Option Coord). IsNextKey t.root c.loop-key.passed o) c.in-Some.is c.in_ok-key.ensures.next in
+    let next = subst (λ (o : Option Coord). IsNextMet bits c.args.bounds t.root c.loop-key.passed o) c.in-Some.is c.in_ok-key.ensures.next in
     let table = subst (λ (o : Option Coord). (j : Coord) → o ≢ Some j → root_at n.root j ≡ root_at t.root j) c.in-Some.is c.in_ok-key.ensures.table in
     let ready = subst (λ (o : Option Coord). IfSome o (λ l. (q : Coord) → IsTrue (is_inside c.args.bounds q) → key bits q ≡ l → IsReadyTo bits c.args.bounds c.args.cell Upper n q)) c.in-Some.is c.in_ok-key.ensures.ready in
     roots_next bits c.args.bounds c.args.cell c.args.self.now t n c.loop-key.passed c.loop-key.invariant c.in_ok-key.ensures.keeps c.in_ok-key.ensures.adds k next
@@ -53,6 +53,6 @@ returns-in-None-clause-ready g c =
     let bits = bits_of g.row.U g.row.L g.row.F in
     let t = c.loop-key.self in
     let n = c.split_next_root.new.self in
-    let next = subst (λ (o : Option Coord). IsNextKey t.root c.loop-key.passed o) c.in-None.is c.in_ok-key.ensures.next in
+    let next = subst (λ (o : Option Coord). IsNextMet bits c.args.bounds t.root c.loop-key.passed o) c.in-None.is c.in_ok-key.ensures.next in
     let table = subst (λ (o : Option Coord). (j : Coord) → o ≢ Some j → root_at n.root j ≡ root_at t.root j) c.in-None.is c.in_ok-key.ensures.table in
     roots_end bits c.args.bounds c.args.cell c.args.self.now t n c.loop-key.passed c.loop-key.invariant c.in_ok-key.ensures.keeps c.in_ok-key.ensures.adds next (λ k. table k (none_some k))

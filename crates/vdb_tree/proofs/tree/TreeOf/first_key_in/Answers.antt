@@ -1,0 +1,29 @@
+use Rattle.std.proofs.Common.{◌≡◌, ◌∙◌, ap, sym, subst, true, false}
+use Rattle.std.specs.Prelude.{Option, Some, None, IsSome, is_some}
+use Rattle.vdb_coord.specs.Blocks.{key}
+use Rattle.vdb_coord.specs.declared.Coord.{Coord}
+use Rattle.vdb_tree.specs.Layout.{bits_of, root_at}
+use Rattle.vdb_tree.specs.Room.{IsNextMet}
+use Rattle.vdb_tree.specs.Table.{IsNextKey}
+use Rattle.vdb_tree.proofs.KeysMet.{met_first, met_past_first, none_not}
+use Rattle.vdb_tree.proofs.tree.TreeOf.first_key_in.Goals as goal
+
+pub returns-then-is_some : goal.returns-then-is_some
+returns-then-is_some g c =
+    let bits = bits_of g.row.U g.row.L g.row.F in
+    let root = c.args.self.now.root in
+    let first : c.key-first.result ≡ key bits c.args.bounds.min = c.key-first.ensures.value ∙ ap (key bits) c.min.ensures.corner in
+    let at : c.get.result ≡ root_at root c.key-first.result = rw (← c.self.view_is) c.get.ensures in
+    let some : is_some c.get.result ≡ true = sym c.is_some.ensures ∙ c.if-is_some.true in
+    let held : IsSome (root_at root c.key-first.result) = rw at at some in
+    rw first (met_first bits c.args.bounds root (rw first at held))
+
+pub returns : goal.returns
+returns g c =
+    let bits = bits_of g.row.U g.row.L g.row.F in
+    let root = c.args.self.now.root in
+    let first : c.key-first.result ≡ key bits c.args.bounds.min = c.key-first.ensures.value ∙ ap (key bits) c.min.ensures.corner in
+    let at : c.get.result ≡ root_at root c.key-first.result = rw (← c.self.view_is) c.get.ensures in
+    let not : is_some c.get.result ≡ false = sym c.is_some.ensures ∙ c.if-is_some.false in
+    let none : root_at root c.key-first.result ≡ None = sym at ∙ none_not c.get.result not in
+    met_past_first bits c.args.bounds root (rw first at none) c.next_key.result (rw first at c.next_key.ensures.least)
