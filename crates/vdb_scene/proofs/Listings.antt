@@ -1,6 +1,7 @@
 -- The voxels that are listed, before and after each value is made one of any kind.
-use Rattle.std.proofs.Common.{◌≡◌, ◌≢◌, refl, sym, ap, ◌∙◌, ℕ, ℤ, pos, negsuc, Bool, true, false, ◌&&◌, List, [], ◌∷◌, map, filter, Option, Some, None, cond, int_le, IsTrue, arith}
+use Rattle.std.proofs.Common.{◌≡◌, ◌≢◌, ◌⊎◌, inl, inr, refl, sym, ap, ◌∙◌, ℕ, ℤ, pos, negsuc, Bool, true, false, ◌&&◌, List, [], ◌∷◌, map, filter, Option, Some, None, cond, int_le, IsTrue, arith}
 use Rattle.std.specs.Int.{int_max, int_min}
+use Rattle.std.specs.Option.{option_map}
 use Rattle.std.proofs.Math.Path.{fun_ext}
 use Rattle.std.proofs.lemmas.Int.{ints}
 use Rattle.std.proofs.lemmas.Simd.{map-map}
@@ -12,7 +13,7 @@ use Rattle.vdb_value.specs.declared.Cell.{Cell}
 use Rattle.vdb_tree.specs.Field.{Field, as_field_of}
 use Rattle.vdb_tree.specs.Layout.{Layout, cell_at, field_of}
 use Rattle.vdb_tree.proofs.AsFieldOf.{as_field_of_cell}
-use Rattle.vdb_walk.specs.Reports.{Listed, active, in_block_order}
+use Rattle.vdb_walk.specs.Reports.{HandsOut, Listed, active, in_block_order}
 use Rattle.vdb_scene.specs.Listings.{as_listed_of, as_voxels_of, box_across}
 
 -- ---- the box of two corners
@@ -79,6 +80,15 @@ module _ {V U : Type 0} (make : V → U) where
 
   pub made_more : (more : Bool) (l : Listed V) → (IsTrue more → l.rest ≢ []) × (l.rest ≢ [] → IsTrue more) → (IsTrue more → (as_listed_of make l).rest ≢ []) × ((as_listed_of make l).rest ≢ [] → IsTrue more)
   made_more more l h = (λ yes none. h.0 yes (none_made l.rest none), λ some. h.1 (λ none. some (ap (as_voxels_of make) none)))
+
+-- what one hands out, with its value made another, is handed out of the other
+pub made_next : {V U : Type 0} (make : V → U) (old new : Listed V) (item : Option (Coord × V)) → HandsOut old item new → HandsOut (as_listed_of make old) (option_map (λ i. (i.0, make i.1)) item) (as_listed_of make new)
+made_next make old new (Some item) h = (ap (as_voxels_of make) h.0, h.1)
+made_next make old new None h = (of_end h.0, ap (as_listed_of make) h.1)
+  where
+    of_end : (old.rest ≡ []) ⊎ (old.left ≡ 0) → ((as_listed_of make old).rest ≡ []) ⊎ ((as_listed_of make old).left ≡ 0)
+    of_end (inl none) = inl (ap (as_voxels_of make) none)
+    of_end (inr nothing) = inr nothing
 
 -- the box that two corners make
 pub made_box : (p q a b : Coord) (r : Option Box) → a ≡ (box_across p q).min → b ≡ (box_across p q).max → r ≡ boxes.box_of a b → r ≡ Some (box_across p q)

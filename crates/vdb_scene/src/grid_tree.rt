@@ -9,10 +9,9 @@ ghost use Rattle.vdb_tree.specs.Layout.{field_of};
 ghost use Rattle.vdb_tree.specs.Outcome.{IsOutcome};
 ghost use Rattle.vdb_tree.specs.Plain.{count as active_count};
 ghost use Rattle.vdb_tree.specs.declared.refusal.TreeRefusal.TheVariants.{Memory};
-ghost use Rattle.vdb_scene.specs.Listings.{as_listed_of};
 ghost use Rattle.vdb_scene.specs.Scalars.{is_of, scalar_eq};
 ghost use Rattle.vdb_scene.specs.Step.{passes, write_takes_memory};
-ghost use Rattle.vdb_walk.specs.Reports.{HandsOut, IsActiveBounds, census as census_of};
+ghost use Rattle.vdb_walk.specs.Reports.{IsActiveBounds, census as census_of};
 
 use crate::Scalar;
 use crate::scalar::GridValue;
@@ -20,7 +19,7 @@ use vdb_coord::{Bounds, Coord};
 use vdb_pool::Steps;
 use vdb_tree::{Tree, TreeRefusal, Write};
 use vdb_value::Cell;
-use vdb_walk::{Census, Listing};
+use vdb_walk::Census;
 
 /// The cell of a voxel.
 pub fn get<V: GridValue>(tree: &Tree<V>, at: Coord, steps: &mut Steps) -> Cell<Scalar>
@@ -76,19 +75,6 @@ pub fn clip<V: GridValue>(
     ensures memory { IfErr result (λ refusal. refusal ≡ Memory) }
 {
     vdb_region::clip(tree, bounds, steps)
-}
-
-/// The next voxel of a listing, with its value as one of any kind.
-pub fn next_voxel<'a, V: GridValue>(
-    listing: &mut Listing<'a, V, 5, 4, 3, 512, 64, 8>,
-    steps: &mut Steps,
-) -> Option<(Coord, Scalar)>
-    ensures { HandsOut (as_listed_of V.as_scalar listing.old) result (as_listed_of V.as_scalar listing.new) }
-{
-    match listing.next(steps) {
-        Some((at, value)) => Some((at, value.scalar())),
-        None => None,
-    }
 }
 
 /// How many voxels of the box, or of all, are active.

@@ -1,11 +1,13 @@
 //! The active voxels of a box of a grid, in block order.
 ghost use Rattle.std.specs.Prelude.{◌≡◌, ◌≢◌, ◌↔◌, [], IsTrue};
+ghost use Rattle.std.specs.Option.{option_map};
 ghost use Rattle.vdb_scene.specs.Listings.{box_across, listed_of, voxels_of};
 ghost use Rattle.vdb_coord.specs.Blocks.{vdb};
 ghost use Rattle.vdb_scene.specs.Grids.{grid_field};
 ghost use Rattle.vdb_walk.specs.Reports.{HandsOut, active};
 
-use crate::{AnyGrid, Scalar, grid_tree};
+use crate::scalar::GridValue;
+use crate::{AnyGrid, Scalar};
 use vdb_coord::{Bounds, Coord};
 use vdb_pool::Steps;
 use vdb_walk::{Listing, list};
@@ -68,9 +70,9 @@ impl<'a> AnyListing<'a> {
         ensures { HandsOut (listed_of self.old) result (listed_of self.new) }
     {
         match self {
-            AnyListing::Bool(listing) => grid_tree::next_voxel(listing, steps),
-            AnyListing::I32(listing) => grid_tree::next_voxel(listing, steps),
-            AnyListing::I64(listing) => grid_tree::next_voxel(listing, steps),
+            AnyListing::Bool(listing) => of_any_kind(listing.next(steps)),
+            AnyListing::I32(listing) => of_any_kind(listing.next(steps)),
+            AnyListing::I64(listing) => of_any_kind(listing.next(steps)),
         }
     }
 
@@ -83,6 +85,16 @@ impl<'a> AnyListing<'a> {
             AnyListing::I32(listing) => listing.more(steps),
             AnyListing::I64(listing) => listing.more(steps),
         }
+    }
+}
+
+/// A voxel with its value as one of any kind.
+fn of_any_kind<V: GridValue>(voxel: Option<(Coord, V)>) -> Option<(Coord, Scalar)>
+    ensures { result ≡ option_map (λ item. (item.0, V.as_scalar item.1)) voxel }
+{
+    match voxel {
+        Some((at, value)) => Some((at, value.scalar())),
+        None => None,
     }
 }
 

@@ -151,19 +151,3 @@ first_same bits Kind Other b to from None h = λ q i k. h q i (from q i k)
 pub past_after : (bits : Bits) (last : Option Coord) (p q : Coord) → is_past bits last p ≡ true → is_lt (block_cmp bits p q) ≡ true → is_past bits last q ≡ true
 past_after bits None p q h c = refl
 past_after bits (Some last) p q h c = comes_on bits last p q h c
-
--- ---- a part of a piece, whose cells are all one
-
-module _ {V : Type 0} (bits : Bits) (f : Field V) (b piece : Box) (cell : Cell V) (within : is_within b piece ≡ true) (cells : (q : Coord) → IsTrue (is_inside piece q) → f.cell q ≡ cell) where
-  part_cell : (q : Coord) → is_inside b q ≡ true → f.cell q ≡ cell
-  part_cell q i = cells q (within_each b piece q within i)
-
-  pub first_in_active : (after : Option Coord) → cell.on ≡ true → (found : Option Coord) → IsFirst bits (IsPastLast bits after) b found → IsFirst bits (IsActivePast bits after f) b found
-  first_in_active after on found h =
-      first_same bits (IsPastLast bits after) (IsActivePast bits after f) b (λ q i k. (k, ap (λ (c : Cell V). c.on) (part_cell q i) ∙ on)) (λ q i k. k.0) found h
-
-  pub value_in_active : (p : Coord) → is_inside b p ≡ true → cell.value ≡ (f.cell p).value
-  value_in_active p i = sym (ap (λ (c : Cell V). c.value) (part_cell p i))
-
-  pub none_in_inactive : (after : Option Coord) → cell.on ≡ false → IsFirst bits (IsActivePast bits after f) b None
-  none_in_inactive after off = λ q i k. false_true (sym off ∙ sym (ap (λ (c : Cell V). c.on) (part_cell q i)) ∙ k.1)

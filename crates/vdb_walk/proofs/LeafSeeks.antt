@@ -69,7 +69,7 @@ module _ (bits : Bits) where
 
     module _ (block : IsInLeafBlock bits part) (inside : is_inside part start ≡ true) where
       one_block : (q : Coord) → is_inside part q ≡ true → block_number bits Leaf start ≡ block_number bits Leaf q
-      one_block q h = block start inside ∙ sym (block q h)
+      one_block q h = block start q inside h
 
       module _ (n from : ℕ) (room : entries bits Leaf ≤ n) (passed : IsPassed from) (past_end : IsOffFrom states (entries bits Leaf)) where
         module _ (index : ℕ) (next : IsNextAt true states n from index) where
@@ -121,7 +121,7 @@ module _ (bits : Bits) where
   -- in a part of the leaf's block, what is past the last one is what lies from the first of those on
   module _ (states : List Bool) (part : Box) (block : IsInLeafBlock bits part) (after : Option Coord) (start : Coord) (first : IsFirst bits (IsPastLast bits after) part (Some start)) where
     same_leaf : (q : Coord) → is_inside part q ≡ true → block_number bits Leaf q ≡ block_number bits Leaf start
-    same_leaf q i = block q i ∙ sym (block start first.0)
+    same_leaf q i = block q start i first.0
 
     earlier : (p q : Coord) → is_inside part p ≡ true → is_inside part q ≡ true → offset bits Leaf p < offset bits Leaf q → is_lt (block_cmp bits p q) ≡ true
     earlier p q i j l =
@@ -145,21 +145,3 @@ module _ (bits : Bits) where
 
     pub on_past : (found : Option Coord) → IsFirst bits (IsOnFrom bits start states) part found → IsFirst bits (IsOnPast bits after states) part found
     on_past found h = first_same bits (IsOnFrom bits start states) (IsOnPast bits after states) part (λ q i k. (past_from q i k.0, k.1)) (λ q i k. (from_past q i k.0, k.1)) found h
-
-  -- the states of a leaf are those of its block's cells
-  module _ {V : Type 0} (f : Field V) (part : Box) (leaf : LeafOf V) (bounds : is_bounds part ≡ true) (around : IsLeafAround bits f part.min leaf) (block : IsInLeafBlock bits part) where
-    cell_of : (q : Coord) → is_inside part q ≡ true → f.cell q ≡ cell_in (off f.background) leaf (offset bits Leaf q)
-    cell_of q i = around q (within_each part everywhere q (both (is_box part) (is_within part everywhere) bounds).1 i) (block q i)
-
-    pub active_past : (after : Option Coord) (found : Option Coord) → IsFirst bits (IsOnPast bits after leaf.states) part found → IsFirst bits (IsActivePast bits after f) part found
-    active_past after found h =
-        first_same bits (IsOnPast bits after leaf.states) (IsActivePast bits after f) part (λ q i k. (k.0, ap (λ (c : Cell V). c.on) (cell_of q i) ∙ k.1)) (λ q i k. (k.0, sym (ap (λ (c : Cell V). c.on) (cell_of q i)) ∙ k.1)) found h
-
-    pub value_past : (Kind : Coord → Type 0) (found : Option (Coord × V)) → IsFirst bits Kind part (option_map (λ item. item.0) found) → IfSome found (λ item. (d : Cell V) → item.1 ≡ (cell_in d leaf (offset bits Leaf item.0)).value)
-        → IfSome found (λ item. item.1 ≡ (f.cell item.0).value)
-    value_past Kind (Some item) h value = value (off f.background) ∙ sym (ap (λ (c : Cell V). c.value) (cell_of item.0 h.0))
-    value_past Kind None h value = tt
-
-  -- a part within the leaf block around its least corner lies in it
-  pub in_leaf_block : (part box : Box) → box ≡ block_around bits Leaf part.min → is_within part box ≡ true → IsInLeafBlock bits part
-  in_leaf_block part box e h = λ q i. number_in_block bits Leaf (block_number bits Leaf part.min) q (ap (λ (b : Box). is_inside b q) (sym e) ∙ within_each part box q h i)

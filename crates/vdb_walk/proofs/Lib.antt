@@ -9,8 +9,11 @@ pub mod Firsts
 pub mod LeafSeeks
 pub mod InOrder
 pub mod PiecesInTurn
-pub mod Near
 pub mod PartCounts
 pub mod VoxelSeeks
 pub mod VoxelCounts
 pub mod PartCells
+pub mod PartSeeks
+pub mod NextVoxels
+pub mod HandedOut
+pub mod ListingSizes

@@ -20,10 +20,9 @@ use Rattle.vdb_tree.specs.declared.parts.Skip.TheVariants.{Inactive}
 use Rattle.vdb_tree.proofs.Levels.{bool_cases}
 use Rattle.vdb_tree.proofs.Rooted.{or_cases, or_first, or_second}
 use Rattle.vdb_value.specs.declared.Cell.{Cell}
-use Rattle.vdb_walk.specs.Firsts.{IsInLeafBlock}
+use Rattle.vdb_walk.specs.Voxels.{is_set, IsInFirstBlock, IsNextSet, IsNextSetAt}
 use Rattle.vdb_walk.specs.Reports.{IsActiveBounds}
 use Rattle.vdb_walk.specs.Surround.{Surrounds, is_in, is_wanted, is_wanted_by}
-use Rattle.vdb_walk.specs.Voxels.{IsNextSet, IsNextSetAt, is_set}
 use Rattle.vdb_walk.proofs.VoxelSeeks.{before_or_at, same_entry}
 
 -- ---- two boxes joined
@@ -294,7 +293,7 @@ module _ (bits : Bits) (states : List Bool) (found : Option Box) (part : Box) wh
     pub least : (other : Box) → ((p : Coord) → is_wanted_by bits states found part p ≡ true → is_inside other p ≡ true) → (p : Coord) → is_in around p ≡ true → is_inside other p ≡ true
 
   -- the next one
-  pub reaches_next : IsInLeafBlock bits part → (from entry : ℕ) (p : Coord) (voxel : Box) (around result : Option Box) → Reaches from around → IsNextSetAt bits states part from entry p
+  pub reaches_next : IsInFirstBlock bits part → (from entry : ℕ) (p : Coord) (voxel : Box) (around result : Option Box) → Reaches from around → IsNextSetAt bits states part from entry p
       → voxel ≡ record { min = p; max = p } → Surrounds (λ q. is_in around q || is_inside voxel q) result → Reaches (entry + 1) result
   reaches_next block from entry p voxel around result old next one s = record {
     former = λ q i. s.holds q (or_first (is_in around q) (is_inside voxel q) (old.former q i));

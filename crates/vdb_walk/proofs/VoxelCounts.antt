@@ -21,8 +21,7 @@ use Rattle.vdb_tree.specs.Parts.{IsPartOfLeaf}
 use Rattle.vdb_tree.specs.Plain.{count}
 use Rattle.vdb_tree.proofs.LeafCounts.{leaf_counted}
 use Rattle.vdb_value.specs.declared.Cell.{Cell}
-use Rattle.vdb_walk.specs.Firsts.{IsInLeafBlock}
-use Rattle.vdb_walk.specs.Voxels.{IsNextSet, IsNextSetAt, is_set, set_count}
+use Rattle.vdb_walk.specs.Voxels.{is_set, IsInFirstBlock, IsNextSet, IsNextSetAt, set_count}
 use Rattle.vdb_walk.proofs.Counts.{none_on, nothing_apart}
 use Rattle.vdb_walk.proofs.PartCounts.{count_alike, count_listed, count_split, first_way, other_way}
 use Rattle.vdb_walk.proofs.Surrounds.{min_inside}
@@ -70,7 +69,7 @@ module _ (bits : Bits) (states : List Bool) (part : Box) where
       count_listed part (λ q. is_set bits states q && is_from from q) [] nothing_apart
       (λ q. none_on (is_inside part q) (is_set bits states q && is_from from q) (λ i. idle (is_set bits states q) (is_from from q) (λ l. none q i (from_le from (at q) l))))
 
-  module _ (block : IsInLeafBlock bits part) (from entry : ℕ) (p : Coord) (next : IsNextSetAt bits states part from entry p) where
+  module _ (block : IsInFirstBlock bits part) (from entry : ℕ) (p : Coord) (next : IsNextSetAt bits states part from entry p) where
     here : (q : Coord) → coord_eq q p ≡ true → p ≡ q
     here q e = sym (coord_exact q p e)
 
@@ -110,7 +109,7 @@ module _ {V : Type 0} (bits : Bits) (f : Field V) (part : Box) (leaf : LeafOf V)
   cut_counted = sym (count_alike part (λ p. (f.cell p).on) (is_set bits leaf.states) has_states)
 
   -- it lies in one block
-  pub in_one_block : is_box part ≡ true → IsInLeafBlock bits part
+  pub in_one_block : is_box part ≡ true → IsInFirstBlock bits part
   in_one_block order q j = of_leaf.block q part.min j (min_inside part order)
 
   module _ (bounds : is_bounds part ≡ true) where

@@ -9,8 +9,7 @@ use Rattle.vdb_coord.specs.declared.Level.TheVariants.{Leaf}
 use Rattle.vdb_coord.proofs.Nesting.{corner_of_entry, voxel_from_leaf}
 use Rattle.vdb_mask.specs.Mask.{IsNextAt, is_on}
 use Rattle.vdb_node.specs.Nodes.{IsOffFrom}
-use Rattle.vdb_walk.specs.Firsts.{IsInLeafBlock}
-use Rattle.vdb_walk.specs.Voxels.{IsNextSet, is_set}
+use Rattle.vdb_walk.specs.Voxels.{is_set, IsInFirstBlock, IsNextSet}
 
 false_true : false ≡ true → ⊥
 false_true e = cc
@@ -22,7 +21,7 @@ pub before_or_at : (o entry : ℕ) → o < entry + 1 → (o < entry) ⊎ (o ≡ 
 before_or_at o entry h = grind arith
 
 -- in one leaf block the voxel of an entry is one alone
-pub same_entry : (bits : Bits) (part : Box) → IsInLeafBlock bits part → (p q : Coord) → is_inside part p ≡ true → is_inside part q ≡ true → offset bits Leaf p ≡ offset bits Leaf q → p ≡ q
+pub same_entry : (bits : Bits) (part : Box) → IsInFirstBlock bits part → (p q : Coord) → is_inside part p ≡ true → is_inside part q ≡ true → offset bits Leaf p ≡ offset bits Leaf q → p ≡ q
 same_entry bits part block p q i j e = voxel_from_leaf bits p q (block p i ∙ sym (block q j)) e
 
 module _ (bits : Bits) (states : List Bool) (part : Box) (from : ℕ) where
@@ -59,7 +58,7 @@ module _ (bits : Bits) (states : List Bool) (part : Box) (from : ℕ) where
           }
 
           -- and elsewhere it is passed
-          pub set_passed : IsInLeafBlock bits part → is_inside part p ≡ false → IsIdleTo (index + 1)
+          pub set_passed : IsInFirstBlock bits part → is_inside part p ≡ false → IsIdleTo (index + 1)
           set_passed block beside = record {
             from_on = let first = done.from_on in let on = next.from_on in omega (arith, first, on);
             idle = λ q i f h. elim (before_or_at (offset bits Leaf q) index h) [

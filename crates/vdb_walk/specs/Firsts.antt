@@ -1,8 +1,9 @@
 -- The first coordinate of a box in block order, of those of some kind. The calls of this crate alone speak of it.
-use Rattle.std.specs.Prelude.{◌≡◌, ◌≤◌, Bool, true, false, IsTrue, List, Option, Some, None, IsSome}
+use Rattle.std.specs.Prelude.{◌≡◌, ◌⊎◌, ◌≤◌, Bool, true, false, IsTrue, List, Option, Some, None, IsSome}
 use Rattle.std.specs.Ordering.{is_lt}
 use Rattle.vdb_coord.specs.Blocks.{block_cmp, block_number, is_past, key, offset}
 use Rattle.vdb_coord.specs.Space.{Box, everywhere, is_inside}
+use Rattle.vdb_coord.specs.Walk.{IsBefore}
 use Rattle.vdb_coord.specs.declared.Bits.{Bits}
 use Rattle.vdb_coord.specs.declared.Coord.{Coord}
 use Rattle.vdb_coord.specs.declared.Level.TheVariants.{Leaf}
@@ -21,6 +22,11 @@ IsFirst bits Kind box (Some p) = IsTrue (is_inside box p) × Kind p × ((q : Coo
 abbrev pub IsPastLast : Bits → Option Coord → Coord → Type 0
 IsPastLast bits after q = IsTrue (is_past bits after q)
 
+-- the first coordinate of the box past p by x, then y, then z
+abbrev pub IsNextVoxel : Box → Coord → Option Coord → Type 0
+IsNextVoxel box p None = (q : Coord) → IsTrue (is_inside box q) → IsBefore q p ⊎ (q ≡ p)
+IsNextVoxel box p (Some next) = IsTrue (is_inside box next) × IsBefore p next × ((q : Coord) → IsTrue (is_inside box q) → IsBefore q next → IsBefore q p ⊎ (q ≡ p))
+
 -- and active
 abbrev pub IsActivePast : {V : Type 0} → Bits → Option Coord → Field V → Coord → Type 0
 IsActivePast bits after f q = IsPastLast bits after q × ((f.cell q).on ≡ true)
@@ -35,7 +41,7 @@ IsOnFrom bits p states q = (offset bits Leaf p ≤ offset bits Leaf q) × (is_on
 
 -- the box lies in one leaf block
 abbrev pub IsInLeafBlock : Bits → Box → Type 0
-IsInLeafBlock bits box = (q : Coord) → IsTrue (is_inside box q) → block_number bits Leaf q ≡ block_number bits Leaf box.min
+IsInLeafBlock bits box = (q r : Coord) → IsTrue (is_inside box q) → IsTrue (is_inside box r) → block_number bits Leaf q ≡ block_number bits Leaf r
 
 -- ---- pieces
 

@@ -7,3 +7,4 @@ pub mod Surround
 pub mod Firsts
 pub mod Voxels
 pub mod PartCells
+pub mod Listings

@@ -1,11 +1,15 @@
 -- The voxels of a leaf in a box, told by the states of the leaf. The calls of this crate alone speak of them.
 use Rattle.std.specs.Prelude.{◌≡◌, ◌≤◌, ◌<◌, ℕ, Bool, true, false, List, Option, Some, None, IsTrue, count_by}
-use Rattle.vdb_coord.specs.Blocks.{offset}
+use Rattle.vdb_coord.specs.Blocks.{block_number, offset}
 use Rattle.vdb_coord.specs.Space.{Box, coordinates, is_inside}
 use Rattle.vdb_coord.specs.declared.Bits.{Bits}
 use Rattle.vdb_coord.specs.declared.Coord.{Coord}
 use Rattle.vdb_coord.specs.declared.Level.TheVariants.{Leaf}
 use Rattle.vdb_mask.specs.Mask.{is_on}
+
+-- the box lies in the leaf block around its least corner
+abbrev pub IsInFirstBlock : Bits → Box → Type 0
+IsInFirstBlock bits box = (q : Coord) → IsTrue (is_inside box q) → block_number bits Leaf q ≡ block_number bits Leaf box.min
 
 module _ (bits : Bits) (states : List Bool) where
   -- whether the voxel's state is on

@@ -12,8 +12,7 @@ ghost use Rattle.vdb_tree.specs.Field.{off};
 ghost use Rattle.vdb_tree.specs.Layout.{bits_of, field_of};
 ghost use Rattle.vdb_tree.specs.Parts.{IsPartOfLeaf};
 ghost use Rattle.vdb_tree.specs.Plain.{count as active_count};
-ghost use Rattle.vdb_walk.specs.Firsts.{IsInLeafBlock};
-ghost use Rattle.vdb_walk.specs.Voxels.{set_count};
+ghost use Rattle.vdb_walk.specs.Voxels.{IsInFirstBlock, set_count};
 
 use crate::voxels::next_set;
 use vdb_coord::{Bits, Bounds, Coord, Level};
@@ -114,7 +113,7 @@ fn count_states<const W: usize>(states: &Mask<W>, bits: Bits, part: Bounds) -> u
     requires few_words { W ≤ 512 }
     requires past_end { IsOffFrom states.now (entries bits leaf_level) }
     requires past_words { IsOffFrom states.now (64 * W) }
-    requires block { IsInLeafBlock bits part }
+    requires block { IsInFirstBlock bits part }
     ensures { result ≡ set_count bits states.now part }
 {
     let mut total = 0;
@@ -124,13 +123,6 @@ fn count_states<const W: usize>(states: &Mask<W>, bits: Bits, part: Bounds) -> u
         from = entry + 1;
     }
     total
-}
-
-/// The box of all coordinates.
-pub(crate) fn all() -> Bounds
-    ensures { result ≡ everywhere }
-{
-    Bounds::all()
 }
 
 /// Whether the root table has a key between those of the part's least and its greatest corner, in the order of keys. Where it

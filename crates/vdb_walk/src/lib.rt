@@ -3,6 +3,7 @@
 
 mod counting;
 mod halves;
+mod held;
 mod listing;
 mod mixed;
 mod order;

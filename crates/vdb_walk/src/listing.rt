@@ -1,15 +1,19 @@
 //! The active voxels of a box in block order, one after another.
 
-ghost use Rattle.std.specs.Prelude.{◌≡◌, ◌≢◌, ◌↔◌, [], IsTrue};
+ghost use Rattle.std.specs.Prelude.{◌≡◌, ◌≢◌, ◌↔◌, [], IfNone, IfSome, IsTrue, Some};
 ghost use Rattle.vdb_tree.specs.Layout.{bits_of, field_of};
-ghost use Rattle.vdb_walk.specs.Reports.{active, HandsOut, Listed};
+ghost use Rattle.vdb_coord.specs.Blocks.{is_past};
+ghost use Rattle.std.specs.List.{find};
+ghost use Rattle.vdb_walk.specs.Listings.{IsListing};
+ghost use Rattle.vdb_walk.specs.Reports.{active, past, HandsOut, Listed};
 
-use crate::seeking::next_active;
+use crate::held::{Held, with_leaf};
+use crate::seeking::{begun, first_in, next_active, next_found};
 use std::marker::Model;
 use vdb_coord::{Bounds, Coord};
-use vdb_node::Stored;
+use vdb_node::{Internal, Leaf, Stored};
 use vdb_pool::Steps;
-use vdb_tree::TreeOf;
+use vdb_tree::{Skip, TreeOf, Walk};
 
 /// The active voxels of a box in block order, each with its value, up to a limit on how many are handed out (what OpenVDB's
 /// `Tree::cbeginValueOn` walks, a tile voxel by voxel). It reads the tree as it goes and takes no memory.
@@ -25,7 +29,8 @@ pub struct Listing<
     const WF: usize,
 > {
     tree: &'a TreeOf<V, U, L, F, WU, WL, WF>,
-    bounds: Bounds,
+    walk: Walk<Internal<V, U, WU>, Internal<V, L, WL>, Leaf<V, F, WF>>,
+    part: Option<Held<V>>,
     last: Option<Coord>,
     left: u32,
 }
@@ -41,14 +46,17 @@ impl<
     const WF: usize,
 > Model for Listing<'a, V, U, L, F, WU, WL, WF> {
     ghost use Rattle.vdb_tree.specs.Layout.{bits_of, field_of};
+    ghost use Rattle.vdb_walk.specs.Listings.{IsListing};
     ghost use Rattle.vdb_walk.specs.Reports.{active, past, Listed};
 
     ghost Value = { Listed V };
 
     ghost view = { λ l. record {
-      rest = past (bits_of U L F) l.last (active (bits_of U L F) (field_of (bits_of U L F) l.tree.now) l.bounds);
+      rest = past (bits_of U L F) l.last (active (bits_of U L F) (field_of (bits_of U L F) l.tree.now) l.walk.box);
       left = l.left;
     } };
+
+    ghost invariant = { λ l. IsListing (bits_of U L F) l.tree.now l.last l.walk l.part };
 }
 
 /// The active voxels of the box in block order: at most `limit` of them are handed out.
@@ -68,10 +76,41 @@ pub fn list<
 ) -> Listing<'a, V, U, L, F, WU, WL, WF>
     ensures { result ≡ record { rest = active (bits_of U L F) (field_of (bits_of U L F) tree.now) bounds; left = limit } }
 {
+    let _ = tree.mask_words();
     Listing {
         tree,
-        bounds,
+        walk: tree.parts(bounds, Skip::Inactive),
+        part: None,
         last: None,
+        left: limit,
+    }
+}
+
+/// The active voxels of the box past the last one in block order: at most `limit` of them are handed out.
+pub(crate) fn list_past<
+    'a,
+    V: Stored<WU> + Stored<WL> + Stored<WF>,
+    const U: u32,
+    const L: u32,
+    const F: u32,
+    const WU: usize,
+    const WL: usize,
+    const WF: usize,
+>(
+    tree: &'a TreeOf<V, U, L, F, WU, WL, WF>,
+    last: Option<Coord>,
+    bounds: Bounds,
+    limit: u32,
+    steps: &mut Steps,
+) -> Listing<'a, V, U, L, F, WU, WL, WF>
+    ensures { result ≡ record { rest = past (bits_of U L F) last (active (bits_of U L F) (field_of (bits_of U L F) tree.now) bounds); left = limit } }
+{
+    let _ = tree.mask_words();
+    Listing {
+        tree,
+        walk: begun(tree, last, bounds, steps),
+        part: None,
+        last,
         left: limit,
     }
 }
@@ -93,7 +132,8 @@ impl<
         if self.left == 0 {
             return None;
         }
-        match next_active(self.tree, self.last, self.bounds, steps) {
+        let _ = self.tree.mask_words();
+        match hand_out(self.tree, self.last, &mut self.walk, &mut self.part, steps) {
             Some(item) => {
                 self.last = Some(item.0);
                 self.left -= 1;
@@ -108,6 +148,47 @@ impl<
     pub fn more(&self, steps: &mut Steps) -> bool
         ensures { IsTrue result ↔ (self.now.rest ≢ []) }
     {
-        next_active(self.tree, self.last, self.bounds, steps).is_some()
+        next_active(self.tree, self.last, self.walk.bounds(), steps).is_some()
+    }
+}
+
+/// The first active voxel past the last one: in the part that the walk yielded last, or else in what is left of it. The part
+/// becomes the one that it is in.
+fn hand_out<
+    V: Stored<WU> + Stored<WL> + Stored<WF>,
+    const U: u32,
+    const L: u32,
+    const F: u32,
+    const WU: usize,
+    const WL: usize,
+    const WF: usize,
+>(
+    tree: &TreeOf<V, U, L, F, WU, WL, WF>,
+    last: Option<Coord>,
+    walk: &mut Walk<Internal<V, U, WU>, Internal<V, L, WL>, Leaf<V, F, WF>>,
+    part: &mut Option<Held<V>>,
+    steps: &mut Steps,
+) -> Option<(Coord, V)>
+    requires { IsListing (bits_of U L F) tree.now last walk.old part.old }
+    ensures next { result ≡ find (λ item. is_past (bits_of U L F) last item.0) (active (bits_of U L F) (field_of (bits_of U L F) tree.now) walk.old.box) }
+    ensures bounds { walk.new.box ≡ walk.old.box }
+    ensures some { IfSome result (λ item. IsListing (bits_of U L F) tree.now (Some item.0) walk.new part.new) }
+    ensures none { IfNone result (IsListing (bits_of U L F) tree.now last walk.new part.new) }
+{
+    if let Some(held) = *part {
+        let found = first_in(tree, last, with_leaf(tree, held, steps));
+        if found.is_some() {
+            return found;
+        }
+    }
+    match next_found(tree, last, walk, steps) {
+        Some(found) => {
+            *part = Some(found.0);
+            Some(found.1)
+        }
+        None => {
+            *part = None;
+            None
+        }
     }
 }

@@ -1,12 +1,13 @@
 //! The coordinates of a box in block order.
 
-ghost use Rattle.std.specs.Prelude.{◌≡◌};
+ghost use Rattle.std.specs.Prelude.{◌≡◌, IsTrue, Some};
 ghost use Rattle.vdb_coord.specs.Blocks.{is_past};
 ghost use Rattle.vdb_coord.specs.Entries.{AreBits};
-ghost use Rattle.vdb_walk.specs.Firsts.{IsFirst, IsPastLast};
+ghost use Rattle.vdb_coord.specs.Space.{is_inside};
+ghost use Rattle.vdb_walk.specs.Firsts.{IsFirst, IsNextVoxel, IsPastLast};
 
 use crate::halves::halves;
-use vdb_coord::{Bits, Bounds, Coord};
+use vdb_coord::{Bits, Bounds, Coord, Level};
 
 /// Whether a coordinate comes past the last one in block order; each does where there is no last one.
 pub(crate) fn is_past(bits: Bits, last: Option<Coord>, p: Coord) -> bool
@@ -19,9 +20,71 @@ pub(crate) fn is_past(bits: Bits, last: Option<Coord>, p: Coord) -> bool
     }
 }
 
-/// The first coordinate of the part past the last one, in block order. It halves the part until its least corner, which is its
-/// first coordinate, comes past the last one.
+/// The first coordinate of the part past the last one, in block order.
 pub(crate) fn first_past(bits: Bits, last: Option<Coord>, part: Bounds) -> Option<Coord>
+    requires { AreBits bits }
+    ensures { IsFirst bits (IsPastLast bits last) part result }
+{
+    match last {
+        Some(p) => {
+            if part.contains(p) {
+                next_in(bits, part, p)
+            } else {
+                first_beyond(bits, last, part)
+            }
+        }
+        None => first_beyond(bits, last, part),
+    }
+}
+
+/// The first coordinate of the part past one of its own, in block order: in the leaf block around that, or else in the next.
+fn next_in(bits: Bits, part: Bounds, p: Coord) -> Option<Coord>
+    requires bits { AreBits bits }
+    requires inside { IsTrue (is_inside part p) }
+    ensures { IsFirst bits (IsPastLast bits (Some p)) part result }
+{
+    match part.intersect(p.block_in(bits, Level::Leaf)) {
+        Some(near) => match next_voxel(near, p) {
+            Some(next) => Some(next),
+            None => part.next_place_in(bits, Level::Leaf, p),
+        },
+        None => unreachable!(),
+    }
+}
+
+/// The first coordinate of the part past one of its own: by x, then by y, then by z.
+fn next_voxel(part: Bounds, p: Coord) -> Option<Coord>
+    requires { IsTrue (is_inside part p) }
+    ensures { IsNextVoxel part p result }
+{
+    let (least, most) = (part.min(), part.max());
+    if p.z < most.z {
+        return Some(Coord {
+            x: p.x,
+            y: p.y,
+            z: p.z + 1,
+        });
+    }
+    if p.y < most.y {
+        return Some(Coord {
+            x: p.x,
+            y: p.y + 1,
+            z: least.z,
+        });
+    }
+    if p.x < most.x {
+        return Some(Coord {
+            x: p.x + 1,
+            y: least.y,
+            z: least.z,
+        });
+    }
+    None
+}
+
+/// That coordinate, where the last one may lie beside the part. It halves the part until its least corner, which is its
+/// first coordinate, comes past the last one.
+fn first_beyond(bits: Bits, last: Option<Coord>, part: Bounds) -> Option<Coord>
     requires { AreBits bits }
     ensures { IsFirst bits (IsPastLast bits last) part result }
 {
@@ -34,8 +97,8 @@ pub(crate) fn first_past(bits: Bits, last: Option<Coord>, part: Bounds) -> Optio
     let Some((first, second)) = halves(part, bits) else {
         unreachable!()
     };
-    match first_past(bits, last, first) {
+    match first_beyond(bits, last, first) {
         Some(p) => Some(p),
-        None => first_past(bits, last, second),
+        None => first_beyond(bits, last, second),
     }
 }

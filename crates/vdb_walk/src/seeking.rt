@@ -1,6 +1,6 @@
 //! The next active voxel in block order.
 
-ghost use Rattle.std.specs.Prelude.{◌≡◌, ◌≤◌, ◌*◌, IfSome, IsTrue, Some};
+ghost use Rattle.std.specs.Prelude.{◌≡◌, ◌≤◌, ◌*◌, IfNone, IfSome, IsTrue, None, Some, true};
 ghost use Rattle.std.specs.List.{find};
 ghost use Rattle.std.specs.Option.{option_map};
 ghost use Rattle.vdb_coord.specs.Blocks.{entries, is_past, offset};
@@ -11,17 +11,19 @@ ghost use Rattle.vdb_node.specs.Leaf.{cell_in};
 ghost use Rattle.vdb_node.specs.Nodes.{IsOffFrom};
 ghost use Rattle.vdb_tree.specs.Layout.{bits_of, field_of};
 ghost use Rattle.vdb_value.specs.declared.Cell.{Cell};
-ghost use Rattle.vdb_walk.specs.Firsts.{IsActivePast, IsFirst, IsInLeafBlock, IsOnFrom, IsOnPast};
+ghost use Rattle.vdb_walk.specs.Firsts.{IsActivePast, IsFirst, IsInLeafBlock, IsOnFrom, IsOnPast, IsPastLast};
+ghost use Rattle.vdb_walk.specs.Listings.{HasCells, IsListing};
 ghost use Rattle.vdb_walk.specs.Reports.{active};
 
-use crate::counting::has_keys;
-use crate::halves::halves;
-use crate::order::{first_past, is_past};
+use crate::held::{Held, without_leaf};
+use crate::listing::list_past;
+use crate::order::first_past;
 use vdb_coord::{Bits, Bounds, Coord, Level};
 use vdb_mask::Mask;
-use vdb_node::{Leaf, Stored};
+use vdb_node::{Internal, Leaf, Stored};
 use vdb_pool::Steps;
-use vdb_tree::TreeOf;
+use vdb_tree::{Content, Part, Skip, TreeOf, Walk};
+use vdb_value::Cell;
 
 /// The first active voxel of the box past `after` in block order, or the first of all, with its value; `None` where there is
 /// none. It takes no memory, passes an inactive tile at once, and tells the voxels of a leaf by the words of its states.
@@ -41,45 +43,12 @@ pub fn next_active<
 ) -> Option<(Coord, V)>
     ensures { result ≡ find (λ item. is_past (bits_of U L F) after item.0) (active (bits_of U L F) (field_of (bits_of U L F) tree.now) bounds) }
 {
-    let Some(last) = after else {
-        return first_active(tree, None, bounds, steps);
-    };
-    if let Some(item) = first_near(tree, last, Level::Leaf, bounds, steps) {
-        return Some(item);
-    }
-    match first_near(tree, last, Level::Lower, bounds, steps) {
-        Some(item) => Some(item),
-        None => first_active(tree, Some(last), bounds, steps),
-    }
+    let mut listing = list_past(tree, after, bounds, 1, steps);
+    listing.next(steps)
 }
 
-/// The first active voxel of the box past the last one, if it lies in the level's block around that.
-fn first_near<
-    V: Stored<WU> + Stored<WL> + Stored<WF>,
-    const U: u32,
-    const L: u32,
-    const F: u32,
-    const WU: usize,
-    const WL: usize,
-    const WF: usize,
->(
-    tree: &TreeOf<V, U, L, F, WU, WL, WF>,
-    last: Coord,
-    level: Level,
-    bounds: Bounds,
-    steps: &mut Steps,
-) -> Option<(Coord, V)>
-    ensures first { IfSome result (λ item. IsFirst (bits_of U L F) (IsActivePast (bits_of U L F) (Some last) (field_of (bits_of U L F) tree.now)) bounds (Some item.0)) }
-    ensures value { IfSome result (λ item. item.1 ≡ ((field_of (bits_of U L F) tree.now).cell item.0).value) }
-{
-    match bounds.intersect(last.block_in(tree.bits(), level)) {
-        Some(near) => first_active(tree, Some(last), near, steps),
-        None => None,
-    }
-}
-
-/// The first active voxel of the part past `after`. It halves the part until each lies within one piece or one leaf.
-fn first_active<
+/// A walk over the parts with active voxels, from the one around `after` on.
+pub(crate) fn begun<
     V: Stored<WU> + Stored<WL> + Stored<WF>,
     const U: u32,
     const L: u32,
@@ -90,72 +59,94 @@ fn first_active<
 >(
     tree: &TreeOf<V, U, L, F, WU, WL, WF>,
     after: Option<Coord>,
-    part: Bounds,
+    bounds: Bounds,
     steps: &mut Steps,
+) -> Walk<Internal<V, U, WU>, Internal<V, L, WL>, Leaf<V, F, WF>>
+    ensures listing { IsListing (bits_of U L F) tree.now after result None }
+    ensures bounds { result.box ≡ bounds }
+{
+    match after {
+        Some(after) => tree.parts_from(bounds, Skip::Inactive, after, steps),
+        None => tree.parts(bounds, Skip::Inactive),
+    }
+}
+
+/// The first active voxel past `after` in what is left of the walk, with the part that it is in, which the walk yields last.
+pub(crate) fn next_found<
+    V: Stored<WU> + Stored<WL> + Stored<WF>,
+    const U: u32,
+    const L: u32,
+    const F: u32,
+    const WU: usize,
+    const WL: usize,
+    const WF: usize,
+>(
+    tree: &TreeOf<V, U, L, F, WU, WL, WF>,
+    after: Option<Coord>,
+    walk: &mut Walk<Internal<V, U, WU>, Internal<V, L, WL>, Leaf<V, F, WF>>,
+    steps: &mut Steps,
+) -> Option<(Held<V>, (Coord, V))>
+    requires { IsListing (bits_of U L F) tree.now after walk.old None }
+    ensures first { IsFirst (bits_of U L F) (IsActivePast (bits_of U L F) after (field_of (bits_of U L F) tree.now)) walk.old.box (option_map (λ found. found.1.0) result) }
+    ensures value { IfSome result (λ found. found.1.1 ≡ ((field_of (bits_of U L F) tree.now).cell found.1.0).value) }
+    ensures bounds { walk.new.box ≡ walk.old.box }
+    ensures some { IfSome result (λ found. IsListing (bits_of U L F) tree.now after walk.new (Some found.0)) }
+    ensures none { IfNone result (IsListing (bits_of U L F) tree.now after walk.new None) }
+{
+    'parts: while let Some(part) = tree.next_part(walk, steps) {
+        let held = without_leaf(&part);
+        if let Some(item) = first_in(tree, after, part) {
+            return Some((held, item));
+        }
+    }
+    None
+}
+
+/// The first active voxel of the part past `after`.
+pub(crate) fn first_in<
+    V: Stored<WU> + Stored<WL> + Stored<WF>,
+    const U: u32,
+    const L: u32,
+    const F: u32,
+    const WU: usize,
+    const WL: usize,
+    const WF: usize,
+>(
+    tree: &TreeOf<V, U, L, F, WU, WL, WF>,
+    after: Option<Coord>,
+    part: Part<V, &Leaf<V, F, WF>>,
 ) -> Option<(Coord, V)>
-    ensures first { IsFirst (bits_of U L F) (IsActivePast (bits_of U L F) after (field_of (bits_of U L F) tree.now)) part (option_map (λ item. item.0) result) }
+    requires { HasCells (bits_of U L F) tree.now part }
+    ensures first { IsFirst (bits_of U L F) (IsActivePast (bits_of U L F) after (field_of (bits_of U L F) tree.now)) part.entry.bounds (option_map (λ item. item.0) result) }
     ensures value { IfSome result (λ item. item.1 ≡ ((field_of (bits_of U L F) tree.now).cell item.0).value) }
 {
     let bits = tree.bits();
-    if !is_past(bits, after, part.max()) {
-        return None;
-    }
-    if !has_keys(tree, part) {
-        return None;
-    }
-    let piece = tree.piece(part.min(), steps);
-    if piece.bounds.covers(part) {
-        if !piece.cell.on {
-            return None;
+    let Part { bounds, content } = part;
+    match content {
+        Content::Tile(cell) => first_in_tile(cell, bits, after, bounds),
+        Content::Leaf(leaf) => {
+            tree.has_leaf_words();
+            first_in_leaf(leaf, bits, after, bounds)
         }
-        return match first_past(bits, after, part) {
-            Some(p) => Some((p, piece.cell.value)),
-            None => None,
-        };
-    }
-    if let Some(found) = first_by_leaf(tree, after, part, steps) {
-        return found;
-    }
-    match halves(part, bits) {
-        Some((first, second)) => match first_active(tree, after, first, steps) {
-            Some(item) => Some(item),
-            None => first_active(tree, after, second, steps),
-        },
-        None => unreachable!(),
     }
 }
 
-/// The first active voxel of the part past `after`, if the part lies in the block of a leaf.
-fn first_by_leaf<
-    V: Stored<WU> + Stored<WL> + Stored<WF>,
-    const U: u32,
-    const L: u32,
-    const F: u32,
-    const WU: usize,
-    const WL: usize,
-    const WF: usize,
->(
-    tree: &TreeOf<V, U, L, F, WU, WL, WF>,
+/// The first active voxel of the part past `after`, where the part has this cell all over.
+fn first_in_tile<V: Copy>(
+    cell: Cell<V>,
+    bits: Bits,
     after: Option<Coord>,
     part: Bounds,
-    steps: &mut Steps,
-) -> Option<Option<(Coord, V)>>
-    ensures first { IfSome result (λ found. IsFirst (bits_of U L F) (IsActivePast (bits_of U L F) after (field_of (bits_of U L F) tree.now)) part (option_map (λ item. item.0) found)) }
-    ensures value { IfSome result (λ found. IfSome found (λ item. item.1 ≡ ((field_of (bits_of U L F) tree.now).cell item.0).value)) }
+) -> Option<(Coord, V)>
+    requires { AreBits bits }
+    ensures first { IsFirst bits (λ q. IsPastLast bits after q × (cell.on ≡ true)) part (option_map (λ item. item.0) result) }
+    ensures value { IfSome result (λ item. item.1 ≡ cell.value) }
 {
-    let (bits, corner) = (tree.bits(), part.min());
-    if !corner.block_in(bits, Level::Leaf).covers(part) {
+    if !cell.on {
         return None;
     }
-    // never so: the masks of each tree have room for its entries
-    if WF > 512 {
-        return None;
-    }
-    if usize::from(bits.entries(Level::Leaf)) > 64 * WF {
-        return None;
-    }
-    match tree.leaf(corner, steps) {
-        Some(leaf) => Some(first_in_leaf(leaf, bits, after, part)),
+    match first_past(bits, after, part) {
+        Some(p) => Some((p, cell.value)),
         None => None,
     }
 }

@@ -9,7 +9,7 @@ ghost use Rattle.vdb_coord.specs.declared.Level.TheVariants.{Leaf as leaf_level}
 ghost use Rattle.vdb_node.specs.Nodes.{IsOffFrom};
 ghost use Rattle.vdb_tree.specs.Layout.{bits_of, field_of};
 ghost use Rattle.vdb_tree.specs.Parts.{IsPartOfLeaf};
-ghost use Rattle.vdb_walk.specs.Firsts.{IsInLeafBlock};
+ghost use Rattle.vdb_walk.specs.Voxels.{IsInFirstBlock};
 ghost use Rattle.vdb_walk.specs.Reports.{IsActiveBounds};
 ghost use Rattle.vdb_walk.specs.Surround.{Surrounds, is_in, is_wanted, is_wanted_by};
 
@@ -113,7 +113,7 @@ fn around_voxels<const W: usize>(
     requires few_words { W ≤ 512 }
     requires past_end { IsOffFrom states.now (entries bits leaf_level) }
     requires past_words { IsOffFrom states.now (64 * W) }
-    requires block { IsInLeafBlock bits part }
+    requires block { IsInFirstBlock bits part }
     ensures least { Surrounds (is_wanted_by bits states.now found part) result }
     ensures order { IfSome result (λ box. IsTrue (is_box box)) }
 {

@@ -5,8 +5,7 @@ ghost use Rattle.vdb_coord.specs.Blocks.{entries};
 ghost use Rattle.vdb_coord.specs.Entries.{AreBits};
 ghost use Rattle.vdb_coord.specs.declared.Level.TheVariants.{Leaf as leaf_level};
 ghost use Rattle.vdb_node.specs.Nodes.{IsOffFrom};
-ghost use Rattle.vdb_walk.specs.Firsts.{IsInLeafBlock};
-ghost use Rattle.vdb_walk.specs.Voxels.{IsNextSet};
+ghost use Rattle.vdb_walk.specs.Voxels.{IsInFirstBlock, IsNextSet};
 
 use vdb_coord::{Bits, Bounds, Coord, Level};
 use vdb_mask::Mask;
@@ -23,7 +22,7 @@ pub(crate) fn next_set<const W: usize>(
     requires few_words { W ≤ 512 }
     requires past_end { IsOffFrom states.now (entries bits leaf_level) }
     requires past_words { IsOffFrom states.now (64 * W) }
-    requires block { IsInLeafBlock bits part }
+    requires block { IsInFirstBlock bits part }
     requires from_within { from ≤ 64 * W }
     ensures next { IsNextSet bits states.now part from result }
     ensures within { IfSome result (λ next. next.0 < 64 * W) }

@@ -1,24 +1,17 @@
-use Rattle.std.proofs.Common.{None, Some}
+use Rattle.std.proofs.Common.{rules}
 use Rattle.vdb_tree.specs.Layout.{bits_of, field_of}
-use Rattle.vdb_walk.proofs.InOrder.{first_found}
+use Rattle.vdb_walk.specs.Reports.{active}
+use Rattle.vdb_walk.proofs.ListingSizes.{listing_small}
+use Rattle.vdb_walk.proofs.HandedOut.{first_handed_out}
 use Rattle.vdb_walk.proofs.seeking.next_active.Goals as goal
 
-pub returns-in_default : goal.returns-in_default
-returns-in_default g c =
-    let bits = bits_of g.row.U g.row.L g.row.F in
-    rw c.in_default.is (first_found bits (field_of bits c.args.tree.now) c.args.bounds None c.first_active.result c.first_active.ensures.first c.first_active.ensures.value)
+pub list_past-listing-requires : goal.list_past-listing-requires
+list_past-listing-requires g c = let small = g.met.V.Voxel.small in (search rules, listing_small _ _ _ small.1 small.1 small.0)
 
-pub returns-in-Some-first_near : goal.returns-in-Some-first_near
-returns-in-Some-first_near g c =
-    let bits = bits_of g.row.U g.row.L g.row.F in
-    rw c.in-Some.is (first_found bits (field_of bits c.args.tree.now) c.args.bounds (Some c.in-Some.last) (Some c.in-Some-first_near.item) c.in-Some-first_near.ensures.first c.in-Some-first_near.ensures.value)
+pub next-requires : goal.next-requires
+next-requires g c = let small = g.met.V.Voxel.small in listing_small _ _ _ small.1 small.1 small.0
 
-pub returns-in-Some-first_near-2 : goal.returns-in-Some-first_near-2
-returns-in-Some-first_near-2 g c =
+pub returns : goal.returns
+returns g c =
     let bits = bits_of g.row.U g.row.L g.row.F in
-    rw c.in-Some.is (first_found bits (field_of bits c.args.tree.now) c.args.bounds (Some c.in-Some.last) (Some c.in-Some-first_near-2.item) c.in-Some-first_near-2.ensures.first c.in-Some-first_near-2.ensures.value)
-
-pub returns-in-None : goal.returns-in-None
-returns-in-None g c =
-    let bits = bits_of g.row.U g.row.L g.row.F in
-    rw c.in-Some.is (first_found bits (field_of bits c.args.tree.now) c.args.bounds (Some c.in-Some.last) c.first_active-in-None.result c.first_active-in-None.ensures.first c.first_active-in-None.ensures.value)
+    first_handed_out bits c.args.after (active bits (field_of bits c.args.tree.now) c.args.bounds) c.list_past-listing.result c.next.new.self c.next.result c.list_past-listing.ensures c.next.ensures

@@ -6,7 +6,7 @@ use Rattle.vdb_coord.proofs.Places.{entries_is}
 use Rattle.vdb_node.specs.Nodes.{IsOffFrom}
 use Rattle.vdb_tree.specs.Field.{Field}
 use Rattle.vdb_tree.specs.Layout.{bits_of, field_of}
-use Rattle.vdb_walk.specs.Firsts.{IsInLeafBlock}
+use Rattle.vdb_walk.specs.Voxels.{IsInFirstBlock}
 use Rattle.vdb_walk.proofs.Surrounds.{by_states, kept}
 use Rattle.vdb_walk.proofs.VoxelCounts.{has_states, in_one_block}
 use Rattle.vdb_walk.proofs.surround.around_leaf.Goals as goal
@@ -28,7 +28,7 @@ around_voxels-requires g c =
             subst (λ (s : List Bool). IsOffFrom s (entries c.bits.result Leaf)) (sym c.copied.ensures.same) (subst (λ (b : Bits). IsOffFrom c.states.result.now (entries b Leaf)) (sym c.bits.ensures.value) past_end),
             (
               c.copied.ensures.past_end,
-              subst (λ (b : Bits). IsInLeafBlock b c.args.part) (sym c.bits.ensures.value)
+              subst (λ (b : Bits). IsInFirstBlock b c.args.part) (sym c.bits.ensures.value)
                   (in_one_block bits (field_of bits c.args.tree.now) c.args.part c.args.leaf.now c.requires.leaf (search rules)),
             ),
           ),
