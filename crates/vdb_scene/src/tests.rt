@@ -2,6 +2,7 @@
 
 mod boxes;
 mod reports;
+mod slices;
 
 use super::*;
 use std::process::Abort;
