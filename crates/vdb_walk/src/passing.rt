@@ -1,6 +1,6 @@
 //! The pieces of a tree in block order, one after another.
 
-ghost use Rattle.std.specs.Prelude.{◌≡◌, IfSome, IsSome, IsTrue};
+ghost use Rattle.std.specs.Prelude.{◌≡◌, ◌+◌, ◌≤◌, IfSome, IsSome, IsTrue};
 ghost use Rattle.std.specs.Option.{option_map, option_or};
 ghost use Rattle.vdb_coord.specs.Blocks.{key};
 ghost use Rattle.vdb_coord.specs.Entries.{AreBits};
@@ -77,6 +77,7 @@ impl<
         ensures piece { IsNextPiece (bits_of U L F) self.old result }
         ensures tree { self.new.tree ≡ self.old.tree }
         ensures last { self.new.last ≡ option_or (option_map (λ piece. piece.bounds.max) result) self.old.last }
+        ensures steps { steps.new ≤ steps.old + 3 }
     {
         match first_ahead(self.tree, self.last) {
             Some(p) => {
