@@ -2,7 +2,7 @@
 pub mod Counts
 pub mod Cuts
 pub mod Keys
-pub mod Numbered
+pub mod MixedBlocks
 pub mod Surrounds
 pub mod BoxOrder
 pub mod Firsts

@@ -2,7 +2,7 @@
 pub mod Halves
 pub mod Reports
 pub mod Passing
-pub mod Numbers
+pub mod BlocksFrom
 pub mod Surround
 pub mod Firsts
 pub mod Voxels

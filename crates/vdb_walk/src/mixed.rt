@@ -1,28 +1,24 @@
 //! The entries and nodes that a field needs, counted in a tree.
 
-ghost use Rattle.std.specs.Prelude.{◌≡◌, ◌≤◌, ◌^◌, IfSome, IsNone, IsTrue};
-ghost use Rattle.vdb_coord.specs.Blocks.{block_numbers};
-ghost use Rattle.vdb_coord.specs.Boxes.{is_bounds};
-ghost use Rattle.vdb_coord.specs.Entries.{AreBits};
-ghost use Rattle.vdb_coord.specs.Space.{is_inside};
-ghost use Rattle.vdb_coord.specs.declared.Coord.{Coord};
+ghost use Rattle.std.specs.Prelude.{◌≡◌, ◌+◌, ◌<◌, ◌≤◌, cond, IfSome, IsTrue, Some};
+ghost use Rattle.vdb_coord.specs.Order.{coordinates_past};
+ghost use Rattle.vdb_coord.specs.Space.{everywhere, is_inside};
 ghost use Rattle.vdb_tree.specs.Layout.{bits_of, field_of};
+ghost use Rattle.vdb_tree.specs.Parts.{IsWalk};
 ghost use Rattle.vdb_tree.specs.Plain.{mixed};
-ghost use Rattle.vdb_walk.specs.Halves.{IsHalved};
-ghost use Rattle.vdb_walk.specs.Numbers.{mixed_among, spanned};
+ghost use Rattle.vdb_walk.specs.BlocksFrom.{IsBlockAt, IsBlockStart, IsPartStart, IsPlainTo, mixed_from};
 ghost use Rattle.vdb_walk.specs.Reports.{census as census_of};
 
 use crate::Census;
-use crate::counting::has_keys;
-use crate::halves::cut;
-use vdb_coord::{Bits, Bounds, Level};
-use vdb_node::Stored;
+use vdb_coord::{Bounds, Coord, Level};
+use vdb_node::{Internal, Leaf, Stored};
 use vdb_pool::Steps;
-use vdb_tree::TreeOf;
+use vdb_tree::{Skip, TreeOf, Walk};
 
 /// The entries and nodes that the tree's field needs: what `node_counts` says after a prune, found without one (OpenVDB's
-/// `Tree::nodeCount` after `tools::prune`). A tile counts at once, and a block up to the first difference that is found in it.
-/// It takes no memory.
+/// `Tree::nodeCount` after `tools::prune`). For each level it goes along what stands in the tree: from the table's entries down to
+/// the blocks of the level that aren't the background, each of which it visits up to the first difference that is found in it; a
+/// tile of a level above counts at once, and nothing is visited where no entry stands. It takes no memory.
 pub fn census<
     V: Stored<WU> + Stored<WL> + Stored<WF>,
     const U: u32,
@@ -59,10 +55,19 @@ fn mixed_blocks<
     ensures { result ≡ mixed V.eq (bits_of U L F) level (field_of (bits_of U L F) tree.now) }
 {
     if node_count(tree, level) == 0 {
-        return 0;
+        return 0; // and the sum is no greater than that count
     }
-    let numbers = Bounds::all().block_numbers_in(tree.bits(), level);
-    mixed_in(tree, level, numbers, steps) as u64
+    let _ = tree.bits(); // the proof learns from it that blocks lie in the range
+    let mut total = 0;
+    let mut at = Some(Bounds::all().min());
+    'places: while let Some(p) = at {
+        let (differs, next) = next_block(tree, level, p, steps);
+        if differs {
+            total += 1;
+        }
+        at = next;
+    }
+    total
 }
 
 /// How many nodes of the level there are, each over a block of its own: no fewer than blocks whose cells differ.
@@ -85,9 +90,9 @@ fn node_count<
     }
 }
 
-/// How many of the level's blocks with these numbers have cells that differ. It cuts the box of numbers in two until its blocks
-/// lie within one piece of the tree, or it is one block.
-fn mixed_in<
+/// Whether the cells differ of the first block from a place on that isn't passed over, and the place past it. Passed over are
+/// blocks of the background, inactive, and a tile of a level above counts as one block.
+fn next_block<
     V: Stored<WU> + Stored<WL> + Stored<WF>,
     const U: u32,
     const L: u32,
@@ -95,59 +100,102 @@ fn mixed_in<
     const WU: usize,
     const WL: usize,
     const WF: usize,
->(tree: &TreeOf<V, U, L, F, WU, WL, WF>, level: Level, numbers: Bounds, steps: &mut Steps) -> u128
-    requires { (n : Coord) → IsTrue (is_inside numbers n) → IsTrue (is_inside (block_numbers (bits_of U L F) level) n) }
-    ensures value { result ≡ mixed_among V.eq (bits_of U L F) level (field_of (bits_of U L F) tree.now) numbers }
-    ensures bound { result ≤ 2 ^ 96 }
+>(
+    tree: &TreeOf<V, U, L, F, WU, WL, WF>,
+    level: Level,
+    p: Coord,
+    steps: &mut Steps,
+) -> (bool, Option<Coord>)
+    requires { IsBlockStart (bits_of U L F) level p }
+    ensures counted { cond result.0 1 0 + mixed_from V.eq (bits_of U L F) level (field_of (bits_of U L F) tree.now) result.1 ≡ mixed_from V.eq (bits_of U L F) level (field_of (bits_of U L F) tree.now) (Some p) }
+    ensures start { IfSome result.1 (IsBlockStart (bits_of U L F) level) }
+    ensures nearer { IfSome result.1 (λ next. coordinates_past (bits_of U L F) next < coordinates_past (bits_of U L F) p) }
 {
-    let part = blocks_box(numbers, tree.bits(), level);
-    let corner = part.min();
-    if tree.piece(corner, steps).bounds.covers(part) {
-        return 0;
-    }
-    if let Some((first, second)) = number_halves(numbers, tree.bits(), level) {
-        if !has_keys(tree, part) {
-            return 0;
+    let bits = tree.bits();
+    match place_from(tree, p, steps) {
+        Some(q) => {
+            let (outer, differs) = block_at(tree, level, q, steps);
+            (differs, Bounds::all().next_place_in(bits, outer, q))
         }
-        return mixed_in(tree, level, first, steps) + mixed_in(tree, level, second, steps);
-    }
-    if tree.constant(level, corner, steps).is_some() {
-        0
-    } else {
-        1
+        None => (false, None),
     }
 }
 
-/// The box of the coordinates of the level's blocks with these numbers.
-fn blocks_box(numbers: Bounds, bits: Bits, level: Level) -> Bounds
-    requires configured { AreBits bits }
-    requires within { (n : Coord) → IsTrue (is_inside numbers n) → IsTrue (is_inside (block_numbers bits level) n) }
-    ensures value { result ≡ spanned bits level numbers }
-    ensures numbers { IsTrue (is_bounds numbers) }
+/// The first coordinate from a place on of the tiles and leaves that aren't passed over.
+fn place_from<
+    V: Stored<WU> + Stored<WL> + Stored<WF>,
+    const U: u32,
+    const L: u32,
+    const F: u32,
+    const WU: usize,
+    const WL: usize,
+    const WF: usize,
+>(tree: &TreeOf<V, U, L, F, WU, WL, WF>, p: Coord, steps: &mut Steps) -> Option<Coord>
+    requires { IsTrue (is_inside everywhere p) }
+    ensures { IsPlainTo (bits_of U L F) tree.now p result }
 {
-    let first = numbers.min().numbered_block_in(bits, level);
-    let last = numbers.max().numbered_block_in(bits, level);
-    match Bounds::new(first.min(), last.max()) {
-        Some(part) => part,
-        None => unreachable!(),
+    let (_, bits) = (tree.mask_words(), tree.bits()); // the proof learns from it that nodes are small
+    let mut walk = tree.parts_from(Bounds::all(), Skip::Background, p, steps);
+    match part_from(tree, &mut walk, steps) {
+        Some(q) => {
+            if q.block_cmp_in(bits, &p).is_lt() {
+                Some(p)
+            } else {
+                Some(q)
+            }
+        }
+        None => None,
     }
 }
 
-/// The numbers of the level's blocks in two parts, cut along an edge of root blocks if there is one, else of lower blocks, else
-/// anywhere; `None` where there is one number. So no tile is cut before all blocks lie within its block.
-fn number_halves(numbers: Bounds, bits: Bits, level: Level) -> Option<(Bounds, Bounds)>
-    requires { AreBits bits }
-    ensures some { IfSome result (λ parts. IsHalved numbers parts.0 parts.1) }
-    ensures none { IsNone result → numbers.min ≡ numbers.max }
+/// The first coordinate of the next part of a walk.
+fn part_from<
+    V: Stored<WU> + Stored<WL> + Stored<WF>,
+    const U: u32,
+    const L: u32,
+    const F: u32,
+    const WU: usize,
+    const WL: usize,
+    const WF: usize,
+>(
+    tree: &TreeOf<V, U, L, F, WU, WL, WF>,
+    walk: &mut Walk<Internal<V, U, WU>, Internal<V, L, WL>, Leaf<V, F, WF>>,
+    steps: &mut Steps,
+) -> Option<Coord>
+    requires upper { WU ≤ 512 }
+    requires lower { WL ≤ 512 }
+    requires leaf { WF ≤ 512 }
+    requires walk { IsWalk (bits_of U L F) tree.now walk.old }
+    ensures { IsPartStart (bits_of U L F) tree.now walk.old result }
 {
-    let block = bits.block_bits(level);
-    let upper = bits.block_bits(Level::Upper).saturating_sub(block);
-    if let Some(parts) = cut(numbers, upper) {
-        return Some(parts);
+    match tree.next_part(walk, steps) {
+        Some(part) => Some(part.bounds.min()),
+        None => None,
     }
-    let lower = bits.block_bits(Level::Lower).saturating_sub(block);
-    if let Some(parts) = cut(numbers, lower) {
-        return Some(parts);
+}
+
+/// The level's block around a coordinate, or that of a level above if it lies in a tile of that level; and whether its cells
+/// differ.
+fn block_at<
+    V: Stored<WU> + Stored<WL> + Stored<WF>,
+    const U: u32,
+    const L: u32,
+    const F: u32,
+    const WU: usize,
+    const WL: usize,
+    const WF: usize,
+>(tree: &TreeOf<V, U, L, F, WU, WL, WF>, level: Level, q: Coord, steps: &mut Steps) -> (Level, bool)
+    ensures { IsBlockAt V.eq (bits_of U L F) level (field_of (bits_of U L F) tree.now) q result.0 result.1 }
+{
+    let bits = tree.bits();
+    let piece = tree.piece(q, steps).bounds;
+    if piece.covers(q.block_in(bits, Level::Upper)) {
+        return (Level::Upper, false);
     }
-    cut(numbers, 0)
+    if let Level::Leaf = level {
+        if piece.covers(q.block_in(bits, Level::Lower)) {
+            return (Level::Lower, false);
+        }
+    }
+    (level, tree.constant(level, q, steps).is_none())
 }

@@ -1,0 +1,43 @@
+-- The blocks of a level from a place on. Only proofs and private functions speak of these.
+use Rattle.std.specs.Prelude.{◌≡◌, ℕ, Bool, true, not, ◌&&◌, Option, Some, None, IsTrue, count_by}
+use Rattle.vdb_coord.specs.Blocks.{block, block_around, block_number, block_numbers}
+use Rattle.vdb_coord.specs.Order.{ComesBefore}
+use Rattle.vdb_coord.specs.Space.{coordinates, everywhere, is_inside}
+use Rattle.vdb_coord.specs.declared.Bits.{Bits}
+use Rattle.vdb_coord.specs.declared.Coord.{Coord}
+use Rattle.vdb_coord.specs.declared.Level.{Level}
+use Rattle.vdb_tree.specs.Field.{Field, off}
+use Rattle.vdb_tree.specs.Layout.{Layout, field_of}
+use Rattle.vdb_tree.specs.Parts.{IsSkipped, TreeWalk, is_left}
+use Rattle.vdb_tree.specs.Plain.{is_constant}
+
+-- p is the first coordinate, in block order, of the level's block around it
+pub record IsBlockStart (bits : Bits) (level : Level) (p : Coord) : Type 0 where
+  pub inside : IsTrue (is_inside everywhere p)
+  pub first : (q : Coord) → IsTrue (is_inside everywhere q) → ComesBefore bits q p → block_number bits level q ≡ block_number bits level p → ⊥
+
+-- q is p or comes after it, and each coordinate from p on and before q is the background, inactive; all are where there is no q
+abbrev pub IsPlainTo : {V : Type 0} → Bits → Layout V → Coord → Option Coord → Type 0
+IsPlainTo bits t p None = (r : Coord) → IsTrue (is_inside everywhere r) → IsTrue (is_left bits (Some p) r) → (field_of bits t).cell r ≡ off t.background
+IsPlainTo bits t p (Some q) =
+    IsTrue (is_inside everywhere q) × IsTrue (is_left bits (Some p) q)
+    × ((r : Coord) → IsTrue (is_inside everywhere r) → IsTrue (is_left bits (Some p) r) → ComesBefore bits r q → (field_of bits t).cell r ≡ off t.background)
+
+-- q is the first coordinate of the next part of the walk: what was left and comes before it may be passed over; all of it where
+-- no part is left
+abbrev pub IsPartStart : {V : Type 0} → Bits → Layout V → TreeWalk V → Option Coord → Type 0
+IsPartStart bits t walk None = (r : Coord) → IsTrue (is_inside walk.box r) → IsTrue (is_left bits walk.at r) → IsSkipped bits walk.skip t r
+IsPartStart bits t walk (Some q) =
+    IsTrue (is_inside walk.box q)
+    × ((r : Coord) → IsTrue (is_inside walk.box r) → IsTrue (is_left bits walk.at r) → ComesBefore bits r q → IsSkipped bits walk.skip t r)
+
+module _ {V : Type 0} (eq : V → V → Bool) (bits : Bits) (level : Level) (f : Field V) where
+  -- how many of the level's blocks that begin at the place or past it aren't constant; none where there is no place
+  abbrev pub mixed_from : Option Coord → ℕ
+  mixed_from at = count_by (λ n. not (is_constant eq f (block bits level n)) && is_left bits at (block bits level n).min) (coordinates (block_numbers bits level))
+
+  -- the outer block around q holds the level's, and the test tells whether its cells differ, which is so of no other level
+  pub record IsBlockAt (q : Coord) (outer : Level) (differs : Bool) : Type 0 where
+    pub whole : (r s : Coord) → block_number bits level r ≡ block_number bits level s → block_number bits outer r ≡ block_number bits outer s
+    pub test : differs ≡ not (is_constant eq f (block_around bits outer q))
+    pub own : differs ≡ true → outer ≡ level
