@@ -1,5 +1,5 @@
 -- The first coordinate of a box in block order, of those of some kind. The calls of this crate alone speak of it.
-use Rattle.std.specs.Prelude.{◌≡◌, ◌⊎◌, ◌≤◌, Bool, true, false, IsTrue, List, Option, Some, None, IsSome}
+use Rattle.std.specs.Prelude.{◌≡◌, ◌⊎◌, ◌↔◌, ◌≤◌, ℕ, Bool, true, false, IsTrue, List, Option, Some, None, IsSome}
 use Rattle.std.specs.Ordering.{is_lt}
 use Rattle.vdb_coord.specs.Blocks.{block_cmp, block_number, is_past, key, offset}
 use Rattle.vdb_coord.specs.Space.{Box, everywhere, is_inside}
@@ -35,9 +35,9 @@ IsActivePast bits after f q = IsPastLast bits after q × ((f.cell q).on ≡ true
 abbrev pub IsOnPast : Bits → Option Coord → List Bool → Coord → Type 0
 IsOnPast bits after states q = IsPastLast bits after q × (is_on states (offset bits Leaf q) ≡ true)
 
--- from the leaf's entry of p on, and on in its states
-abbrev pub IsOnFrom : Bits → Coord → List Bool → Coord → Type 0
-IsOnFrom bits p states q = (offset bits Leaf p ≤ offset bits Leaf q) × (is_on states (offset bits Leaf q) ≡ true)
+-- of the box, what comes past the last coordinate stands in the leaf from this entry on
+abbrev pub IsEntryPast : Bits → Option Coord → Box → ℕ → Type 0
+IsEntryPast bits after box from = (q : Coord) → IsTrue (is_inside box q) → IsPastLast bits after q ↔ (from ≤ offset bits Leaf q)
 
 -- the box lies in one leaf block
 abbrev pub IsInLeafBlock : Bits → Box → Type 0

@@ -1,25 +1,23 @@
 //! The next active voxel in block order.
 
-ghost use Rattle.std.specs.Prelude.{◌≡◌, ◌≤◌, ◌*◌, IfNone, IfSome, IsTrue, None, Some, true};
+ghost use Rattle.std.specs.Prelude.{◌≡◌, ◌≤◌, ◌*◌, IfNone, IfSome, None, Some, true};
 ghost use Rattle.std.specs.List.{find};
 ghost use Rattle.std.specs.Option.{option_map};
 ghost use Rattle.vdb_coord.specs.Blocks.{entries, is_past, offset};
 ghost use Rattle.vdb_coord.specs.Entries.{AreBits};
-ghost use Rattle.vdb_coord.specs.Space.{is_inside};
 ghost use Rattle.vdb_coord.specs.declared.Level.TheVariants.{Leaf as leaf_level};
 ghost use Rattle.vdb_node.specs.Leaf.{cell_in};
-ghost use Rattle.vdb_node.specs.Nodes.{IsOffFrom};
 ghost use Rattle.vdb_tree.specs.Layout.{bits_of, field_of};
 ghost use Rattle.vdb_value.specs.declared.Cell.{Cell};
-ghost use Rattle.vdb_walk.specs.Firsts.{IsActivePast, IsFirst, IsInLeafBlock, IsOnFrom, IsOnPast, IsPastLast};
+ghost use Rattle.vdb_walk.specs.Firsts.{IsActivePast, IsFirst, IsEntryPast, IsInLeafBlock, IsOnPast, IsPastLast};
 ghost use Rattle.vdb_walk.specs.Listings.{HasCells, IsListing};
 ghost use Rattle.vdb_walk.specs.Reports.{active};
 
 use crate::held::{Held, without_leaf};
 use crate::listing::list_past;
 use crate::order::first_past;
+use crate::voxels::next_set;
 use vdb_coord::{Bits, Bounds, Coord, Level};
-use vdb_mask::Mask;
 use vdb_node::{Internal, Leaf, Stored};
 use vdb_pool::Steps;
 use vdb_tree::{Content, Part, Skip, TreeOf, Walk};
@@ -166,41 +164,47 @@ fn first_in_leaf<V: Stored<W>, const F: u32, const W: usize>(
     ensures first { IsFirst bits (IsOnPast bits after leaf.now.states) part (option_map (λ item. item.0) result) }
     ensures value { IfSome result (λ item. (d : Cell V) → item.1 ≡ (cell_in d leaf.now (offset bits leaf_level item.0)).value) }
 {
-    let start = match first_past(bits, after, part) {
-        Some(start) => start,
+    let from = match entry_past(bits, after, part) {
+        Some(from) => from,
         None => return None,
     };
-    match first_on(leaf.states(), bits, part, start) {
-        Some(p) => {
-            let offset = u32::from(p.offset_in(bits, Level::Leaf));
-            Some((p, leaf.entry(offset).value))
-        }
+    match next_set(leaf.states(), bits, part, from) {
+        Some((entry, p)) => Some((p, leaf.entry(entry).value)),
         None => None,
     }
 }
 
-/// The first coordinate of the part from `start` on that is on, where the part lies in the leaf block of these states.
-fn first_on<const W: usize>(
-    states: &Mask<W>,
-    bits: Bits,
-    part: Bounds,
-    start: Coord,
-) -> Option<Coord>
+/// The first entry of the leaf past `after`, for the coordinates of the part, which lies in the leaf's block; `None` where none
+/// of them comes past it.
+fn entry_past(bits: Bits, after: Option<Coord>, part: Bounds) -> Option<u32>
     requires configured { AreBits bits }
-    requires few_words { W ≤ 512 }
-    requires room { entries bits leaf_level ≤ 64 * W }
-    requires past_end { IsOffFrom states.now (entries bits leaf_level) }
     requires block { IsInLeafBlock bits part }
-    requires inside { IsTrue (is_inside part start) }
-    ensures { IsFirst bits (IsOnFrom bits start states.now) part result }
+    ensures past { IfSome result (IsEntryPast bits after part) }
+    ensures within { IfSome result (λ from. from ≤ entries bits leaf_level) }
+    ensures none { IfNone result (IsFirst bits (IsPastLast bits after) part None) }
 {
-    let mut from = u32::from(start.offset_in(bits, Level::Leaf));
-    while let Some(index) = states.next_on(from) {
-        let p = start.entry_block_in(bits, Level::Leaf, index as u16).min();
-        if part.contains(p) {
-            return Some(p);
+    match after {
+        Some(p) => {
+            if part.contains(p) {
+                Some(u32::from(p.offset_in(bits, Level::Leaf)) + 1)
+            } else {
+                first_entry(bits, after, part)
+            }
         }
-        from = index + 1;
+        None => first_entry(bits, after, part),
     }
-    None
+}
+
+/// That entry, where the last one may lie beside the part.
+fn first_entry(bits: Bits, after: Option<Coord>, part: Bounds) -> Option<u32>
+    requires configured { AreBits bits }
+    requires block { IsInLeafBlock bits part }
+    ensures past { IfSome result (IsEntryPast bits after part) }
+    ensures within { IfSome result (λ from. from ≤ entries bits leaf_level) }
+    ensures none { IfNone result (IsFirst bits (IsPastLast bits after) part None) }
+{
+    match first_past(bits, after, part) {
+        Some(start) => Some(u32::from(start.offset_in(bits, Level::Leaf))),
+        None => None,
+    }
 }
