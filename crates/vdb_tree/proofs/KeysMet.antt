@@ -20,7 +20,7 @@ use Rattle.vdb_tree.proofs.Levels.{some_held}
 use Rattle.vdb_tree.proofs.Needed.{some_or_none}
 use Rattle.vdb_tree.proofs.RootCounts.{at_least}
 
-not_greater : (o : Ordering) → is_eq o ≡ true → is_gt o ≡ false
+pub not_greater : (o : Ordering) → is_eq o ≡ true → is_gt o ≡ false
 not_greater Less h = refl
 not_greater Equal h = refl
 not_greater Greater h = cc
@@ -41,11 +41,6 @@ none_not None h = refl
 none_not (Some x) h = cc
 
 module _ {V : Type 0} (bits : Bits) (box : Box) (root : List (Coord × Entry V)) where
-  -- the least key is one that no other comes before
-  pub met_from : (after o : Option Coord) → IsNextKey root after o → IsNextMet bits box root after o
-  met_from after None next = λ k past met. next k past
-  met_from after (Some n) next = (next.0, next.1, λ k past met held. next.2 k past held)
-
   -- the key of a coordinate of the box comes no earlier than that of its least corner
   from_first : (q : Coord) → IsTrue (is_inside box q) → (key bits q ≡ key bits box.min) ⊎ (coord_cmp (key bits box.min) (key bits q) ≡ Less)
   from_first q inside = elim (which_before (key bits q) (key bits box.min)) [
@@ -68,32 +63,16 @@ module _ {V : Type 0} (bits : Bits) (box : Box) (root : List (Coord × Entry V))
   )
 
   -- where it has none, the next past it is
-  pub met_past_first : root_at root (key bits box.min) ≡ None → (o : Option Coord) → IsNextKey root (Some (key bits box.min)) o → IsNextMet bits box root None o
+  pub met_past_first : root_at root (key bits box.min) ≡ None → (o : Option Coord) → IsNextMet bits box root (Some (key bits box.min)) o → IsNextMet bits box root None o
   met_past_first none None next = λ k past met. elim (from_first met.0 met.1) [
     | inl same ↦ subst (λ (j : Coord). root_at root j ≡ None) (sym same ∙ met.2) none
-    | inr later ↦ next k (subst (λ (j : Coord). coord_cmp (key bits box.min) j ≡ Less) met.2 later)
+    | inr later ↦ next k (subst (λ (j : Coord). coord_cmp (key bits box.min) j ≡ Less) met.2 later) met
   ]
   met_past_first none (Some n) next = (
     next.0,
     tt,
     λ k past met held. elim (from_first met.0 met.1) [
       | inl same ↦ absurd (some_held (root_at root k) held (subst (λ (j : Coord). root_at root j ≡ None) (sym same ∙ met.2) none))
-      | inr later ↦ next.2 k (subst (λ (j : Coord). coord_cmp (key bits box.min) j ≡ Less) met.2 later) held
+      | inr later ↦ next.2 k (subst (λ (j : Coord). coord_cmp (key bits box.min) j ≡ Less) met.2 later) met held
     ],
   )
-
-  -- past the key of the greatest corner there is none
-  pub met_stop : (after : Option Coord) (n : Coord) → IsNextMet bits box root after (Some n) → coord_cmp (key bits box.max) n ≡ Less → IsNextMet bits box root after None
-  met_stop after n next beyond = λ k past met. elim (some_or_none (root_at root k)) [
-    | inr none ↦ none
-    | inl some ↦ absurd (last k met (elim (at_least n k (next.2 k past met (held k some.0 some.1))) [
-      | inl same ↦ subst (λ (j : Coord). coord_cmp (key bits box.max) j ≡ Less) (sym same) beyond
-      | inr later ↦ coord_total.trans (key bits box.max) n k beyond later
-    ]))
-  ]
-    where
-      held : (k : Coord) (e : Entry V) → root_at root k ≡ Some e → IsSome (root_at root k)
-      held k e is = rw is refl
-
-      last : (k : Coord) (met : (p : Coord) × IsTrue (is_inside box p) × (key bits p ≡ k)) → coord_cmp (key bits box.max) k ≡ Less → ⊥
-      last k met h = not_past_max bits box met.0 met.1 (from_key bits box.max met.0 (subst (λ (j : Coord). coord_cmp (key bits box.max) j ≡ Less) (sym met.2) h))

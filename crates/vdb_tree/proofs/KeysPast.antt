@@ -10,7 +10,7 @@ use Rattle.vdb_coord.proofs.Members.{coord_exact, coord_total}
 use Rattle.vdb_node.specs.declared.Entry.{Entry}
 use Rattle.vdb_tree.specs.Layout.{root_at}
 use Rattle.vdb_tree.specs.Table.{IsNextKey, IsPast}
-use Rattle.vdb_tree.proofs.BlockOrder.{less_apart}
+use Rattle.vdb_tree.proofs.BlockOrder.{less_apart, less_once}
 use Rattle.vdb_tree.proofs.Levels.{bool_cases}
 
 -- whether a key comes past another, if there is one
@@ -82,6 +82,14 @@ fewer_beyond root passed k held past =
   where
     itself : is_lt (coord_cmp k k) ≡ false
     itself = elim (bool_cases (is_lt (coord_cmp k k))) [ inl e ↦ absurd (less_apart k k (less_of (coord_cmp k k) e) refl) | inr e ↦ e ]
+
+-- past a key behind it there are fewer, too
+pub fewer_leap : {V : Type 0} (root : List (Coord × Entry V)) (passed : Option Coord) (k n : Coord) → IsSome (root_at root k) → IsPast passed k → coord_cmp k n ≡ Less → keys_past (Some n) root < keys_past passed root
+fewer_leap root passed k n held past on =
+    fewer_keys (is_key_past (Some n)) (is_key_past passed) (λ l h. past_test passed l (past_on passed k l past (coord_total.trans k n l on (less_of (coord_cmp n l) h)))) k before (past_test passed k past) root held
+  where
+    before : is_lt (coord_cmp n k) ≡ false
+    before = elim (bool_cases (is_lt (coord_cmp n k))) [ inl e ↦ absurd (less_once k n on (less_of (coord_cmp n k) e)) | inr e ↦ e ]
 
 -- past the next key there are fewer
 pub fewer_past : {V : Type 0} (root : List (Coord × Entry V)) (passed : Option Coord) (k : Coord) → IsNextKey root passed (Some k) → keys_past (Some k) root < keys_past passed root

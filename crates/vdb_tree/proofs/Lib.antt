@@ -30,6 +30,7 @@ pub mod BlockOrder
 pub mod KeysPast
 pub mod Covered
 pub mod KeysMet
+pub mod KeySkips
 pub mod Readiness
 pub mod EntryCounts
 pub mod NextChild

@@ -2,6 +2,7 @@
 use Rattle.std.specs.Prelude.{◌≡◌, ◌⊎◌, ◌<◌, ◌≤◌, List, Option, Some, None, length, true, false, IsSome, IsTrue}
 use Rattle.std.specs.List.{IsDistinct}
 use Rattle.std.specs.Ordering.{is_gt}
+use Rattle.std.specs.declared.cmp.Ordering.TheVariants.{Less}
 use Rattle.std.specs.Set.{is_member}
 use Rattle.vdb_coord.specs.Blocks.{key}
 use Rattle.vdb_coord.specs.Space.{Box, coord_cmp, coord_eq, is_inside}
@@ -14,6 +15,11 @@ use Rattle.vdb_tree.specs.Table.{IsPast}
 -- a coordinate of the box lies in the root block of this key
 abbrev pub MeetsRoot : Bits → Box → Coord → Type 0
 MeetsRoot bits box k = (p : Coord) × IsTrue (is_inside box p) × (key bits p ≡ k)
+
+-- past a key that isn't one of the box of keys, none of them comes before this; or none is left
+abbrev pub SkipsTo : Box → Coord → Option Coord → Type 0
+SkipsTo keys key None = (k : Coord) → IsTrue (is_inside keys k) → coord_cmp key k ≡ Less → ⊥
+SkipsTo keys key (Some next) = (coord_cmp key next ≡ Less) × ((k : Coord) → IsTrue (is_inside keys k) → coord_cmp key k ≡ Less → is_gt (coord_cmp next k) ≡ false)
 
 module _ {V : Type 0} (bits : Bits) where
   -- a key of the table past `after`, before which no key of the table past `after` meets the box; none where none does

@@ -1,13 +1,14 @@
 //! The keys of the root table, in their order.
 
-ghost use Rattle.std.specs.Prelude.{◌≡◌, IfNone, IfSome, IsSome, IsTrue, None};
+ghost use Rattle.std.specs.Prelude.{◌≡◌, IfNone, IfSome, IsSome, IsTrue, None, false};
+ghost use Rattle.std.specs.declared.cmp.Ordering.TheVariants.{Less};
 ghost use Rattle.vdb_coord.specs.Blocks.{block_number, block_numbers};
 ghost use Rattle.vdb_coord.specs.Order.{ComesBefore};
-ghost use Rattle.vdb_coord.specs.Space.{everywhere, is_inside};
+ghost use Rattle.vdb_coord.specs.Space.{coord_cmp, everywhere, is_inside};
 ghost use Rattle.vdb_coord.specs.declared.Coord.{Coord};
 ghost use Rattle.vdb_coord.specs.declared.Level.TheVariants.{Upper};
 ghost use Rattle.vdb_tree.specs.Layout.{bits_of, root_at};
-ghost use Rattle.vdb_tree.specs.Room.{IsNextMet};
+ghost use Rattle.vdb_tree.specs.Room.{IsNextMet, SkipsTo};
 ghost use Rattle.vdb_tree.specs.Table.{IsNextKey};
 
 use crate::TreeOf;
@@ -70,33 +71,22 @@ impl<
         }
     }
 
-    /// The next key of the table past `after` whose root block may meet the box, or the first; `None` where no other does. It
-    /// passes over the keys before that of the box's least corner, which is looked up itself, and those past that of its
-    /// greatest. So a box in one root block looks at one key or two of however large a table, and a box over a small table at
-    /// no more keys than that has.
+    /// The next key of the table past `after` whose root block may meet the box, or the first; `None` where no other does.
+    ///
+    /// It goes from the keys of the table to those of the box and back: past a key of the table that doesn't meet the box it
+    /// looks for the next of the box, and past one of those without an entry for the next of the table. So it takes no more
+    /// turns than the table has keys, and no more than there are root blocks that meet the box: a small box in a large table is
+    /// as cheap as a large box over a small table.
     pub(crate) fn next_key_in(&self, bounds: Bounds, after: Option<Coord>) -> Option<Coord>
         ensures { IsNextMet (bits_of U L F) bounds self.now.root after result }
     {
-        let Some(key) = self.key_from(bounds, after) else {
-            return None;
-        };
-        if self.key(bounds.max()) < key {
-            return None;
-        }
-        Some(key)
-    }
-
-    /// The next key of the table past `after`, or the first that doesn't come before the box's least corner.
-    fn key_from(&self, bounds: Bounds, after: Option<Coord>) -> Option<Coord>
-        ensures { IsNextMet (bits_of U L F) bounds self.now.root after result }
-    {
         match after {
-            Some(_) => self.next_key(after),
+            Some(passed) => self.key_met(bounds, passed),
             None => self.first_key_in(bounds),
         }
     }
 
-    /// The first key of the table that doesn't come before that of the box's least corner.
+    /// The first of them.
     fn first_key_in(&self, bounds: Bounds) -> Option<Coord>
         ensures { IsNextMet (bits_of U L F) bounds self.now.root None result }
     {
@@ -104,6 +94,78 @@ impl<
         if self.root.get(first).is_some() {
             return Some(first);
         }
-        self.next_key(Some(first))
+        self.key_met(bounds, first)
     }
+
+    /// The next of them past a key.
+    fn key_met(&self, bounds: Bounds, after: Coord) -> Option<Coord>
+        ensures { IsNextMet (bits_of U L F) bounds self.now.root (Some after) result }
+    {
+        let keys = bounds.block_numbers_in(self.bits(), Level::Upper);
+        let mut passed = after;
+        while let Some(key) = self.next_key(Some(passed)) {
+            if keys.contains(key) {
+                return Some(key);
+            }
+            let Some(next) = skip_to(keys, key) else {
+                return None;
+            };
+            if self.root.get(next).is_some() {
+                return Some(next);
+            }
+            passed = next;
+        }
+        None
+    }
+}
+
+/// Where the next key of a box of keys may stand past this one, which isn't in it; `None` where there is none.
+fn skip_to(keys: Bounds, key: Coord) -> Option<Coord>
+    requires { is_inside keys key ≡ false }
+    ensures { SkipsTo keys key result }
+{
+    let low = keys.min();
+    let high = keys.max();
+    if key.y < low.y {
+        return Some(Coord {
+            x: key.x,
+            y: low.y,
+            z: low.z,
+        });
+    }
+    if high.y < key.y {
+        return skip_slab(keys, key);
+    }
+    if key.z < low.z {
+        return Some(Coord {
+            x: key.x,
+            y: key.y,
+            z: low.z,
+        });
+    }
+    if key.y < high.y {
+        return Some(Coord {
+            x: key.x,
+            y: key.y + 1,
+            z: low.z,
+        });
+    }
+    skip_slab(keys, key)
+}
+
+/// The same where the box has no key past this one of the same x.
+fn skip_slab(keys: Bounds, key: Coord) -> Option<Coord>
+    requires { (k : Coord) → IsTrue (is_inside keys k) → k.x ≡ key.x → coord_cmp key k ≡ Less → ⊥ }
+    ensures { SkipsTo keys key result }
+{
+    let low = keys.min();
+    let high = keys.max();
+    if key.x < high.x {
+        return Some(Coord {
+            x: key.x + 1,
+            y: low.y,
+            z: low.z,
+        });
+    }
+    None
 }

@@ -26,4 +26,4 @@ returns g c =
     let at : c.get.result ≡ root_at root c.key-first.result = rw (← c.self.view_is) c.get.ensures in
     let not : is_some c.get.result ≡ false = sym c.is_some.ensures ∙ c.if-is_some.false in
     let none : root_at root c.key-first.result ≡ None = sym at ∙ none_not c.get.result not in
-    met_past_first bits c.args.bounds root (rw first at none) c.next_key.result (rw first at c.next_key.ensures.least)
+    met_past_first bits c.args.bounds root (rw first at none) c.key_met.result (rw first at c.key_met.ensures)
