@@ -1,6 +1,6 @@
 //! Boxes kept while all around them is cleared.
 
-ghost use Rattle.std.specs.Prelude.{◌≡◌, ◌&&◌, false, IfErr, IfNone, IfSome};
+ghost use Rattle.std.specs.Prelude.{◌≡◌, ◌&&◌, false, Err, IfErr, IfNone, IfSome};
 ghost use Rattle.vdb_coord.specs.Space.{is_inside};
 ghost use Rattle.vdb_coord.specs.declared.Coord.{Coord};
 ghost use Rattle.vdb_region.specs.Beyond.{clear, is_beyond};
@@ -9,6 +9,7 @@ ghost use Rattle.vdb_tree.specs.Field.{clip as clipped};
 ghost use Rattle.vdb_tree.specs.Layout.{bits_of, field_of, plain};
 ghost use Rattle.vdb_tree.specs.Outcome.{IsOutcome};
 ghost use Rattle.vdb_tree.specs.Ready.{IsReady};
+ghost use Rattle.vdb_tree.specs.Smallest.{IsLeast};
 ghost use Rattle.vdb_tree.specs.declared.refusal.TreeRefusal.TheVariants.{Memory};
 
 use crate::rings::{Ring, side};
@@ -21,7 +22,8 @@ use vdb_value::Cell;
 /// Makes every coordinate outside the box the background, inactive, and keeps the cells of the box (OpenVDB's `Tree::clip`).
 /// Nodes that lie outside are given back to their pools.
 ///
-/// `Memory` says that a growth was refused; it leaves every cell as it was.
+/// `Memory` says that a growth was refused; it leaves every cell as it was, and no node over a block of one cell: the tree is
+/// pruned then, so that the nodes that were made are given back to their pools.
 pub fn clip<
     V: Stored<WU> + Stored<WL> + Stored<WF>,
     const U: u32,
@@ -39,6 +41,7 @@ pub fn clip<
         (clipped bounds (field_of (bits_of U L F) tree.old)) (field_of (bits_of U L F) tree.new) result }
     ensures limit { tree.new.limit ≡ tree.old.limit }
     ensures memory { IfErr result (λ refusal. refusal ≡ Memory) }
+    ensures given_back { result ≡ Err Memory → IsLeast V.eq (bits_of U L F) tree.new }
 {
     let _ = tree.limit(); // the proof learns from it that the tree's roots keep to the limit
     let cell = Cell {
@@ -46,7 +49,10 @@ pub fn clip<
         on: false,
     };
     match tree.split(bounds, cell, steps) {
-        Err(refusal) => Err(refusal),
+        Err(refusal) => {
+            tree.prune(steps);
+            Err(refusal)
+        }
         Ok(()) => {
             clear_ring(tree, bounds, Ring::AroundRoots, &Face::ALL, steps);
             clear_ring(tree, bounds, Ring::WithinRoots, &Face::ALL, steps);

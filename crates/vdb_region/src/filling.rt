@@ -1,9 +1,11 @@
 //! Boxes filled with one cell.
 
-ghost use Rattle.std.specs.Prelude.{◌≡◌};
+ghost use Rattle.std.specs.Prelude.{◌≡◌, Err};
 ghost use Rattle.vdb_tree.specs.Field.{fill as filled};
 ghost use Rattle.vdb_tree.specs.Layout.{bits_of, field_of};
 ghost use Rattle.vdb_tree.specs.Outcome.{IsOutcome};
+ghost use Rattle.vdb_tree.specs.Smallest.{IsLeast};
+ghost use Rattle.vdb_tree.specs.declared.refusal.TreeRefusal.TheVariants.{Memory};
 
 use vdb_coord::Bounds;
 use vdb_node::Stored;
@@ -15,7 +17,8 @@ use vdb_value::Cell;
 /// box lets them be, and the nodes that it covers are given back to their pools.
 ///
 /// `RootLimit` says that there would be more root blocks with a cell that isn't plain than the limit, `Memory` that a growth
-/// was refused; both leave every cell as it was.
+/// was refused; both leave every cell as it was. After `Memory` the tree is pruned, so that it has no node over a block of one
+/// cell: those that were made for the box are given back to their pools.
 pub fn fill<
     V: Stored<WU> + Stored<WL> + Stored<WF>,
     const U: u32,
@@ -33,8 +36,17 @@ pub fn fill<
     ensures outcome { IsOutcome V.eq (bits_of U L F) tree.old.limit (field_of (bits_of U L F) tree.old)
         (filled bounds cell (field_of (bits_of U L F) tree.old)) (field_of (bits_of U L F) tree.new) result }
     ensures limit { tree.new.limit ≡ tree.old.limit }
+    ensures given_back { result ≡ Err Memory → IsLeast V.eq (bits_of U L F) tree.new }
 {
-    tree.split(bounds, cell, steps)?;
-    tree.paint(bounds, cell, steps);
-    Ok(())
+    match tree.split(bounds, cell, steps) {
+        Ok(()) => {
+            tree.paint(bounds, cell, steps);
+            Ok(())
+        }
+        Err(TreeRefusal::RootLimit) => Err(TreeRefusal::RootLimit),
+        Err(TreeRefusal::Memory) => {
+            tree.prune(steps);
+            Err(TreeRefusal::Memory)
+        }
+    }
 }

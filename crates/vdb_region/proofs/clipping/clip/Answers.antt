@@ -23,7 +23,7 @@ returns-in-Err-clause-outcome g c =
     let few = least (roots eq bits (clip c.args.bounds (field_of bits old))) (roots eq bits (field_of bits old)) old.limit
     (clip_within eq exact g.met.V.Eq.laws.refl bits c.args.bounds old.background (cell_at bits old)) (rw c.limit.ensures.value at c.limit.ensures.kept) in
     let memory = c.in-Err.ensures.plain (ap off c.background.ensures) in
-    rw memory (c.in-Err.ensures.field, few)
+    rw memory (c.prune.ensures.field ∙ c.in-Err.ensures.field, few)
 
 pub returns-in-Ok-clause-outcome : goal.returns-in-Ok-clause-outcome
 returns-in-Ok-clause-outcome g c =
