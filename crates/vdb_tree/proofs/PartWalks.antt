@@ -62,7 +62,7 @@ module _ (bits : Bits) where
   left_not_before : (p q : Coord) → IsTrue (is_left bits (Some p) q) → ComesBefore bits q p → ⊥
   left_not_before p q h b = let e : is_lt (block_cmp bits q p) ≡ true = b in false_true (rw e at h)
 
-  before_not_left : (p q : Coord) → is_left bits (Some p) q ≡ false → ComesBefore bits q p
+  pub before_not_left : (p q : Coord) → is_left bits (Some p) q ≡ false → ComesBefore bits q p
   before_not_left p q h = by (is_lt (block_cmp bits q p)) h
     where
       by : (b : Bool) → not b ≡ false → b ≡ true
@@ -76,7 +76,7 @@ module _ (bits : Bits) where
       by true h = absurd (h refl)
       by false h = refl
 
-  gone_if_before : (p q : Coord) → ComesBefore bits q p → is_left bits (Some p) q ≡ false
+  pub gone_if_before : (p q : Coord) → ComesBefore bits q p → is_left bits (Some p) q ≡ false
   gone_if_before p q h = let e : is_lt (block_cmp bits q p) ≡ true = h in rw e refl
 
 -- ---- places

@@ -1,74 +1,109 @@
 -- Active tiles, and leaves in place of them.
-use Rattle.std.proofs.Common.{◌≡◌, ◌⊎◌, inl, inr, sym, ap, ◌∙◌, true, IsTrue, Some, None, Option, ℕ, suc, ◌<◌, arith}
-use Rattle.std.specs.Prelude.{IfSome}
+use Rattle.std.proofs.Common.{◌≡◌, ◌⊎◌, inl, inr, refl, sym, ap, subst, ◌∙◌, true, false, IsTrue, Some, None, Option, ℕ, suc, ◌<◌, arith}
+use Rattle.std.specs.Prelude.{Bool, not, IfSome}
 use Rattle.vdb_coord.specs.Blocks.{block_number, key}
-use Rattle.vdb_coord.specs.Space.{Box, is_box, is_inside}
-use Rattle.vdb_coord.specs.Walk.{IsBlockBefore, IsNextBlock, coordinates_after}
+use Rattle.vdb_coord.specs.Order.{ComesBefore, IsNextPlace, IsUpToBlock, coordinates_past}
+use Rattle.vdb_coord.specs.Space.{Box, is_inside}
 use Rattle.vdb_coord.specs.declared.Bits.{Bits}
 use Rattle.vdb_coord.specs.declared.Coord.{Coord}
-use Rattle.vdb_coord.specs.declared.Level.TheVariants.{Leaf}
-use Rattle.vdb_coord.proofs.Walk.{min_inside, none_before}
+use Rattle.vdb_coord.specs.declared.Level.{Level}
+use Rattle.vdb_coord.specs.declared.Level.TheVariants.{Leaf, Lower, Upper}
+use Rattle.vdb_coord.proofs.BlockOrder.{not_before_min}
 use Rattle.vdb_node.specs.declared.Entry.TheVariants.{Tile}
 use Rattle.vdb_value.specs.declared.Cell.{Cell}
 use Rattle.vdb_tree.specs.Changes.{AddsNodes, Keeps}
-use Rattle.vdb_tree.specs.Layout.{Layout, cell_at, lower_entry, plain, root_at}
+use Rattle.vdb_tree.specs.Field.{Field}
+use Rattle.vdb_tree.specs.Layout.{Layout, entry_over, field_of, lower_entry, plain, root_at}
+use Rattle.vdb_tree.specs.Parts.{IsEnd, end_level, left_count}
 use Rattle.vdb_tree.specs.Paths.{in_leaf}
 use Rattle.vdb_tree.specs.Table.{HasRoom}
+use Rattle.vdb_tree.specs.Voxelised.{IsVoxelisedAround, IsVoxelisedFrom, IsVoxelisedTo}
+use Rattle.vdb_tree.specs.declared.ends.End.TheVariants.{Leaf as EndLeaf, Tile as EndTile}
 use Rattle.vdb_tree.proofs.Blocks.{never}
 use Rattle.vdb_tree.proofs.Descents.{lower_by_block, tile_lower, tile_upper}
+use Rattle.vdb_tree.proofs.Equations.{keeps_field}
 use Rattle.vdb_tree.proofs.Levels.{same_tile}
-use Rattle.vdb_tree.proofs.Needed.{absent_entry, is_some_from, some_or_none}
-use Rattle.vdb_tree.proofs.Splits.{adds_leaves, keeps_itself, keeps_twice}
+use Rattle.vdb_tree.proofs.Needed.{absent_entry, is_child_from, is_some_from, some_or_none}
+use Rattle.vdb_tree.proofs.PartWalks.{before_not_left, gone_if_before, inactive_skipped}
+use Rattle.vdb_tree.proofs.Splits.{adds_leaves}
+
+pub not_on : (b : Bool) → IsTrue (not b) → b ≡ false
+not_on true h = cc
+not_on false h = refl
+
+not_off : (b : Bool) → not b ≡ false → b ≡ true
+not_off true h = refl
+not_off false h = cc
 
 module _ {V : Type 0} (bits : Bits) where
+  -- a tile over p stands below it, too
+  tile_below : (t : Layout V) (p : Coord) (level : Level) (cell : Cell V) → entry_over bits level t p ≡ Tile cell → lower_entry bits t p ≡ Tile cell
+  tile_below t p Upper cell tiled = tile_lower bits t cell p (tile_upper bits t cell p tiled)
+  tile_below t p Lower cell tiled = tile_lower bits t cell p tiled
+  tile_below t p Leaf cell tiled = tiled
+
   -- an active tile lies under an entry of the table
-  pub active_has_room : (t : Layout V) (p : Coord) (cell : Cell V) → lower_entry bits t p ≡ Tile cell → cell.on ≡ true → HasRoom t (key bits p)
-  active_has_room t p cell tiled on = elim (some_or_none (root_at t.root (key bits p))) [
+  pub active_has_room : (t : Layout V) (p : Coord) (level : Level) (cell : Cell V) → entry_over bits level t p ≡ Tile cell → cell.on ≡ true → HasRoom t (key bits p)
+  active_has_room t p level cell tiled on = elim (some_or_none (root_at t.root (key bits p))) [
     | inl e ↦ inl (is_some_from (root_at t.root (key bits p)) e.0 e.1)
     | inr none ↦
         let background = tile_lower bits t (plain t) p (tile_upper bits t (plain t) p (absent_entry bits t p none)) in
-        absurd (never (ap (λ (c : Cell V). c.on) (sym (same_tile (plain t) cell (sym background ∙ tiled)))) on)
+        absurd (never (ap (λ (c : Cell V). c.on) (sym (same_tile (plain t) cell (sym background ∙ tile_below t p level cell tiled)))) on)
   ]
 
   -- what is active around p lies in a leaf, where p lies in one
   pub in_same_leaf : (t : Layout V) (p q : Coord) → IsTrue (in_leaf bits t p) → block_number bits Leaf q ≡ block_number bits Leaf p → IsTrue (in_leaf bits t q)
   in_same_leaf t p q h e = rw (lower_by_block bits t q p e) h
 
-  -- all before a block of a walk through the box
-  abbrev pub IsVoxelisedTo : Layout V → Box → Coord → Type 0
-  IsVoxelisedTo t box p = (q : Coord) → IsTrue (is_inside box q) → IsBlockBefore bits Leaf q p → (cell_at bits t q).on ≡ true → IsTrue (in_leaf bits t q)
+  module _ (t : Layout V) (p : Coord) where
+    -- each active voxel of a leaf's block lies in a leaf, and an inactive tile has none
+    leaf_done : IsTrue (in_leaf bits t p) → IsVoxelisedAround bits t Leaf p
+    leaf_done leaf q same on = in_same_leaf t p q leaf same
 
-  -- all of the box, where the walk has ended
-  abbrev pub Voxelised : Layout V → Box → Option Coord → Type 0
-  Voxelised t box None = (q : Coord) → IsTrue (is_inside box q) → (cell_at bits t q).on ≡ true → IsTrue (in_leaf bits t q)
-  Voxelised t box (Some p) = IsTrue (is_inside box p) × IsVoxelisedTo t box p
+    idle_done : (level : Level) (cell : Cell V) → entry_over bits level t p ≡ Tile cell → cell.on ≡ false → IsVoxelisedAround bits t level p
+    idle_done level cell tiled off q same on = absurd (never (inactive_skipped bits t level p cell tiled off q same) on)
 
-  -- what is true at each block of a walk through the box
-  pub record VoxelisesTo (old new : Layout V) (box : Box) (next : Option Coord) : Type 0 where
-    pub keeps : Keeps bits old new
-    pub done : Voxelised new box next
+    -- where the descent to p ends in a leaf, and in an inactive tile
+    pub leaf_idle : (slot : ℕ) → IsEnd bits t p (EndLeaf slot) → IsVoxelisedAround bits t (end_level bits t p) p
+    leaf_idle slot end = subst (λ (l : Level). IsVoxelisedAround bits t l p) (sym end.0) (leaf_done (is_child_from _ _ end.1))
+
+    pub tile_idle : (level : Level) (cell : Cell V) → IsEnd bits t p (EndTile level cell) → cell.on ≡ false → IsVoxelisedAround bits t (end_level bits t p) p
+    tile_idle level cell end off = subst (λ (l : Level). IsVoxelisedAround bits t l p) (sym end.0) (idle_done level cell end.1 off)
+
+    pub active_room : (level : Level) (cell : Cell V) → IsEnd bits t p (EndTile level cell) → not cell.on ≡ false → HasRoom t (key bits p)
+    active_room level cell end on = active_has_room t p level cell end.1 (not_off cell.on on)
 
   module _ (box : Box) where
-    pub begins : (t : Layout V) → is_box box ≡ true → VoxelisesTo t t box (Some box.min)
-    begins t is = record { keeps = keeps_itself bits t; done = (min_inside box is, λ q inside before. absurd (none_before bits Leaf box q inside before)) }
+    -- nothing comes before the least corner
+    pub begins : (t : Layout V) → IsVoxelisedTo bits t box (Some box.min)
+    begins t = λ q inside gone on. absurd (not_before_min bits box q inside (before_not_left bits box.min q gone))
 
-    module _ (old t n : Layout V) (p : Coord) (so_far : VoxelisesTo old t box (Some p)) (keeps : Keeps bits t n) (adds : AddsNodes bits t n)
-        (done : (q : Coord) → block_number bits Leaf q ≡ block_number bits Leaf p → (cell_at bits n q).on ≡ true → IsTrue (in_leaf bits n q)) where
-      up_to : (q : Coord) → IsTrue (is_inside box q) → IsBlockBefore bits Leaf q p ⊎ (block_number bits Leaf q ≡ block_number bits Leaf p) → (cell_at bits n q).on ≡ true → IsTrue (in_leaf bits n q)
-      up_to q inside h on = elim h [
-        | inl before ↦ adds_leaves bits t n adds q (so_far.done.1 q inside before (ap (λ (c : Cell V). c.on) (sym (keeps.cells q)) ∙ on))
-        | inr same ↦ done q same on
-      ]
+    -- what was done before p stays so while nodes come
+    pub goes_on : (old n : Layout V) (p : Coord) (next : Option Coord) → IsVoxelisedTo bits old box (Some p) → Keeps bits old n → AddsNodes bits old n → IsVoxelisedFrom bits n box p next → IsVoxelisedTo bits n box next
+    goes_on old n p next so_far keeps adds done = λ q inside gone on. elim (done q inside gone on) [
+      | inl before ↦ adds_leaves bits old n adds q (so_far q inside (gone_if_before bits p q before) (ap (λ (f : Field V). (f.cell q).on) (sym (keeps_field bits old n keeps)) ∙ on))
+      | inr leaf ↦ leaf
+    ]
 
-      pub goes_on : (next : Option Coord) → IsNextBlock bits Leaf box p next → VoxelisesTo old n box next
-      goes_on None h = record { keeps = keeps_twice bits old t n so_far.keeps keeps; done = λ q inside on. up_to q inside (h q inside) on }
-      goes_on (Some r) h = record { keeps = keeps_twice bits old t n so_far.keeps keeps; done = (h.0, λ q inside before on. up_to q inside (h.2 q inside before) on) }
+    module _ (t : Layout V) (p : Coord) where
+      up_to : (level : Level) → IsVoxelisedAround bits t level p → (q : Coord) → ((field_of bits t).cell q).on ≡ true → IsUpToBlock bits level p q → ComesBefore bits q p ⊎ IsTrue (in_leaf bits t q)
+      up_to level done q on h = elim h [ inl before ↦ inl before | inr same ↦ inr (done q same on) ]
 
--- how many coordinates are left to a walk
-abbrev pub walk_left : Option Coord → ℕ
-walk_left None = 0
-walk_left (Some p) = suc (coordinates_after p)
+      -- a block whose active voxels lie in leaves, and the next place past it
+      pub past_done : (level : Level) → IsVoxelisedAround bits t level p → (next : Option Coord) → IsNextPlace bits level box p next → IsVoxelisedFrom bits t box p next
+      past_done level done None h = λ q inside gone on. up_to level done q on (h q inside)
+      past_done level done (Some n) h = λ q inside gone on. up_to level done q on (h.between q inside (before_not_left bits n q gone))
 
-pub fewer_left : (p : Coord) (next : Option Coord) → IfSome next (λ r. coordinates_after r < coordinates_after p) → walk_left next < walk_left (Some p)
-fewer_left p None h = omega arith
-fewer_left p (Some r) h = omega (arith, h)
+      -- a leaf around p is one
+      pub past_leaf : IsTrue (in_leaf bits t p) → (next : Option Coord) → IsNextPlace bits Leaf box p next → IsVoxelisedFrom bits t box p next
+      past_leaf leaf = past_done Leaf (λ r same _. in_same_leaf t p r leaf same)
+
+-- the next place lies in the box
+pub place_inside : (bits : Bits) (box : Box) (level : Level) (p : Coord) (next : Option Coord) → IsNextPlace bits level box p next → IfSome next (λ q. IsTrue (is_inside box q))
+place_inside bits box level p None h = tt
+place_inside bits box level p (Some n) h = h.inside
+
+-- fewer coordinates are left
+pub fewer_left : (bits : Bits) (p : Coord) (next : Option Coord) → IfSome next (λ n. coordinates_past bits n < coordinates_past bits p) → left_count bits next < left_count bits (Some p)
+fewer_left bits p None h = omega arith
+fewer_left bits p (Some n) h = omega (arith, h)

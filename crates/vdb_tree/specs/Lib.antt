@@ -19,3 +19,4 @@ pub mod Corners
 pub mod Seeks
 pub mod Paints
 pub mod Unlike
+pub mod Voxelised

@@ -1,6 +1,6 @@
 //! Where descents end: in a tile of some level, or in a leaf.
 
-ghost use Rattle.std.specs.Prelude.{◌≡◌};
+ghost use Rattle.std.specs.Prelude.{◌≡◌, ◌+◌, ◌≤◌};
 ghost use Rattle.vdb_node.specs.declared.Entry.TheVariants.{Child};
 ghost use Rattle.vdb_tree.specs.Layout.{bits_of, lower_entry, root_entry, upper_entry};
 ghost use Rattle.vdb_tree.specs.Parts.{IsEnd};
@@ -56,6 +56,17 @@ impl<
         }
     }
 
+    /// Where the descent to `p` ends, by at most two visits.
+    pub(crate) fn end_of(&self, p: Coord, steps: &mut Steps) -> End<V>
+        ensures end { IsEnd (bits_of U L F) self.now p result }
+        ensures steps { steps.new ≤ steps.old + 2 }
+    {
+        let _ = &self.root;
+        let reached = self.reached_from_root(p, steps);
+        reached.end
+    }
+
+    /// Where the descent to `p` ends, with the internal nodes on its way, by at most two visits.
     fn reached_from_root(
         &self,
         p: Coord,
@@ -63,6 +74,7 @@ impl<
     ) -> Reached<Internal<V, U, WU>, Internal<V, L, WL>, Leaf<V, F, WF>, V>
         ensures end { IsEnd (bits_of U L F) self.now p result.end }
         ensures lives { Lives (bits_of U L F) self.now result.path p }
+        ensures steps { steps.new ≤ steps.old + 2 }
     {
         match self.root_entry(p) {
             Entry::Tile(cell) => Reached {
@@ -85,6 +97,7 @@ impl<
         requires { IsChildAt self.now.uppers (root_entry (bits_of U L F) self.now p) upper }
         ensures end { IsEnd (bits_of U L F) self.now p result.end }
         ensures lives { Lives (bits_of U L F) self.now result.path p }
+        ensures steps { steps.new ≤ steps.old + 2 }
     {
         match self.upper_entry_at(upper, p, steps) {
             Entry::Tile(cell) => Reached {
@@ -109,6 +122,7 @@ impl<
         requires lower { IsChildAt self.now.lowers (upper_entry (bits_of U L F) self.now p) lower }
         ensures end { IsEnd (bits_of U L F) self.now p result.end }
         ensures lives { Lives (bits_of U L F) self.now result.path p }
+        ensures steps { steps.new ≤ steps.old + 1 }
     {
         match self.lower_entry_at(lower, p, steps) {
             Entry::Tile(cell) => Reached {
@@ -130,7 +144,8 @@ impl<
         steps: &mut Steps,
     ) -> Entry<V>
         requires { IsChildAt self.now.uppers (root_entry (bits_of U L F) self.now p) upper }
-        ensures { upper_entry (bits_of U L F) self.now p ≡ result }
+        ensures value { upper_entry (bits_of U L F) self.now p ≡ result }
+        ensures steps { steps.new ≤ steps.old + 1 }
     {
         let offset = self.offset(p, Level::Upper);
         self.uppers.at(upper, steps).entry(offset)
@@ -144,7 +159,8 @@ impl<
         steps: &mut Steps,
     ) -> Entry<V>
         requires { IsChildAt self.now.lowers (upper_entry (bits_of U L F) self.now p) lower }
-        ensures { lower_entry (bits_of U L F) self.now p ≡ result }
+        ensures value { lower_entry (bits_of U L F) self.now p ≡ result }
+        ensures steps { steps.new ≤ steps.old + 1 }
     {
         let offset = self.offset(p, Level::Lower);
         self.lowers.at(lower, steps).entry(offset)

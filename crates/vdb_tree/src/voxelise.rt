@@ -1,21 +1,20 @@
 //! Leaves in place of active tiles.
 
-ghost use Rattle.std.specs.Prelude.{◌≡◌, true, IfErr, IsTrue, OnOk};
-ghost use Rattle.vdb_coord.specs.Blocks.{block_number, key};
-ghost use Rattle.vdb_coord.specs.declared.Coord.{Coord};
-ghost use Rattle.vdb_coord.specs.declared.Level.TheVariants.{Leaf};
-ghost use Rattle.vdb_node.specs.declared.Entry.TheVariants.{Tile};
-ghost use Rattle.vdb_value.specs.declared.Cell.{Cell};
+ghost use Rattle.std.specs.Prelude.{◌≡◌, ◌<◌, false, Some, IfErr, IfNone, IfOk, IfSome, IsTrue, OnOk};
+ghost use Rattle.vdb_coord.specs.Blocks.{key};
+ghost use Rattle.vdb_coord.specs.Space.{is_inside};
 ghost use Rattle.vdb_tree.specs.Changes.{AddsNodes, Keeps};
-ghost use Rattle.vdb_tree.specs.Layout.{bits_of, cell_at, field_of, lower_entry};
+ghost use Rattle.vdb_tree.specs.Layout.{bits_of, field_of};
 ghost use Rattle.vdb_tree.specs.Leaves.{HasLeaves};
-ghost use Rattle.vdb_tree.specs.Paths.{in_leaf};
+ghost use Rattle.vdb_tree.specs.Parts.{IsEnd, end_level, left_count};
 ghost use Rattle.vdb_tree.specs.Table.{HasRoom};
+ghost use Rattle.vdb_tree.specs.Voxelised.{IsVoxelisedAround, IsVoxelisedFrom};
 ghost use Rattle.vdb_tree.specs.declared.refusal.TreeRefusal.TheVariants.{Memory};
 
+use crate::ends::End;
 use crate::{TreeOf, TreeRefusal};
 use vdb_coord::{Bounds, Coord, Level};
-use vdb_node::{Entry, Stored};
+use vdb_node::Stored;
 use vdb_pool::Steps;
 
 impl<
@@ -29,7 +28,8 @@ impl<
 > TreeOf<V, U, L, F, WU, WL, WF> {
     /// Makes a leaf of each active tile over a leaf block that meets the box, so that every active voxel of the box lies in a
     /// leaf (OpenVDB's `Tree::voxelizeActiveTiles`, within a box). No cell changes. `Memory` says that a growth was refused;
-    /// some leaves may have been made then. It goes through the leaf blocks that meet the box, one by one.
+    /// some leaves may have been made then. It goes through the leaves and the tiles that meet the box, an active tile by
+    /// leaf blocks and an inactive one, of any level, or a root block without an entry, at once.
     pub fn voxelise(&mut self, bounds: Bounds, steps: &mut Steps) -> Result<(), TreeRefusal>
         ensures field { field_of (bits_of U L F) self.new ≡ field_of (bits_of U L F) self.old }
         ensures limit { self.new.limit ≡ self.old.limit }
@@ -38,36 +38,105 @@ impl<
     {
         let mut next = Some(bounds.min());
         while let Some(p) = next {
-            self.voxelise_block(p, steps)?;
-            next = bounds.next_block_in(self.bits(), Level::Leaf, p);
+            next = self.voxelise_from(bounds, p, steps)?;
         }
         Ok(())
     }
 
-    /// Makes a leaf of the leaf block around p where that is an active tile.
-    fn voxelise_block(&mut self, p: Coord, steps: &mut Steps) -> Result<(), TreeRefusal>
+    /// Makes a leaf of the leaf block around `p` where that is an active tile. It gives the first place of the box past that
+    /// leaf, or past the leaf or the inactive tile that stood there.
+    fn voxelise_from(
+        &mut self,
+        bounds: Bounds,
+        p: Coord,
+        steps: &mut Steps,
+    ) -> Result<Option<Coord>, TreeRefusal>
+        requires inside { IsTrue (is_inside bounds p) }
         ensures keeps { Keeps (bits_of U L F) self.old self.new }
         ensures adds { AddsNodes (bits_of U L F) self.old self.new }
-        ensures done { OnOk result ((q : Coord) → block_number (bits_of U L F) Leaf q ≡ block_number (bits_of U L F) Leaf p
-            → (cell_at (bits_of U L F) self.new q).on ≡ true → IsTrue (in_leaf (bits_of U L F) self.new q)) }
+        ensures done { IfOk result (IsVoxelisedFrom (bits_of U L F) self.new bounds p) }
+        ensures inside { IfOk result (λ next. IfSome next (λ q. IsTrue (is_inside bounds q))) }
+        ensures nearer { IfOk result (λ next. left_count (bits_of U L F) next < left_count (bits_of U L F) (Some p)) }
         ensures memory { IfErr result (λ refusal. refusal ≡ Memory) }
     {
-        let cell = match self.leaf_entry(p, steps) {
-            Entry::Child(_) => return Ok(()),
-            Entry::Tile(cell) => cell,
-        };
-        if !cell.on {
-            return Ok(());
+        match self.idle_after(bounds, p, steps) {
+            Some(next) => Ok(next),
+            None => self.voxelise_tile(bounds, p, steps),
         }
-        self.has_room_if_active(p);
-        self.leaf_around(p, steps)?;
-        Ok(())
     }
 
-    /// A law of every tree, which takes no work: where the tile over p is active, its root block has an entry.
-    fn has_room_if_active(&self, p: Coord)
-        ensures { (cell : Cell V) → lower_entry (bits_of U L F) self.now p ≡ Tile cell → cell.on ≡ true → HasRoom self.now (key (bits_of U L F) p) }
+    /// The first place of the box past the leaf or the inactive tile around `p`; `None` where an active tile stands there, under
+    /// an entry of the table.
+    fn idle_after(&self, bounds: Bounds, p: Coord, steps: &mut Steps) -> Option<Option<Coord>>
+        requires inside { IsTrue (is_inside bounds p) }
+        ensures done { IfSome result (IsVoxelisedFrom (bits_of U L F) self.now bounds p) }
+        ensures inside { IfSome result (λ next. IfSome next (λ q. IsTrue (is_inside bounds q))) }
+        ensures nearer { IfSome result (λ next. left_count (bits_of U L F) next < left_count (bits_of U L F) (Some p)) }
+        ensures room { IfNone result (HasRoom self.now (key (bits_of U L F) p)) }
+    {
+        let end = self.end_of(p, steps);
+        if self.is_idle(p, end) {
+            return Some(self.place_past_idle(bounds, p, end));
+        }
+        None
+    }
+
+    /// The first place of the box past the leaf or the inactive tile in which the descent to `p` ends.
+    fn place_past_idle(&self, bounds: Bounds, p: Coord, end: End<V>) -> Option<Coord>
+        requires inside { IsTrue (is_inside bounds p) }
+        requires end { IsEnd (bits_of U L F) self.now p end }
+        ensures done { IsVoxelisedAround (bits_of U L F) self.now (end_level (bits_of U L F) self.now p) p → IsVoxelisedFrom (bits_of U L F) self.now bounds p result }
+        ensures inside { IfSome result (λ q. IsTrue (is_inside bounds q)) }
+        ensures nearer { left_count (bits_of U L F) result < left_count (bits_of U L F) (Some p) }
+    {
+        bounds.next_place_in(self.bits(), self.level_of(p, end), p)
+    }
+
+    /// The level of the tile or the leaf in which the descent to `p` ends.
+    fn level_of(&self, p: Coord, end: End<V>) -> Level
+        requires { IsEnd (bits_of U L F) self.now p end }
+        ensures { result ≡ end_level (bits_of U L F) self.now p }
     {
         let _ = &self.root;
+        match end {
+            End::Leaf(_) => Level::Leaf,
+            End::Tile(level, _) => level,
+        }
+    }
+
+    /// Whether the descent to `p` ends in a leaf or an inactive tile.
+    fn is_idle(&self, p: Coord, end: End<V>) -> bool
+        requires { IsEnd (bits_of U L F) self.now p end }
+        ensures idle { IsTrue result → IsVoxelisedAround (bits_of U L F) self.now (end_level (bits_of U L F) self.now p) p }
+        ensures room { result ≡ false → HasRoom self.now (key (bits_of U L F) p) }
+    {
+        let _ = &self.root;
+        match end {
+            End::Leaf(_) => true,
+            End::Tile(_, cell) => !cell.on,
+        }
+    }
+
+    /// Makes a leaf around `p`, which lies in a tile, and gives the first place of the box past that leaf.
+    fn voxelise_tile(
+        &mut self,
+        bounds: Bounds,
+        p: Coord,
+        steps: &mut Steps,
+    ) -> Result<Option<Coord>, TreeRefusal>
+        requires inside { IsTrue (is_inside bounds p) }
+        requires room { HasRoom self.old (key (bits_of U L F) p) }
+        ensures keeps { Keeps (bits_of U L F) self.old self.new }
+        ensures adds { AddsNodes (bits_of U L F) self.old self.new }
+        ensures done { IfOk result (IsVoxelisedFrom (bits_of U L F) self.new bounds p) }
+        ensures inside { IfOk result (λ next. IfSome next (λ q. IsTrue (is_inside bounds q))) }
+        ensures nearer { IfOk result (λ next. left_count (bits_of U L F) next < left_count (bits_of U L F) (Some p)) }
+        ensures memory { IfErr result (λ refusal. refusal ≡ Memory) }
+    {
+        self.leaf_around(p, steps)?;
+        match bounds.next_place_in(self.bits(), Level::Leaf, p) {
+            Some(next) => Ok(Some(next)),
+            None => Ok(None),
+        }
     }
 }

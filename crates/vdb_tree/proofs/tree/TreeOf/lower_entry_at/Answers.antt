@@ -12,8 +12,8 @@ entry-requires g c =
     let small = g.met.V.Stored-2.row_small in
     (internal_small _ _ g.row.WL _ c.self.invariant.0.few_lower_words small.1 small.1 small.0, c.offset-offset.ensures.within)
 
-pub returns : goal.returns
-returns g c =
+pub returns-clause-value : goal.returns-clause-value
+returns-clause-value g c =
     let t = c.args.self.now in
     let was = sym (ap (λ (w : Layout g.row.V.Denot). node_at w.lowers c.args.lower.slot) c.self.view_is) ∙ c.at.ensures.node in
     let node = c.at.result.now in

@@ -1,9 +1,19 @@
+use Rattle.std.specs.Prelude.{IfSome, IsTrue}
+use Rattle.vdb_coord.specs.Space.{is_inside}
+use Rattle.vdb_tree.specs.Changes.{Keeps}
 use Rattle.vdb_tree.specs.Layout.{bits_of}
-use Rattle.vdb_tree.proofs.Voxels.{VoxelisesTo, walk_left}
+use Rattle.vdb_tree.specs.Parts.{left_count}
+use Rattle.vdb_tree.specs.Voxelised.{IsVoxelisedTo}
 use Rattle.vdb_tree.proofs.tree.TreeOf.voxelise.Given as goal
 
 abbrev pub invariant-loop-next : goal.invariant-loop-next
-invariant-loop-next g l = VoxelisesTo (bits_of g.row.U g.row.L g.row.F) l.fn.self l.self l.fn.bounds l.next
+invariant-loop-next g l =
+    let bits = bits_of g.row.U g.row.L g.row.F in
+    record {
+      keeps : Keeps bits l.fn.self l.self;
+      inside : IfSome l.next (λ p. IsTrue (is_inside l.fn.bounds p));
+      done : IsVoxelisedTo bits l.self l.fn.bounds l.next;
+    }
 
 abbrev pub decreases-loop-next : goal.decreases-loop-next
-decreases-loop-next g l = walk_left l.next
+decreases-loop-next g l = left_count (bits_of g.row.U g.row.L g.row.F) l.next

@@ -1,0 +1,23 @@
+use Rattle.std.proofs.Common.{subst}
+use Rattle.vdb_tree.specs.Layout.{bits_of}
+use Rattle.vdb_tree.specs.Parts.{IsEnd}
+use Rattle.vdb_tree.specs.declared.ends.End.{End}
+use Rattle.vdb_tree.proofs.Voxels.{active_room, leaf_idle, not_on, tile_idle}
+use Rattle.vdb_tree.proofs.tree.TreeOf.is_idle.Goals as goal
+
+pub returns-in-Leaf-clause-idle : goal.returns-in-Leaf-clause-idle
+returns-in-Leaf-clause-idle g c = λ _.
+    let bits = bits_of g.row.U g.row.L g.row.F in
+    leaf_idle bits c.args.self.now c.args.p _ (subst (λ (e : End g.row.V.Denot). IsEnd bits c.args.self.now c.args.p e) c.in-Leaf.is c.requires)
+
+pub returns-in-Tile-clause-idle : goal.returns-in-Tile-clause-idle
+returns-in-Tile-clause-idle g c = λ off.
+    let bits = bits_of g.row.U g.row.L g.row.F in
+    tile_idle bits c.args.self.now c.args.p c.in-Tile.field-0 c.in-Tile.cell
+    (subst (λ (e : End g.row.V.Denot). IsEnd bits c.args.self.now c.args.p e) c.in-Tile.is c.requires) (not_on c.in-Tile.cell.on off)
+
+pub returns-in-Tile-clause-room : goal.returns-in-Tile-clause-room
+returns-in-Tile-clause-room g c =
+    let bits = bits_of g.row.U g.row.L g.row.F in
+    active_room bits c.args.self.now c.args.p c.in-Tile.field-0 c.in-Tile.cell
+    (subst (λ (e : End g.row.V.Denot). IsEnd bits c.args.self.now c.args.p e) c.in-Tile.is c.requires)
