@@ -7,6 +7,7 @@ ghost use Rattle.vdb_tree.specs.Changes.{AddsNodes, Keeps};
 ghost use Rattle.vdb_tree.specs.Layout.{bits_of, field_of};
 ghost use Rattle.vdb_tree.specs.Leaves.{HasLeaves};
 ghost use Rattle.vdb_tree.specs.Parts.{IsEnd, end_level, left_count};
+ghost use Rattle.vdb_tree.specs.Smallest.{IsLeast};
 ghost use Rattle.vdb_tree.specs.Table.{HasRoom};
 ghost use Rattle.vdb_tree.specs.Voxelised.{IsVoxelisedAround, IsVoxelisedFrom};
 ghost use Rattle.vdb_tree.specs.declared.refusal.TreeRefusal.TheVariants.{Memory};
@@ -27,10 +28,30 @@ impl<
     const WF: usize,
 > TreeOf<V, U, L, F, WU, WL, WF> {
     /// Makes a leaf of each active tile over a leaf block that meets the box, so that every active voxel of the box lies in a
-    /// leaf (OpenVDB's `Tree::voxelizeActiveTiles`, within a box). No cell changes. `Memory` says that a growth was refused;
-    /// some leaves may have been made then. It goes through the leaves and the tiles that meet the box, an active tile by
-    /// leaf blocks and an inactive one, of any level, or a root block without an entry, at once.
+    /// leaf (OpenVDB's `Tree::voxelizeActiveTiles`, within a box). No cell changes. It goes through the leaves and the tiles
+    /// that meet the box, an active tile by leaf blocks and an inactive one, of any level, or a root block without an entry,
+    /// at once.
+    ///
+    /// `Memory` says that a growth was refused. The tree is pruned then, so that it has no node over a block of one cell: the
+    /// leaves that were made are given back to their pool.
     pub fn voxelise(&mut self, bounds: Bounds, steps: &mut Steps) -> Result<(), TreeRefusal>
+        ensures field { field_of (bits_of U L F) self.new ≡ field_of (bits_of U L F) self.old }
+        ensures limit { self.new.limit ≡ self.old.limit }
+        ensures leaves { OnOk result (HasLeaves (bits_of U L F) self.new bounds) }
+        ensures memory { IfErr result (λ refusal. refusal ≡ Memory) }
+        ensures given_back { IfErr result (λ _. IsLeast V.eq (bits_of U L F) self.new) }
+    {
+        match self.make_leaves(bounds, steps) {
+            Ok(()) => Ok(()),
+            Err(refusal) => {
+                self.prune(steps);
+                Err(refusal)
+            }
+        }
+    }
+
+    /// Makes these leaves, up to the first that is refused.
+    fn make_leaves(&mut self, bounds: Bounds, steps: &mut Steps) -> Result<(), TreeRefusal>
         ensures field { field_of (bits_of U L F) self.new ≡ field_of (bits_of U L F) self.old }
         ensures limit { self.new.limit ≡ self.old.limit }
         ensures leaves { OnOk result (HasLeaves (bits_of U L F) self.new bounds) }

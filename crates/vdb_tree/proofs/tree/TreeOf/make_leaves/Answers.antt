@@ -8,7 +8,7 @@ use Rattle.vdb_tree.specs.Voxelised.{IsVoxelisedTo}
 use Rattle.vdb_tree.proofs.Equations.{keeps_field}
 use Rattle.vdb_tree.proofs.Splits.{keeps_itself, keeps_twice}
 use Rattle.vdb_tree.proofs.Voxels.{begins, goes_on}
-use Rattle.vdb_tree.proofs.tree.TreeOf.voxelise.Goals as goal
+use Rattle.vdb_tree.proofs.tree.TreeOf.make_leaves.Goals as goal
 
 pub loop-next-init : goal.loop-next-init
 loop-next-init g c =
