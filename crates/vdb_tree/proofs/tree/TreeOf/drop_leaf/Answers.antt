@@ -1,14 +1,8 @@
 use Rattle.std.proofs.Common.{sym, ap, ◌∙◌}
 use Rattle.vdb_node.specs.declared.Entry.TheVariants.{Child}
 use Rattle.vdb_tree.proofs.Pools.{node_puts, take_puts}
-use Rattle.vdb_tree.proofs.Sizes.{internal_small}
 use Rattle.vdb_tree.proofs.Tiled.{leaf_fills, leaf_entries, leaf_sound}
 use Rattle.vdb_tree.proofs.tree.TreeOf.drop_leaf.Goals as goal
-
-pub set_tile-requires : goal.set_tile-requires
-set_tile-requires g c =
-    let small = g.met.V.Stored-2.row_small in
-    (internal_small _ _ g.row.WL _ c.self.invariant.0.few_lower_words small.1 small.1 small.0, c.offset-offset.ensures.within)
 
 pub invariant_of-self : goal.invariant_of-self
 invariant_of-self g c = (

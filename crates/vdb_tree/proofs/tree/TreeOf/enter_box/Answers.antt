@@ -1,4 +1,4 @@
-use Rattle.std.proofs.Common.{◌≡◌, ◌≢◌, ◌≤◌, arith, subst, sym, ◌∙◌, Err}
+use Rattle.std.proofs.Common.{◌≡◌, ◌≢◌, ◌≤◌, arith, inl, refl, subst, sym, ◌∙◌, Err}
 use Rattle.std.specs.Prelude.{IsSome}
 use Rattle.std.proofs.lemmas.Grind.{common_steps}
 use Rattle.vdb_coord.specs.Blocks.{key}
@@ -14,6 +14,16 @@ use Rattle.vdb_tree.proofs.Splits.{keeps_twice}
 use Rattle.vdb_tree.proofs.Uniform.{cell_exact, cell_same, exact_by}
 use Rattle.vdb_tree.proofs.tree.TreeOf.enter_box.Goals as goal
 
+pub returns-then-eq-clause-keeps : goal.returns-then-eq-clause-keeps
+returns-then-eq-clause-keeps g c = record { head = record { background = refl; limit = refl }; cells = λ q. refl }
+
+pub returns-then-eq-clause-entered : goal.returns-then-eq-clause-entered
+returns-then-eq-clause-entered g c =
+    let exact = exact_by g.V.PartialEq.eq g.V.Ord.cmp g.met.V.Ord.matches_eq g.met.V.Voxel.exact in
+    let is : c.args.cell ≡ plain c.args.self.now =
+    subst (λ (s : Layout g.row.V.Denot). c.args.cell ≡ plain s) c.self.view_is (cell_exact g.V.PartialEq.eq exact g.met.V.Eq.laws.refl c.args.cell _ (sym c.eq.ensures ∙ c.if-eq.true)) in
+    λ p inside. inl is
+
 pub returns-then-eq-clause-limit : goal.returns-then-eq-clause-limit
 returns-then-eq-clause-limit g c =
     let bits = bits_of g.row.U g.row.L g.row.F in
@@ -21,6 +31,12 @@ returns-then-eq-clause-limit g c =
     let is : c.args.cell ≡ plain c.args.self.now =
     subst (λ (s : Layout g.row.V.Denot). c.args.cell ≡ plain s) c.self.view_is (cell_exact g.V.PartialEq.eq exact g.met.V.Eq.laws.refl c.args.cell _ (sym c.eq.ensures ∙ c.if-eq.true)) in
     subst (λ (d : Cell g.row.V.Denot). roots g.V.PartialEq.eq bits (fill c.args.bounds d (field_of bits c.args.self.now)) ≤ c.args.self.now.limit) (sym is) c.keeps_fills_to_limit.ensures.plain
+
+pub returns-then-eq-clause-ready : goal.returns-then-eq-clause-ready
+returns-then-eq-clause-ready g c = λ box was. was
+
+pub returns-in_err-make_room_for-clause-keeps : goal.returns-in_err-make_room_for-clause-keeps
+returns-in_err-make_room_for-clause-keeps g c = c.in_err-make_room_for.ensures.adds.keeps
 
 pub returns-in_err-make_room_for-clause-limit : goal.returns-in_err-make_room_for-clause-limit
 returns-in_err-make_room_for-clause-limit g c =
@@ -31,6 +47,12 @@ returns-in_err-make_room_for-clause-limit g c =
     let other : c.args.cell ≢ plain c.args.self.now = λ same.
     never c.if-eq.false (c.eq.ensures ∙ cell_same g.V.PartialEq.eq exact g.met.V.Eq.laws.refl c.args.cell _ (subst (λ (s : Layout g.row.V.Denot). c.args.cell ≡ plain s) (sym c.self.view_is) same)) in
     obeys_full g.V.PartialEq.eq bits c.args.self.now.limit _ c.from_residual.result refused (full.1 c.args.cell other)
+
+pub returns-in_err-make_room_for-clause-plain : goal.returns-in_err-make_room_for-clause-plain
+returns-in_err-make_room_for-clause-plain g c =
+    let exact = exact_by g.V.PartialEq.eq g.V.Ord.cmp g.met.V.Ord.matches_eq g.met.V.Voxel.exact in
+    λ same.
+    absurd (never c.if-eq.false (c.eq.ensures ∙ cell_same g.V.PartialEq.eq exact g.met.V.Eq.laws.refl c.args.cell _ (subst (λ (s : Layout g.row.V.Denot). c.args.cell ≡ plain s) (sym c.self.view_is) same)))
 
 pub returns-in_err-make_room_for-clause-ready : goal.returns-in_err-make_room_for-clause-ready
 returns-in_err-make_room_for-clause-ready g c = ready_plain (bits_of g.row.U g.row.L g.row.F) c.args.self.now c.make_room_for.new.self c.in_err-make_room_for.ensures.adds
@@ -45,6 +67,12 @@ returns-clause-entered g c =
 pub returns-clause-limit : goal.returns-clause-limit
 returns-clause-limit g c =
     obeys_within g.V.PartialEq.eq (bits_of g.row.U g.row.L g.row.F) c.args.self.now.limit _ c.enter_blocks.result c.enter_blocks.ensures.memory (c.in_ok-make_room_for.ensures.within c.args.cell)
+
+pub returns-clause-plain : goal.returns-clause-plain
+returns-clause-plain g c =
+    let exact = exact_by g.V.PartialEq.eq g.V.Ord.cmp g.met.V.Ord.matches_eq g.met.V.Voxel.exact in
+    λ same.
+    absurd (never c.if-eq.false (c.eq.ensures ∙ cell_same g.V.PartialEq.eq exact g.met.V.Eq.laws.refl c.args.cell _ (subst (λ (s : Layout g.row.V.Denot). c.args.cell ≡ plain s) (sym c.self.view_is) same)))
 
 pub returns-clause-ready : goal.returns-clause-ready
 returns-clause-ready g c =

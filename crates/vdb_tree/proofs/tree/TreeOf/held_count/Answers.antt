@@ -7,13 +7,7 @@ use Rattle.vdb_node.specs.declared.Entry.TheVariants.{Child}
 use Rattle.vdb_tree.specs.Layout.{bits_of}
 use Rattle.vdb_tree.proofs.LeafBlocks.{leaf_around}
 use Rattle.vdb_tree.proofs.LeafCounts.{leaf_counted}
-use Rattle.vdb_tree.proofs.Sizes.{leaf_small}
 use Rattle.vdb_tree.proofs.tree.TreeOf.held_count.Goals as goal
-
-pub count_on-requires : goal.count_on-requires
-count_on-requires g c =
-    let small = g.met.V.Stored-3.row_small in
-    leaf_small _ _ g.row.WF _ c.self.invariant.0.few_leaf_words small.1 small.1 small.0
 
 pub returns-clause-active : goal.returns-clause-active
 returns-clause-active g c =

@@ -4,13 +4,7 @@ use Rattle.vdb_node.specs.declared.Entry.TheVariants.{Tile}
 use Rattle.vdb_pool.specs.Contents.{node_at}
 use Rattle.vdb_tree.specs.Layout.{Layout, bits_of, plain}
 use Rattle.vdb_tree.proofs.Descents.{lower_node_entry}
-use Rattle.vdb_tree.proofs.Sizes.{internal_small}
 use Rattle.vdb_tree.proofs.tree.TreeOf.lower_entry_at.Goals as goal
-
-pub entry-requires : goal.entry-requires
-entry-requires g c =
-    let small = g.met.V.Stored-2.row_small in
-    (internal_small _ _ g.row.WL _ c.self.invariant.0.few_lower_words small.1 small.1 small.0, c.offset-offset.ensures.within)
 
 pub returns-clause-value : goal.returns-clause-value
 returns-clause-value g c =

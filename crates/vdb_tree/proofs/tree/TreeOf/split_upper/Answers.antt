@@ -1,7 +1,6 @@
 use Rattle.std.proofs.Common.{refl, sym, ap, ◌∙◌}
 use Rattle.vdb_node.specs.declared.Entry.TheVariants.{Child}
 use Rattle.vdb_tree.proofs.Pools.{node_puts}
-use Rattle.vdb_tree.proofs.Sizes.{internal_small}
 use Rattle.vdb_tree.proofs.Splits.{room_keeps, room_adds, room_sound, with_lower_at, with_lower_keeps, with_lower_adds, with_lower_sound}
 use Rattle.vdb_tree.proofs.tree.TreeOf.split_upper.Goals as goal
 
@@ -12,11 +11,6 @@ invariant_of-self g c =
 pub returns-in_err-slot-clause-keeps : goal.returns-in_err-slot-clause-keeps
 returns-in_err-slot-clause-keeps g c =
     rw (← c.self.view_is) (room_keeps _ _ _ refl refl refl c.in_err-slot.ensures.err refl refl)
-
-pub set_child-requires : goal.set_child-requires
-set_child-requires g c =
-    let small = g.met.V.Stored-1.row_small in
-    (internal_small _ _ g.row.WU _ c.self.invariant.0.few_upper_words small.1 small.1 small.0, c.offset-offset.ensures.within)
 
 pub invariant_of-self-2 : goal.invariant_of-self-2
 invariant_of-self-2 g c = (

@@ -4,13 +4,7 @@ use Rattle.std.specs.Prelude.{Some}
 use Rattle.vdb_pool.specs.Contents.{node_at}
 use Rattle.vdb_tree.specs.Layout.{plain}
 use Rattle.vdb_tree.proofs.Descents.{leaf_cell}
-use Rattle.vdb_tree.proofs.Sizes.{leaf_small}
 use Rattle.vdb_tree.proofs.tree.TreeOf.voxel.Goals as goal
-
-pub entry-requires : goal.entry-requires
-entry-requires g c =
-    let small = g.met.V.Stored-3.row_small in
-    (leaf_small _ _ g.row.WF _ c.self.invariant.0.few_leaf_words small.1 small.1 small.0, c.offset-offset.ensures.within)
 
 pub returns-clause-value : goal.returns-clause-value
 returns-clause-value g c =

@@ -1,13 +1,7 @@
 use Rattle.std.proofs.Common.{◌∙◌, ap, sym}
 use Rattle.vdb_node.specs.declared.Entry.TheVariants.{Child}
 use Rattle.vdb_tree.proofs.LeafWrites.{leaf_sound, whole_after, write_alone, write_changes}
-use Rattle.vdb_tree.proofs.Sizes.{leaf_small}
 use Rattle.vdb_tree.proofs.tree.TreeOf.write_voxel.Goals as goal
-
-pub entry-requires : goal.entry-requires
-entry-requires g c =
-    let small = g.met.V.Stored-3.row_small in
-    (leaf_small _ _ g.row.WF _ c.self.invariant.0.few_leaf_words small.1 small.1 small.0, c.offset-offset.ensures.within)
 
 pub invariant_of-self : goal.invariant_of-self
 invariant_of-self g c = (c.self.invariant.0, leaf_sound _ _ _ _ _ c.at_mut-leaf.ensures.node c.self.invariant.1)
