@@ -19,7 +19,7 @@ use Rattle.vdb_node.specs.declared.Entry.{Entry}
 use Rattle.vdb_tree.specs.Layout.{root_at}
 use Rattle.vdb_tree.specs.Room.{IsNextMet, MeetsRoot, SkipsTo}
 use Rattle.vdb_tree.specs.Table.{IsNextKey}
-use Rattle.vdb_tree.proofs.BlockOrder.{less_apart, less_once}
+use Rattle.vdb_coord.proofs.BlockOrder.{less_apart, less_once}
 use Rattle.vdb_tree.proofs.Blocks.{never}
 use Rattle.vdb_tree.proofs.KeysMet.{not_greater}
 use Rattle.vdb_tree.proofs.Levels.{some_held}

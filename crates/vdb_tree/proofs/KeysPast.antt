@@ -10,7 +10,7 @@ use Rattle.vdb_coord.proofs.Members.{coord_exact, coord_total}
 use Rattle.vdb_node.specs.declared.Entry.{Entry}
 use Rattle.vdb_tree.specs.Layout.{root_at}
 use Rattle.vdb_tree.specs.Table.{IsNextKey, IsPast}
-use Rattle.vdb_tree.proofs.BlockOrder.{less_apart, less_once}
+use Rattle.vdb_coord.proofs.BlockOrder.{less_apart, less_once}
 use Rattle.vdb_tree.proofs.Levels.{bool_cases}
 
 -- whether a key comes past another, if there is one

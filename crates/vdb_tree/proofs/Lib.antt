@@ -26,7 +26,6 @@ pub mod Tiled
 pub mod Constants
 pub mod Passes
 pub mod Sweeps
-pub mod BlockOrder
 pub mod KeysPast
 pub mod Covered
 pub mod KeysMet

@@ -16,7 +16,7 @@ use Rattle.vdb_tree.specs.Leaves.{IsNextLeaf}
 use Rattle.vdb_tree.specs.Paths.{in_leaf}
 use Rattle.vdb_tree.specs.Seeks.{IsFirstLeaf, IsFrom, IsKeyPast, IsLeafCorner, IsNextLower}
 use Rattle.vdb_tree.specs.Table.{IsNextKey, IsPast}
-use Rattle.vdb_tree.proofs.BlockOrder.{from_key, from_lower, from_upper, key_equal, not_after, precedes, same_upper_offset}
+use Rattle.vdb_coord.proofs.BlockOrder.{from_key, from_lower, from_upper, key_equal, not_after, precedes, same_upper_offset}
 use Rattle.vdb_tree.proofs.NextChild.{leaf_below_lower, leaf_below_upper}
 use Rattle.vdb_tree.proofs.Seeking.{first_of_early, first_of_late}
 

@@ -20,7 +20,7 @@ use Rattle.vdb_tree.specs.Layout.{Layout, field_of, plain, root_at}
 use Rattle.vdb_tree.specs.Plain.{is_plain, roots}
 use Rattle.vdb_tree.specs.Sound.{IsSound}
 use Rattle.vdb_tree.specs.Table.{IsNextKey, IsPast}
-use Rattle.vdb_tree.proofs.BlockOrder.{key_equal, less_apart}
+use Rattle.vdb_coord.proofs.BlockOrder.{key_equal, less_apart}
 use Rattle.vdb_tree.proofs.Blocks.{never, plain_from, unplain_from}
 use Rattle.vdb_tree.proofs.KeysPast.{fewer_past, keys_past, past_on}
 use Rattle.vdb_tree.proofs.Rooted.{one_more, or_cases, or_first, or_second, rooted, roots_at_least, roots_at_most}

@@ -21,7 +21,7 @@ use Rattle.vdb_tree.specs.Layout.{Layout, lower_entry, plain, root_at, root_entr
 use Rattle.vdb_tree.specs.Plain.{cell_eq}
 use Rattle.vdb_tree.specs.Sound.{IsSound}
 use Rattle.vdb_tree.specs.Table.{IsNextKey, IsPast}
-use Rattle.vdb_tree.proofs.BlockOrder.{less_apart}
+use Rattle.vdb_coord.proofs.BlockOrder.{less_apart}
 use Rattle.vdb_tree.proofs.KeysPast.{past_on}
 use Rattle.vdb_tree.proofs.Levels.{coord_cases, like_coords, owned_as, tile_or_child, unlike_coords}
 use Rattle.vdb_tree.proofs.Needed.{absent_entry, some_or_none, is_some_from}

@@ -16,7 +16,7 @@ use Rattle.vdb_coord.proofs.Digits.{number_mono, number_zero}
 use Rattle.vdb_coord.proofs.Meeting.{within_each}
 use Rattle.vdb_coord.proofs.Nesting.{block_total, offset_from_entry}
 use Rattle.vdb_coord.proofs.Walk.{min_inside}
-use Rattle.vdb_tree.proofs.BlockOrder.{from_key, from_lower, from_upper, not_after, precedes}
+use Rattle.vdb_coord.proofs.BlockOrder.{from_key, from_lower, from_upper, not_after, precedes}
 use Rattle.vdb_tree.proofs.Rooted.{or_cases}
 use Rattle.vdb_tree.specs.Field.{Field}
 use Rattle.vdb_value.specs.declared.Cell.{Cell}

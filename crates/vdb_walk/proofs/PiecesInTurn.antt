@@ -21,7 +21,7 @@ use Rattle.vdb_node.specs.declared.Entry.TheVariants.{Child, Tile}
 use Rattle.vdb_tree.specs.Layout.{Layout, field_of, lower_entry, root_at, root_entry, upper_entry}
 use Rattle.vdb_tree.specs.Pieces.{box_of_entry, piece_around}
 use Rattle.vdb_tree.specs.Table.{IsNextKey, IsPast}
-use Rattle.vdb_tree.proofs.BlockOrder.{from_key, from_lower, from_upper, key_equal, Precedes, precedes}
+use Rattle.vdb_coord.proofs.BlockOrder.{from_key, from_lower, from_upper, key_equal, Precedes, precedes}
 use Rattle.vdb_tree.proofs.Descents.{lower_by_block, root_by_block, upper_by_block}
 use Rattle.vdb_tree.proofs.Levels.{bool_cases}
 use Rattle.vdb_tree.proofs.PieceCells.{only_self}
