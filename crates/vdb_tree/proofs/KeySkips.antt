@@ -11,7 +11,7 @@ use Rattle.vdb_coord.specs.Walk.{IsBefore}
 use Rattle.vdb_coord.specs.declared.Bits.{Bits}
 use Rattle.vdb_coord.specs.declared.Coord.{Coord}
 use Rattle.vdb_coord.specs.declared.Level.TheVariants.{Upper}
-use Rattle.vdb_coord.proofs.BlockOrder.{key_less, which_before}
+use Rattle.vdb_coord.proofs.BlockOrder.{key_less, less_apart, less_once, which_before}
 use Rattle.vdb_coord.proofs.Digits.{number_mono}
 use Rattle.vdb_coord.proofs.Members.{coord_equiv, coord_total}
 use Rattle.vdb_coord.proofs.Walk.{inside_from, inside_parts, up_to_x}
@@ -19,7 +19,6 @@ use Rattle.vdb_node.specs.declared.Entry.{Entry}
 use Rattle.vdb_tree.specs.Layout.{root_at}
 use Rattle.vdb_tree.specs.Room.{IsNextMet, MeetsRoot, SkipsTo}
 use Rattle.vdb_tree.specs.Table.{IsNextKey}
-use Rattle.vdb_coord.proofs.BlockOrder.{less_apart, less_once}
 use Rattle.vdb_tree.proofs.Blocks.{never}
 use Rattle.vdb_tree.proofs.KeysMet.{not_greater}
 use Rattle.vdb_tree.proofs.Levels.{some_held}

@@ -2,44 +2,36 @@
 //!
 //! Contracts of this crate speak of fields. How a tree is laid out, in a root table, tiles and nodes, shows only where it
 //! matters: for paths of nodes, for the number of visits and for the size of the tree.
+//!
+//! The modules, from below:
+//! - `refusal`, `path`, `counts`: what calls give back.
+//! - `root`, `tree`, `nodes`, `keys`, `copying`: the root table, the type with its pools of nodes, and whole copies.
+//! - `reading`: descents, leaves, paths, the parts of a tree in turn, the one cell of a block.
+//! - `writing`: nodes in place of tiles, a voxel, leaves in place of active tiles.
+//! - `boxes`: a tree made ready for one cell all over a box, and painted with it.
+//! - `pruning`: tiles in place of nodes whose blocks have one cell, and a table without the background's entries.
 #![tactic(auto)]
 
 ghost use Rattle.std.specs.Prelude.{◌≡◌};
 ghost use Rattle.vdb_tree.specs.Field.{written};
 
-mod constant;
+mod boxes;
 mod copying;
 mod counts;
-mod descent;
-mod ends;
-mod erase;
 mod keys;
-mod leaves;
-mod next_leaf;
 mod nodes;
-mod paint;
-mod paint_voxels;
-mod parts;
 mod path;
-mod pieces;
-mod places;
-mod prune;
-mod ready;
+mod pruning;
+mod reading;
 mod refusal;
-mod room;
 mod root;
-mod root_blocks;
-mod split;
-mod tiles;
-mod trace;
 mod tree;
-mod voxelise;
 mod writing;
 
 pub use counts::NodeCounts;
-pub use parts::{Content, Part, Skip, Walk};
 pub use path::{Path, PathOf};
-pub use pieces::Piece;
+pub use reading::parts::{Content, Part, Skip, Walk};
+pub use reading::pieces::Piece;
 pub use refusal::TreeRefusal;
 pub use tree::{Tree, Tree433, TreeOf};
 use vdb_value::Cell;

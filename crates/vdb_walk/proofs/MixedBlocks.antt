@@ -23,8 +23,8 @@ use Rattle.vdb_tree.specs.Field.{Field, off}
 use Rattle.vdb_tree.specs.Layout.{Layout, field_of}
 use Rattle.vdb_tree.specs.Parts.{IsSkipped, TreeWalk, YieldsBox, is_left}
 use Rattle.vdb_tree.specs.Plain.{is_constant, mixed}
-use Rattle.vdb_tree.specs.declared.parts.Skip.{Skip}
-use Rattle.vdb_tree.specs.declared.parts.Skip.TheVariants.{Background}
+use Rattle.vdb_tree.specs.declared.reading.parts.Skip.{Skip}
+use Rattle.vdb_tree.specs.declared.reading.parts.Skip.TheVariants.{Background}
 use Rattle.vdb_tree.proofs.PartStarts.{before_place}
 use Rattle.vdb_tree.proofs.Rooted.{one_more}
 use Rattle.vdb_tree.proofs.Uniform.{uniform_cells, uniform_from}

@@ -7,7 +7,7 @@ use Rattle.vdb_coord.specs.declared.Bits.{Bits}
 use Rattle.vdb_coord.specs.declared.Coord.{Coord}
 use Rattle.vdb_tree.specs.Layout.{Layout, field_of, root_at}
 use Rattle.vdb_tree.specs.Pieces.{piece_around}
-use Rattle.vdb_tree.specs.declared.pieces.Piece.{Piece}
+use Rattle.vdb_tree.specs.declared.reading.pieces.Piece.{Piece}
 
 -- Where a passage through a tree's pieces stands.
 pub record Passage (V : Type 0) : Type 0 where

@@ -3,7 +3,7 @@ use Rattle.std.proofs.lemmas.Int.{to_z-of_z}
 use Rattle.vdb_coord.specs.Space.{coord}
 use Rattle.vdb_coord.proofs.Walk.{few_after, nearer_x, nearer_y, nearer_z}
 use Rattle.vdb_tree.proofs.PaintedVoxels.{bumped, covered, greatest, behind, next_along_x, next_along_y, next_along_z, none_along}
-use Rattle.vdb_tree.proofs.paint_voxels.next_voxel.Goals as goal
+use Rattle.vdb_tree.proofs.boxes.paint_voxels.next_voxel.Goals as goal
 
 pub returns-then-p-max-clause-next : goal.returns-then-p-max-clause-next
 returns-then-p-max-clause-next c =

@@ -8,10 +8,10 @@ ghost use Rattle.vdb_tree.specs.Jumps.{IsJump, IsNextPart, IsNextPartAt};
 ghost use Rattle.vdb_tree.specs.Layout.{bits_of, root_entry, upper_entry};
 ghost use Rattle.vdb_tree.specs.Parts.{IsEnd, IsNextAbove, IsPlaceAfter, end_level};
 ghost use Rattle.vdb_tree.specs.Paths.{IsChildAt, Lives};
-ghost use Rattle.vdb_tree.specs.declared.parts.Skip.TheVariants.{Background, Inactive};
+ghost use Rattle.vdb_tree.specs.declared.reading.parts.Skip.TheVariants.{Background, Inactive};
 
-use crate::ends::End;
-use crate::parts::Skip;
+use crate::reading::ends::End;
+use crate::reading::parts::Skip;
 use crate::{PathOf, TreeOf};
 use vdb_coord::{Bounds, Coord, Level};
 use vdb_node::{Internal, Leaf, Stored};

@@ -16,8 +16,8 @@ ghost use Rattle.vdb_tree.specs.Ready.{IsCovered, IsReady};
 ghost use Rattle.vdb_tree.specs.Room.{IsNextMet};
 
 use crate::TreeOf;
+use crate::boxes::paint_voxels::paint_voxels;
 use crate::nodes::held_place;
-use crate::paint_voxels::paint_voxels;
 use vdb_coord::{Bounds, Coord, Level};
 use vdb_node::{Entry, Stored};
 use vdb_pool::Steps;

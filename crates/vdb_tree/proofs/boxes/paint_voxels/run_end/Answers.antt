@@ -5,7 +5,7 @@ use Rattle.vdb_coord.specs.Blocks.{block_around}
 use Rattle.vdb_coord.specs.Space.{Box, coord}
 use Rattle.vdb_coord.specs.declared.Coord.{Coord}
 use Rattle.vdb_coord.specs.declared.Level.TheVariants.{Leaf}
-use Rattle.vdb_tree.proofs.paint_voxels.run_end.Goals as goal
+use Rattle.vdb_tree.proofs.boxes.paint_voxels.run_end.Goals as goal
 
 pub returns : goal.returns
 returns c =

@@ -11,7 +11,7 @@ ghost use Rattle.vdb_tree.specs.Layout.{bits_of, entry_over, field_of, plain};
 ghost use Rattle.vdb_tree.specs.Parts.{IsEnd, IsPartAround, IsPartOfLeaf, IsPlace, IsSkipped, IsWalk, OnLeaf, OnTile, Passes, YieldsBox, end_level, is_left, left_count};
 ghost use Rattle.vdb_tree.specs.Paths.{Lives};
 
-use crate::ends::End;
+use crate::reading::ends::End;
 use crate::{PathOf, TreeOf};
 use std::marker::Model;
 use vdb_coord::{Bounds, Coord, Level};

@@ -7,7 +7,7 @@ use Rattle.vdb_node.specs.Nodes.{entry_count}
 use Rattle.vdb_tree.proofs.PaintedVoxels.{greatest, voxels_all, voxels_next}
 use Rattle.vdb_tree.proofs.Sizes.{leaf_small}
 use Rattle.vdb_tree.proofs.VoxelRuns.{is_run, last_inside, not_further, run_from}
-use Rattle.vdb_tree.proofs.paint_voxels.paint_voxels.Goals as goal
+use Rattle.vdb_tree.proofs.boxes.paint_voxels.paint_voxels.Goals as goal
 
 in_order : (a b x y : ℕ) → a ≡ x → b ≡ y → x ≤ y → a ≤ b + 1
 in_order a b x y e f h = omega (arith, e, f, h)

@@ -12,7 +12,7 @@ ghost use Rattle.vdb_tree.specs.Table.{HasRoom};
 ghost use Rattle.vdb_tree.specs.Voxelised.{IsVoxelisedAround, IsVoxelisedFrom};
 ghost use Rattle.vdb_tree.specs.declared.refusal.TreeRefusal.TheVariants.{Memory};
 
-use crate::ends::End;
+use crate::reading::ends::End;
 use crate::{TreeOf, TreeRefusal};
 use vdb_coord::{Bounds, Coord, Level};
 use vdb_node::Stored;
