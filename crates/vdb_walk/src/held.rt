@@ -2,12 +2,13 @@
 
 ghost use Rattle.std.specs.Prelude.{◌≡◌};
 ghost use Rattle.vdb_tree.specs.Layout.{bits_of};
+ghost use Rattle.vdb_tree.specs.Parts.{IsWalk};
 ghost use Rattle.vdb_walk.specs.Listings.{HasCells, IsHeld, tile_of};
 
 use vdb_coord::Bounds;
-use vdb_node::{Leaf, Stored};
+use vdb_node::{Internal, Leaf, Stored};
 use vdb_pool::Steps;
-use vdb_tree::{Content, Part, TreeOf};
+use vdb_tree::{Content, Part, TreeOf, Walk};
 use vdb_value::Cell;
 
 /// A part of a tree without its leaf: its bounds, and the cell where it is of a tile.
@@ -32,7 +33,7 @@ pub(crate) fn without_leaf<V: Copy, L: Copy>(part: &Part<V, L>) -> Held<V>
     }
 }
 
-/// The part with its leaf, by at most three visits.
+/// The part with its leaf, by one visit where the walk's path ends in it, and else by at most three.
 pub(crate) fn with_leaf<
     'a,
     V: Stored<WU> + Stored<WL> + Stored<WF>,
@@ -44,10 +45,12 @@ pub(crate) fn with_leaf<
     const WF: usize,
 >(
     tree: &'a TreeOf<V, U, L, F, WU, WL, WF>,
+    walk: &Walk<Internal<V, U, WU>, Internal<V, L, WL>, Leaf<V, F, WF>>,
     held: Held<V>,
     steps: &mut Steps,
 ) -> Part<V, &'a Leaf<V, F, WF>>
-    requires { IsHeld (bits_of U L F) tree.now held }
+    requires walk { IsWalk (bits_of U L F) tree.now walk.now }
+    requires held { IsHeld (bits_of U L F) tree.now held }
     ensures cells { HasCells (bits_of U L F) tree.now result }
     ensures bounds { result.bounds ≡ held.bounds }
 {
@@ -57,12 +60,12 @@ pub(crate) fn with_leaf<
             bounds,
             content: Content::Tile(cell),
         },
-        None => match tree.leaf(corner, steps) {
+        None => match tree.leaf_of(walk, corner, steps) {
             Some(leaf) => Part {
                 bounds,
                 content: Content::Leaf(leaf),
             },
-            // never so, but a block without a leaf has one cell
+            // a block without a leaf has one cell
             None => Part {
                 bounds,
                 content: Content::Tile(tree.piece(corner, steps).cell),

@@ -176,7 +176,7 @@ fn hand_out<
     ensures none { IfNone result (IsListing (bits_of U L F) tree.now last walk.new part.new) }
 {
     if let Some(held) = *part {
-        let found = first_in(tree, last, with_leaf(tree, held, steps));
+        let found = first_in(tree, last, with_leaf(tree, walk, held, steps));
         if found.is_some() {
             return found;
         }

@@ -35,8 +35,8 @@ impl<
     const WL: usize,
     const WF: usize,
 > TreeOf<V, U, L, F, WU, WL, WF> {
-    /// Where the descent to `p` ends, from the lowest internal node of the path to `q` that contains `p`, with the internal
-    /// nodes on its way. A leaf isn't visited.
+    /// Where the descent to `p` ends, from the lowest internal node of the path to `q` that contains `p`, with the nodes
+    /// on its way. A leaf isn't visited.
     pub(crate) fn reached(
         &self,
         path: PathOf<Internal<V, U, WU>, Internal<V, L, WL>, Leaf<V, F, WF>>,
@@ -130,7 +130,7 @@ impl<
                 end: End::Tile(Level::Leaf, cell),
             },
             Entry::Child(slot) => Reached {
-                path: PathOf::ToLower(upper, lower),
+                path: PathOf::ToLeaf(upper, lower, self.leaf_place(slot, p)),
                 end: End::Leaf(slot),
             },
         }

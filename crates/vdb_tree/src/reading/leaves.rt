@@ -10,7 +10,7 @@ ghost use Rattle.vdb_tree.specs.Changes.{Changes};
 ghost use Rattle.vdb_tree.specs.Field.{written};
 ghost use Rattle.vdb_tree.specs.Layout.{bits_of, cell_at, field_of, lower_entry};
 ghost use Rattle.vdb_tree.specs.Leaves.{IsLeafAround, IsVoxelWritten, SetsStates, with_states_of};
-ghost use Rattle.vdb_tree.specs.Paths.{in_leaf, IsWhole, TreePath};
+ghost use Rattle.vdb_tree.specs.Paths.{in_leaf, IsChildAt, IsWhole, TreePath};
 ghost use Rattle.vdb_tree.specs.Plain.{count as active_count};
 
 use crate::nodes::held_place;
@@ -18,7 +18,7 @@ use crate::{TreeOf, Write};
 use vdb_coord::{Coord, Level};
 use vdb_mask::Mask;
 use vdb_node::{Entry, Leaf, Stored};
-use vdb_pool::Steps;
+use vdb_pool::{Place, Steps};
 
 impl<
     V: Stored<WU> + Stored<WL> + Stored<WF>,
@@ -101,8 +101,22 @@ impl<
         ensures leaf { IsLeafAround (bits_of U L F) (field_of (bits_of U L F) self.now) p result.now }
         ensures steps { steps.new ≤ steps.old + 1 }
     {
-        let place = held_place(&self.leaves, slot);
-        self.leaves.at(place, steps)
+        let leaf = self.leaf_place(slot, p);
+        self.placed_leaf(leaf, p, steps)
+    }
+
+    /// The leaf around p, at its place.
+    pub(crate) fn placed_leaf(
+        &self,
+        leaf: Place<Leaf<V, F, WF>>,
+        p: Coord,
+        steps: &mut Steps,
+    ) -> &Leaf<V, F, WF>
+        requires { IsChildAt self.now.leaves (lower_entry (bits_of U L F) self.now p) leaf }
+        ensures leaf { IsLeafAround (bits_of U L F) (field_of (bits_of U L F) self.now) p result.now }
+        ensures steps { steps.new ≤ steps.old + 1 }
+    {
+        self.leaves.at(leaf, steps)
     }
 
     /// How many voxels of the leaf around p are active.

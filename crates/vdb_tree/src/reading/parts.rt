@@ -1,15 +1,16 @@
 //! The parts of a tree in block order, one after another.
 
-ghost use Rattle.std.specs.Prelude.{◌≡◌, ◌*◌, ◌<◌, ◌≤◌, IfNone, IfSome, IsTrue, Some, None, false};
+ghost use Rattle.std.specs.Prelude.{◌≡◌, ◌+◌, ◌*◌, ◌<◌, ◌≤◌, if◌then◌else◌, is_some, IfNone, IfSome, IsNone, IsTrue, Some, None, false};
 ghost use Rattle.vdb_coord.specs.Blocks.{block_number, entries};
 ghost use Rattle.vdb_coord.specs.Order.{ComesBefore, coordinates_past};
-ghost use Rattle.vdb_coord.specs.Space.{is_inside};
+ghost use Rattle.vdb_coord.specs.Space.{everywhere, is_inside};
 ghost use Rattle.vdb_coord.specs.declared.Coord.{Coord};
 ghost use Rattle.vdb_coord.specs.declared.Level.TheVariants.{Leaf as leaf_level, Lower, Upper};
 ghost use Rattle.vdb_node.specs.declared.Entry.TheVariants.{Tile};
 ghost use Rattle.vdb_tree.specs.Layout.{bits_of, entry_over, field_of, plain};
+ghost use Rattle.vdb_tree.specs.Leaves.{IsLeafAround};
 ghost use Rattle.vdb_tree.specs.Parts.{IsEnd, IsPartAround, IsPartOfLeaf, IsPlace, IsSkipped, IsWalk, OnLeaf, OnTile, Passes, YieldsBox, end_level, is_left, left_count};
-ghost use Rattle.vdb_tree.specs.Paths.{Lives};
+ghost use Rattle.vdb_tree.specs.Paths.{common, ends_in_leaf, in_leaf, Lives};
 
 use crate::reading::ends::End;
 use crate::{PathOf, TreeOf};
@@ -223,6 +224,28 @@ impl<
             }
         }
         None
+    }
+
+    /// What `leaf` answers, the leaf around a coordinate, by one visit where the walk's path ends in that leaf, as it does once a
+    /// part of the leaf was yielded (OpenVDB's `ValueAccessor::probeConstLeaf`).
+    pub fn leaf_of(
+        &self,
+        walk: &Walk<Internal<V, U, WU>, Internal<V, L, WL>, Leaf<V, F, WF>>,
+        p: Coord,
+        steps: &mut Steps,
+    ) -> Option<&Leaf<V, F, WF>>
+        requires { IsWalk (bits_of U L F) self.now walk.now }
+        ensures leaf { IfSome result (λ leaf. IsLeafAround (bits_of U L F) (field_of (bits_of U L F) self.now) p leaf.now) }
+        ensures tile { IsNone result → (q : Coord) → IsTrue (is_inside everywhere q)
+            → block_number (bits_of U L F) leaf_level q ≡ block_number (bits_of U L F) leaf_level p
+            → (field_of (bits_of U L F) self.now).cell q ≡ (field_of (bits_of U L F) self.now).cell p }
+        ensures there { is_some result ≡ in_leaf (bits_of U L F) self.now p }
+        ensures steps { steps.new ≤ steps.old + (if ends_in_leaf (common (bits_of U L F) walk.now.near p walk.now.path) then 1 else 3) }
+    {
+        match self.shared(walk.path(), walk.near(), p) {
+            PathOf::ToLeaf(_, _, leaf) => Some(self.placed_leaf(leaf, p, steps)),
+            _ => self.leaf(p, steps),
+        }
     }
 
     /// Goes on from a place: yields the part around it, unless that is passed over.

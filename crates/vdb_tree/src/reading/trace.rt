@@ -299,7 +299,7 @@ impl<
         held_place(&self.lowers, slot)
     }
 
-    fn leaf_place(&self, slot: u32, p: Coord) -> Place<Leaf<V, F, WF>>
+    pub(crate) fn leaf_place(&self, slot: u32, p: Coord) -> Place<Leaf<V, F, WF>>
         requires { lower_entry (bits_of U L F) self.now p ≡ Child slot }
         ensures { IsChildAt self.now.leaves (lower_entry (bits_of U L F) self.now p) result }
     {

@@ -2,9 +2,9 @@
 
 use super::{all, at, off, on};
 use std::process::Abort;
-use vdb_coord::Coord;
+use vdb_coord::{Bounds, Coord, Level};
 use vdb_pool::Steps;
-use vdb_tree::{PathOf, Tree, TreeRefusal, Write};
+use vdb_tree::{PathOf, Skip, Tree, TreeRefusal, Write};
 use vdb_value::Cell;
 
 // In a tree of one root block: leaves around 0 and 9 of one lower node, and around 200 of another.
@@ -133,6 +133,39 @@ fn writes_in_the_leaf_of_a_path(rt: HostRuntime) -> Result<(), TreeRefusal> {
     ];
     for (from, to, near, cell) in cases {
         expect_near(&rt, &mut tree, (from, to), near, cell, &mut steps);
+    }
+    Ok(())
+}
+
+// The value of a voxel in the leaf around it, after a walk has yielded the first leaf, and how many nodes are visited for it.
+fn value_near_first(tree: &Tree<i32>, p: Coord, steps: &mut Steps) -> (Option<i32>, u64) {
+    let mut walk = tree.parts(Bounds::all(), Skip::Inactive);
+    let _ = tree.next_part(&mut walk, steps);
+    let before = steps.count();
+    let value = match tree.leaf_of(&walk, p, steps) {
+        Some(leaf) => Some(leaf.entry(u32::from(p.offset(Level::Leaf))).value),
+        None => None,
+    };
+    (value, steps.count().wrapping_sub(before))
+}
+
+// The leaf that a walk has yielded is had by one visit, and another by the descent to it.
+#[test]
+fn leaves_near_a_walk(rt: HostRuntime) -> Result<(), TreeRefusal> {
+    let mut steps = Steps::new(&rt);
+    let mut tree = Tree::new(rt.alloc(), 0i32, 1);
+    write_leaves(&mut tree, &mut steps)?;
+    let cases = [
+        (all(0), (Some(5), 1)),
+        (all(7), (Some(0), 1)),
+        (at(9, 0, 0), (Some(5), 3)),
+        (at(200, 0, 0), (Some(5), 3)),
+        (at(16, 0, 0), (None, 2)),
+        (at(0, 200, 0), (None, 1)),
+        (at(4096, 0, 0), (None, 0)),
+    ];
+    for (p, answer) in cases {
+        assert_eq!(rt; value_near_first(&tree, p, &mut steps), answer, "at {p:?}");
     }
     Ok(())
 }

@@ -1,9 +1,0 @@
-use Rattle.std.proofs.Common.{◌∙◌, ap, sym}
-use Rattle.vdb_node.specs.declared.Entry.TheVariants.{Child}
-use Rattle.vdb_tree.proofs.LeafBlocks.{leaf_around}
-use Rattle.vdb_tree.proofs.tree.TreeOf.held_leaf.Goals as goal
-
-pub returns-clause-leaf : goal.returns-clause-leaf
-returns-clause-leaf g c =
-    rw (← c.self.view_is)
-    (leaf_around _ _ c.args.p _ _ ((rw (← c.self.view_is) at c.requires) ∙ ap Child (sym c.held_place-place.ensures.slot)) c.at.ensures.node)
