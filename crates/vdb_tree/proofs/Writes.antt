@@ -13,7 +13,7 @@ use Rattle.vdb_tree.specs.Changes.{Changes, IsSwept, Keeps}
 use Rattle.vdb_tree.specs.Field.{write, written}
 use Rattle.vdb_node.specs.declared.Entry.TheVariants.{Child, Tile}
 use Rattle.vdb_value.specs.declared.Cell.{Cell}
-use Rattle.vdb_tree.specs.Layout.{Layout, cell_at, field_of, lower_entry, plain, root_at}
+use Rattle.vdb_tree.specs.Layout.{Layout, cell_at, field_of, lower_entry, plain, root_at, root_entry, upper_entry}
 use Rattle.vdb_tree.specs.Outcome.{IsOutcome}
 use Rattle.vdb_tree.specs.Plain.{roots}
 use Rattle.vdb_tree.specs.Sound.{IsSound}
@@ -73,6 +73,20 @@ module _ {V : Type 0} (bits : Bits) where
   -- the cell of a tile, in the field
   pub tile_field_cell : (t : Layout V) (p : Coord) (cell : Cell V) → IsTrue (is_inside everywhere p) → lower_entry bits t p ≡ Tile cell → (field_of bits t).cell p ≡ cell
   tile_field_cell t p cell inside tile = cell_inside t.background (cell_at bits t) p inside ∙ tile_cell bits t cell p tile
+
+  -- an upper node over p has an entry above it
+  pub upper_has_room : (t : Layout V) (p : Coord) (slot : ℕ) → root_entry bits t p ≡ Child slot → HasRoom t (key bits p)
+  upper_has_room t p slot child = elim (some_or_none (root_at t.root (key bits p))) [
+    | inl x ↦ inl (is_some_from _ x.0 x.1)
+    | inr n ↦ absurd (tile_no_child (plain t) slot (sym (absent_entry bits t p n) ∙ child))
+  ]
+
+  -- so has a lower node
+  pub lower_has_room : (t : Layout V) (p : Coord) (slot : ℕ) → upper_entry bits t p ≡ Child slot → HasRoom t (key bits p)
+  lower_has_room t p slot child = elim (some_or_none (root_at t.root (key bits p))) [
+    | inl x ↦ inl (is_some_from _ x.0 x.1)
+    | inr n ↦ absurd (tile_no_child (plain t) slot (sym (tile_upper bits t (plain t) p (absent_entry bits t p n)) ∙ child))
+  ]
 
   -- a child over p's leaf block has an entry above it
   pub leaf_has_room : (t : Layout V) (p : Coord) (slot : ℕ) → lower_entry bits t p ≡ Child slot → HasRoom t (key bits p)

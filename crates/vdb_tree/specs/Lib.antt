@@ -5,6 +5,7 @@ pub mod Layout
 pub mod Sound
 pub mod Table
 pub mod Paths
+pub mod Holders
 pub mod Pieces
 pub mod Parts
 pub mod Jumps

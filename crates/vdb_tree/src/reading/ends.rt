@@ -1,7 +1,8 @@
-//! Where descents end: in a tile of some level, or in a leaf.
+//! Where descents end: in a tile of some level, or in a leaf; and what holds the entry that they end in.
 
 ghost use Rattle.std.specs.Prelude.{◌≡◌, ◌+◌, ◌≤◌};
 ghost use Rattle.vdb_node.specs.declared.Entry.TheVariants.{Child};
+ghost use Rattle.vdb_tree.specs.Holders.{IsHeldIn, nodes_to};
 ghost use Rattle.vdb_tree.specs.Layout.{bits_of, lower_entry, root_entry, upper_entry};
 ghost use Rattle.vdb_tree.specs.Parts.{IsEnd};
 ghost use Rattle.vdb_tree.specs.Paths.{IsChildAt, Lives};
@@ -24,6 +25,21 @@ pub(crate) enum End<V> {
 pub(crate) struct Reached<Upper, Lower, Leaf, V> {
     pub(crate) path: PathOf<Upper, Lower, Leaf>,
     pub(crate) end: End<V>,
+}
+
+/// What holds the entry that a descent ends in: the root table, or the internal node in this slot.
+#[derive(Clone, Copy)]
+pub(crate) enum Holder {
+    Root,
+    Upper(u32),
+    Lower(u32),
+}
+
+/// The entry that a descent ends in, with what holds it.
+#[derive(Clone, Copy)]
+pub(crate) struct Held<V> {
+    pub(crate) holder: Holder,
+    pub(crate) entry: Entry<V>,
 }
 
 impl<
@@ -53,6 +69,37 @@ impl<
             PathOf::ToUpper(upper) => self.reached_from_upper(upper, p, steps),
             PathOf::ToLower(upper, lower) => self.reached_from_lower(upper, lower, p, steps),
             PathOf::ToLeaf(upper, lower, _) => self.reached_from_lower(upper, lower, p, steps),
+        }
+    }
+
+    /// The entry that the descent to `p` ends in, a tile or a leaf, with what holds it. It visits the nodes down to that.
+    pub(crate) fn held_entry(&self, p: Coord, steps: &mut Steps) -> Held<V>
+        ensures value { lower_entry (bits_of U L F) self.now p ≡ result.entry }
+        ensures held { IsHeldIn (bits_of U L F) self.now p result.holder result.entry }
+        ensures steps { steps.new ≤ steps.old + nodes_to result.holder }
+    {
+        let upper = match self.root_entry(p) {
+            Entry::Tile(cell) => {
+                return Held {
+                    holder: Holder::Root,
+                    entry: Entry::Tile(cell),
+                };
+            }
+            Entry::Child(slot) => slot,
+        };
+        let lower = match self.upper_entry(upper, p, steps) {
+            Entry::Tile(cell) => {
+                return Held {
+                    holder: Holder::Upper(upper),
+                    entry: Entry::Tile(cell),
+                };
+            }
+            Entry::Child(slot) => slot,
+        };
+        let entry = self.lower_entry(lower, p, steps);
+        Held {
+            holder: Holder::Lower(lower),
+            entry,
         }
     }
 

@@ -4,9 +4,10 @@ ghost use Rattle.std.specs.Prelude.{◌≡◌, ◌≢◌, ◌+◌, ◌<◌, ◌�
 ghost use Rattle.vdb_coord.specs.Blocks.{block_around, key};
 ghost use Rattle.vdb_coord.specs.declared.Coord.{Coord};
 ghost use Rattle.vdb_coord.specs.declared.Level.TheVariants.{Leaf};
-ghost use Rattle.vdb_node.specs.declared.Entry.TheVariants.{Child};
+ghost use Rattle.vdb_node.specs.declared.Entry.TheVariants.{Child, Tile};
 ghost use Rattle.vdb_tree.specs.Changes.{AddsNodes, IsSwept, Keeps};
 ghost use Rattle.vdb_tree.specs.Field.{write, written};
+ghost use Rattle.vdb_tree.specs.Holders.{IsHeldIn, nodes_to};
 ghost use Rattle.vdb_tree.specs.Layout.{bits_of, cell_at, field_of, lower_entry, root_at, root_entry, upper_entry};
 ghost use Rattle.vdb_tree.specs.Outcome.{IsOutcome};
 ghost use Rattle.vdb_tree.specs.Paths.{in_leaf};
@@ -15,10 +16,12 @@ ghost use Rattle.vdb_tree.specs.Table.{HasRoom};
 ghost use Rattle.vdb_tree.specs.declared.Write.{Write};
 ghost use Rattle.vdb_tree.specs.declared.refusal.TreeRefusal.TheVariants.{Memory, RootLimit};
 
+use crate::reading::ends::{Held, Holder};
 use crate::{TreeOf, TreeRefusal, Write};
 use vdb_coord::Coord;
 use vdb_node::{Entry, Stored};
 use vdb_pool::Steps;
+use vdb_value::Cell;
 
 impl<
     V: Stored<WU> + Stored<WL> + Stored<WF>,
@@ -34,7 +37,7 @@ impl<
     /// Where a full root table would need one entry more, plain entries are swept out first. `RootLimit` says that even then
     /// there are more root blocks with a cell that isn't plain than the limit, `Memory` that a growth was refused; both leave
     /// every cell as it was. Neither comes where the cell stands already or where it lies in a leaf, as it does
-    /// wherever the cells of its leaf block aren't all equal. A write visits at most 7 nodes, unless it sweeps.
+    /// wherever the cells of its leaf block aren't all equal. A write visits at most 5 nodes, unless it sweeps.
     pub fn write(
         &mut self,
         p: Coord,
@@ -49,11 +52,12 @@ impl<
         ensures mixed { is_constant V.eq (field_of (bits_of U L F) self.old) (block_around (bits_of U L F) Leaf p) ≡ false → IsOk result }
         ensures steps { HasRoom self.old (key (bits_of U L F) p)
             ⊎ (written change ((field_of (bits_of U L F) self.old).cell p) ≡ (field_of (bits_of U L F) self.old).cell p)
-            → steps.new ≤ steps.old + 7 }
+            → steps.new ≤ steps.old + 5 }
     {
         self.keeps_to_limit(p);
         self.has_leaf_if_mixed(p);
-        let cell = match self.leaf_entry(p, steps) {
+        let Held { holder, entry } = self.held_entry(p, steps);
+        let cell = match entry {
             Entry::Child(leaf) => {
                 self.write_voxel(leaf, p, change, steps);
                 return Ok(());
@@ -63,11 +67,79 @@ impl<
         if change.applied(cell) == cell {
             return Ok(());
         }
-        self.write_tile(p, change, steps)
+        self.write_tile(holder, cell, p, change, steps)
     }
 
-    /// Writes a voxel that lies in a tile or under no entry, and whose cell changes.
+    /// Writes a voxel whose cell changes and that lies in a tile, from what holds the tile down.
     fn write_tile(
+        &mut self,
+        holder: Holder,
+        cell: Cell<V>,
+        p: Coord,
+        change: Write<V>,
+        steps: &mut Steps,
+    ) -> Result<(), TreeRefusal>
+        requires { IsHeldIn (bits_of U L F) self.old p holder (Tile cell) }
+        ensures outcome { written change ((field_of (bits_of U L F) self.old).cell p) ≢ (field_of (bits_of U L F) self.old).cell p
+            → IsOutcome V.eq (bits_of U L F) self.old.limit (field_of (bits_of U L F) self.old)
+            (write p change (field_of (bits_of U L F) self.old)) (field_of (bits_of U L F) self.new) result }
+        ensures limit { self.new.limit ≡ self.old.limit }
+        ensures steps { HasRoom self.old (key (bits_of U L F) p) → steps.new + nodes_to holder ≤ steps.old + 5 }
+    {
+        match holder {
+            Holder::Root => self.write_root_tile(p, change, steps),
+            Holder::Upper(upper) => self.write_upper_tile(upper, cell, p, change, steps),
+            Holder::Lower(lower) => self.write_lower_tile(lower, cell, p, change, steps),
+        }
+    }
+
+    /// Writes a voxel that lies in a tile of an upper node.
+    fn write_upper_tile(
+        &mut self,
+        upper: u32,
+        cell: Cell<V>,
+        p: Coord,
+        change: Write<V>,
+        steps: &mut Steps,
+    ) -> Result<(), TreeRefusal>
+        requires node { root_entry (bits_of U L F) self.old p ≡ Child upper }
+        requires tiled { upper_entry (bits_of U L F) self.old p ≡ Tile cell }
+        ensures outcome { IsOutcome V.eq (bits_of U L F) self.old.limit (field_of (bits_of U L F) self.old)
+            (write p change (field_of (bits_of U L F) self.old)) (field_of (bits_of U L F) self.new) result }
+        ensures limit { self.new.limit ≡ self.old.limit }
+        ensures steps { steps.new ≤ steps.old + 4 }
+    {
+        self.keeps_to_limit(p);
+        let lower = self.split_upper(upper, p, cell, steps)?;
+        let leaf = self.leaf_in(lower, p, steps)?;
+        self.write_voxel(leaf, p, change, steps);
+        Ok(())
+    }
+
+    /// Writes a voxel that lies in a tile of a lower node.
+    fn write_lower_tile(
+        &mut self,
+        lower: u32,
+        cell: Cell<V>,
+        p: Coord,
+        change: Write<V>,
+        steps: &mut Steps,
+    ) -> Result<(), TreeRefusal>
+        requires node { upper_entry (bits_of U L F) self.old p ≡ Child lower }
+        requires tiled { lower_entry (bits_of U L F) self.old p ≡ Tile cell }
+        ensures outcome { IsOutcome V.eq (bits_of U L F) self.old.limit (field_of (bits_of U L F) self.old)
+            (write p change (field_of (bits_of U L F) self.old)) (field_of (bits_of U L F) self.new) result }
+        ensures limit { self.new.limit ≡ self.old.limit }
+        ensures steps { steps.new ≤ steps.old + 2 }
+    {
+        self.keeps_to_limit(p);
+        let leaf = self.split_lower(lower, p, cell, steps)?;
+        self.write_voxel(leaf, p, change, steps);
+        Ok(())
+    }
+
+    /// Writes a voxel whose cell changes and that lies in a tile of the root table or under no entry.
+    fn write_root_tile(
         &mut self,
         p: Coord,
         change: Write<V>,

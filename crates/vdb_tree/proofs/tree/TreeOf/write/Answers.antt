@@ -14,7 +14,7 @@ pub returns-in-Child-clause-outcome : goal.returns-in-Child-clause-outcome
 returns-in-Child-clause-outcome g c =
     let bits = bits_of g.row.U g.row.L g.row.F in (
       changes_field bits c.args.self.now c.write_voxel.new.self c.args.p c.args.change c.write_voxel.ensures.changes,
-      c.keeps_to_limit.ensures.within (leaf_has_room bits c.args.self.now c.args.p _ (c.leaf_entry.ensures.value ∙ c.in-Child.is)) c.args.change,
+      c.keeps_to_limit.ensures.within (leaf_has_room bits c.args.self.now c.args.p _ (c.held_entry-holder.ensures.value ∙ c.in-Child.is)) c.args.change,
     )
 
 pub returns-then-eq-clause-outcome : goal.returns-then-eq-clause-outcome
@@ -22,7 +22,7 @@ returns-then-eq-clause-outcome g c =
     let bits = bits_of g.row.U g.row.L g.row.F in
     let exact = exact_by g.V.PartialEq.eq g.V.Ord.cmp g.met.V.Ord.matches_eq g.met.V.Voxel.exact in
     let inside = fits_everywhere c.args.p (search rules) (search rules) (search rules) in
-    let at = tile_field_cell bits c.args.self.now c.args.p c.in-Tile.cell inside (c.leaf_entry.ensures.value ∙ c.in-Tile.is) in
+    let at = tile_field_cell bits c.args.self.now c.args.p c.in-Tile.cell inside (c.held_entry-holder.ensures.value ∙ c.in-Tile.is) in
     let same = cell_exact g.V.PartialEq.eq exact g.met.V.Eq.laws.refl c.applied.result c.in-Tile.cell (sym c.eq.ensures ∙ c.if-eq.true) in
     let stands = ap (written c.args.change) at ∙ sym c.applied.ensures ∙ same ∙ sym at in
     let field = standing_field bits c.args.self.now c.args.p c.args.change stands in
@@ -33,18 +33,18 @@ returns-clause-stands g c = λ stands.
     let bits = bits_of g.row.U g.row.L g.row.F in
     let exact = exact_by g.V.PartialEq.eq g.V.Ord.cmp g.met.V.Ord.matches_eq g.met.V.Voxel.exact in
     let inside = fits_everywhere c.args.p (search rules) (search rules) (search rules) in
-    let at = tile_field_cell bits c.args.self.now c.args.p c.in-Tile.cell inside (c.leaf_entry.ensures.value ∙ c.in-Tile.is) in
+    let at = tile_field_cell bits c.args.self.now c.args.p c.in-Tile.cell inside (c.held_entry-holder.ensures.value ∙ c.in-Tile.is) in
     let same = c.applied.ensures ∙ ap (written c.args.change) (sym at) ∙ stands ∙ at in
     absurd (never c.if-eq.false (c.eq.ensures ∙ cell_same g.V.PartialEq.eq exact g.met.V.Eq.laws.refl c.applied.result c.in-Tile.cell same))
 
 pub returns-clause-steps : goal.returns-clause-steps
 returns-clause-steps g c = λ h. elim h [
-  | inl room ↦ let after = c.write_tile.ensures.steps room in let before = c.leaf_entry.ensures.steps in omega (arith, after, before)
+  | inl room ↦ let after = c.write_tile.ensures.steps room in let before = c.held_entry-holder.ensures.steps in omega (arith, after, before)
   | inr stands ↦
       let bits = bits_of g.row.U g.row.L g.row.F in
       let exact = exact_by g.V.PartialEq.eq g.V.Ord.cmp g.met.V.Ord.matches_eq g.met.V.Voxel.exact in
       let inside = fits_everywhere c.args.p (search rules) (search rules) (search rules) in
-      let at = tile_field_cell bits c.args.self.now c.args.p c.in-Tile.cell inside (c.leaf_entry.ensures.value ∙ c.in-Tile.is) in
+      let at = tile_field_cell bits c.args.self.now c.args.p c.in-Tile.cell inside (c.held_entry-holder.ensures.value ∙ c.in-Tile.is) in
       let same = c.applied.ensures ∙ ap (written c.args.change) (sym at) ∙ stands ∙ at in
       absurd (never c.if-eq.false (c.eq.ensures ∙ cell_same g.V.PartialEq.eq exact g.met.V.Eq.laws.refl c.applied.result c.in-Tile.cell same))
 ]
@@ -54,10 +54,10 @@ returns-clause-outcome g c =
     let bits = bits_of g.row.U g.row.L g.row.F in
     let exact = exact_by g.V.PartialEq.eq g.V.Ord.cmp g.met.V.Ord.matches_eq g.met.V.Voxel.exact in
     let inside = fits_everywhere c.args.p (search rules) (search rules) (search rules) in
-    let at = tile_field_cell bits c.args.self.now c.args.p c.in-Tile.cell inside (c.leaf_entry.ensures.value ∙ c.in-Tile.is) in
+    let at = tile_field_cell bits c.args.self.now c.args.p c.in-Tile.cell inside (c.held_entry-holder.ensures.value ∙ c.in-Tile.is) in
     c.write_tile.ensures.outcome (λ stands.
     let same = c.applied.ensures ∙ ap (written c.args.change) (sym at) ∙ stands ∙ at in
     never c.if-eq.false (c.eq.ensures ∙ cell_same g.V.PartialEq.eq exact g.met.V.Eq.laws.refl c.applied.result c.in-Tile.cell same))
 
 pub returns-clause-mixed : goal.returns-clause-mixed
-returns-clause-mixed g c = λ h. absurd (never (ap is_child (c.leaf_entry.ensures.value ∙ c.in-Tile.is)) (c.has_leaf_if_mixed.ensures h))
+returns-clause-mixed g c = λ h. absurd (never (ap is_child (c.held_entry-holder.ensures.value ∙ c.in-Tile.is)) (c.has_leaf_if_mixed.ensures h))

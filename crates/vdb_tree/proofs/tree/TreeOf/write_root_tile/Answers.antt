@@ -4,7 +4,7 @@ use Rattle.vdb_tree.specs.declared.refusal.TreeRefusal.TheVariants.{Memory}
 use Rattle.vdb_tree.specs.Layout.{bits_of}
 use Rattle.vdb_tree.proofs.Splits.{keeps_twice}
 use Rattle.vdb_tree.proofs.Writes.{kept_outcome, written_field}
-use Rattle.vdb_tree.proofs.tree.TreeOf.write_tile.Goals as goal
+use Rattle.vdb_tree.proofs.tree.TreeOf.write_root_tile.Goals as goal
 
 pub returns-in_err-leaf-clause-outcome : goal.returns-in_err-leaf-clause-outcome
 returns-in_err-leaf-clause-outcome g c = λ _.
