@@ -49,3 +49,4 @@ pub mod Clears
 pub mod PaintedRoots
 pub mod UnlikeEntries
 pub mod PartStarts
+pub mod ActiveCounts

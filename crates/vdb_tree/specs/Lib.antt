@@ -21,3 +21,4 @@ pub mod Seeks
 pub mod Paints
 pub mod Unlike
 pub mod Voxelised
+pub mod Active

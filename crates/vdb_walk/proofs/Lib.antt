@@ -17,3 +17,4 @@ pub mod PartSeeks
 pub mod NextVoxels
 pub mod HandedOut
 pub mod ListingSizes
+pub mod BlockCounts

@@ -97,7 +97,7 @@ module _ (bits : Bits) where
       ]
 
   -- what comes after q comes after p, if q does or is it
-  past_both : (p q m : Coord) → (ComesBefore bits q p → ⊥) → ComesBefore bits q m → ComesBefore bits p m
+  pub past_both : (p q m : Coord) → (ComesBefore bits q p → ⊥) → ComesBefore bits q m → ComesBefore bits p m
   past_both p q m from h =
       elim (which_first bits p q) [
         | inl a ↦ comes_on bits p q m a h

@@ -1,8 +1,8 @@
 -- The blocks of a level from a place on. Only proofs and private functions speak of these.
-use Rattle.std.specs.Prelude.{◌≡◌, ℕ, Bool, true, not, ◌&&◌, Option, Some, None, IsTrue, count_by}
+use Rattle.std.specs.Prelude.{◌≡◌, ℕ, Bool, true, not, ◌&&◌, Option, Some, None, IsTrue, count_by, false}
 use Rattle.vdb_coord.specs.Blocks.{block, block_around, block_number, block_numbers}
 use Rattle.vdb_coord.specs.Order.{ComesBefore}
-use Rattle.vdb_coord.specs.Space.{coordinates, everywhere, is_inside}
+use Rattle.vdb_coord.specs.Space.{Box, coordinates, everywhere, is_inside}
 use Rattle.vdb_coord.specs.declared.Bits.{Bits}
 use Rattle.vdb_coord.specs.declared.Coord.{Coord}
 use Rattle.vdb_coord.specs.declared.Level.{Level}
@@ -41,3 +41,26 @@ module _ {V : Type 0} (eq : V → V → Bool) (bits : Bits) (level : Level) (f :
     pub whole : (r s : Coord) → block_number bits level r ≡ block_number bits level s → block_number bits outer r ≡ block_number bits outer s
     pub test : differs ≡ not (is_constant eq f (block_around bits outer q))
     pub own : differs ≡ true → outer ≡ level
+
+-- ---- the active voxels of a box from a place on
+
+-- p is the first coordinate, in block order, that the box has of the level's block around it
+pub record IsBoxStart (bits : Bits) (level : Level) (box : Box) (p : Coord) : Type 0 where
+  pub inside : IsTrue (is_inside box p)
+  pub first : (q : Coord) → IsTrue (is_inside box q) → ComesBefore bits q p → block_number bits level q ≡ block_number bits level p → ⊥
+
+module _ {V : Type 0} (bits : Bits) (t : Layout V) (box : Box) where
+  -- q is p or comes after it, and no voxel of the box from p on and before q is active; none from p on is where there is no q
+  abbrev pub IsIdleTo : Coord → Option Coord → Type 0
+  IsIdleTo p None = (r : Coord) → IsTrue (is_inside box r) → IsTrue (is_left bits (Some p) r) → ((field_of bits t).cell r).on ≡ false
+  IsIdleTo p (Some q) =
+      IsTrue (is_inside box q) × IsTrue (is_left bits (Some p) q)
+      × ((r : Coord) → IsTrue (is_inside box r) → IsTrue (is_left bits (Some p) r) → ComesBefore bits r q → ((field_of bits t).cell r).on ≡ false)
+
+  -- how many voxels of the box are active at the place or past it; none where there is no place
+  abbrev pub active_from : Option Coord → ℕ
+  active_from at = count_by (λ p. ((field_of bits t).cell p).on && is_left bits at p) (coordinates box)
+
+  -- how many voxels that the box has of the level's block around q are active
+  abbrev pub active_around : Level → Coord → ℕ
+  active_around level q = count_by (λ p. ((field_of bits t).cell p).on && is_inside (block_around bits level q) p) (coordinates box)

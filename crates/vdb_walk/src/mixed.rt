@@ -149,7 +149,7 @@ fn place_from<
 }
 
 /// The first coordinate of the next part of a walk.
-fn part_from<
+pub(crate) fn part_from<
     V: Stored<WU> + Stored<WL> + Stored<WF>,
     const U: u32,
     const L: u32,

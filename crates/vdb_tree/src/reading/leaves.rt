@@ -120,7 +120,7 @@ impl<
     }
 
     /// How many voxels of the leaf around p are active.
-    fn held_count(&self, slot: u32, p: Coord, steps: &mut Steps) -> u32
+    pub(crate) fn held_count(&self, slot: u32, p: Coord, steps: &mut Steps) -> u32
         requires { lower_entry (bits_of U L F) self.now p ≡ Child slot }
         ensures active { result ≡ active_count (field_of (bits_of U L F) self.now) (block_around (bits_of U L F) leaf_level p) }
         ensures steps { steps.new ≤ steps.old + 1 }

@@ -93,7 +93,7 @@ impl<
     }
 
     /// The first coordinate of an entry of the upper node around p.
-    fn lower_corner(&self, upper: u32, p: Coord, index: u32) -> Coord
+    pub(crate) fn lower_corner(&self, upper: u32, p: Coord, index: u32) -> Coord
         requires child { root_entry (bits_of U L F) self.now p ≡ Child upper }
         requires within { index < entries (bits_of U L F) Upper }
         ensures block { block_number (bits_of U L F) Upper result ≡ block_number (bits_of U L F) Upper p }
@@ -172,7 +172,7 @@ impl<
     }
 
     /// The first coordinate of an entry of the lower node around p.
-    fn leaf_corner(&self, lower: u32, p: Coord, index: u32) -> Coord
+    pub(crate) fn leaf_corner(&self, lower: u32, p: Coord, index: u32) -> Coord
         requires child { upper_entry (bits_of U L F) self.now p ≡ Child lower }
         requires within { index < entries (bits_of U L F) Lower }
         ensures block { block_number (bits_of U L F) Lower result ≡ block_number (bits_of U L F) Lower p }

@@ -1,0 +1,49 @@
+use Rattle.std.proofs.Common.{arith, rules, ◌+◌}
+use Rattle.vdb_coord.specs.declared.Level.TheVariants.{Upper}
+use Rattle.vdb_coord.proofs.Meeting.{fits_everywhere}
+use Rattle.vdb_tree.specs.Layout.{bits_of, field_of}
+use Rattle.vdb_tree.proofs.ActiveCounts.{below_all, below_few, below_next, below_none}
+use Rattle.vdb_tree.proofs.Constants.{entries_few}
+use Rattle.vdb_tree.proofs.UnlikeEntries.{index_after, index_fits, least, nearer}
+use Rattle.vdb_tree.proofs.tree.TreeOf.active_in_upper_node.Goals as goal
+
+pub entries-init : goal.entries-init
+entries-init g c =
+    let bits = bits_of g.row.U g.row.L g.row.F in
+    record {
+      counted = below_none (field_of bits c.args.self.now) bits Upper c.args.p;
+      within = least _;
+    }
+
+pub overflow_add-total : goal.overflow_add-total
+overflow_add-total g c =
+    let bits = bits_of g.row.U g.row.L g.row.F in
+    let f = field_of bits c.args.self.now in
+    let more = below_next f bits Upper c.args.p c.entries.from c.in-Some.index c.in-Some.ensures.from_on c.in-Some.ensures.within c.in-Some.ensures.before c.entries.total c.active_in_lower_at-total.result c.entries.invariant.counted c.active_in_lower_at-total.ensures in
+    let few = below_few f bits Upper c.args.p c.self.invariant.0.bits (fits_everywhere c.args.p (search rules) (search rules) (search rules)) (c.in-Some.index + 1) (c.entries.total + c.active_in_lower_at-total.result) more in
+    omega (arith, few)
+
+pub overflow_add-from : goal.overflow_add-from
+overflow_add-from g c = let k = index_fits c.in-Some.index _ c.in-Some.ensures.within (entries_few (bits_of g.row.U g.row.L g.row.F) Upper c.self.invariant.0.bits) in omega (arith, k)
+
+pub entries-smaller : goal.entries-smaller
+entries-smaller g c = nearer c.entries.from c.in-Some.index _ c.in-Some.ensures.from_on c.in-Some.ensures.within
+
+pub entries-preserved : goal.entries-preserved
+entries-preserved g c =
+    let bits = bits_of g.row.U g.row.L g.row.F in
+    let f = field_of bits c.args.self.now in
+    record {
+      counted = below_next f bits Upper c.args.p c.entries.from c.in-Some.index c.in-Some.ensures.from_on c.in-Some.ensures.within c.in-Some.ensures.before c.entries.total c.active_in_lower_at-total.result c.entries.invariant.counted c.active_in_lower_at-total.ensures;
+      within = index_after c.in-Some.index _ c.in-Some.ensures.within;
+    }
+
+pub returns-clause-value : goal.returns-clause-value
+returns-clause-value g c =
+    let bits = bits_of g.row.U g.row.L g.row.F in
+    below_all (field_of bits c.args.self.now) bits Upper c.args.p c.entries.from c.entries.total c.in_default.ensures c.entries.invariant.counted
+
+pub returns-clause-bound : goal.returns-clause-bound
+returns-clause-bound g c =
+    let bits = bits_of g.row.U g.row.L g.row.F in
+    below_few (field_of bits c.args.self.now) bits Upper c.args.p c.self.invariant.0.bits (fits_everywhere c.args.p (search rules) (search rules) (search rules)) c.entries.from c.entries.total c.entries.invariant.counted

@@ -1,0 +1,23 @@
+-- How a count goes over the entries of a node that may hold active voxels. The calls of this crate alone speak of it.
+use Rattle.std.specs.Prelude.{◌≡◌, ◌<◌, ◌≤◌, ℕ, false, Option, Some, None}
+use Rattle.vdb_coord.specs.Blocks.{block_number, entries, offset}
+use Rattle.vdb_coord.specs.declared.Bits.{Bits}
+use Rattle.vdb_coord.specs.declared.Coord.{Coord}
+use Rattle.vdb_coord.specs.declared.Level.{Level}
+use Rattle.vdb_tree.specs.Field.{Field}
+
+module _ {V : Type 0} (bits : Bits) (f : Field V) (level : Level) (p : Coord) where
+  -- no voxel of p's block of the level is active at entries from one on and before another
+  abbrev pub IsInactiveFrom : ℕ → ℕ → Type 0
+  IsInactiveFrom from to = (q : Coord) → block_number bits level q ≡ block_number bits level p → from ≤ offset bits level q → offset bits level q < to → (f.cell q).on ≡ false
+
+  -- none is at the entries from one on and before this
+  pub record IsNextActiveAt (from index : ℕ) : Type 0 where
+    pub within : index < entries bits level
+    pub from_on : from ≤ index
+    pub before : IsInactiveFrom from index
+
+  -- the same up to the index that is answered, or up to the end
+  abbrev pub IsNextActive : ℕ → Option ℕ → Type 0
+  IsNextActive from (Some index) = IsNextActiveAt from index
+  IsNextActive from None = IsInactiveFrom from (entries bits level)

@@ -1,0 +1,176 @@
+//! The active voxels of a block, counted along the nodes that stand over it.
+
+ghost use Rattle.std.specs.Prelude.{◌≡◌, ◌<◌, ◌≤◌, ◌^◌};
+ghost use Rattle.vdb_coord.specs.Blocks.{block_around, entries, sub_block};
+ghost use Rattle.vdb_coord.specs.declared.Level.TheVariants.{Leaf as leaf_level, Lower, Upper};
+ghost use Rattle.vdb_node.specs.declared.Entry.TheVariants.{Child, Tile};
+ghost use Rattle.vdb_tree.specs.Active.{IsNextActive};
+ghost use Rattle.vdb_tree.specs.Layout.{bits_of, entry_over, field_of, lower_entry, root_entry, upper_entry};
+ghost use Rattle.vdb_tree.specs.Plain.{count as active_count};
+
+use crate::TreeOf;
+use crate::nodes::held_place;
+use vdb_coord::{Coord, Level};
+use vdb_node::{Entry, Stored};
+use vdb_pool::Steps;
+use vdb_value::Cell;
+
+impl<
+    V: Stored<WU> + Stored<WL> + Stored<WF>,
+    const U: u32,
+    const L: u32,
+    const F: u32,
+    const WU: usize,
+    const WL: usize,
+    const WF: usize,
+> TreeOf<V, U, L, F, WU, WL, WF> {
+    /// How many voxels of the level's block around a coordinate are active (OpenVDB's `onVoxelCount` of a node). An active tile
+    /// counts at once, a leaf by the words of its states, and the masks of an internal node lead from one entry that may hold
+    /// active voxels to the next. It takes no memory.
+    pub fn active_in_block(&self, level: Level, p: Coord, steps: &mut Steps) -> u128
+        ensures value { result ≡ active_count (field_of (bits_of U L F) self.now) (block_around (bits_of U L F) level p) }
+        ensures bound { result ≤ 2 ^ 96 }
+    {
+        match level {
+            Level::Upper => self.active_in_upper(self.root_entry(p), p, steps),
+            Level::Lower => self.active_in_lower(self.lower_block_entry(p, steps), p, steps),
+            Level::Leaf => self.active_in_leaf(self.leaf_entry(p, steps), p, steps),
+        }
+    }
+
+    /// The entry of the upper node around p that holds p, or the tile above it.
+    fn lower_block_entry(&self, p: Coord, steps: &mut Steps) -> Entry<V>
+        ensures { upper_entry (bits_of U L F) self.now p ≡ result }
+    {
+        match self.root_entry(p) {
+            Entry::Tile(cell) => Entry::Tile(cell),
+            Entry::Child(upper) => self.upper_entry(upper, p, steps),
+        }
+    }
+
+    /// How many voxels of the level's block around p are active, where this tile stands for it.
+    fn active_in_tile(&self, level: Level, p: Coord, cell: Cell<V>) -> u128
+        requires { entry_over (bits_of U L F) level self.now p ≡ Tile cell }
+        ensures value { result ≡ active_count (field_of (bits_of U L F) self.now) (block_around (bits_of U L F) level p) }
+        ensures bound { result ≤ 2 ^ 96 }
+    {
+        let bits = self.bits();
+        if cell.on {
+            p.block_in(bits, level).volume()
+        } else {
+            0
+        }
+    }
+
+    /// How many voxels of the leaf block around p are active, which has this entry.
+    fn active_in_leaf(&self, entry: Entry<V>, p: Coord, steps: &mut Steps) -> u128
+        requires { lower_entry (bits_of U L F) self.now p ≡ entry }
+        ensures value { result ≡ active_count (field_of (bits_of U L F) self.now) (block_around (bits_of U L F) leaf_level p) }
+        ensures bound { result ≤ 2 ^ 96 }
+    {
+        match entry {
+            Entry::Tile(cell) => self.active_in_tile(Level::Leaf, p, cell),
+            Entry::Child(leaf) => u128::from(self.held_count(leaf, p, steps)),
+        }
+    }
+
+    /// How many voxels of the lower block around p are active, which has this entry.
+    fn active_in_lower(&self, entry: Entry<V>, p: Coord, steps: &mut Steps) -> u128
+        requires { upper_entry (bits_of U L F) self.now p ≡ entry }
+        ensures value { result ≡ active_count (field_of (bits_of U L F) self.now) (block_around (bits_of U L F) Lower p) }
+        ensures bound { result ≤ 2 ^ 96 }
+    {
+        match entry {
+            Entry::Tile(cell) => self.active_in_tile(Level::Lower, p, cell),
+            Entry::Child(lower) => self.active_in_lower_node(lower, p, steps),
+        }
+    }
+
+    /// How many voxels of the root block around p are active, which has this entry.
+    fn active_in_upper(&self, entry: Entry<V>, p: Coord, steps: &mut Steps) -> u128
+        requires { root_entry (bits_of U L F) self.now p ≡ entry }
+        ensures value { result ≡ active_count (field_of (bits_of U L F) self.now) (block_around (bits_of U L F) Upper p) }
+        ensures bound { result ≤ 2 ^ 96 }
+    {
+        match entry {
+            Entry::Tile(cell) => self.active_in_tile(Level::Upper, p, cell),
+            Entry::Child(upper) => self.active_in_upper_node(upper, p, steps),
+        }
+    }
+
+    /// How many voxels of the lower node around p are active.
+    fn active_in_lower_node(&self, lower: u32, p: Coord, steps: &mut Steps) -> u128
+        requires { upper_entry (bits_of U L F) self.now p ≡ Child lower }
+        ensures value { result ≡ active_count (field_of (bits_of U L F) self.now) (block_around (bits_of U L F) Lower p) }
+        ensures bound { result ≤ 2 ^ 96 }
+    {
+        let _ = &self.root;
+        let mut total = 0;
+        let mut from = 0;
+        'entries: while let Some(index) = self.next_active_leaf(lower, p, from, steps) {
+            total += self.active_in_leaf_at(lower, p, index, steps);
+            from = index + 1;
+        }
+        total
+    }
+
+    /// The index, from this one on, of the first entry of the lower node around p that is a child or an active tile; `None`
+    /// where there is none.
+    fn next_active_leaf(&self, lower: u32, p: Coord, from: u32, steps: &mut Steps) -> Option<u32>
+        requires child { upper_entry (bits_of U L F) self.now p ≡ Child lower }
+        requires within { from ≤ entries (bits_of U L F) Lower }
+        ensures { IsNextActive (bits_of U L F) (field_of (bits_of U L F) self.now) Lower p from result }
+    {
+        let place = held_place(&self.lowers, lower);
+        self.lowers.at(place, steps).next_active(from)
+    }
+
+    /// How many voxels of this entry of the lower node around p are active.
+    fn active_in_leaf_at(&self, lower: u32, p: Coord, index: u32, steps: &mut Steps) -> u128
+        requires child { upper_entry (bits_of U L F) self.now p ≡ Child lower }
+        requires within { index < entries (bits_of U L F) Lower }
+        ensures { result ≡ active_count (field_of (bits_of U L F) self.now) (sub_block (bits_of U L F) Lower (block_around (bits_of U L F) Lower p) index) }
+    {
+        let corner = self.leaf_corner(lower, p, index);
+        let entry = self.lower_entry(lower, corner, steps);
+        self.active_in_leaf(entry, corner, steps)
+    }
+
+    /// How many voxels of the upper node around p are active.
+    fn active_in_upper_node(&self, upper: u32, p: Coord, steps: &mut Steps) -> u128
+        requires { root_entry (bits_of U L F) self.now p ≡ Child upper }
+        ensures value { result ≡ active_count (field_of (bits_of U L F) self.now) (block_around (bits_of U L F) Upper p) }
+        ensures bound { result ≤ 2 ^ 96 }
+    {
+        let _ = &self.root;
+        let mut total = 0;
+        let mut from = 0;
+        'entries: while let Some(index) = self.next_active_lower(upper, p, from, steps) {
+            total += self.active_in_lower_at(upper, p, index, steps);
+            from = index + 1;
+        }
+        total
+    }
+
+    /// The index, from this one on, of the first entry of the upper node around p that is a child or an active tile; `None`
+    /// where there is none.
+    fn next_active_lower(&self, upper: u32, p: Coord, from: u32, steps: &mut Steps) -> Option<u32>
+        requires child { root_entry (bits_of U L F) self.now p ≡ Child upper }
+        requires within { from ≤ entries (bits_of U L F) Upper }
+        ensures { IsNextActive (bits_of U L F) (field_of (bits_of U L F) self.now) Upper p from result }
+    {
+        let place = held_place(&self.uppers, upper);
+        self.uppers.at(place, steps).next_active(from)
+    }
+
+    /// How many voxels of this entry of the upper node around p are active.
+    fn active_in_lower_at(&self, upper: u32, p: Coord, index: u32, steps: &mut Steps) -> u128
+        requires child { root_entry (bits_of U L F) self.now p ≡ Child upper }
+        requires within { index < entries (bits_of U L F) Upper }
+        ensures { result ≡ active_count (field_of (bits_of U L F) self.now) (sub_block (bits_of U L F) Upper (block_around (bits_of U L F) Upper p) index) }
+    {
+        let corner = self.lower_corner(upper, p, index);
+        let entry = self.upper_entry(upper, corner, steps);
+        self.active_in_lower(entry, corner, steps)
+    }
+}
