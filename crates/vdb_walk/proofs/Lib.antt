@@ -3,6 +3,7 @@ pub mod Counts
 pub mod Cuts
 pub mod Keys
 pub mod MixedBlocks
+pub mod MixedLeaves
 pub mod Surrounds
 pub mod BoxOrder
 pub mod Firsts

@@ -35,14 +35,14 @@ use Rattle.vdb_walk.proofs.PartCounts.{count_alike, count_listed, count_split}
 
 -- ---- truth values
 
-false_true : {b : Bool} → b ≡ false → b ≡ true → ⊥
+pub false_true : {b : Bool} → b ≡ false → b ≡ true → ⊥
 false_true {b} h k = let e : false ≡ true = sym h ∙ k in cc
 
-true_or_false : (b : Bool) → (b ≡ true) ⊎ (b ≡ false)
+pub true_or_false : (b : Bool) → (b ≡ true) ⊎ (b ≡ false)
 true_or_false true = inl refl
 true_or_false false = inr refl
 
-denied : (b : Bool) → not b ≡ true → b ≡ true → ⊥
+pub denied : (b : Bool) → not b ≡ true → b ≡ true → ⊥
 denied true h k = cc
 denied false h k = cc
 
@@ -50,7 +50,7 @@ deny : (b : Bool) → (b ≡ true → ⊥) → not b ≡ true
 deny true h = absurd (h refl)
 deny false h = refl
 
-with_same : (m a b : Bool) → (m ≡ true → a ≡ b) → (m && a) ≡ (m && b)
+pub with_same : (m a b : Bool) → (m ≡ true → a ≡ b) → (m && a) ≡ (m && b)
 with_same true a b h = h refl
 with_same false a b h = refl
 
@@ -62,16 +62,16 @@ also : (m b : Bool) → b ≡ true → (m && b) ≡ m
 also true b h = h
 also false b h = refl
 
-no_more : {m n : ℕ} → m ≡ n → 0 + m ≡ n
+pub no_more : {m n : ℕ} → m ≡ n → 0 + m ≡ n
 no_more {m} {n} h = omega (arith, h)
 
 -- the one of a list of one that passes three tests
-one_of : (s i m l : Bool) → (s ≡ true → (i ≡ true) × (m ≡ true) × (l ≡ true)) → (s || false) ≡ ((i && (m && l)) && s)
+pub one_of : (s i m l : Bool) → (s ≡ true → (i ≡ true) × (m ≡ true) × (l ≡ true)) → (s || false) ≡ ((i && (m && l)) && s)
 one_of true i m l h = let k = h refl in rw (k.0, k.1, k.2) refl
 one_of false i m l h = sym (never_and (i && (m && l)))
 
 -- the others
-other_of : (s i m l n : Bool) → (s ≡ true → n ≡ false) → (i ≡ true → s ≡ false → m ≡ true → l ≡ n) → ((i && (m && l)) && not s) ≡ (i && (m && n))
+pub other_of : (s i m l n : Bool) → (s ≡ true → n ≡ false) → (i ≡ true → s ≡ false → m ≡ true → l ≡ n) → ((i && (m && l)) && not s) ≡ (i && (m && n))
 other_of s false m l n h k = refl
 other_of true true m l n h k = rw (h refl) (never_and (m && l) ∙ sym (never_and m))
 other_of false true true true n h k = k refl refl refl
@@ -369,9 +369,6 @@ pub upper_whole : (bits : Bits) (level : Level) (r s : Coord) → block_number b
 upper_whole bits Upper r s e = e
 upper_whole bits Lower r s e = upper_from_lower bits r s e
 upper_whole bits Leaf r s e = upper_from_lower bits r s (lower_from_leaf bits r s e)
-
-pub lower_whole : (bits : Bits) (level : Level) → level ≡ Leaf → (r s : Coord) → block_number bits level r ≡ block_number bits level s → block_number bits Lower r ≡ block_number bits Lower s
-lower_whole bits level is r s e = lower_from_leaf bits r s (subst (λ (l : Level). block_number bits l r ≡ block_number bits l s) is e)
 
 pub covered_block : {V : Type 0} (eq : V → V → Bool) (exact : (x y : V) → eq x y ≡ true → x ≡ y) (itself : (x : V) → eq x x ≡ true) (bits : Bits) (level outer : Level) (f : Field V) (q : Coord)
     → ((r s : Coord) → block_number bits level r ≡ block_number bits level s → block_number bits outer r ≡ block_number bits outer s)

@@ -1,11 +1,14 @@
 //! The entries and nodes that a field needs, counted in a tree.
 
-ghost use Rattle.std.specs.Prelude.{◌≡◌, ◌+◌, ◌<◌, ◌≤◌, cond, IfSome, IsTrue, Some};
+ghost use Rattle.std.specs.Prelude.{◌≡◌, ◌+◌, ◌<◌, ◌≤◌, cond, not, IfSome, IsTrue, Some};
+ghost use Rattle.vdb_coord.specs.Blocks.{block_around};
 ghost use Rattle.vdb_coord.specs.Order.{coordinates_past};
 ghost use Rattle.vdb_coord.specs.Space.{everywhere, is_inside};
+ghost use Rattle.vdb_coord.specs.declared.Level.TheVariants.{Leaf as LeafLevel};
 ghost use Rattle.vdb_tree.specs.Layout.{bits_of, field_of};
+ghost use Rattle.vdb_tree.specs.Leaves.{IsNextLeaf};
 ghost use Rattle.vdb_tree.specs.Parts.{IsWalk};
-ghost use Rattle.vdb_tree.specs.Plain.{mixed};
+ghost use Rattle.vdb_tree.specs.Plain.{is_constant, mixed};
 ghost use Rattle.vdb_walk.specs.BlocksFrom.{IsBlockAt, IsBlockStart, IsPartStart, IsPlainTo, mixed_from};
 ghost use Rattle.vdb_walk.specs.Reports.{census as census_of};
 
@@ -16,9 +19,10 @@ use vdb_pool::Steps;
 use vdb_tree::{Skip, TreeOf, Walk};
 
 /// The entries and nodes that the tree's field needs: what `node_counts` says after a prune, found without one (OpenVDB's
-/// `Tree::nodeCount` after `tools::prune`). For each level it goes along what stands in the tree: from the table's entries down to
-/// the blocks of the level that aren't the background, each of which it visits up to the first difference that is found in it; a
-/// tile of a level above counts at once, and nothing is visited where no entry stands. It takes no memory.
+/// `Tree::nodeCount` after `tools::prune`). For upper and lower blocks it goes along what stands in the tree: from the table's
+/// entries down to the blocks of the level that aren't the background, each of which it visits up to the first difference that is
+/// found in it; a tile of a level above counts at once, and nothing is visited where no entry stands. For leaf blocks it goes from
+/// leaf to leaf, past the tiles between them. It takes no memory.
 pub fn census<
     V: Stored<WU> + Stored<WL> + Stored<WF>,
     const U: u32,
@@ -90,8 +94,9 @@ fn node_count<
     }
 }
 
-/// Whether the cells differ of the first block from a place on that isn't passed over, and the place past it. Passed over are
-/// blocks of the background, inactive, and a tile of a level above counts as one block.
+/// Whether the cells differ of the first block from a place on that isn't passed over, and a place past it. Passed over are
+/// blocks of the background, inactive, and a tile of a level above counts as one block; past a leaf block the next place is that
+/// of the next leaf.
 fn next_block<
     V: Stored<WU> + Stored<WL> + Stored<WF>,
     const U: u32,
@@ -112,6 +117,9 @@ fn next_block<
     ensures nearer { IfSome result.1 (λ next. coordinates_past (bits_of U L F) next < coordinates_past (bits_of U L F) p) }
 {
     let bits = tree.bits();
+    if let Level::Leaf = level {
+        return leaf_at(tree, p, steps);
+    }
     match place_from(tree, p, steps) {
         Some(q) => {
             let (outer, differs) = block_at(tree, level, q, steps);
@@ -119,6 +127,23 @@ fn next_block<
         }
         None => (false, None),
     }
+}
+
+/// Whether the cells of the leaf block around a coordinate differ, and the first leaf that begins past the coordinate.
+fn leaf_at<
+    V: Stored<WU> + Stored<WL> + Stored<WF>,
+    const U: u32,
+    const L: u32,
+    const F: u32,
+    const WU: usize,
+    const WL: usize,
+    const WF: usize,
+>(tree: &TreeOf<V, U, L, F, WU, WL, WF>, p: Coord, steps: &mut Steps) -> (bool, Option<Coord>)
+    ensures test { result.0 ≡ not (is_constant V.eq (field_of (bits_of U L F) tree.now) (block_around (bits_of U L F) LeafLevel p)) }
+    ensures next { IsNextLeaf (bits_of U L F) tree.now (Some p) result.1 }
+{
+    let differs = tree.constant(Level::Leaf, p, steps).is_none();
+    (differs, tree.next_leaf(Some(p), steps))
 }
 
 /// The first coordinate from a place on of the tiles and leaves that aren't passed over.
@@ -174,8 +199,7 @@ pub(crate) fn part_from<
     }
 }
 
-/// The level's block around a coordinate, or that of a level above if it lies in a tile of that level; and whether its cells
-/// differ.
+/// The level's block around a coordinate, or the upper one if that lies in a tile; and whether its cells differ.
 fn block_at<
     V: Stored<WU> + Stored<WL> + Stored<WF>,
     const U: u32,
@@ -191,11 +215,6 @@ fn block_at<
     let piece = tree.piece(q, steps).bounds;
     if piece.covers(q.block_in(bits, Level::Upper)) {
         return (Level::Upper, false);
-    }
-    if let Level::Leaf = level {
-        if piece.covers(q.block_in(bits, Level::Lower)) {
-            return (Level::Lower, false);
-        }
     }
     (level, tree.constant(level, q, steps).is_none())
 }

@@ -4,6 +4,7 @@ use Rattle.vdb_coord.specs.Space.{everywhere}
 use Rattle.vdb_tree.specs.Layout.{bits_of}
 use Rattle.vdb_tree.proofs.Uniform.{exact_by}
 use Rattle.vdb_walk.proofs.MixedBlocks.{mixed_end, mixed_next, nearer_next, start_next}
+use Rattle.vdb_walk.proofs.MixedLeaves.{leaf_nearer, leaf_start, leaves_next}
 use Rattle.vdb_walk.proofs.mixed.next_block.Goals as goal
 
 pub returns-in-Some-clause-counted : goal.returns-in-Some-clause-counted
@@ -32,3 +33,23 @@ returns-in-None-clause-counted g c =
     let exact = exact_by g.V.PartialEq.eq g.V.Ord.cmp g.met.V.Ord.matches_eq g.met.V.Voxel.exact in
     let bits = bits_of g.row.U g.row.L g.row.F in
     mixed_end g.V.PartialEq.eq exact g.met.V.Eq.laws.refl bits (rw c.bits-bits.ensures.value at c.bits-bits.ensures.configured) c.args.level c.args.tree.now c.args.p c.in-None.ensures
+
+pub returns-in-Leaf-clause-counted : goal.returns-in-Leaf-clause-counted
+returns-in-Leaf-clause-counted g c =
+    let exact = exact_by g.V.PartialEq.eq g.V.Ord.cmp g.met.V.Ord.matches_eq g.met.V.Voxel.exact in
+    let bits = bits_of g.row.U g.row.L g.row.F in
+    rw c.in-Leaf.is
+    (leaves_next g.V.PartialEq.eq exact g.met.V.Eq.laws.refl bits (rw c.bits-bits.ensures.value at c.bits-bits.ensures.configured) c.args.tree.now c.args.p (rw c.in-Leaf.is at c.requires) c.leaf_at.result.1 c.leaf_at.ensures.next c.leaf_at.result.0 c.leaf_at.ensures.test)
+
+pub returns-in-Leaf-clause-start : goal.returns-in-Leaf-clause-start
+returns-in-Leaf-clause-start g c =
+    let exact = exact_by g.V.PartialEq.eq g.V.Ord.cmp g.met.V.Ord.matches_eq g.met.V.Voxel.exact in
+    let bits = bits_of g.row.U g.row.L g.row.F in
+    rw c.in-Leaf.is
+    (leaf_start g.V.PartialEq.eq exact g.met.V.Eq.laws.refl bits (rw c.bits-bits.ensures.value at c.bits-bits.ensures.configured) c.args.tree.now c.args.p (rw c.in-Leaf.is at c.requires) c.leaf_at.result.1 c.leaf_at.ensures.next)
+
+pub returns-in-Leaf-clause-nearer : goal.returns-in-Leaf-clause-nearer
+returns-in-Leaf-clause-nearer g c =
+    let exact = exact_by g.V.PartialEq.eq g.V.Ord.cmp g.met.V.Ord.matches_eq g.met.V.Voxel.exact in
+    let bits = bits_of g.row.U g.row.L g.row.F in
+    leaf_nearer g.V.PartialEq.eq exact g.met.V.Eq.laws.refl bits (rw c.bits-bits.ensures.value at c.bits-bits.ensures.configured) c.args.tree.now c.args.p (rw c.in-Leaf.is at c.requires) c.leaf_at.result.1 c.leaf_at.ensures.next
