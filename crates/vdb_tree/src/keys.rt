@@ -86,7 +86,7 @@ impl<
         }
     }
 
-    /// The first of them.
+    /// The first key of the table whose root block may meet the box.
     fn first_key_in(&self, bounds: Bounds) -> Option<Coord>
         ensures { IsNextMet (bits_of U L F) bounds self.now.root None result }
     {
@@ -97,7 +97,7 @@ impl<
         self.key_met(bounds, first)
     }
 
-    /// The next of them past a key.
+    /// The next key of the table past this one whose root block may meet the box.
     fn key_met(&self, bounds: Bounds, after: Coord) -> Option<Coord>
         ensures { IsNextMet (bits_of U L F) bounds self.now.root (Some after) result }
     {
@@ -153,7 +153,7 @@ fn skip_to(keys: Bounds, key: Coord) -> Option<Coord>
     skip_slab(keys, key)
 }
 
-/// The same where the box has no key past this one of the same x.
+/// Where the next key of a box of keys may stand past this one, if it has none of the same x past it.
 fn skip_slab(keys: Bounds, key: Coord) -> Option<Coord>
     requires { (k : Coord) → IsTrue (is_inside keys k) → k.x ≡ key.x → coord_cmp key k ≡ Less → ⊥ }
     ensures { SkipsTo keys key result }

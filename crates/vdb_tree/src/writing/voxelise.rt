@@ -50,7 +50,7 @@ impl<
         }
     }
 
-    /// Makes these leaves, up to the first that is refused.
+    /// Makes a leaf of each active tile over a leaf block that meets the box, up to the first growth that is refused.
     fn make_leaves(&mut self, bounds: Bounds, steps: &mut Steps) -> Result<(), TreeRefusal>
         ensures field { field_of (bits_of U L F) self.new ≡ field_of (bits_of U L F) self.old }
         ensures limit { self.new.limit ≡ self.old.limit }
