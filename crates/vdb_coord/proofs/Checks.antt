@@ -1,7 +1,8 @@
 -- Values worked out by hand, found by computing.
 use Rattle.std.proofs.Common.{refl, rules, ◌≡◌, ◌^◌, pos, negsuc, length, Some, None}
 use Rattle.std.specs.declared.cmp.Ordering.TheVariants.{Less, Greater}
-use Rattle.vdb_coord.specs.Space.{coord, coordinates, everywhere, neighbours, volume}
+use Rattle.vdb_coord.specs.Faces.{neighbours}
+use Rattle.vdb_coord.specs.Space.{coord, coordinates, everywhere, volume}
 use Rattle.vdb_coord.specs.Blocks.{vdb, offset, key, block_around, block_cmp, block_numbers, sub_block}
 use Rattle.vdb_coord.specs.Boxes.{overlap}
 use Rattle.vdb_coord.specs.Entries.{AreBits}

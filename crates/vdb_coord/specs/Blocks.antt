@@ -1,10 +1,11 @@
 -- Aligned blocks and their order, for any bits of the nodes. Components are divided by rounding down.
-use Rattle.std.specs.Prelude.{ℕ, ℤ, pos, ◌+◌, ◌-◌, ◌*◌, ◌/◌, ◌%◌, ◌^◌, ◌+ℤ◌, ◌*ℤ◌, unsigned_abs, Bool, true, List, Option, Some, None}
+use Rattle.std.specs.Prelude.{ℕ, ℤ, pos, ◌+◌, ◌-◌, ◌*◌, ◌/◌, ◌%◌, ◌^◌, ◌+ℤ◌, unsigned_abs, Bool, true, List, Option, Some, None}
 use Rattle.std.specs.List.{range_with_len}
-use Rattle.std.specs.Int.{int_div_euclid, int_rem_euclid}
+use Rattle.std.specs.Int.{int_rem_euclid}
 use Rattle.std.specs.declared.cmp.Ordering.{Ordering}
 use Rattle.std.specs.Ordering.{ordering_then, nat_cmp, is_lt}
-use Rattle.vdb_coord.specs.Space.{Box, coord, coord_cmp, everywhere}
+use Rattle.vdb_coord.specs.Components.{first_of, last_of, number_at}
+use Rattle.vdb_coord.specs.Space.{Box, by_component, coord, coord_cmp, everywhere}
 use Rattle.vdb_coord.specs.declared.Coord.{Coord}
 use Rattle.vdb_coord.specs.declared.Bits.{Bits}
 use Rattle.vdb_coord.specs.declared.Level.{Level}
@@ -46,9 +47,7 @@ span bits level = 2 ^ block_bits bits level
 
 -- which block of the level holds p, counted in blocks along each axis
 abbrev pub block_number : Bits → Level → Coord → Coord
-block_number bits level p =
-    let number : ℤ → ℤ = λ x. int_div_euclid x (pos (span bits level)) in
-    coord (number p.x) (number p.y) (number p.z)
+block_number bits level p = by_component (number_at (block_bits bits level)) p
 
 -- the key of p in the root table: the number of its root block
 abbrev pub key : Bits → Coord → Coord
@@ -56,10 +55,7 @@ key bits p = block_number bits Upper p
 
 -- the coordinates of the block with this number
 abbrev pub block : Bits → Level → Coord → Box
-block bits level n =
-    let first : ℤ → ℤ = λ x. x *ℤ pos (span bits level) in
-    let last : ℤ → ℤ = λ x. first x +ℤ pos (span bits level - 1) in
-    record { min = coord (first n.x) (first n.y) (first n.z); max = coord (last n.x) (last n.y) (last n.z) }
+block bits level n = record { min = by_component (first_of (block_bits bits level)) n; max = by_component (last_of (block_bits bits level)) n }
 
 -- the level's block around p
 abbrev pub block_around : Bits → Level → Coord → Box

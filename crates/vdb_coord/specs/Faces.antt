@@ -1,5 +1,6 @@
--- The six faces of a voxel, and the coordinates behind them.
+-- The six faces of a voxel, and its neighbours behind them.
 use Rattle.std.specs.Prelude.{pos, ◌+ℤ◌, ◌-ℤ◌, if◌then◌else◌, List, [], ◌∷◌, Option, Some, None}
+use Rattle.std.specs.List.{filter_map}
 use Rattle.vdb_coord.specs.Space.{coord, everywhere, is_inside}
 use Rattle.vdb_coord.specs.declared.Coord.{Coord}
 use Rattle.vdb_coord.specs.declared.face.Face.{Face}
@@ -21,3 +22,7 @@ neighbour face p = if is_inside everywhere (toward face p) then Some (toward fac
 -- the six faces
 abbrev pub faces : List Face
 faces = MinusX ∷ PlusX ∷ MinusY ∷ PlusY ∷ MinusZ ∷ PlusZ ∷ []
+
+-- the face neighbours of a coordinate, which differ from it by 1 in one component
+abbrev pub neighbours : Coord → List Coord
+neighbours p = filter_map (λ face. neighbour face p) faces

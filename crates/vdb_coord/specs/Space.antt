@@ -1,5 +1,5 @@
 -- Coordinates and boxes of them.
-use Rattle.std.specs.Prelude.{ℕ, ◌+◌, ◌*◌, ℤ, pos, negsuc, ◌+ℤ◌, ◌-ℤ◌, Bool, ◌&&◌, if◌then◌else◌, List, [], ◌∷◌, map, filter, flat_map, int_le}
+use Rattle.std.specs.Prelude.{ℕ, ◌+◌, ◌*◌, ℤ, pos, negsuc, ◌+ℤ◌, Bool, ◌&&◌, if◌then◌else◌, List, map, flat_map, int_le}
 use Rattle.std.specs.List.{range_with_len}
 use Rattle.std.specs.Int.{int_gap}
 use Rattle.std.specs.declared.cmp.Ordering.{Ordering}
@@ -9,6 +9,10 @@ use Rattle.vdb_coord.specs.declared.Coord.{Coord}
 -- the coordinate of these components
 abbrev pub coord : ℤ → ℤ → ℤ → Coord
 coord x y z = record { x = x; y = y; z = z }
+
+-- a coordinate whose components are made of p's
+abbrev pub by_component : (ℤ → ℤ) → Coord → Coord
+by_component f p = coord (f p.x) (f p.y) (f p.z)
 
 -- the order of coordinates: by x, then by y, then by z
 abbrev pub coord_cmp : Coord → Coord → Ordering
@@ -42,13 +46,6 @@ is_box b = int_le b.min.x b.max.x && int_le b.min.y b.max.y && int_le b.min.z b.
 -- all coordinates: those of signed 32-bit components
 abbrev pub everywhere : Box
 everywhere = let least = negsuc 2147483647 in let greatest = pos 2147483647 in record { min = coord least least least; max = coord greatest greatest greatest }
-
--- the face neighbours of a coordinate: of the six that differ by 1 in one component, those within the range
-abbrev pub neighbours : Coord → List Coord
-neighbours p = filter (is_inside everywhere) (
-    coord (p.x -ℤ pos 1) p.y p.z ∷ coord (p.x +ℤ pos 1) p.y p.z ∷
-    coord p.x (p.y -ℤ pos 1) p.z ∷ coord p.x (p.y +ℤ pos 1) p.z ∷
-    coord p.x p.y (p.z -ℤ pos 1) ∷ coord p.x p.y (p.z +ℤ pos 1) ∷ [])
 
 -- how many whole numbers there are from low to high, both counted
 abbrev pub extent : ℤ → ℤ → ℕ

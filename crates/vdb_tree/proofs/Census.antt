@@ -22,7 +22,7 @@ use Rattle.vdb_pool.specs.Contents.{Contents, count_of, node_at}
 use Rattle.vdb_tree.specs.Layout.{Layout, entry_over, field_of, lower_entry, root_at, root_entry, upper_entry}
 use Rattle.vdb_tree.specs.Paths.{is_child}
 use Rattle.vdb_tree.specs.Plain.{is_constant, is_plain, mixed, roots}
-use Rattle.vdb_tree.specs.Smallest.{IsAtMost, IsLeast, census, counts_of}
+use Rattle.vdb_tree.specs.Smallest.{IsAtMost, IsLeast, least_counts, counts_of}
 use Rattle.vdb_tree.specs.Sound.{IsOwned, IsSound}
 use Rattle.vdb_tree.proofs.Descents.{lower_by_block, root_by_block, tile_lower, tile_upper, upper_by_block}
 use Rattle.vdb_tree.proofs.Levels.{IsByBlock, child_slot, like_coords, tile_no_child, tile_or_child, unlike_coords}
@@ -201,7 +201,7 @@ module _ {V : Type 0} (eq : V → V → Bool) (exact : (x y : V) → eq x y ≡ 
       (number_in_range bits level p inside, not_from _ (least.nodes level p inside (is_child_from _ slot child))))
 
   -- a tree has no fewer entries and nodes than its field needs
-  pub counts_at_least : IsAtMost (census eq bits (field_of bits t)) (counts_of t)
+  pub counts_at_least : IsAtMost (least_counts eq bits (field_of bits t)) (counts_of t)
   counts_at_least = record {
     entries = roots_within eq exact itself bits configured t;
     upper = mixed_at_most Upper t.uppers (root_by_block bits t) sound.uppers;
@@ -224,7 +224,7 @@ module _ {V : Type 0} (eq : V → V → Bool) (exact : (x y : V) → eq x y ≡ 
       )))
 
   -- a least tree has just those
-  pub counts_least : IsLeast eq bits t → counts_of t ≡ census eq bits (field_of bits t)
+  pub counts_least : IsLeast eq bits t → counts_of t ≡ least_counts eq bits (field_of bits t)
   counts_least least =
       let few = counts_at_least in
       let e : length t.root ≡ roots eq bits (field_of bits t) = same few.entries (entries_at_most least) in

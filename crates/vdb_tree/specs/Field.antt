@@ -1,7 +1,8 @@
 -- A field gives each coordinate a cell. Here is what each operation makes of it.
 use Rattle.std.specs.Prelude.{ℕ, zero, suc, Bool, true, false, not, ◌&&◌, ◌||◌, if◌then◌else◌, Option, unwrap_or, is_none}
 use Rattle.std.specs.List.{list_any, list_all}
-use Rattle.vdb_coord.specs.Space.{Box, coord_eq, coordinates, everywhere, is_inside, neighbours}
+use Rattle.vdb_coord.specs.Faces.{neighbours}
+use Rattle.vdb_coord.specs.Space.{Box, coord_eq, coordinates, everywhere, is_inside}
 use Rattle.vdb_coord.specs.declared.Coord.{Coord}
 use Rattle.vdb_value.specs.declared.Cell.{Cell}
 use Rattle.vdb_tree.specs.declared.Write.{Write}

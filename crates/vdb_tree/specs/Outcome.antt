@@ -6,14 +6,17 @@ use Rattle.vdb_tree.specs.Plain.{roots}
 use Rattle.vdb_tree.specs.declared.refusal.TreeRefusal.{TreeRefusal}
 use Rattle.vdb_tree.specs.declared.refusal.TreeRefusal.TheVariants.{Memory, RootLimit}
 
--- the changed field within the limit; or the old one, and RootLimit exactly where the changed one would exceed the limit
-abbrev pub IsOutcome : {V : Type 0} → (V → V → Bool) → Bits → ℕ → Field V → Field V → Field V → Result (Unit {0}) TreeRefusal → Type 0
-IsOutcome eq bits limit old changed new (Ok _) = (new ≡ changed) × (roots eq bits changed ≤ limit)
-IsOutcome eq bits limit old changed new (Err RootLimit) = (new ≡ old) × (limit < roots eq bits changed)
-IsOutcome eq bits limit old changed new (Err Memory) = (new ≡ old) × (roots eq bits changed ≤ limit)
-
--- RootLimit exactly where this field would exceed the limit
+-- RootLimit comes exactly where this field would exceed the limit
 abbrev pub ObeysLimit : {V : Type 0} → (V → V → Bool) → Bits → ℕ → Field V → Result (Unit {0}) TreeRefusal → Type 0
 ObeysLimit eq bits limit changed (Ok _) = roots eq bits changed ≤ limit
 ObeysLimit eq bits limit changed (Err RootLimit) = limit < roots eq bits changed
 ObeysLimit eq bits limit changed (Err Memory) = roots eq bits changed ≤ limit
+
+-- the field is the changed one, or the old one where the call was refused
+abbrev pub ChangesIfOk : {V : Type 0} → Field V → Field V → Field V → Result (Unit {0}) TreeRefusal → Type 0
+ChangesIfOk old changed new (Ok _) = new ≡ changed
+ChangesIfOk old changed new (Err _) = new ≡ old
+
+-- a call that changes the field, or is refused and keeps it
+abbrev pub IsOutcome : {V : Type 0} → (V → V → Bool) → Bits → ℕ → Field V → Field V → Field V → Result (Unit {0}) TreeRefusal → Type 0
+IsOutcome eq bits limit old changed new result = ChangesIfOk old changed new result × ObeysLimit eq bits limit changed result

@@ -18,9 +18,9 @@ abbrev pub counts_of : {V : Type 0} → Layout V → NodeCounts
 counts_of t = record { entries = length t.root; upper = count_of t.uppers; lower = count_of t.lowers; leaf = count_of t.leaves }
 
 module _ {V : Type 0} (eq : V → V → Bool) (bits : Bits) where
-  -- the root blocks of a field that aren't plain, and its blocks of each level that aren't constant
-  abbrev pub census : Field V → NodeCounts
-  census f = record { entries = roots eq bits f; upper = mixed eq bits Upper f; lower = mixed eq bits Lower f; leaf = mixed eq bits Leaf f }
+  -- how many entries and nodes the field needs: its root blocks that aren't plain, and its blocks of each level that aren't constant
+  abbrev pub least_counts : Field V → NodeCounts
+  least_counts f = record { entries = roots eq bits f; upper = mixed eq bits Upper f; lower = mixed eq bits Lower f; leaf = mixed eq bits Leaf f }
 
   -- each root block that isn't plain has an entry, and over each block that isn't constant stands a node
   pub record HasNeeded (t : Layout V) : Type 0 where

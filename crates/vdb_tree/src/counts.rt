@@ -2,7 +2,7 @@
 
 ghost use Rattle.std.specs.Prelude.{◌≡◌};
 ghost use Rattle.vdb_tree.specs.Layout.{bits_of, field_of};
-ghost use Rattle.vdb_tree.specs.Smallest.{HasNeeded, IsAtMost, IsLeast, census, counts_of};
+ghost use Rattle.vdb_tree.specs.Smallest.{HasNeeded, IsAtMost, IsLeast, least_counts, counts_of};
 ghost use Rattle.vdb_tree.specs.Sound.{IsSound};
 
 use crate::TreeOf;
@@ -37,8 +37,8 @@ impl<
         ensures counts { result ≡ counts_of self.now }
         ensures sound { IsSound (bits_of U L F) self.now }
         ensures needed { HasNeeded V.eq (bits_of U L F) self.now }
-        ensures at_least { IsAtMost (census V.eq (bits_of U L F) (field_of (bits_of U L F) self.now)) result }
-        ensures least { IsLeast V.eq (bits_of U L F) self.now → result ≡ census V.eq (bits_of U L F) (field_of (bits_of U L F) self.now) }
+        ensures at_least { IsAtMost (least_counts V.eq (bits_of U L F) (field_of (bits_of U L F) self.now)) result }
+        ensures least { IsLeast V.eq (bits_of U L F) self.now → result ≡ least_counts V.eq (bits_of U L F) (field_of (bits_of U L F) self.now) }
     {
         NodeCounts {
             entries: self.root.len() as u64,

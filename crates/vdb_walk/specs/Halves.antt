@@ -3,7 +3,7 @@ use Rattle.std.specs.Prelude.{◌≡◌, ◌<◌, ◌+◌, ℕ, ◌-ℤ◌, unsi
 use Rattle.std.specs.Ordering.{is_lt}
 use Rattle.vdb_coord.specs.Blocks.{block_cmp}
 use Rattle.vdb_coord.specs.Components.{number_at}
-use Rattle.vdb_coord.specs.Space.{Box, coord, is_inside}
+use Rattle.vdb_coord.specs.Space.{Box, by_component, is_inside}
 use Rattle.vdb_coord.specs.Walk.{IsBefore}
 use Rattle.vdb_coord.specs.declared.Bits.{Bits}
 use Rattle.vdb_coord.specs.declared.Coord.{Coord}
@@ -21,7 +21,7 @@ pub record IsHalved (b first second : Box) : Type 0 where
 
 -- which block of 2 to the power `low` along each axis holds p, counted in such blocks
 abbrev pub numbers : ℕ → Coord → Coord
-numbers low p = coord (number_at low p.x) (number_at low p.y) (number_at low p.z)
+numbers low p = by_component (number_at low) p
 
 -- the blocks of the first box come before those of the second, by x, then by y, then by z
 abbrev pub AreOrdered : ℕ → Box → Box → Type 0

@@ -1,6 +1,6 @@
 use Rattle.std.proofs.Common.{◌≡◌, ◌∙◌, sym, subst}
 use Rattle.vdb_tree.specs.Layout.{bits_of, field_of}
-use Rattle.vdb_tree.specs.Smallest.{IsAtMost, census, counts_of}
+use Rattle.vdb_tree.specs.Smallest.{IsAtMost, least_counts, counts_of}
 use Rattle.vdb_tree.proofs.Census.{counts_at_least, counts_least}
 use Rattle.vdb_tree.proofs.Needed.{has_needed}
 use Rattle.vdb_tree.proofs.Uniform.{exact_by}
@@ -20,7 +20,7 @@ returns-clause-at_least g c =
     let exact = exact_by g.V.PartialEq.eq g.V.Ord.cmp g.met.V.Ord.matches_eq g.met.V.Voxel.exact in
     let same : counts_of c.args.self.now ≡ (record { entries = c.len.result; upper = c.len-2.result; lower = c.len-3.result; leaf = c.len-4.result }) =
     rw (← c.self.view_is) (λ i. record { entries = sym c.len.ensures i; upper = sym c.len-2.ensures.count i; lower = sym c.len-3.ensures.count i; leaf = sym c.len-4.ensures.count i }) in
-    subst (λ n. IsAtMost (census g.V.PartialEq.eq bits (field_of bits c.args.self.now)) n) same
+    subst (λ n. IsAtMost (least_counts g.V.PartialEq.eq bits (field_of bits c.args.self.now)) n) same
     (counts_at_least g.V.PartialEq.eq exact g.met.V.Eq.laws.refl bits c.self.invariant.0.bits c.args.self.now (rw (← c.self.view_is) c.self.invariant.1))
 
 pub returns-clause-least : goal.returns-clause-least
