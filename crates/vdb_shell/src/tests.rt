@@ -1,6 +1,7 @@
 //! Sessions over memory, over readers and writers that fail, and over readers that never end.
 ghost use Rattle.std.specs.Prelude.{Some};
 
+mod faults;
 mod layouts;
 mod lists;
 mod random;
