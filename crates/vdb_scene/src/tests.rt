@@ -2,6 +2,7 @@
 
 mod boxes;
 mod reports;
+mod scattered;
 mod slices;
 
 use super::*;
