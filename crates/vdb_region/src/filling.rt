@@ -1,9 +1,13 @@
 //! Boxes filled with one cell.
 
-ghost use Rattle.std.specs.Prelude.{◌≡◌, Err};
+ghost use Rattle.std.specs.Prelude.{◌≡◌, Err, OnOk};
+ghost use Rattle.vdb_coord.specs.declared.Coord.{Coord};
+ghost use Rattle.vdb_coord.specs.declared.Level.{Level};
+ghost use Rattle.vdb_node.specs.declared.Entry.TheVariants.{Tile};
 ghost use Rattle.vdb_tree.specs.Field.{fill as filled};
-ghost use Rattle.vdb_tree.specs.Layout.{bits_of, field_of};
+ghost use Rattle.vdb_tree.specs.Layout.{bits_of, entry_over, field_of};
 ghost use Rattle.vdb_tree.specs.Outcome.{IsOutcome};
+ghost use Rattle.vdb_tree.specs.Ready.{IsCovered};
 ghost use Rattle.vdb_tree.specs.Smallest.{IsLeast};
 ghost use Rattle.vdb_tree.specs.declared.refusal.TreeRefusal.TheVariants.{Memory};
 
@@ -36,6 +40,7 @@ pub fn fill<
     ensures outcome { IsOutcome V.eq (bits_of U L F) tree.old.limit (field_of (bits_of U L F) tree.old)
         (filled bounds cell (field_of (bits_of U L F) tree.old)) (field_of (bits_of U L F) tree.new) result }
     ensures limit { tree.new.limit ≡ tree.old.limit }
+    ensures tiles { OnOk result ((level : Level) (p : Coord) → IsCovered (bits_of U L F) bounds level p → entry_over (bits_of U L F) level tree.new p ≡ Tile cell) }
     ensures given_back { result ≡ Err Memory → IsLeast V.eq (bits_of U L F) tree.new }
 {
     match tree.split(bounds, cell, steps) {

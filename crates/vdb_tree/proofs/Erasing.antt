@@ -1,19 +1,25 @@
 -- Entries of plain root blocks are taken away, in the order of keys.
-use Rattle.std.proofs.Common.{◌≡◌, inl, inr, refl, sym, ◌∙◌}
+use Rattle.std.proofs.Common.{◌≡◌, IsTrue, inl, inr, refl, subst, sym, ◌∙◌}
 use Rattle.std.specs.Prelude.{Option, Some, None}
 use Rattle.vdb_coord.specs.Blocks.{key}
 use Rattle.vdb_coord.specs.Space.{Box, coord_cmp}
 use Rattle.vdb_coord.specs.declared.Bits.{Bits}
 use Rattle.vdb_coord.specs.declared.Coord.{Coord}
-use Rattle.vdb_coord.specs.declared.Level.TheVariants.{Upper}
-use Rattle.vdb_tree.specs.Changes.{AddsNodes, IsConstantBlock, IsNoPlainRoot, Keeps, PrunesRoot}
-use Rattle.vdb_tree.specs.Layout.{Layout, plain, root_at}
+use Rattle.vdb_coord.specs.declared.Level.{Level}
+use Rattle.vdb_coord.specs.declared.Level.TheVariants.{Leaf, Lower, Upper}
+use Rattle.vdb_coord.proofs.Nesting.{lower_from_leaf, upper_from_lower}
+use Rattle.vdb_value.specs.declared.Cell.{Cell}
+use Rattle.vdb_tree.specs.Changes.{IsConstantBlock, IsNeededTo, IsNoPlainRoot, Keeps, PrunesRoot, SameDescent}
+use Rattle.vdb_tree.specs.Layout.{Layout, cell_at, entry_over, lower_entry, plain, root_at, root_entry, upper_entry}
+use Rattle.vdb_tree.specs.Nodes.{MakesNoKey}
+use Rattle.vdb_tree.specs.Paths.{is_child}
 use Rattle.vdb_tree.specs.Ready.{IsReady}
 use Rattle.vdb_tree.specs.Erase.{AddsPlainTiles, ErasesRoot}
 use Rattle.vdb_tree.specs.Table.{IsNextKey, IsPast}
 use Rattle.vdb_tree.proofs.KeysPast.{past_on}
 use Rattle.vdb_tree.proofs.Levels.{coord_cases}
-use Rattle.vdb_tree.proofs.Needed.{is_some_from, some_or_none}
+use Rattle.vdb_tree.proofs.MadeNodes.{keys_but, keys_twice, no_node_twice, same_no_node}
+use Rattle.vdb_tree.proofs.Needed.{child_of, is_some_from, some_or_none}
 use Rattle.vdb_tree.proofs.Passes.{keeps_same, keeps_trans, tile_gives}
 use Rattle.vdb_tree.proofs.Sweeps.{apart, equal_left, past_or_not, same_keys}
 
@@ -23,15 +29,16 @@ module _ {V : Type 0} (bits : Bits) where
   plain_stays old new keeps = let b = keeps.head.background in rw b refl
 
   pub adds_plain_itself : (t : Layout V) → AddsPlainTiles bits t t
-  adds_plain_itself t = record { keeps = keeps_same bits t; tiles = λ level q tile e. inl e }
+  adds_plain_itself t = record { keeps = keeps_same bits t; nodes = λ level q h. h; tiles = λ level q tile e. inl e }
 
-  -- nodes alone came
-  pub adds_plain_nodes : (old new : Layout V) → Keeps bits old new → AddsNodes bits old new → AddsPlainTiles bits old new
-  adds_plain_nodes old new keeps adds = record { keeps = keeps; tiles = λ level q tile e. inl (adds.tiles level q tile e) }
+  -- the same entries stand
+  pub adds_plain_none : (old new : Layout V) → Keeps bits old new → ((q : Coord) → SameDescent bits old new q) → AddsPlainTiles bits old new
+  adds_plain_none old new keeps same = record { keeps = keeps; nodes = same_no_node bits old new same; tiles = λ level q tile e. inl (sym (same q level) ∙ e) }
 
   pub adds_plain_twice : (old mid new : Layout V) → AddsPlainTiles bits old mid → AddsPlainTiles bits mid new → AddsPlainTiles bits old new
   adds_plain_twice old mid new a b = record {
     keeps = keeps_trans bits old mid new a.keeps b.keeps;
+    nodes = no_node_twice bits old mid new a.nodes b.nodes;
     tiles = λ level q tile e. elim (b.tiles level q tile e) [ inl f ↦ a.tiles level q tile f | inr p ↦ inr (p ∙ plain_stays old mid a.keeps) ];
   }
 
@@ -53,11 +60,24 @@ module _ {V : Type 0} (bits : Bits) where
       here = λ q e entry some const. other (λ r same. const r (same ∙ number ∙ sym e));
     }
 
+    -- all of a constant block is one cell, of which no node is needed
+    none_needed : (n : Layout V) (level : Level) (q : Coord) (cell : Cell V) → ((r : Coord) → key bits r ≡ key bits q → cell_at bits n r ≡ cell) → IsNeededTo bits Upper n q → IsTrue (is_child (entry_over bits level n q)) → ⊥
+    none_needed n Upper q cell const needed child = let e = child_of (root_entry bits n q) child in needed.2 e.0 e.1 cell (λ r same. const r same)
+    none_needed n Lower q cell const needed child = let e = child_of (upper_entry bits n q) child in needed.1 e.0 e.1 cell (λ r same. const r (upper_from_lower bits r q same))
+    none_needed n Leaf q cell const needed child =
+        let e = child_of (lower_entry bits n q) child in
+        needed.0 e.0 e.1 cell (λ r same. const r (upper_from_lower bits r q (lower_from_leaf bits r q same)))
+
     -- a plain block is pruned: a tile of its is plain
     pub erases_pruned : (n : Layout V) → IsConstantBlock bits Upper t p (plain t) → PrunesRoot bits t n k → ErasesRoot bits t n k
     erases_pruned n const prunes = record {
       adds = record {
         keeps = prunes.keeps;
+        nodes = λ level q child.
+            elim (coord_cases (key bits q) k) [
+              | inl at ↦ absurd (none_needed n level q (plain t) (λ r same. prunes.keeps.cells r ∙ const r (same ∙ at ∙ sym number)) (prunes.here q at).0 child)
+              | inr d ↦ subst (λ e. IsTrue (is_child e)) (prunes.others q d level) child
+            ];
         tiles = λ level q tile e.
             elim (coord_cases (key bits q) k) [
               | inl at ↦ inr (sym (tile_gives bits level n q tile e) ∙ prunes.keeps.cells q ∙ const q (at ∙ sym number))
@@ -73,11 +93,12 @@ module _ {V : Type 0} (bits : Bits) where
   -- no root block up to this key has the entry of a plain one, and the table past it stands
   pub record ErasesTo (old new : Layout V) (passed : Option Coord) : Type 0 where
     pub adds : AddsPlainTiles bits old new
+    pub keys : MakesNoKey old new
     pub ahead : (k : Coord) → IsPast passed k → root_at new.root k ≡ root_at old.root k
     pub done : (q : Coord) → (IsPast passed (key bits q) → ⊥) → IsNoPlainRoot bits new q
 
   pub erased_none : (t : Layout V) → ErasesTo t t None
-  erased_none t = record { adds = adds_plain_itself t; ahead = λ k h. refl; done = λ q h. absurd (h tt) }
+  erased_none t = record { adds = adds_plain_itself t; keys = λ k h. h; ahead = λ k h. refl; done = λ q h. absurd (h tt) }
 
   -- the next key of the table, as the table was at first
   pub next_of_old : (old mid : Layout V) (passed : Option Coord) (k : Coord) → ErasesTo old mid passed → IsNextKey mid.root passed (Some k) → IsNextKey old.root passed (Some k)
@@ -94,6 +115,7 @@ module _ {V : Type 0} (bits : Bits) where
   pub erased_next : (old mid new : Layout V) (passed : Option Coord) (k : Coord) → ErasesTo old mid passed → IsNextKey mid.root passed (Some k) → ErasesRoot bits mid new k → ErasesTo old new (Some k)
   erased_next old mid new passed k so_far next erases = record {
     adds = adds_plain_twice old mid new so_far.adds erases.adds;
+    keys = keys_twice old mid new so_far.keys (keys_but mid new k next.0 erases.table);
     ahead = λ j later. erases.table j (apart k j later) ∙ so_far.ahead j (past_on passed k j next.1 later);
     done = λ q not_past.
         elim (coord_cases (key bits q) k) [

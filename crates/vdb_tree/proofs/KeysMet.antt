@@ -1,5 +1,5 @@
 -- Which keys of a table may be those of root blocks that meet a box.
-use Rattle.std.proofs.Common.{◌≡◌, ◌⊎◌, inl, inr, Bool, true, false, List, refl, sym, subst, ◌∙◌, IsTrue}
+use Rattle.std.proofs.Common.{◌≡◌, ◌⊎◌, inl, inr, true, false, List, refl, sym, subst, ◌∙◌, IsTrue}
 use Rattle.std.specs.Prelude.{Option, Some, None, IsSome, is_some}
 use Rattle.std.specs.Ordering.{is_eq, is_gt, is_lt, is_some_and, ordering_then, partial_ordering_then}
 use Rattle.std.specs.declared.cmp.Ordering.{Ordering}
@@ -9,16 +9,13 @@ use Rattle.vdb_coord.specs.Space.{Box, coord_cmp, is_inside}
 use Rattle.vdb_coord.specs.declared.Bits.{Bits}
 use Rattle.vdb_coord.specs.declared.Coord.{Coord}
 use Rattle.vdb_coord.specs.declared.Level.TheVariants.{Upper}
-use Rattle.vdb_coord.proofs.BlockOrder.{from_key, key_less, not_past_max, which_before}
-use Rattle.vdb_coord.proofs.Members.{coord_equiv, coord_total}
+use Rattle.vdb_coord.proofs.BlockOrder.{key_less, which_before}
+use Rattle.vdb_coord.proofs.Members.{coord_equiv}
 use Rattle.vdb_coord.proofs.Walk.{none_before}
 use Rattle.vdb_node.specs.declared.Entry.{Entry}
 use Rattle.vdb_tree.specs.Layout.{root_at}
 use Rattle.vdb_tree.specs.Room.{IsNextMet}
-use Rattle.vdb_tree.specs.Table.{IsNextKey}
 use Rattle.vdb_tree.proofs.Levels.{some_held}
-use Rattle.vdb_tree.proofs.Needed.{some_or_none}
-use Rattle.vdb_tree.proofs.RootCounts.{at_least}
 
 pub not_greater : (o : Ordering) → is_eq o ≡ true → is_gt o ≡ false
 not_greater Less h = refl

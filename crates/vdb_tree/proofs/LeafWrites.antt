@@ -21,6 +21,7 @@ use Rattle.vdb_tree.specs.Changes.{Changes, Turns}
 use Rattle.vdb_tree.specs.Field.{written}
 use Rattle.vdb_tree.specs.Layout.{Layout, cell_at, field_of, lower_entry, plain}
 use Rattle.vdb_tree.specs.Leaves.{IsVoxelWritten, with_states_of}
+use Rattle.vdb_tree.specs.Nodes.{AreStatesSet}
 use Rattle.vdb_tree.specs.Paints.{KeepsOutside, PaintsVoxels}
 use Rattle.vdb_tree.specs.Paths.{IsWhole, Lives, TreePath}
 use Rattle.vdb_tree.specs.Sound.{IsSound}
@@ -129,6 +130,12 @@ module _ {V : Type 0} (bits : Bits) (t : Layout V) (u : ℕ) (n m : LeafOf V) (w
               let no = unlike_coords (block_number bits Leaf p) (block_number bits Leaf q) d in
               rw (no, at) (states_there sound q (λ e. d (sym e)))
         ])
+
+    pub states_alone : AreStatesSet bits t (with_leaf t u m) p mask
+    states_alone slot k e held =
+        let same : u ≡ slot = child_slot {V = V} u slot (sym child ∙ e) in
+        let node : n ≡ k = same_some n k (sym was ∙ ap (node_at t.leaves) same ∙ held) in
+        (m, ap (λ s. with_leaf t s m) same, subst (λ (l : LeafOf V). m.values ≡ l.values) node values, states)
 
   -- the part of a box that lies in the leaf over p is painted
   module _ (p : Coord) (child : lower_entry bits t p ≡ Child u) (box part : Box) (cell : Cell V) (sound : IsSound bits t) (paints : PaintsVoxels bits part cell n m)

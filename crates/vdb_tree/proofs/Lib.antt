@@ -50,3 +50,4 @@ pub mod PaintedRoots
 pub mod UnlikeEntries
 pub mod PartStarts
 pub mod ActiveCounts
+pub mod MadeNodes

@@ -9,13 +9,14 @@ use Rattle.vdb_coord.specs.Walk.{IsBefore, IsBlockBefore, IsNextBlock}
 use Rattle.vdb_coord.specs.declared.Bits.{Bits}
 use Rattle.vdb_coord.specs.declared.Coord.{Coord}
 use Rattle.vdb_coord.specs.declared.Level.TheVariants.{Leaf}
+use Rattle.vdb_coord.proofs.BlockOrder.{before_not_past, before_not_same, which_before}
 use Rattle.vdb_coord.proofs.Nesting.{entry_number_leaf}
-use Rattle.vdb_coord.proofs.Walk.{min_inside, next_x, next_y, next_z, no_next, none_before, same_number}
+use Rattle.vdb_coord.proofs.Walk.{min_inside, next_x, next_y, next_z, no_next, none_before}
 use Rattle.vdb_node.specs.Leaf.{cell_in, FillsRun, Leaf as LeafOf}
 use Rattle.vdb_value.specs.declared.Cell.{Cell}
-use Rattle.vdb_tree.specs.Paints.{PaintsVoxels, voxels}
+use Rattle.vdb_tree.specs.Paints.{IsRun, PaintsVoxels, voxels}
 use Rattle.vdb_tree.proofs.Pools.{below_or}
-use Rattle.vdb_tree.proofs.VoxelRuns.{IsRun, in_run_of_offset, offset_in_run}
+use Rattle.vdb_tree.proofs.VoxelRuns.{in_run_of_offset, offset_in_run}
 
 -- each coordinate is a block of its own
 own_block : (p q : Coord) → block_number voxels Leaf p ≡ block_number voxels Leaf q → p ≡ q
@@ -69,49 +70,29 @@ side from to i = elim (below_or i from) [
   ]
 ]
 
--- q stands in the run from p along z up to this number
-record IsInRun (p : Coord) (end : ℤ) (q : Coord) : Type 0 where
-  same : q ≡ coord p.x p.y q.z
-  low : p.z ≤ℤ q.z
-  high : q.z ≤ℤ end
+-- where each coordinate is a block of its own, blocks come one before another as coordinates do
+plain_before : (a b : Coord) → IsBlockBefore voxels Leaf a b → IsBefore a b
+plain_before a b h = let e = entry_number_leaf voxels a in let f = entry_number_leaf voxels b in subst (λ (t : Coord). IsBefore t b) e (subst (λ (t : Coord). IsBefore (block_number voxels Leaf a) t) f h)
 
-below_or_from : (x y : ℤ) → (y <ℤ x) ⊎ (x ≤ℤ y)
-below_or_from x y = grind (arith, ints)
+block_before : (a b : Coord) → IsBefore a b → IsBlockBefore voxels Leaf a b
+block_before a b h = let e = entry_number_leaf voxels a in let f = entry_number_leaf voxels b in subst (λ (t : Coord). IsBefore t (block_number voxels Leaf b)) (sym e) (subst (λ (t : Coord). IsBefore a t) (sym f) h)
 
-row_of : (p q : Coord) → q.x ≡ p.x → q.y ≡ p.y → q ≡ coord p.x p.y q.z
-row_of p q x y = same_number q (coord p.x p.y q.z) x y refl
-
--- what comes no later than the end of a run stands in it, or comes before it
-run_or_before : (p : Coord) (end : ℤ) (q : Coord) → p.z ≤ℤ end → IsBlockBefore voxels Leaf q (coord p.x p.y end) ⊎ (block_number voxels Leaf q ≡ block_number voxels Leaf (coord p.x p.y end))
-    → IsInRun p end q ⊎ IsBlockBefore voxels Leaf q p
-run_or_before p end q on h = elim h [
-  | inl before ↦ plain (plain_before q (coord p.x p.y end) before)
-  | inr same ↦ let e = own_block q (coord p.x p.y end) same in
-      inl (record { same = e ∙ ap (λ (t : Coord). coord p.x p.y t.z) (sym e); low = at_end _ _ _ on (ap (λ (t : Coord). t.z) e); high = at_most _ _ (ap (λ (t : Coord). t.z) e) })
+-- what is passed by the last of a run doesn't come after it
+not_after : (last q : Coord) → IsBlockBefore voxels Leaf q last ⊎ (block_number voxels Leaf q ≡ block_number voxels Leaf last) → IsBefore last q → ⊥
+not_after last q h past = elim h [
+  | inl before ↦ before_not_past q last (plain_before q last before) past
+  | inr same ↦ before_not_same last q past (sym (own_block q last same))
 ]
-  where
-    at_end : (x y z : ℤ) → x ≤ℤ y → z ≡ y → x ≤ℤ z
-    at_end x y z h e = omega (arith, ints, h, e)
 
-    at_most : (z y : ℤ) → z ≡ y → z ≤ℤ y
-    at_most z y e = omega (arith, ints, e)
-
-    less_at_most : (z y : ℤ) → z <ℤ y → z ≤ℤ y
-    less_at_most z y e = omega (arith, ints, e)
-
-    plain_before : (a b : Coord) → IsBlockBefore voxels Leaf a b → IsBefore a b
-    plain_before a b h = let e = entry_number_leaf voxels a in let f = entry_number_leaf voxels b in subst (λ (t : Coord). IsBefore t b) e (subst (λ (t : Coord). IsBefore (block_number voxels Leaf a) t) f h)
-
-    block_before : (a b : Coord) → IsBefore a b → IsBlockBefore voxels Leaf a b
-    block_before a b h = let e = entry_number_leaf voxels a in let f = entry_number_leaf voxels b in subst (λ (t : Coord). IsBefore t (block_number voxels Leaf b)) (sym e) (subst (λ (t : Coord). IsBefore a t) (sym f) h)
-
-    plain : IsBefore q (coord p.x p.y end) → IsInRun p end q ⊎ IsBlockBefore voxels Leaf q p
-    plain (inl x) = inr (block_before q p (inl x))
-    plain (inr (x, inl y)) = inr (block_before q p (inr (x, inl y)))
-    plain (inr (x, inr (y, z))) = elim (below_or_from p.z q.z) [
-      | inl less ↦ inr (block_before q p (inr (x, inr (y, less))))
-      | inr more ↦ inl (record { same = row_of p q x y; low = more; high = less_at_most _ _ z })
-    ]
+-- what comes no later than a run stands in it, or comes before it
+run_or_before : (p q : Coord) → (IsBefore q p → ⊥) ⊎ IsBlockBefore voxels Leaf q p
+run_or_before p q = elim (which_before q p) [
+  | inl before ↦ inr (block_before q p before)
+  | inr r ↦ elim r [
+    | inl e ↦ inl (λ before. before_not_same q p before e)
+    | inr past ↦ inl (λ before. before_not_past q p before past)
+  ]
+]
 
 module _ {V : Type 0} (bits : Bits) (part : Box) (cell : Cell V) where
   -- painted before a coordinate of the part
@@ -123,19 +104,12 @@ module _ {V : Type 0} (bits : Bits) (part : Box) (cell : Cell V) where
   pub voxels_none : (leaf : LeafOf V) → is_box part ≡ true → PaintsVoxelsTo leaf leaf part.min
   voxels_none leaf is = record { inside = min_inside part is; done = λ q inside before. absurd (none_before voxels Leaf part q inside before); others = λ i none d. refl }
 
-  module _ (old mid new : LeafOf V) (p : Coord) (so_far : PaintsVoxelsTo old mid p) (end : ℤ) (run : IsRun bits part p end)
-      (fills : FillsRun mid new (offset bits Leaf p) (offset bits Leaf (coord p.x p.y end) + 1) cell) where
-    filled : (q : Coord) → IsInRun p end q → (d : Cell V) → cell_in d new (offset bits Leaf q) ≡ cell
-    filled q on d =
-        let at = offset_in_run bits part p so_far.inside end run q.z on.low on.high in
-        let from : offset bits Leaf p ≤ offset bits Leaf q = subst (λ (t : Coord). offset bits Leaf p ≤ offset bits Leaf t) (sym on.same) at.0 in
-        let to : offset bits Leaf q < offset bits Leaf (coord p.x p.y end) + 1 = subst (λ (t : Coord). offset bits Leaf t < offset bits Leaf (coord p.x p.y end) + 1) (sym on.same) at.1 in
-        fills.changed d (offset bits Leaf q) from to
-
-    up_to : (q : Coord) → IsTrue (is_inside part q) → IsBlockBefore voxels Leaf q (coord p.x p.y end) ⊎ (block_number voxels Leaf q ≡ block_number voxels Leaf (coord p.x p.y end)) → (d : Cell V) → cell_in d new (offset bits Leaf q) ≡ cell
-    up_to q inside h d = elim (run_or_before p end q run.behind h) [
-      | inl on ↦ filled q on d
-      | inr before ↦ elim (side (offset bits Leaf p) (offset bits Leaf (coord p.x p.y end) + 1) (offset bits Leaf q)) [
+  module _ (old mid new : LeafOf V) (p : Coord) (so_far : PaintsVoxelsTo old mid p) (last : Coord) (run : IsRun bits part p last)
+      (fills : FillsRun mid new (offset bits Leaf p) (offset bits Leaf last + 1) cell) where
+    up_to : (q : Coord) → IsTrue (is_inside part q) → IsBlockBefore voxels Leaf q last ⊎ (block_number voxels Leaf q ≡ block_number voxels Leaf last) → (d : Cell V) → cell_in d new (offset bits Leaf q) ≡ cell
+    up_to q inside h d = elim (run_or_before p q) [
+      | inl from ↦ let at = offset_in_run bits part p last run q inside from (not_after last q h) in fills.changed d (offset bits Leaf q) at.0 at.1
+      | inr before ↦ elim (side (offset bits Leaf p) (offset bits Leaf last + 1) (offset bits Leaf q)) [
         | inl within ↦ fills.changed d (offset bits Leaf q) within.0 within.1
         | inr out ↦ elim out [
           | inl less ↦ fills.before d (offset bits Leaf q) less ∙ so_far.done q inside before d
@@ -145,16 +119,16 @@ module _ {V : Type 0} (bits : Bits) (part : Box) (cell : Cell V) where
     ]
 
     others_stay : (j : ℕ) → ((q : Coord) → IsTrue (is_inside part q) → offset bits Leaf q ≡ j → ⊥) → (d : Cell V) → cell_in d new j ≡ cell_in d old j
-    others_stay j none d = elim (side (offset bits Leaf p) (offset bits Leaf (coord p.x p.y end) + 1) j) [
-      | inl within ↦ absurd (let at = in_run_of_offset bits part p so_far.inside end run j within.0 within.1 in none at.0 at.1 at.2)
+    others_stay j none d = elim (side (offset bits Leaf p) (offset bits Leaf last + 1) j) [
+      | inl within ↦ absurd (let at = in_run_of_offset bits part p last run j within.0 within.1 in none at.0 at.1 at.2)
       | inr out ↦ elim out [
         | inl less ↦ fills.before d j less ∙ so_far.others j none d
         | inr more ↦ fills.after d j more ∙ so_far.others j none d
       ]
     ]
 
-    pub voxels_next : (next : Coord) → IsNextBlock voxels Leaf part (coord p.x p.y end) (Some next) → PaintsVoxelsTo old new next
+    pub voxels_next : (next : Coord) → IsNextBlock voxels Leaf part last (Some next) → PaintsVoxelsTo old new next
     voxels_next next h = record { inside = h.0; done = λ q inside before. up_to q inside (h.2 q inside before); others = others_stay }
 
-    pub voxels_all : IsNextBlock voxels Leaf part (coord p.x p.y end) None → PaintsVoxels bits part cell old new
+    pub voxels_all : IsNextBlock voxels Leaf part last None → PaintsVoxels bits part cell old new
     voxels_all h = record { painted = λ q inside. up_to q inside (h q inside); others = others_stay }

@@ -1,5 +1,5 @@
 -- Walks over the parts of a tree that begin at a coordinate: the place around it.
-use Rattle.std.proofs.Common.{◌≡◌, ◌⊎◌, inl, inr, Bool, true, false, ap, refl, subst, sym, ◌∙◌}
+use Rattle.std.proofs.Common.{◌≡◌, inl, inr, Bool, true, false, ap, refl, subst, sym, ◌∙◌}
 use Rattle.std.specs.Prelude.{not, Some, IsTrue}
 use Rattle.std.specs.Ordering.{is_lt}
 use Rattle.vdb_coord.specs.Blocks.{block_cmp, block_number}

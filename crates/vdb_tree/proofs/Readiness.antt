@@ -13,6 +13,7 @@ use Rattle.vdb_node.specs.declared.Entry.TheVariants.{Child, Tile}
 use Rattle.vdb_value.specs.declared.Cell.{Cell}
 use Rattle.vdb_tree.specs.Changes.{AddsNodes, Keeps}
 use Rattle.vdb_tree.specs.Layout.{Layout, entry_over, plain, root_at}
+use Rattle.vdb_tree.specs.Nodes.{IsCut, MakesNoKey, MakesOnly}
 use Rattle.vdb_tree.specs.Ready.{IsCovered, IsReady, IsReadyAt, IsReadyTo}
 use Rattle.vdb_tree.specs.Room.{IsNextMet}
 use Rattle.vdb_tree.specs.Table.{IsPast}
@@ -20,6 +21,7 @@ use Rattle.vdb_tree.proofs.Covered.{leaf_covered, lower_covered}
 use Rattle.vdb_tree.proofs.Descents.{tile_lower, tile_upper}
 use Rattle.vdb_tree.proofs.KeysPast.{past_on}
 use Rattle.vdb_tree.proofs.Levels.{coord_cases, same_tile, some_held, tile_no_child}
+use Rattle.vdb_tree.proofs.MadeNodes.{keys_twice, makes_none, makes_twice}
 use Rattle.vdb_tree.proofs.Needed.{absent_entry, is_some_from, some_or_none}
 use Rattle.vdb_tree.proofs.Splits.{adds_itself, adds_twice, keeps_itself, keeps_twice}
 use Rattle.vdb_tree.proofs.Sweeps.{apart as later_apart, equal_left, past_or_not, same_keys}
@@ -57,14 +59,15 @@ module _ {V : Type 0} (bits : Bits) (box : Box) (cell : Cell V) where
   pub record SplitsTo (level : Level) (part : Box) (old new : Layout V) (p : Coord) : Type 0 where
     pub keeps : Keeps bits old new
     pub adds : AddsNodes bits old new
+    pub made : MakesOnly bits (IsCut bits box cell) old new
     pub inside : IsTrue (is_inside part p)
     pub done : (q : Coord) → IsTrue (is_inside part q) → IsBlockBefore bits level q p → IsReadyTo bits box cell level new q
 
   module _ (level : Level) (part : Box) where
     pub split_none : (t : Layout V) → is_box part ≡ true → SplitsTo level part t t part.min
-    split_none t is = record { keeps = keeps_itself bits t; adds = adds_itself bits t; inside = min_inside part is; done = λ q inside before. absurd (none_before bits level part q inside before) }
+    split_none t is = record { keeps = keeps_itself bits t; adds = adds_itself bits t; made = makes_none bits (IsCut bits box cell) t t (λ q level. refl); inside = min_inside part is; done = λ q inside before. absurd (none_before bits level part q inside before) }
 
-    module _ (old t n : Layout V) (p : Coord) (so_far : SplitsTo level part old t p) (keeps : Keeps bits t n) (adds : AddsNodes bits t n)
+    module _ (old t n : Layout V) (p : Coord) (so_far : SplitsTo level part old t p) (keeps : Keeps bits t n) (adds : AddsNodes bits t n) (made : MakesOnly bits (IsCut bits box cell) t n)
         (ready : (q : Coord) → IsTrue (is_inside part q) → block_number bits level q ≡ block_number bits level p → IsReadyTo bits box cell level n q) where
       up_to : (q : Coord) → IsTrue (is_inside part q) → IsBlockBefore bits level q p ⊎ (block_number bits level q ≡ block_number bits level p) → IsReadyTo bits box cell level n q
       up_to q inside h = elim h [
@@ -73,7 +76,7 @@ module _ {V : Type 0} (bits : Bits) (box : Box) (cell : Cell V) where
       ]
 
       pub split_next : (next : Coord) → IsNextBlock bits level part p (Some next) → SplitsTo level part old n next
-      split_next next h = record { keeps = keeps_twice bits old t n so_far.keeps keeps; adds = adds_twice bits old t n so_far.adds adds; inside = h.0; done = λ q inside before. up_to q inside (h.2 q inside before) }
+      split_next next h = record { keeps = keeps_twice bits old t n so_far.keeps keeps; adds = adds_twice bits old t n so_far.adds adds; made = makes_twice bits (IsCut bits box cell) old t n so_far.keeps so_far.made made; inside = h.0; done = λ q inside before. up_to q inside (h.2 q inside before) }
 
       pub split_all : IsNextBlock bits level part p None → (q : Coord) → IsTrue (is_inside part q) → IsReadyTo bits box cell level n q
       split_all h q inside = up_to q inside (h q inside)
@@ -83,11 +86,13 @@ module _ {V : Type 0} (bits : Bits) (box : Box) (cell : Cell V) where
   pub record SplitsRoots (old new : Layout V) (passed : Option Coord) : Type 0 where
     pub keeps : Keeps bits old new
     pub adds : AddsNodes bits old new
+    pub made : MakesOnly bits (IsCut bits box cell) old new
+    pub keys : MakesNoKey old new
     pub ahead : (k : Coord) → IsPast passed k → root_at new.root k ≡ root_at old.root k
     pub done : (q : Coord) → IsTrue (is_inside box q) → (IsPast passed (key bits q) → ⊥) → IsSome (root_at new.root (key bits q)) → IsReadyTo bits box cell Upper new q
 
   pub roots_none : (t : Layout V) → SplitsRoots t t None
-  roots_none t = record { keeps = keeps_itself bits t; adds = adds_itself bits t; ahead = λ k h. refl; done = λ q inside h. absurd (h tt) }
+  roots_none t = record { keeps = keeps_itself bits t; adds = adds_itself bits t; made = makes_none bits (IsCut bits box cell) t t (λ q level. refl); keys = λ k h. h; ahead = λ k h. refl; done = λ q inside h. absurd (h tt) }
 
   module _ (old t n : Layout V) (passed : Option Coord) (so_far : SplitsRoots old t passed) where
     -- the next key of the table, as the table was at first
@@ -96,11 +101,13 @@ module _ {V : Type 0} (bits : Bits) (box : Box) (cell : Cell V) where
     next_at_first (Some k) next = (rw (← so_far.ahead k next.1) next.0, next.1, λ j past met some. next.2 j past met (rw (so_far.ahead j past) some))
 
     module _ (keeps : Keeps bits t n) (adds : AddsNodes bits t n) where
-      pub roots_next : (k : Coord) → IsNextMet bits box t.root passed (Some k) → ((j : Coord) → j ≢ k → root_at n.root j ≡ root_at t.root j)
+      pub roots_next : (k : Coord) → MakesOnly bits (IsCut bits box cell) t n → MakesNoKey t n → IsNextMet bits box t.root passed (Some k) → ((j : Coord) → j ≢ k → root_at n.root j ≡ root_at t.root j)
           → ((q : Coord) → IsTrue (is_inside box q) → key bits q ≡ k → IsReadyTo bits box cell Upper n q) → SplitsRoots old n (Some k)
-      roots_next k next table ready = record {
+      roots_next k made keys next table ready = record {
         keeps = keeps_twice bits old t n so_far.keeps keeps;
         adds = adds_twice bits old t n so_far.adds adds;
+        made = makes_twice bits (IsCut bits box cell) old t n so_far.keeps so_far.made made;
+        keys = keys_twice old t n so_far.keys keys;
         ahead = λ j later. table j (later_apart k j later) ∙ so_far.ahead j (past_on passed k j next.1 later);
         done = λ q inside not_past some.
             elim (coord_cases (key bits q) k) [
@@ -127,6 +134,22 @@ module _ {V : Type 0} (bits : Bits) (box : Box) (cell : Cell V) where
               | inr some ↦ absurd (some_held (root_at n.root (key bits q)) some none)
             ]
           ]
+
+  -- where each root block of the box that has an entry, or needs none, is ready, the box is
+  pub ready_all : (mid new : Layout V) → Keeps bits mid new → AddsNodes bits mid new → ((p : Coord) → IsTrue (is_inside box p) → (cell ≡ plain mid) ⊎ IsSome (root_at mid.root (key bits p)))
+      → ((q : Coord) → IsTrue (is_inside box q) → (cell ≡ plain new) ⊎ IsSome (root_at new.root (key bits q)) → IsReadyTo bits box cell Upper new q) → IsReady bits box cell new
+  ready_all mid new keeps adds entered ready = record { tiles = λ level p inside. each level p (ready p inside (still p inside)); entered = still }
+    where
+      still : (p : Coord) → IsTrue (is_inside box p) → (cell ≡ plain new) ⊎ IsSome (root_at new.root (key bits p))
+      still p inside = elim (entered p inside) [
+        | inl e ↦ inl (let same = keeps.head.background in rw same e)
+        | inr some ↦ inr (adds.keys (key bits p) some)
+      ]
+
+      each : (level : Level) (p : Coord) → IsReadyTo bits box cell Upper new p → IsReadyAt bits box cell level new p
+      each Upper p h = h.2
+      each Lower p h = h.1
+      each Leaf p h = h.0
 
 -- what was ready stays so while nodes come
 pub box_stays : {V : Type 0} (bits : Bits) (box : Box) (cell : Cell V) (t n : Layout V) → Keeps bits t n → AddsNodes bits t n → IsReady bits box cell t → IsReady bits box cell n

@@ -15,12 +15,15 @@ use Rattle.vdb_coord.specs.declared.Level.TheVariants.{Upper}
 use Rattle.vdb_coord.proofs.Boxes.{not_true}
 use Rattle.vdb_coord.proofs.Members.{coord_equiv, coord_exact}
 use Rattle.vdb_coord.proofs.Walk.{min_inside, none_before}
-use Rattle.vdb_tree.specs.Changes.{AddsNodes, Keeps}
+use Rattle.vdb_tree.specs.Changes.{AddsNodes, Keeps, SameDescent}
 use Rattle.vdb_tree.specs.Layout.{Layout, root_at}
+use Rattle.vdb_tree.specs.Nodes.{MakesKeysIn}
 use Rattle.vdb_tree.specs.Room.{HasRoomFor, LacksRoomFor}
 use Rattle.vdb_tree.specs.Sound.{IsSound}
 use Rattle.vdb_tree.proofs.Rooted.{key_member, member_entry, one_more, or_cases, or_first, or_second}
 use Rattle.vdb_tree.proofs.RootCounts.{unheld}
+use Rattle.vdb_tree.proofs.MadeNodes.{keys_in_twice}
+use Rattle.vdb_tree.proofs.Passes.{descent_trans}
 use Rattle.vdb_tree.proofs.Splits.{adds_itself, adds_twice, keeps_itself, keeps_twice}
 
 -- ---- the order of a walk
@@ -183,13 +186,15 @@ module _ {V : Type 0} (bits : Bits) (box : Box) where
   pub record EntersTo (old new : Layout V) (p : Coord) : Type 0 where
     pub keeps : Keeps bits old new
     pub adds : AddsNodes bits old new
+    pub same : (q : Coord) → SameDescent bits old new q
+    pub keys : MakesKeysIn bits box old new
     pub inside : IsTrue (is_inside box p)
     pub done : (q : Coord) → IsTrue (is_inside box q) → IsBlockBefore bits Upper q p → IsSome (root_at new.root (key bits q))
 
   pub enters_none : (t : Layout V) → is_box box ≡ true → EntersTo t t box.min
-  enters_none t is = record { keeps = keeps_itself bits t; adds = adds_itself bits t; inside = min_inside box is; done = λ q inside before. absurd (none_before bits Upper box q inside before) }
+  enters_none t is = record { keeps = keeps_itself bits t; adds = adds_itself bits t; same = λ q level. refl; keys = λ k held. inl held; inside = min_inside box is; done = λ q inside before. absurd (none_before bits Upper box q inside before) }
 
-  module _ (old t n : Layout V) (p : Coord) (so_far : EntersTo old t p) (keeps : Keeps bits t n) (adds : AddsNodes bits t n) (here : IsSome (root_at n.root (key bits p))) where
+  module _ (old t n : Layout V) (p : Coord) (so_far : EntersTo old t p) (keeps : Keeps bits t n) (adds : AddsNodes bits t n) (same : (q : Coord) → SameDescent bits t n q) (keys : MakesKeysIn bits box t n) (here : IsSome (root_at n.root (key bits p))) where
     up_to : (q : Coord) → IsTrue (is_inside box q) → IsBlockBefore bits Upper q p ⊎ (block_number bits Upper q ≡ block_number bits Upper p) → IsSome (root_at n.root (key bits q))
     up_to q inside h = elim h [
       | inl before ↦ adds.keys (key bits q) (so_far.done q inside before)
@@ -197,7 +202,7 @@ module _ {V : Type 0} (bits : Bits) (box : Box) where
     ]
 
     pub enters_next : (next : Coord) → IsNextBlock bits Upper box p (Some next) → EntersTo old n next
-    enters_next next h = record { keeps = keeps_twice bits old t n so_far.keeps keeps; adds = adds_twice bits old t n so_far.adds adds; inside = h.0; done = λ q inside before. up_to q inside (h.2 q inside before) }
+    enters_next next h = record { keeps = keeps_twice bits old t n so_far.keeps keeps; adds = adds_twice bits old t n so_far.adds adds; same = λ q. descent_trans bits old t n q (so_far.same q) (same q); keys = keys_in_twice bits box old t n so_far.keys keys; inside = h.0; done = λ q inside before. up_to q inside (h.2 q inside before) }
 
     pub enters_all : IsNextBlock bits Upper box p None → (q : Coord) → IsTrue (is_inside box q) → IsSome (root_at n.root (key bits q))
     enters_all h q inside = up_to q inside (h q inside)

@@ -165,6 +165,17 @@ module _ {V : Type 0} (eq : V → V → Bool) (exact : (x y : V) → eq x y ≡ 
     pub fill_too_wide : is_box box ≡ true → t.limit < blocks_meeting bits Upper box → t.limit < roots eq bits filled
     fill_too_wide is wide = let a = fill_meeting is in omega (arith, a, wide)
 
+-- a table doesn't both have room for a box and lack it
+pub room_or_lack : {V : Type 0} (bits : Bits) (t : Layout V) (box : Box) → HasRoomFor bits t box → LacksRoomFor bits t box → ⊥
+room_or_lack bits t box room lacks =
+    let among = length-le_from_is_member coord_equiv lacks.keys room.keys lacks.apart (λ k m. elim (lacks.each k m) [
+      | inl held ↦ room.entered k held
+      | inr p ↦ subst (λ (n : Coord). is_member coord_eq room.keys n ≡ true) p.2 (room.met p.0 p.1)
+    ]) in
+    let few = room.few in
+    let many = lacks.many in
+    omega (arith, among, few, many)
+
 -- ---- the table gets entries
 
 module _ {V : Type 0} (bits : Bits) (t : Layout V) (box : Box) (room : HasRoomFor bits t box) (p : Coord) (inside : IsTrue (is_inside box p)) where

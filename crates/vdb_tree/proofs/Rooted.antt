@@ -1,11 +1,11 @@
 -- The root blocks that aren't plain, counted against the keys of the root table.
 use Rattle.std.proofs.Common.{◌≡◌, ◌≢◌, ◌⊎◌, inl, inr, ◌<◌, ◌≤◌, Bool, true, false, not, ◌||◌, List, [], ◌∷◌, length, refl, sym, ap, subst, ◌∙◌, arith, IsTrue}
-use Rattle.std.specs.Prelude.{Some, None, IsSome}
+use Rattle.std.specs.Prelude.{Some, None, is_some, IsSome}
 use Rattle.std.specs.List.{AllByRecursion, IsDistinct}
 use Rattle.std.specs.Map.{keys_of}
 use Rattle.std.specs.Set.{is_member}
 use Rattle.std.proofs.lemmas.Map.Entries.{length-keys_of}
-use Rattle.std.proofs.lemmas.Map.Made.{is_some-lookup}
+use Rattle.std.proofs.lemmas.Map.Made.{is_some-lookup, length-le_from_is_member}
 use Rattle.vdb_coord.specs.Blocks.{block, block_number, block_numbers, key}
 use Rattle.vdb_coord.specs.Entries.{AreBits}
 use Rattle.vdb_coord.specs.Space.{coord_eq, everywhere, is_inside}
@@ -94,6 +94,13 @@ module _ {V : Type 0} (t : Layout V) where
 
   pub absent_key : (k : Coord) → root_at t.root k ≡ None → is_member coord_eq (keys_of t.root) k ≡ false
   absent_key k h = sym (is_some-lookup (coord_eq k) t.root) ∙ rw h refl
+
+-- tables with the same entries, in which no key stands twice, are of one size
+pub same_size : {V : Type 0} (old new : List (Coord × Entry V)) → IsDistinct coord_eq (keys_of old) → ((k : Coord) → root_at new k ≡ root_at old k) → length new ≤ length old → length new ≡ length old
+same_size old new apart same size =
+    let each : (k : Coord) → is_member coord_eq (keys_of old) k ≡ true → is_member coord_eq (keys_of new) k ≡ true = λ k h. sym (is_some-lookup (coord_eq k) new) ∙ ap is_some (same k) ∙ is_some-lookup (coord_eq k) old ∙ h in
+    let more = length-le_from_is_member coord_equiv (keys_of old) (keys_of new) apart each in
+    omega (arith, size, more, length-keys_of old, length-keys_of new)
 
 module _ {V : Type 0} (eq : V → V → Bool) (exact : (x y : V) → eq x y ≡ true → x ≡ y) (itself : (x : V) → eq x x ≡ true) (bits : Bits) (configured : AreBits bits) where
   -- fields with the same cells in a block have it uniform alike

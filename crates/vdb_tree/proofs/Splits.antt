@@ -18,8 +18,9 @@ use Rattle.vdb_node.specs.declared.Entry.{Entry}
 use Rattle.vdb_node.specs.declared.Entry.TheVariants.{Child, Tile}
 use Rattle.vdb_pool.specs.Contents.{Contents, node_at}
 use Rattle.vdb_value.specs.declared.Cell.{Cell}
-use Rattle.vdb_tree.specs.Changes.{AddsNodes, Keeps, Turns}
+use Rattle.vdb_tree.specs.Changes.{AddsNodes, Keeps, SameDescent, Turns}
 use Rattle.vdb_tree.specs.Layout.{Layout, cell_at, entry_over, lower_entry, plain, root_at, root_entry, upper_entry}
+use Rattle.vdb_tree.specs.Nodes.{IsSameTree, KeepsAllBut}
 use Rattle.vdb_tree.specs.Paths.{in_leaf, is_child}
 use Rattle.vdb_tree.specs.Sound.{IsSound}
 use Rattle.vdb_tree.proofs.Blocks.{never}
@@ -157,6 +158,11 @@ module _ {V : Type 0} (bits : Bits) where
     pub with_upper_at : root_entry bits with_upper p ≡ Child s
     with_upper_at = upper_turns.here p refl
 
+    pub with_upper_but : KeepsAllBut bits Upper t with_upper p
+    with_upper_but Upper q h = elim h [ inl d ↦ absurd (d refl) | inr d ↦ upper_turns.there q d ]
+    with_upper_but Lower q h = upper_stays q
+    with_upper_but Leaf q h = lower_stays q
+
   -- an upper node's tile becomes a lower node
   module _ (t : Layout V) (sound : IsSound bits t) (p : Coord) (u s : ℕ) (c : Cell V) (n m k : List (Entry V)) (uppers lowers : Contents (List (Entry V)))
       (at_root : root_entry bits t p ≡ Child u) (tiled : upper_entry bits t p ≡ Tile c)
@@ -193,6 +199,11 @@ module _ {V : Type 0} (bits : Bits) where
 
     pub with_lower_at : upper_entry bits with_lower p ≡ Child s
     with_lower_at = lower_turns.here p refl
+
+    pub with_lower_but : KeepsAllBut bits Lower t with_lower p
+    with_lower_but Upper q h = refl
+    with_lower_but Lower q h = elim h [ inl d ↦ absurd (d refl) | inr d ↦ lower_turns.there q d ]
+    with_lower_but Leaf q h = lowers_stay q
 
   -- a lower node's tile becomes a leaf
   module _ (t : Layout V) (sound : IsSound bits t) (p : Coord) (u s : ℕ) (c : Cell V) (n m : List (Entry V)) (k : LeafOf V) (lowers : Contents (List (Entry V))) (leaves : Contents (LeafOf V))
@@ -231,6 +242,11 @@ module _ {V : Type 0} (bits : Bits) where
 
     pub with_leaf_at : lower_entry bits with_leaf p ≡ Child s
     with_leaf_at = leaf_turns.here p refl
+
+    pub with_leaf_but : KeepsAllBut bits Leaf t with_leaf p
+    with_leaf_but Upper q h = refl
+    with_leaf_but Lower q h = refl
+    with_leaf_but Leaf q h = elim h [ inl d ↦ absurd (d refl) | inr d ↦ leaf_turns.there q d ]
 
   -- a root block gets the tile that it stood for
   module _ (t : Layout V) (sound : IsSound bits t) (p : Coord) (c : Cell V) (root : List (Coord × Entry V))
@@ -274,6 +290,11 @@ module _ {V : Type 0} (bits : Bits) where
     pub with_entry_at : root_entry bits with_entry p ≡ Tile c
     with_entry_at = entries_stay p ∙ tiled
 
+    pub with_entry_same : (q : Coord) → SameDescent bits t with_entry q
+    with_entry_same q Upper = entries_stay q
+    with_entry_same q Lower = upper_too q
+    with_entry_same q Leaf = lower_too q
+
   -- a table with the same entries, and pools with the same nodes
   module _ (t n : Layout V) (b : n.background ≡ t.background) (r : (k : Coord) → root_at n.root k ≡ root_at t.root k) (u : n.uppers.nodes ≡ t.uppers.nodes) (l : n.lowers.nodes ≡ t.lowers.nodes) (f : n.leaves.nodes ≡ t.leaves.nodes) (m : n.limit ≡ t.limit) where
     same_root : (q : Coord) → root_entry bits n q ≡ root_entry bits t q
@@ -305,6 +326,15 @@ module _ {V : Type 0} (bits : Bits) where
       leaves = owned_as bits Leaf _ _ _ same_lowers (owned_nodes bits Leaf _ t.leaves n.leaves f sound.leaves);
     }
 
+    -- the same entries stand
+    pub alike_descent : (q : Coord) → SameDescent bits t n q
+    alike_descent q Upper = same_root q
+    alike_descent q Lower = same_uppers q
+    alike_descent q Leaf = same_lowers q
+
+    pub alike_tree : length n.root ≡ length t.root → IsSameTree bits t n
+    alike_tree size = record { table = r; entries = alike_descent; counts = rw (size, u, l, f) refl }
+
   -- pools with other room, and the same nodes
   module _ (t n : Layout V) (b : n.background ≡ t.background) (r : n.root ≡ t.root) (u : n.uppers.nodes ≡ t.uppers.nodes) (l : n.lowers.nodes ≡ t.lowers.nodes) (f : n.leaves.nodes ≡ t.leaves.nodes) (m : n.limit ≡ t.limit) where
     same_entries : (k : Coord) → root_at n.root k ≡ root_at t.root k
@@ -315,6 +345,9 @@ module _ {V : Type 0} (bits : Bits) where
 
     pub room_adds : AddsNodes bits t n
     room_adds = alike_adds t n b same_entries u l f m
+
+    pub room_but : (level : Level) (p : Coord) → KeepsAllBut bits level t n p
+    room_but level p k q h = alike_descent t n b same_entries u l f m q k
 
     pub room_sound : IsSound bits t → IsSound bits n
     room_sound sound = alike_sound t n b same_entries u l f m sound (rw r (omega arith)) (rw r sound.apart)

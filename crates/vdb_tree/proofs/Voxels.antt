@@ -1,5 +1,5 @@
 -- Active tiles, and leaves in place of them.
-use Rattle.std.proofs.Common.{◌≡◌, ◌⊎◌, inl, inr, refl, sym, ap, subst, ◌∙◌, true, false, IsTrue, Some, None, Option, ℕ, suc, ◌<◌, arith}
+use Rattle.std.proofs.Common.{◌≡◌, ◌⊎◌, inl, inr, refl, sym, ap, subst, ◌∙◌, true, false, IsTrue, Some, None, Option, ℕ, ◌<◌, arith}
 use Rattle.std.specs.Prelude.{Bool, not, IfSome}
 use Rattle.vdb_coord.specs.Blocks.{block_number, key}
 use Rattle.vdb_coord.specs.Order.{ComesBefore, IsNextPlace, IsUpToBlock, coordinates_past}
@@ -13,7 +13,7 @@ use Rattle.vdb_node.specs.declared.Entry.TheVariants.{Tile}
 use Rattle.vdb_value.specs.declared.Cell.{Cell}
 use Rattle.vdb_tree.specs.Changes.{AddsNodes, Keeps}
 use Rattle.vdb_tree.specs.Field.{Field}
-use Rattle.vdb_tree.specs.Layout.{Layout, entry_over, field_of, lower_entry, plain, root_at}
+use Rattle.vdb_tree.specs.Layout.{Layout, cell_at, entry_over, field_of, lower_entry, plain, root_at}
 use Rattle.vdb_tree.specs.Parts.{IsEnd, end_level, left_count}
 use Rattle.vdb_tree.specs.Paths.{in_leaf}
 use Rattle.vdb_tree.specs.Table.{HasRoom}
@@ -25,6 +25,7 @@ use Rattle.vdb_tree.proofs.Equations.{keeps_field}
 use Rattle.vdb_tree.proofs.Levels.{same_tile}
 use Rattle.vdb_tree.proofs.Needed.{absent_entry, is_child_from, is_some_from, some_or_none}
 use Rattle.vdb_tree.proofs.PartWalks.{before_not_left, gone_if_before, inactive_skipped}
+use Rattle.vdb_tree.proofs.Passes.{tile_gives}
 use Rattle.vdb_tree.proofs.Splits.{adds_leaves}
 
 pub not_on : (b : Bool) → IsTrue (not b) → b ≡ false
@@ -72,6 +73,9 @@ module _ {V : Type 0} (bits : Bits) where
 
     pub active_room : (level : Level) (cell : Cell V) → IsEnd bits t p (EndTile level cell) → not cell.on ≡ false → HasRoom t (key bits p)
     active_room level cell end on = active_has_room t p level cell end.1 (not_off cell.on on)
+
+    pub active_cell : (level : Level) (cell : Cell V) → IsEnd bits t p (EndTile level cell) → not cell.on ≡ false → (cell_at bits t p).on ≡ true
+    active_cell level cell end on = ap (λ (c : Cell V). c.on) (tile_gives bits level t p cell end.1) ∙ not_off cell.on on
 
   module _ (box : Box) where
     -- nothing comes before the least corner

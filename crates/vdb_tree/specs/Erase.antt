@@ -8,11 +8,13 @@ use Rattle.vdb_node.specs.declared.Entry.TheVariants.{Tile}
 use Rattle.vdb_value.specs.declared.Cell.{Cell}
 use Rattle.vdb_tree.specs.Changes.{IsNoPlainRoot, Keeps}
 use Rattle.vdb_tree.specs.Layout.{Layout, entry_over, plain, root_at}
+use Rattle.vdb_tree.specs.Nodes.{MakesNoNode}
 
 module _ {V : Type 0} (bits : Bits) where
-  -- every cell stays, and each tile stood already or is plain
+  -- every cell stays, no node comes, and each tile stood already or is plain
   pub record AddsPlainTiles (old new : Layout V) : Type 0 where
     pub keeps : Keeps bits old new
+    pub nodes : MakesNoNode bits old new
     pub tiles : (level : Level) (q : Coord) (tile : Cell V) → entry_over bits level new q ≡ Tile tile → (entry_over bits level old q ≡ Tile tile) ⊎ (tile ≡ plain old)
 
   -- the root block of this key has no entry if it is plain, and the table stays under each other key

@@ -16,6 +16,7 @@ pub mod Erase
 pub mod Room
 pub mod Smallest
 pub mod Changes
+pub mod Nodes
 pub mod Corners
 pub mod Seeks
 pub mod Paints

@@ -2,6 +2,7 @@
 use Rattle.std.specs.Prelude.{◌≡◌, ℕ, IsTrue}
 use Rattle.vdb_coord.specs.Blocks.{block_number, offset}
 use Rattle.vdb_coord.specs.Space.{Box, is_inside}
+use Rattle.vdb_coord.specs.Walk.{IsBefore}
 use Rattle.vdb_coord.specs.declared.Bits.{Bits}
 use Rattle.vdb_coord.specs.declared.Coord.{Coord}
 use Rattle.vdb_coord.specs.declared.Level.{Level}
@@ -20,6 +21,14 @@ voxels = record { upper = 0; lower = 0; leaf = 0 }
 pub record PaintsVoxels {V : Type 0} (bits : Bits) (part : Box) (cell : Cell V) (old new : LeafOf V) : Type 0 where
   pub painted : (q : Coord) → IsTrue (is_inside part q) → (d : Cell V) → cell_in d new (offset bits Leaf q) ≡ cell
   pub others : (i : ℕ) → ((q : Coord) → IsTrue (is_inside part q) → offset bits Leaf q ≡ i → ⊥) → (d : Cell V) → cell_in d new i ≡ cell_in d old i
+
+-- from p up to `last` in the order of coordinates, p's leaf block has the part's coordinates and no other
+pub record IsRun (bits : Bits) (part : Box) (p last : Coord) : Type 0 where
+  pub inside : IsTrue (is_inside part last)
+  pub same : block_number bits Leaf last ≡ block_number bits Leaf p
+  pub behind : IsBefore last p → ⊥
+  pub all : (q : Coord) → IsTrue (is_inside part q) → (IsBefore q p → ⊥) → (IsBefore last q → ⊥) → block_number bits Leaf q ≡ block_number bits Leaf p
+  pub only : (q : Coord) → block_number bits Leaf q ≡ block_number bits Leaf p → (IsBefore q p → ⊥) → (IsBefore last q → ⊥) → IsTrue (is_inside part q)
 
 module _ {V : Type 0} (bits : Bits) (box : Box) where
   -- each coordinate that isn't one of the box in the level's block with this number keeps its cell and what stands over it

@@ -2,6 +2,7 @@
 
 ghost use Rattle.std.specs.Prelude.{◌≡◌, IfErr, IfOk};
 ghost use Rattle.vdb_tree.specs.Layout.{bits_of, field_of};
+ghost use Rattle.vdb_tree.specs.Nodes.{IsSameTree};
 ghost use Rattle.vdb_tree.specs.declared.refusal.TreeRefusal.TheVariants.{Memory};
 
 use crate::{TreeOf, TreeRefusal};
@@ -23,6 +24,7 @@ impl<
     pub fn try_copy(&self) -> Result<Self, TreeRefusal>
         ensures field { IfOk result (λ copy. field_of (bits_of U L F) copy ≡ field_of (bits_of U L F) self.now) }
         ensures limit { IfOk result (λ copy. copy.limit ≡ self.now.limit) }
+        ensures same { IfOk result (IsSameTree (bits_of U L F) self.now) }
         ensures memory { IfErr result (λ refusal. refusal ≡ Memory) }
     {
         let root = self.root.try_copy(self.alloc)?;

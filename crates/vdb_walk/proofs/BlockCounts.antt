@@ -1,7 +1,7 @@
 -- Active voxels of a box, counted from block to block.
 use Rattle.std.proofs.Common.{◌≡◌, ◌⊎◌, inl, inr, sym, ap, ◌∙◌, refl, subst, ℕ, ◌+◌, ◌<◌, ◌≤◌, ◌^◌, Bool, true, false, not, ◌&&◌, arith, [], IsTrue}
 use Rattle.std.specs.Prelude.{IfSome, Option, Some, None}
-use Rattle.std.specs.List.{filter, count_by}
+use Rattle.std.specs.List.{filter}
 use Rattle.std.specs.Ordering.{is_lt}
 use Rattle.std.proofs.lemmas.List.Sums.{length-filter}
 use Rattle.vdb_coord.specs.Blocks.{block_around, block_cmp, block_number}
@@ -28,7 +28,7 @@ use Rattle.vdb_tree.proofs.PartStarts.{before_place}
 use Rattle.vdb_walk.specs.BlocksFrom.{IsBoxStart, IsIdleTo, IsPartStart, active_around, active_from}
 use Rattle.vdb_walk.proofs.Counts.{count_few, none_on, nothing_apart, volume_few}
 use Rattle.vdb_walk.proofs.MixedBlocks.{from_on, left_from, past_both}
-use Rattle.vdb_walk.proofs.PartCounts.{count_alike, count_listed, count_split, left_first}
+use Rattle.vdb_walk.proofs.PartCounts.{count_listed, count_split, left_first}
 
 -- ---- truth values: inside the box, active, left before, left now, inside the block
 

@@ -7,20 +7,17 @@ use Rattle.std.specs.declared.cmp.Ordering.TheVariants.{Less, Equal, Greater}
 use Rattle.std.proofs.lemmas.Cmp.{tied_itself}
 use Rattle.std.proofs.lemmas.Int.{ints}
 use Rattle.vdb_coord.specs.Blocks.{block_bits, block_cmp, is_past, key}
-use Rattle.vdb_coord.specs.Space.{Box, is_box, is_inside, is_within}
+use Rattle.vdb_coord.specs.Space.{Box, is_box, is_inside}
 use Rattle.vdb_coord.specs.Walk.{IsBefore}
 use Rattle.vdb_coord.specs.declared.Bits.{Bits}
 use Rattle.vdb_coord.specs.declared.Coord.{Coord}
 use Rattle.vdb_coord.specs.declared.Level.TheVariants.{Leaf, Lower, Upper}
 use Rattle.vdb_coord.proofs.Digits.{number_mono, number_zero}
-use Rattle.vdb_coord.proofs.Meeting.{within_each}
 use Rattle.vdb_coord.proofs.Nesting.{block_total, offset_from_entry}
 use Rattle.vdb_coord.proofs.Walk.{min_inside}
 use Rattle.vdb_coord.proofs.BlockOrder.{from_key, from_lower, from_upper, not_after, precedes}
 use Rattle.vdb_tree.proofs.Rooted.{or_cases}
-use Rattle.vdb_tree.specs.Field.{Field}
-use Rattle.vdb_value.specs.declared.Cell.{Cell}
-use Rattle.vdb_walk.specs.Firsts.{IsActivePast, IsFirst, IsPastLast}
+use Rattle.vdb_walk.specs.Firsts.{IsFirst}
 use Rattle.vdb_walk.specs.Halves.{AreInBlockOrder, IsHalved, numbers}
 use Rattle.vdb_walk.proofs.BoxOrder.{between_x, between_y, between_z, from_leaf, in_half, in_other, key_less, offset_less}
 use Rattle.vdb_walk.proofs.Keys.{IsUpTo}

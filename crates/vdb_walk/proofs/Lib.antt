@@ -4,6 +4,7 @@ pub mod Cuts
 pub mod Keys
 pub mod MixedBlocks
 pub mod MixedLeaves
+pub mod LeafTests
 pub mod Surrounds
 pub mod BoxOrder
 pub mod Firsts
@@ -11,6 +12,7 @@ pub mod LeafSeeks
 pub mod InOrder
 pub mod PiecesInTurn
 pub mod PartCounts
+pub mod VoxelRows
 pub mod VoxelSeeks
 pub mod VoxelCounts
 pub mod PartCells

@@ -2,7 +2,6 @@
 use Rattle.std.proofs.Common.{◌≡◌, ◌⊎◌, inl, inr, sym, ap, ◌∙◌, refl, subst, ℕ, ◌+◌, ◌<◌, ◌≤◌, Bool, true, false, not, ◌&&◌, ◌||◌, cond, [], ◌∷◌, arith, IsTrue}
 use Rattle.std.specs.Prelude.{IfSome, Option, Some, None}
 use Rattle.std.specs.Ordering.{is_lt}
-use Rattle.std.specs.Set.{is_member}
 use Rattle.vdb_coord.specs.Blocks.{block, block_around, block_cmp, block_number, block_numbers}
 use Rattle.vdb_coord.specs.Entries.{AreBits}
 use Rattle.vdb_coord.specs.Order.{ComesBefore, IsNextPlace, IsUpToBlock, coordinates_past}

@@ -34,7 +34,7 @@ use Rattle.vdb_tree.proofs.Uniform.{uniform_from}
 use Rattle.vdb_walk.specs.BlocksFrom.{IsBlockStart, mixed_from}
 use Rattle.vdb_walk.proofs.Counts.{nothing_apart}
 use Rattle.vdb_walk.proofs.LeafSeeks.{later_in_leaf}
-use Rattle.vdb_walk.proofs.MixedBlocks.{denied, false_true, from_on, left_from, no_more, one_of, other_of, true_or_false, with_same}
+use Rattle.vdb_walk.proofs.MixedBlocks.{denied, false_true, from_on, left_from, no_more, one_of, other_of, with_same}
 use Rattle.vdb_walk.proofs.PartCounts.{count_alike, count_split}
 
 -- ---- the first coordinate of a leaf block

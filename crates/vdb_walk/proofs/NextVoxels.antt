@@ -1,5 +1,5 @@
 -- The next coordinate of a box in block order.
-use Rattle.std.proofs.Common.{◌≡◌, ◌⊎◌, inl, inr, sym, ap, ◌∙◌, refl, subst, ℤ, pos, ◌+ℤ◌, ◌≤ℤ◌, ◌<ℤ◌, ◌&&◌, Bool, true, false, arith, IsTrue}
+use Rattle.std.proofs.Common.{◌≡◌, ◌⊎◌, inl, inr, sym, ◌∙◌, refl, ℤ, pos, ◌+ℤ◌, ◌≤ℤ◌, ◌<ℤ◌, ◌&&◌, true, false, arith}
 use Rattle.std.specs.Prelude.{Option, Some, None}
 use Rattle.std.specs.Ordering.{is_lt}
 use Rattle.std.proofs.lemmas.Int.{ints}
@@ -10,7 +10,7 @@ use Rattle.vdb_coord.specs.Walk.{IsBefore}
 use Rattle.vdb_coord.specs.declared.Bits.{Bits}
 use Rattle.vdb_coord.specs.declared.Coord.{Coord}
 use Rattle.vdb_coord.specs.declared.Level.TheVariants.{Leaf}
-use Rattle.vdb_coord.proofs.BlockOrder.{by_voxel, contiguous, never_back, not_both, not_same, which_before}
+use Rattle.vdb_coord.proofs.BlockOrder.{by_voxel, contiguous, not_both, not_same, which_before}
 use Rattle.vdb_coord.proofs.Boxes.{and_true, both}
 use Rattle.vdb_coord.proofs.Nesting.{inside_numbered, number_in_block}
 use Rattle.vdb_coord.proofs.Walk.{inside_from, inside_parts, up_to_x}

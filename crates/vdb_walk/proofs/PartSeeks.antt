@@ -1,9 +1,9 @@
 -- The first active voxel of a part, and of what is left of a walk over parts.
-use Rattle.std.proofs.Common.{◌≡◌, ◌⊎◌, inl, inr, sym, ap, ◌∙◌, refl, subst, Bool, true, false, IsTrue}
+use Rattle.std.proofs.Common.{◌≡◌, inl, inr, sym, ap, ◌∙◌, refl, subst, Bool, true, false, IsTrue}
 use Rattle.std.specs.Borrow.{Bor}
 use Rattle.std.specs.Prelude.{not, Option, Some, None, IfNone, IfSome, is_some, option_map}
 use Rattle.std.specs.Ordering.{is_lt}
-use Rattle.vdb_coord.specs.Blocks.{block_cmp, is_past, offset}
+use Rattle.vdb_coord.specs.Blocks.{block_cmp, block_number, is_past, offset}
 use Rattle.vdb_coord.specs.Order.{ComesBefore}
 use Rattle.vdb_coord.specs.Boxes.{is_bounds}
 use Rattle.vdb_coord.specs.Space.{Box, everywhere, is_box, is_inside, is_within}
@@ -192,6 +192,14 @@ module _ {V : Type 0} (bits : Bits) (t : Layout V) where
       of_leaf (TileContent cell) bounds h = tt
       of_leaf (LeafContent leaf) bounds h = h.block
 
+  -- a part that is of no tile lies in one leaf block
+  pub in_one_block : (held : Held V) → IsHeld bits t held → ((cell : Cell V) → held.tile ≡ Some cell → ⊥) → IsInLeafBlock bits held.bounds
+  in_one_block held is none = by held.tile none is.leaf
+    where
+      by : (tile : Option (Cell V)) → ((cell : Cell V) → tile ≡ Some cell → ⊥) → IfNone tile (IsInLeafBlock bits held.bounds) → IsInLeafBlock bits held.bounds
+      by None n h = h
+      by (Some cell) n h = absurd (n cell refl)
+
   -- a leaf around the least corner has the cells of a part of its block
   pub part_of_leaf : (part : Box) (leaf : LeafOf V) → is_bounds part ≡ true → IsInLeafBlock bits part → IsLeafAround bits (field_of bits t) part.min leaf → IsPartOfLeaf bits (field_of bits t) part leaf
   part_of_leaf part leaf bounds block around = record {
@@ -200,6 +208,14 @@ module _ {V : Type 0} (bits : Bits) (t : Layout V) where
         let h = both (is_box part) (is_within part everywhere) bounds in
         around q (within_each part everywhere q h.1 i) (block q part.min i (min_inside part h.0));
   }
+
+  -- and one cell where the block has one
+  pub part_of_cell : (part : Box) (corner : Coord) (cell : Cell V) → is_bounds part ≡ true → IsInLeafBlock bits part → corner ≡ part.min
+      → ((q : Coord) → IsTrue (is_inside everywhere q) → block_number bits Leaf q ≡ block_number bits Leaf corner → (field_of bits t).cell q ≡ (field_of bits t).cell corner)
+      → (field_of bits t).cell corner ≡ cell → (q : Coord) → IsTrue (is_inside part q) → (field_of bits t).cell q ≡ cell
+  part_of_cell part corner cell bounds block same tile here q i =
+      let h = both (is_box part) (is_within part everywhere) bounds in
+      tile q (within_each part everywhere q h.1 i) (block q part.min i (min_inside part h.0) ∙ ap (block_number bits Leaf) (sym same)) ∙ here
 
 -- ---- where one was looked for in a part
 

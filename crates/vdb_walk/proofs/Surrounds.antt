@@ -1,5 +1,5 @@
 -- Least boxes: two joined, and one found part by part.
-use Rattle.std.proofs.Common.{◌≡◌, ◌⊎◌, sym, ap, ◌∙◌, refl, subst, ℕ, ◌+◌, ◌<◌, ◌≤◌, ℤ, Bool, true, false, not, ◌&&◌, ◌||◌, inl, inr, int_le, List, Option, Some, None, arith, IsTrue}
+use Rattle.std.proofs.Common.{◌≡◌, ◌⊎◌, sym, ap, ◌∙◌, refl, subst, ℕ, ◌+◌, ◌<◌, ◌≤◌, ℤ, ◌-ℤ◌, unsigned_abs, Bool, true, false, not, ◌&&◌, ◌||◌, inl, inr, int_le, List, Option, Some, None, arith, IsTrue}
 use Rattle.std.specs.Int.{int_max, int_min}
 use Rattle.std.specs.Ordering.{is_lt}
 use Rattle.std.specs.Prelude.{IfSome, if◌then◌else◌}
@@ -23,7 +23,7 @@ use Rattle.vdb_value.specs.declared.Cell.{Cell}
 use Rattle.vdb_walk.specs.Voxels.{is_set, IsInFirstBlock, IsNextSet, IsNextSetAt}
 use Rattle.vdb_walk.specs.Reports.{IsActiveBounds}
 use Rattle.vdb_walk.specs.Surround.{Surrounds, is_in, is_wanted, is_wanted_by}
-use Rattle.vdb_walk.proofs.VoxelSeeks.{before_or_at, same_entry}
+use Rattle.vdb_walk.proofs.VoxelRows.{run_inside}
 
 -- ---- two boxes joined
 
@@ -292,28 +292,30 @@ module _ (bits : Bits) (states : List Bool) (found : Option Box) (part : Box) wh
     pub passed : (p : Coord) → is_inside part p ≡ true → is_set bits states p ≡ true → offset bits Leaf p < from → is_in around p ≡ true
     pub least : (other : Box) → ((p : Coord) → is_wanted_by bits states found part p ≡ true → is_inside other p ≡ true) → (p : Coord) → is_in around p ≡ true → is_inside other p ≡ true
 
-  -- the next one
-  pub reaches_next : IsInFirstBlock bits part → (from entry : ℕ) (p : Coord) (voxel : Box) (around result : Option Box) → Reaches from around → IsNextSetAt bits states part from entry p
-      → voxel ≡ record { min = p; max = p } → Surrounds (λ q. is_in around q || is_inside voxel q) result → Reaches (entry + 1) result
-  reaches_next block from entry p voxel around result old next one s = record {
+  -- the next one, and voxels of the box that follow it
+  pub reaches_next : IsInFirstBlock bits part → (from entry : ℕ) (p : Coord) (voxel : Box) (around : Option Box) (grown : Box) (past : ℕ) → Reaches from around → IsNextSetAt bits states part from entry p
+      → voxel ≡ record { min = p; max = p } → Surrounds (λ q. is_in around q || is_inside voxel q) (Some grown)
+      → past ≤ entry + unsigned_abs (int_min part.max.z grown.max.z -ℤ p.z) + 1 → Reaches past (Some grown)
+  reaches_next block from entry p voxel around grown past old next one s run = record {
     former = λ q i. s.holds q (or_first (is_in around q) (is_inside voxel q) (old.former q i));
-    passed = λ q i o below. s.holds q (step q i o (below_or_from (offset bits Leaf q) from) (before_or_at (offset bits Leaf q) entry below));
+    passed = λ q i o below. step q i o below (below_or_from (offset bits Leaf q) from) (below_or_from (offset bits Leaf q) entry);
     least = λ other h q i. s.least other (λ r w. elim (or_cases (is_in around r) (is_inside voxel r) w) [
       | inl j ↦ old.least other h r j
       | inr j ↦ subst (λ (a : Coord). is_inside other a ≡ true) (sym (only_self p voxel one r j)) (h p (or_second (is_in found p) (is_inside part p && is_set bits states p) (and_true (is_inside part p) (is_set bits states p) next.inside next.here)))
     ]) q i;
   }
     where
-      there : is_inside voxel p ≡ true
-      there = subst (λ (b : Box). is_inside b p ≡ true) (sym one)
-          (together _ _ _ (and_true _ _ (same_le p.x) (same_le p.x)) (and_true _ _ (same_le p.y) (same_le p.y)) (and_true _ _ (same_le p.z) (same_le p.z)))
+      there : is_inside grown p ≡ true
+      there = s.holds p (or_second (is_in around p) (is_inside voxel p) (subst (λ (b : Box). is_inside b p ≡ true) (sym one)
+          (together _ _ _ (and_true _ _ (same_le p.x) (same_le p.x)) (and_true _ _ (same_le p.y) (same_le p.y)) (and_true _ _ (same_le p.z) (same_le p.z)))))
 
-      step : (q : Coord) → is_inside part q ≡ true → is_set bits states q ≡ true → (offset bits Leaf q < from) ⊎ (from ≤ offset bits Leaf q) → (offset bits Leaf q < entry) ⊎ (offset bits Leaf q ≡ entry)
-          → (is_in around q || is_inside voxel q) ≡ true
-      step q i o (inl below) later = or_first (is_in around q) (is_inside voxel q) (old.passed q i o below)
-      step q i o (inr from_on) (inl between) = absurd (apart (is_set bits states q) (next.before q i from_on between) o)
-      step q i o (inr from_on) (inr same) =
-          or_second (is_in around q) (is_inside voxel q) (subst (λ (r : Coord). is_inside voxel r ≡ true) (same_entry bits part block p q next.inside i (next.at ∙ sym same)) there)
+      step : (q : Coord) → is_inside part q ≡ true → is_set bits states q ≡ true → offset bits Leaf q < past → (offset bits Leaf q < from) ⊎ (from ≤ offset bits Leaf q) → (offset bits Leaf q < entry) ⊎ (entry ≤ offset bits Leaf q)
+          → is_inside grown q ≡ true
+      step q i o to (inl below) later = s.holds q (or_first (is_in around q) (is_inside voxel q) (old.passed q i o below))
+      step q i o to (inr from_on) (inl between) = absurd (apart (is_set bits states q) (next.before q i from_on between) o)
+      step q i o to (inr from_on) (inr later) =
+          let at = next.at in
+          run_inside bits part grown block p next.inside there q i (omega (arith, at, later)) (omega (arith, at, to, run))
 
   -- no further one
   pub reaches_all : (from : ℕ) (around : Option Box) → Reaches from around → IsNextSet bits states part from None → Surrounds (is_wanted_by bits states found part) around

@@ -1,12 +1,13 @@
 -- The voxels of a leaf in a box counted by the states of the leaf.
-use Rattle.std.proofs.Common.{◌≡◌, inl, inr, refl, sym, ap, ◌∙◌, subst, ℕ, ◌+◌, ◌<◌, ◌≤◌, Bool, true, false, not, ◌&&◌, ◌||◌, List, [], ◌∷◌, arith, nat_lt}
+use Rattle.std.proofs.Common.{◌≡◌, inl, inr, refl, zero, suc, pos, ◌+ℤ◌, ◌-ℤ◌, unsigned_abs, sym, ap, ◌∙◌, subst, ℕ, ◌+◌, ◌<◌, ◌≤◌, Bool, true, false, not, ◌&&◌, ◌||◌, List, [], ◌∷◌, arith, nat_lt}
 use Rattle.std.specs.Prelude.{None}
+use Rattle.std.specs.Int.{int_min}
 use Rattle.std.specs.List.{IsDistinct, count_by}
 use Rattle.std.proofs.lemmas.Bool.Decides.{nat_tests}
 use Rattle.vdb_coord.specs.Blocks.{block_around, block_number, entries, offset}
 use Rattle.vdb_coord.specs.Boxes.{is_bounds}
 use Rattle.vdb_coord.specs.Entries.{AreBits}
-use Rattle.vdb_coord.specs.Space.{Box, coord_eq, coordinates, everywhere, is_box, is_inside, is_within}
+use Rattle.vdb_coord.specs.Space.{Box, coord, coord_eq, coordinates, everywhere, is_box, is_inside, is_within}
 use Rattle.vdb_coord.specs.declared.Bits.{Bits}
 use Rattle.vdb_coord.specs.declared.Coord.{Coord}
 use Rattle.vdb_coord.specs.declared.Level.TheVariants.{Leaf}
@@ -14,7 +15,7 @@ use Rattle.vdb_coord.proofs.Boxes.{both}
 use Rattle.vdb_coord.proofs.Meeting.{within_each}
 use Rattle.vdb_coord.proofs.Members.{coord_equiv, coord_exact}
 use Rattle.vdb_coord.proofs.Nesting.{inside_numbered}
-use Rattle.vdb_mask.specs.Mask.{on_count}
+use Rattle.vdb_mask.specs.Mask.{is_on, on_count}
 use Rattle.vdb_node.specs.Leaf.{Leaf as LeafOf}
 use Rattle.vdb_tree.specs.Field.{Field}
 use Rattle.vdb_tree.specs.Parts.{IsPartOfLeaf}
@@ -25,6 +26,7 @@ use Rattle.vdb_walk.specs.Voxels.{is_set, IsInFirstBlock, IsNextSet, IsNextSetAt
 use Rattle.vdb_walk.proofs.Counts.{none_on, nothing_apart}
 use Rattle.vdb_walk.proofs.PartCounts.{count_alike, count_listed, count_split, first_way, other_way}
 use Rattle.vdb_walk.proofs.Surrounds.{min_inside}
+use Rattle.vdb_walk.proofs.VoxelRows.{further_voxel}
 use Rattle.vdb_walk.proofs.VoxelSeeks.{before_or_at, same_entry}
 
 one_apart : (p : Coord) → IsDistinct coord_eq (p ∷ [])
@@ -96,6 +98,36 @@ module _ (bits : Bits) (states : List Bool) (part : Box) where
         (λ e. subst (λ (r : Coord). is_from (entry + 1) r ≡ false) (here q e) past_here)
         (λ h. le_from from (at q) (let l = from_le (entry + 1) (at q) h in let on = next.from_on in omega (arith, l, on)))
         (λ i l n out. off_between q i (from_le from (at q) l) (from_lt (entry + 1) (at q) n) out))
+
+  module _ (block : IsInFirstBlock bits part) where
+    regrouped : (a k : ℕ) → a + suc k ≡ a + k + 1
+    regrouped a k = omega arith
+
+    -- a voxel whose state is on is the next from its own entry on
+    one_less : (entry : ℕ) (p : Coord) → is_inside part p ≡ true → at p ≡ entry → is_on states entry ≡ true → 1 + set_from (entry + 1) ≡ set_from entry
+    one_less entry p inside here on = set_less block entry entry p (record {
+      from_on = omega arith;
+      inside = inside;
+      at = here;
+      here = ap (is_on states) here ∙ on;
+      before = λ q i low high. absurd (omega (arith, low, high));
+    })
+
+    module _ (from entry : ℕ) (p : Coord) (next : IsNextSetAt bits states part from entry p) where
+      -- past a run of such voxels along z there are as many less as it has
+      pub set_run_less : (k : ℕ) → k ≤ unsigned_abs (int_min part.max.z part.max.z -ℤ p.z) → ((i : ℕ) → entry < i → i < entry + k + 1 → is_on states i ≡ true)
+          → (k + 1) + set_from (entry + k + 1) ≡ set_from from
+      set_run_less zero near on = let less = set_less block from entry p next in let e = counted_from in omega (arith, less, e)
+        where
+          counted_from : set_from (entry + 0 + 1) ≡ set_from (entry + 1)
+          counted_from = ap set_from (omega arith)
+      set_run_less (suc k) near on =
+          let before = set_run_less k (omega (arith, near)) (λ i h l. on i h (omega (arith, l))) in
+          let at_voxel = further_voxel bits part part block p next.inside next.inside (suc k) near in
+          let at_entry : at (coord p.x p.y (p.z +ℤ pos (suc k))) ≡ entry + k + 1 = at_voxel.1 ∙ ap (λ (n : ℕ). n + suc k) next.at ∙ regrouped entry k in
+          let one = one_less (entry + k + 1) (coord p.x p.y (p.z +ℤ pos (suc k))) at_voxel.0 at_entry (on (entry + k + 1) (omega arith) (omega arith)) in
+          let last : set_from (entry + suc k + 1) ≡ set_from (entry + k + 1 + 1) = ap set_from (omega arith) in
+          omega (arith, before, one, last)
 
 -- ---- a part of a leaf
 

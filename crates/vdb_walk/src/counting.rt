@@ -16,7 +16,7 @@ ghost use Rattle.vdb_walk.specs.BlocksFrom.{IsBoxStart, IsIdleTo, active_around,
 ghost use Rattle.vdb_walk.specs.Voxels.{IsInFirstBlock, set_count};
 
 use crate::mixed::part_from;
-use crate::voxels::next_set;
+use crate::voxels::{block_corner, next_set_in, run_end};
 use vdb_coord::{Bits, Bounds, Coord, Level};
 use vdb_mask::Mask;
 use vdb_node::{Leaf, Stored};
@@ -218,7 +218,8 @@ fn count_leaf<
     u128::from(leaf.count_on())
 }
 
-/// How many voxels of the part, which lies in the block of the leaf with these states, are on.
+/// How many voxels of the part, which lies in the block of the leaf with these states, are on. A run of them along z counts at
+/// once.
 fn count_states<const W: usize>(states: &Mask<W>, bits: Bits, part: Bounds) -> u32
     requires configured { AreBits bits }
     requires few_words { W ≤ 512 }
@@ -227,11 +228,13 @@ fn count_states<const W: usize>(states: &Mask<W>, bits: Bits, part: Bounds) -> u
     requires block { IsInFirstBlock bits part }
     ensures { result ≡ set_count bits states.now part }
 {
+    let corner = block_corner(bits, part);
     let mut total = 0;
     let mut from = 0;
-    'voxels: while let Some((entry, _)) = next_set(states, bits, part, from) {
-        total += 1;
-        from = entry + 1;
+    'voxels: while let Some((entry, p)) = next_set_in(states, bits, part, corner, from) {
+        let end = run_end(states, part, p, entry);
+        total += end - entry;
+        from = end;
     }
     total
 }

@@ -7,8 +7,8 @@ ghost use Rattle.std.specs.List.{find};
 ghost use Rattle.vdb_walk.specs.Listings.{IsListing};
 ghost use Rattle.vdb_walk.specs.Reports.{active, past, HandsOut, Listed};
 
-use crate::held::{Held, with_leaf};
-use crate::seeking::{begun, first_in, next_active, next_found};
+use crate::held::Held;
+use crate::seeking::{begun, first_held, next_active, next_found};
 use std::marker::Model;
 use vdb_coord::{Bounds, Coord};
 use vdb_node::{Internal, Leaf, Stored};
@@ -176,7 +176,7 @@ fn hand_out<
     ensures none { IfNone result (IsListing (bits_of U L F) tree.now last walk.new part.new) }
 {
     if let Some(held) = *part {
-        let found = first_in(tree, last, with_leaf(tree, walk, held, steps));
+        let found = first_held(tree, last, walk, held, steps);
         if found.is_some() {
             return found;
         }

@@ -142,8 +142,31 @@ fn leaf_at<
     ensures test { result.0 ≡ not (is_constant V.eq (field_of (bits_of U L F) tree.now) (block_around (bits_of U L F) LeafLevel p)) }
     ensures next { IsNextLeaf (bits_of U L F) tree.now (Some p) result.1 }
 {
-    let differs = tree.constant(Level::Leaf, p, steps).is_none();
+    let differs = leaf_differs(tree, p, steps);
     (differs, tree.next_leaf(Some(p), steps))
+}
+
+/// Whether the cells of the leaf block around a coordinate differ, by at most three visits.
+fn leaf_differs<
+    V: Stored<WU> + Stored<WL> + Stored<WF>,
+    const U: u32,
+    const L: u32,
+    const F: u32,
+    const WU: usize,
+    const WL: usize,
+    const WF: usize,
+>(tree: &TreeOf<V, U, L, F, WU, WL, WF>, p: Coord, steps: &mut Steps) -> bool
+    ensures { result ≡ not (is_constant V.eq (field_of (bits_of U L F) tree.now) (block_around (bits_of U L F) LeafLevel p)) }
+{
+    tree.has_leaf_words();
+    let bits = tree.bits();
+    match tree.leaf(p, steps) {
+        Some(leaf) => {
+            let _ = leaf.entry(u32::from(bits.entries(Level::Leaf)) - 1); // the proof learns from it that each entry has a cell
+            leaf.constant().is_none()
+        }
+        None => false, // a block without a leaf has one cell
+    }
 }
 
 /// The first coordinate from a place on of the tiles and leaves that aren't passed over.

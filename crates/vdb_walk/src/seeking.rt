@@ -10,7 +10,8 @@ ghost use Rattle.vdb_node.specs.Leaf.{cell_in};
 ghost use Rattle.vdb_tree.specs.Layout.{bits_of, field_of};
 ghost use Rattle.vdb_value.specs.declared.Cell.{Cell};
 ghost use Rattle.vdb_walk.specs.Firsts.{IsActivePast, IsFirst, IsEntryPast, IsInLeafBlock, IsOnPast, IsPastLast};
-ghost use Rattle.vdb_walk.specs.Listings.{HasCells, IsListing};
+ghost use Rattle.vdb_tree.specs.Parts.{IsWalk};
+ghost use Rattle.vdb_walk.specs.Listings.{HasCells, IsHeld, IsListing};
 ghost use Rattle.vdb_walk.specs.Reports.{active};
 
 use crate::held::{Held, without_leaf};
@@ -100,8 +101,44 @@ pub(crate) fn next_found<
     None
 }
 
+/// The first active voxel past `after` of a part that the walk has yielded, by one visit where the walk's path ends in its leaf.
+pub(crate) fn first_held<
+    V: Stored<WU> + Stored<WL> + Stored<WF>,
+    const U: u32,
+    const L: u32,
+    const F: u32,
+    const WU: usize,
+    const WL: usize,
+    const WF: usize,
+>(
+    tree: &TreeOf<V, U, L, F, WU, WL, WF>,
+    after: Option<Coord>,
+    walk: &Walk<Internal<V, U, WU>, Internal<V, L, WL>, Leaf<V, F, WF>>,
+    held: Held<V>,
+    steps: &mut Steps,
+) -> Option<(Coord, V)>
+    requires walk { IsWalk (bits_of U L F) tree.now walk.now }
+    requires held { IsHeld (bits_of U L F) tree.now held }
+    ensures first { IsFirst (bits_of U L F) (IsActivePast (bits_of U L F) after (field_of (bits_of U L F) tree.now)) held.bounds (option_map (λ item. item.0) result) }
+    ensures value { IfSome result (λ item. item.1 ≡ ((field_of (bits_of U L F) tree.now).cell item.0).value) }
+{
+    let bits = tree.bits();
+    let (part, corner) = (held.bounds, held.bounds.min());
+    if let Some(cell) = held.tile {
+        return first_in_tile(cell, bits, after, part);
+    }
+    match tree.leaf_of(walk, corner, steps) {
+        Some(leaf) => {
+            tree.has_leaf_words();
+            first_in_leaf(leaf, bits, after, part)
+        }
+        // a block without a leaf has one cell
+        None => first_in_tile(tree.piece(corner, steps).cell, bits, after, part),
+    }
+}
+
 /// The first active voxel of the part past `after`.
-pub(crate) fn first_in<
+fn first_in<
     V: Stored<WU> + Stored<WL> + Stored<WF>,
     const U: u32,
     const L: u32,

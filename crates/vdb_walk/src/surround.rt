@@ -13,7 +13,7 @@ ghost use Rattle.vdb_walk.specs.Voxels.{IsInFirstBlock};
 ghost use Rattle.vdb_walk.specs.Reports.{IsActiveBounds};
 ghost use Rattle.vdb_walk.specs.Surround.{Surrounds, is_in, is_wanted, is_wanted_by};
 
-use crate::voxels::next_set;
+use crate::voxels::{block_corner, next_set_in, past_run};
 use vdb_coord::{Bits, Bounds};
 use vdb_mask::Mask;
 use vdb_node::{Leaf, Stored};
@@ -102,7 +102,8 @@ fn around_leaf<
 }
 
 /// The least box that holds what was found so far and every voxel of the part, which lies in the block of the leaf with these
-/// states, whose state is on. It finds them by the words of the states.
+/// states, whose state is on. It finds them by the words of the states, and passes over what follows along z within the box
+/// found so far.
 fn around_voxels<const W: usize>(
     states: &Mask<W>,
     bits: Bits,
@@ -117,11 +118,14 @@ fn around_voxels<const W: usize>(
     ensures least { Surrounds (is_wanted_by bits states.now found part) result }
     ensures order { IfSome result (λ box. IsTrue (is_box box)) }
 {
+    let corner = block_corner(bits, part);
+    let limit = 64 * W as u32;
     let mut around = found;
     let mut from = 0;
-    'voxels: while let Some((entry, p)) = next_set(states, bits, part, from) {
-        around = Some(joined(around, Bounds::single(p)));
-        from = entry + 1;
+    'voxels: while let Some((entry, p)) = next_set_in(states, bits, part, corner, from) {
+        let grown = joined(around, Bounds::single(p));
+        from = past_run(part, grown, p, entry, limit);
+        around = Some(grown);
     }
     around
 }

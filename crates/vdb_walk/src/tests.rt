@@ -15,6 +15,12 @@ use vdb_value::Cell;
 /// A tree whose blocks span 2, 4 and 8 voxels along each axis, so that a few writes fill one.
 type Tiny<V> = TreeOf<V, 1, 1, 1, 1, 1, 1>;
 
+/// A tree whose leaves span 4 voxels along each axis.
+type Leaves4<V> = TreeOf<V, 1, 1, 2, 1, 1, 1>;
+
+/// A tree whose leaves span 16 voxels along each axis.
+type Leaves16<V> = TreeOf<V, 1, 1, 4, 1, 1, 64>;
+
 fn at(x: i32, y: i32, z: i32) -> Coord {
     Coord { x, y, z }
 }
@@ -196,6 +202,33 @@ fn boxes_that_cut_leaves(rt: HostRuntime) -> Result<(), TreeRefusal> {
     ];
     expect_counts(&rt, &tree, &cases, &mut steps);
     expect_counts(&rt, &tiny, &cases, &mut steps);
+    Ok(())
+}
+
+// Boxes that cut a leaf on all sides, of leaves that span 4 and 16 voxels.
+#[test]
+fn boxes_within_leaves(rt: HostRuntime) -> Result<(), TreeRefusal> {
+    let mut steps = Steps::new(&rt);
+    let mut small = Leaves4::new(rt.alloc(), 0i32, 4096);
+    let mut large = Leaves16::new(rt.alloc(), 0i32, 4096);
+    fill(&rt, &mut small, all(-4), all(-2), on(1), &mut steps)?;
+    fill(&rt, &mut large, all(-16), all(-2), on(1), &mut steps)?;
+    small.write(at(-3, -2, -3), Write::State(false), &mut steps)?;
+    large.write(at(-9, -2, -3), Write::State(false), &mut steps)?;
+    let cases = [
+        (all(-3), all(-2), 7),
+        (at(-3, -3, -4), at(-3, -2, -2), 5),
+        (at(-4, -2, -3), at(-2, -2, -3), 2),
+        (all(-4), all(-1), 26),
+    ];
+    expect_counts(&rt, &small, &cases, &mut steps);
+    let cases = [
+        (all(-15), all(-3), 2197),
+        (at(-10, -15, -15), at(-8, -2, -3), 3 * 14 * 13 - 1),
+        (at(-9, -2, -14), at(-9, -2, -2), 12),
+        (all(-15), all(-1), 2743),
+    ];
+    expect_counts(&rt, &large, &cases, &mut steps);
     Ok(())
 }
 

@@ -1,19 +1,17 @@
 //! The voxels of a leaf, painted within a box.
 
 ghost use Rattle.std.specs.Prelude.{◌≡◌, ◌<◌, ◌≤◌, IfSome, IsTrue};
-ghost use Rattle.std.specs.Int.{int_min};
-ghost use Rattle.vdb_coord.specs.Blocks.{block_around};
 ghost use Rattle.vdb_coord.specs.Entries.{AreBits};
-ghost use Rattle.vdb_coord.specs.Space.{coord, is_inside};
+ghost use Rattle.vdb_coord.specs.Space.{is_inside};
 ghost use Rattle.vdb_coord.specs.Walk.{IsNextBlock, coordinates_after};
 ghost use Rattle.vdb_coord.specs.declared.Level.TheVariants.{Leaf as leaf_level};
-ghost use Rattle.vdb_tree.specs.Paints.{PaintsVoxels, voxels};
+ghost use Rattle.vdb_tree.specs.Paints.{IsRun, PaintsVoxels, voxels};
 
 use vdb_coord::{Bits, Bounds, Coord, Level};
 use vdb_node::{Leaf, Stored};
 use vdb_value::Cell;
 
-/// Gives the leaf's voxels at the coordinates of the part this cell, a row along z at a time. The part lies in one leaf block.
+/// Gives the leaf's voxels at the coordinates of the part this cell, a run of them at a time. The part lies in one leaf block.
 pub(crate) fn paint_voxels<V: Stored<W>, const F: u32, const W: usize>(
     leaf: &mut Leaf<V, F, W>,
     bits: Bits,
@@ -38,18 +36,35 @@ pub(crate) fn paint_voxels<V: Stored<W>, const F: u32, const W: usize>(
     }
 }
 
-/// The last coordinate from p along z that lies both in the part and in p's leaf block. The offsets from p's up to its own are
-/// those of the coordinates between.
+/// The last coordinate of the run from p: in its leaf block the part has each coordinate from p up to it. That is the end of p's
+/// row along z; where the part spans the block in z, the end of its plane of x; where it spans it in y too, the end of the part.
 fn run_end(bits: Bits, part: Bounds, p: Coord) -> Coord
-    requires { AreBits bits }
-    ensures { result ≡ coord p.x p.y (int_min part.max.z (block_around bits leaf_level p).max.z) }
+    requires configured { AreBits bits }
+    requires inside { IsTrue (is_inside part p) }
+    ensures { IsRun bits part p result }
 {
+    let low = part.min();
+    let high = part.max();
     let block = p.block_in(bits, Level::Leaf);
-    Coord {
-        x: p.x,
-        y: p.y,
-        z: part.max().z.min(block.max().z),
+    let first = block.min();
+    let last = block.max();
+    let z = high.z.min(last.z);
+    if !is_range(low.z, high.z, first.z, last.z) {
+        return Coord { x: p.x, y: p.y, z };
     }
+    let y = high.y.min(last.y);
+    if !is_range(low.y, high.y, first.y, last.y) {
+        return Coord { x: p.x, y, z };
+    }
+    let x = high.x.min(last.x);
+    Coord { x, y, z }
+}
+
+/// Whether the numbers from `low` to `high` are those from `first` to `last`.
+fn is_range(low: i32, high: i32, first: i32, last: i32) -> bool
+    ensures { IsTrue result → (low ≡ first) × (high ≡ last) }
+{
+    low == first && high == last
 }
 
 /// The coordinate of the box behind p, by z, then by y, then by x; `None` where p is the last.

@@ -9,9 +9,10 @@ ghost use Rattle.vdb_node.specs.declared.Entry.TheVariants.{Child};
 ghost use Rattle.vdb_tree.specs.Changes.{AddsNodes, Keeps, KeepsUppers};
 ghost use Rattle.vdb_tree.specs.Field.{fill};
 ghost use Rattle.vdb_tree.specs.Layout.{bits_of, field_of, plain, root_at, root_entry, upper_entry};
+ghost use Rattle.vdb_tree.specs.Nodes.{IsCut, MakesNoKey, MakesOnly, MakesKeysIn};
 ghost use Rattle.vdb_tree.specs.Outcome.{ObeysLimit};
 ghost use Rattle.vdb_tree.specs.Ready.{IsReady, IsReadyTo};
-ghost use Rattle.vdb_tree.specs.Room.{IsNextMet};
+ghost use Rattle.vdb_tree.specs.Room.{HasRoomFor, IsNextMet};
 ghost use Rattle.vdb_tree.specs.declared.refusal.TreeRefusal.TheVariants.{Memory};
 
 use crate::{TreeOf, TreeRefusal};
@@ -31,7 +32,8 @@ impl<
 > TreeOf<V, U, L, F, WU, WL, WF> {
     /// Makes a box ready to be painted with this cell: where the edge of the box crosses a tile of another cell, a node with
     /// that cell all over stands in its place; and where the cell isn't plain, each root block that meets the box gets an
-    /// entry. No cell changes, and what was ready for a plain cell stays so.
+    /// entry. No other node or entry comes, and none goes where the table has room for the box. No cell changes, and what was
+    /// ready for a plain cell stays so.
     ///
     /// `RootLimit` says that the filled box would leave more root blocks with a cell that isn't plain than the limit,
     /// `Memory` that a growth was refused; some nodes may have been made then. It visits the nodes that the box's edge
@@ -45,6 +47,10 @@ impl<
     ) -> Result<(), TreeRefusal>
         ensures field { field_of (bits_of U L F) self.new ≡ field_of (bits_of U L F) self.old }
         ensures kept { self.new.limit ≡ self.old.limit }
+        ensures made { MakesOnly (bits_of U L F) (IsCut (bits_of U L F) bounds cell) self.old self.new }
+        ensures keys { MakesKeysIn (bits_of U L F) bounds self.old self.new }
+        ensures no_keys { cell ≡ plain self.old → MakesNoKey self.old self.new }
+        ensures adds { (cell ≡ plain self.old) ⊎ HasRoomFor (bits_of U L F) self.old bounds → AddsNodes (bits_of U L F) self.old self.new }
         ensures done { OnOk result (IsReady (bits_of U L F) bounds cell self.new) }
         ensures limit { ObeysLimit V.eq (bits_of U L F) self.old.limit (fill bounds cell (field_of (bits_of U L F) self.old)) result }
         ensures plain { cell ≡ plain self.old → IfErr result (λ refusal. refusal ≡ Memory) }
@@ -63,6 +69,8 @@ impl<
     ) -> Result<(), TreeRefusal>
         ensures keeps { Keeps (bits_of U L F) self.old self.new }
         ensures adds { AddsNodes (bits_of U L F) self.old self.new }
+        ensures made { MakesOnly (bits_of U L F) (IsCut (bits_of U L F) bounds cell) self.old self.new }
+        ensures keys { MakesNoKey self.old self.new }
         ensures ready { OnOk result ((q : Coord) → IsTrue (is_inside bounds q) → (cell ≡ plain self.new) ⊎ IsSome (root_at self.new.root (key (bits_of U L F) q))
             → IsReadyTo (bits_of U L F) bounds cell Upper self.new q) }
         ensures memory { IfErr result (λ refusal. refusal ≡ Memory) }
@@ -86,6 +94,8 @@ impl<
     ) -> Result<Option<Coord>, TreeRefusal>
         ensures keeps { Keeps (bits_of U L F) self.old self.new }
         ensures adds { AddsNodes (bits_of U L F) self.old self.new }
+        ensures made { MakesOnly (bits_of U L F) (IsCut (bits_of U L F) bounds cell) self.old self.new }
+        ensures keys { MakesNoKey self.old self.new }
         ensures next { IfOk result (λ next. IsNextMet (bits_of U L F) bounds self.old.root after next) }
         ensures ready { IfOk result (λ next. IfSome next (λ k. (q : Coord) → IsTrue (is_inside bounds q) → key (bits_of U L F) q ≡ k
             → IsReadyTo (bits_of U L F) bounds cell Upper self.new q)) }
@@ -113,6 +123,8 @@ impl<
         requires entered { IsSome (root_at self.old.root (key (bits_of U L F) p)) }
         ensures keeps { Keeps (bits_of U L F) self.old self.new }
         ensures adds { AddsNodes (bits_of U L F) self.old self.new }
+        ensures made { MakesOnly (bits_of U L F) (IsCut (bits_of U L F) bounds cell) self.old self.new }
+        ensures keys { MakesNoKey self.old self.new }
         ensures table { (k : Coord) → k ≢ key (bits_of U L F) p → root_at self.new.root k ≡ root_at self.old.root k }
         ensures ready { OnOk result ((q : Coord) → IsTrue (is_inside bounds q) → block_number (bits_of U L F) Upper q ≡ block_number (bits_of U L F) Upper p
             → IsReadyTo (bits_of U L F) bounds cell Upper self.new q) }
@@ -145,6 +157,7 @@ impl<
         requires node { root_entry (bits_of U L F) self.old p ≡ Child upper }
         ensures keeps { Keeps (bits_of U L F) self.old self.new }
         ensures adds { AddsNodes (bits_of U L F) self.old self.new }
+        ensures made { MakesOnly (bits_of U L F) (IsCut (bits_of U L F) bounds cell) self.old self.new }
         ensures root { self.new.root ≡ self.old.root }
         ensures ready { OnOk result ((q : Coord) → IsTrue (is_inside part q) → IsReadyTo (bits_of U L F) bounds cell Lower self.new q) }
         ensures memory { IfErr result (λ refusal. refusal ≡ Memory) }
@@ -172,6 +185,7 @@ impl<
         requires node { root_entry (bits_of U L F) self.old p ≡ Child upper }
         ensures keeps { Keeps (bits_of U L F) self.old self.new }
         ensures adds { AddsNodes (bits_of U L F) self.old self.new }
+        ensures made { MakesOnly (bits_of U L F) (IsCut (bits_of U L F) bounds cell) self.old self.new }
         ensures root { self.new.root ≡ self.old.root }
         ensures ready { OnOk result ((q : Coord) → IsTrue (is_inside bounds q) → block_number (bits_of U L F) Lower q ≡ block_number (bits_of U L F) Lower p
             → IsReadyTo (bits_of U L F) bounds cell Lower self.new q) }
@@ -204,6 +218,7 @@ impl<
         requires node { upper_entry (bits_of U L F) self.old p ≡ Child lower }
         ensures keeps { Keeps (bits_of U L F) self.old self.new }
         ensures adds { AddsNodes (bits_of U L F) self.old self.new }
+        ensures made { MakesOnly (bits_of U L F) (IsCut (bits_of U L F) bounds cell) self.old self.new }
         ensures above { KeepsUppers self.old self.new }
         ensures ready { OnOk result ((q : Coord) → IsTrue (is_inside part q) → IsReadyTo (bits_of U L F) bounds cell Leaf self.new q) }
         ensures memory { IfErr result (λ refusal. refusal ≡ Memory) }
@@ -230,6 +245,7 @@ impl<
         requires { upper_entry (bits_of U L F) self.old p ≡ Child lower }
         ensures keeps { Keeps (bits_of U L F) self.old self.new }
         ensures adds { AddsNodes (bits_of U L F) self.old self.new }
+        ensures made { IsTrue (is_inside bounds p) → MakesOnly (bits_of U L F) (IsCut (bits_of U L F) bounds cell) self.old self.new }
         ensures above { KeepsUppers self.old self.new }
         ensures ready { OnOk result ((q : Coord) → block_number (bits_of U L F) Leaf q ≡ block_number (bits_of U L F) Leaf p
             → IsReadyTo (bits_of U L F) bounds cell Leaf self.new q) }

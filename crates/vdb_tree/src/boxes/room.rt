@@ -6,10 +6,11 @@ ghost use Rattle.vdb_coord.specs.Entries.{blocks_meeting};
 ghost use Rattle.vdb_coord.specs.Space.{Box, is_inside};
 ghost use Rattle.vdb_coord.specs.declared.Coord.{Coord};
 ghost use Rattle.vdb_coord.specs.declared.Level.TheVariants.{Upper};
-ghost use Rattle.vdb_tree.specs.Changes.{AddsNodes, IsSwept, Keeps};
+ghost use Rattle.vdb_tree.specs.Changes.{AddsNodes, IsSwept, Keeps, SameDescent};
 ghost use Rattle.vdb_tree.specs.Erase.{AddsPlainTiles};
 ghost use Rattle.vdb_tree.specs.Field.{fill};
 ghost use Rattle.vdb_tree.specs.Layout.{bits_of, field_of, plain, root_at};
+ghost use Rattle.vdb_tree.specs.Nodes.{MakesKeysIn, MakesNoKey, MakesNoNode};
 ghost use Rattle.vdb_tree.specs.Outcome.{ObeysLimit};
 ghost use Rattle.vdb_tree.specs.Plain.{roots};
 ghost use Rattle.vdb_tree.specs.Ready.{IsReady};
@@ -45,6 +46,10 @@ impl<
         steps: &mut Steps,
     ) -> Result<(), TreeRefusal>
         ensures keeps { Keeps (bits_of U L F) self.old self.new }
+        ensures nodes { MakesNoNode (bits_of U L F) self.old self.new }
+        ensures keys { MakesKeysIn (bits_of U L F) bounds self.old self.new }
+        ensures no_keys { cell ≡ plain self.old → MakesNoKey self.old self.new }
+        ensures adds { (cell ≡ plain self.old) ⊎ HasRoomFor (bits_of U L F) self.old bounds → AddsNodes (bits_of U L F) self.old self.new }
         ensures entered { OnOk result ((p : Coord) → IsTrue (is_inside bounds p) → (cell ≡ plain self.new) ⊎ IsSome (root_at self.new.root (key (bits_of U L F) p))) }
         ensures limit { ObeysLimit V.eq (bits_of U L F) self.old.limit (fill bounds cell (field_of (bits_of U L F) self.old)) result }
         ensures plain { cell ≡ plain self.old → IsOk result }
@@ -65,6 +70,8 @@ impl<
     /// Makes sure that the table has room for each root block that meets the box, by taking plain entries away.
     fn make_room_for(&mut self, bounds: Bounds, steps: &mut Steps) -> Result<(), TreeRefusal>
         ensures adds { AddsPlainTiles (bits_of U L F) self.old self.new }
+        ensures keys { MakesNoKey self.old self.new }
+        ensures stays { HasRoomFor (bits_of U L F) self.old bounds → self.new ≡ self.old }
         ensures room { OnOk result (HasRoomFor (bits_of U L F) self.new bounds) }
         ensures within { OnOk result ((cell : Cell V) → roots V.eq (bits_of U L F) (fill bounds cell (field_of (bits_of U L F) self.old)) ≤ self.old.limit) }
         ensures full { IfErr result (λ refusal. (refusal ≡ RootLimit) × ((cell : Cell V) → cell ≢ plain self.old
@@ -126,6 +133,8 @@ impl<
         requires { HasRoomFor (bits_of U L F) self.old bounds }
         ensures keeps { Keeps (bits_of U L F) self.old self.new }
         ensures adds { AddsNodes (bits_of U L F) self.old self.new }
+        ensures same { (q : Coord) → SameDescent (bits_of U L F) self.old self.new q }
+        ensures keys { MakesKeysIn (bits_of U L F) bounds self.old self.new }
         ensures entered { OnOk result ((p : Coord) → IsTrue (is_inside bounds p) → IsSome (root_at self.new.root (key (bits_of U L F) p))) }
         ensures memory { IfErr result (λ refusal. refusal ≡ Memory) }
     {
@@ -145,6 +154,8 @@ impl<
         requires room { HasRoomFor (bits_of U L F) self.old bounds }
         ensures keeps { Keeps (bits_of U L F) self.old self.new }
         ensures adds { AddsNodes (bits_of U L F) self.old self.new }
+        ensures same { (q : Coord) → SameDescent (bits_of U L F) self.old self.new q }
+        ensures keys { MakesKeysIn (bits_of U L F) bounds self.old self.new }
         ensures room { HasRoomFor (bits_of U L F) self.new bounds }
         ensures entered { OnOk result (IsSome (root_at self.new.root (key (bits_of U L F) p))) }
         ensures memory { IfErr result (λ refusal. refusal ≡ Memory) }

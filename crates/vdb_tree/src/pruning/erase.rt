@@ -4,6 +4,7 @@ ghost use Rattle.std.specs.Prelude.{◌≡◌, IfSome, IsNone};
 ghost use Rattle.vdb_tree.specs.Changes.{IsSwept, Keeps};
 ghost use Rattle.vdb_tree.specs.Layout.{bits_of};
 ghost use Rattle.vdb_tree.specs.Erase.{AddsPlainTiles, ErasesRoot};
+ghost use Rattle.vdb_tree.specs.Nodes.{MakesNoKey};
 ghost use Rattle.vdb_tree.specs.Table.{IsNextKey};
 
 use crate::TreeOf;
@@ -26,6 +27,7 @@ impl<
     pub(crate) fn erase_plain(&mut self, steps: &mut Steps)
         ensures keeps { Keeps (bits_of U L F) self.old self.new }
         ensures adds { AddsPlainTiles (bits_of U L F) self.old self.new }
+        ensures keys { MakesNoKey self.old self.new }
         ensures swept { IsSwept (bits_of U L F) self.new }
     {
         let mut passed = None;

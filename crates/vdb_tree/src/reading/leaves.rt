@@ -6,10 +6,11 @@ ghost use Rattle.vdb_coord.specs.Space.{everywhere, is_inside};
 ghost use Rattle.vdb_coord.specs.declared.Coord.{Coord};
 ghost use Rattle.vdb_coord.specs.declared.Level.TheVariants.{Leaf as leaf_level};
 ghost use Rattle.vdb_node.specs.declared.Entry.TheVariants.{Child};
-ghost use Rattle.vdb_tree.specs.Changes.{Changes};
+ghost use Rattle.vdb_tree.specs.Changes.{Changes, SameDescent};
 ghost use Rattle.vdb_tree.specs.Field.{written};
 ghost use Rattle.vdb_tree.specs.Layout.{bits_of, cell_at, field_of, lower_entry};
 ghost use Rattle.vdb_tree.specs.Leaves.{IsLeafAround, IsVoxelWritten, SetsStates, with_states_of};
+ghost use Rattle.vdb_tree.specs.Nodes.{AreStatesSet};
 ghost use Rattle.vdb_tree.specs.Paths.{in_leaf, IsChildAt, IsWhole, TreePath};
 ghost use Rattle.vdb_tree.specs.Plain.{count as active_count};
 
@@ -59,12 +60,13 @@ impl<
     }
 
     /// Gives the voxels of the leaf around a coordinate the states of the mask, and keeps their values, by at most three
-    /// visits. It takes no memory. The answer says whether there is such a leaf; where there is none, nothing changes
-    /// (OpenVDB's `LeafNode::setValueMask`).
+    /// visits. It takes no memory, and no other node or entry changes. The answer says whether there is such a leaf; where
+    /// there is none, nothing changes (OpenVDB's `LeafNode::setValueMask`).
     pub fn set_states(&mut self, p: Coord, states: &Mask<WF>, steps: &mut Steps) -> bool
         ensures answer { result ≡ in_leaf (bits_of U L F) self.old p }
         ensures field { IsTrue result → field_of (bits_of U L F) self.new ≡ with_states_of (bits_of U L F) p states.now (field_of (bits_of U L F) self.old) }
         ensures sets { IsTrue result → SetsStates (bits_of U L F) (field_of (bits_of U L F) self.old) (field_of (bits_of U L F) self.new) p states.now }
+        ensures alone { IsTrue result → AreStatesSet (bits_of U L F) self.old self.new p states.now }
         ensures untouched { result ≡ false → self.new ≡ self.old }
         ensures limit { self.new.limit ≡ self.old.limit }
         ensures paths { (path : TreePath V) (q : Coord) → IsWhole (bits_of U L F) self.old path q → IsWhole (bits_of U L F) self.new path q }
@@ -133,6 +135,7 @@ impl<
     fn set_leaf_states(&mut self, leaf: u32, p: Coord, states: &Mask<WF>, steps: &mut Steps)
         requires { lower_entry (bits_of U L F) self.old p ≡ Child leaf }
         ensures field { field_of (bits_of U L F) self.new ≡ with_states_of (bits_of U L F) p states.now (field_of (bits_of U L F) self.old) }
+        ensures alone { AreStatesSet (bits_of U L F) self.old self.new p states.now }
         ensures limit { self.new.limit ≡ self.old.limit }
         ensures paths { (path : TreePath V) (q : Coord) → IsWhole (bits_of U L F) self.old path q → IsWhole (bits_of U L F) self.new path q }
         ensures steps { steps.new ≤ steps.old + 1 }
@@ -146,6 +149,7 @@ impl<
         requires { lower_entry (bits_of U L F) self.old p ≡ Child leaf }
         ensures changes { Changes (bits_of U L F) self.old self.new p (written change (cell_at (bits_of U L F) self.old p)) }
         ensures alone { IsVoxelWritten (bits_of U L F) self.old self.new p (written change (cell_at (bits_of U L F) self.old p)) }
+        ensures same { (q : Coord) → SameDescent (bits_of U L F) self.old self.new q }
         ensures paths { (path : TreePath V) (q : Coord) → IsWhole (bits_of U L F) self.old path q → IsWhole (bits_of U L F) self.new path q }
         ensures steps { steps.new ≤ steps.old + 1 }
     {

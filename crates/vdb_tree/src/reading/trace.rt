@@ -81,6 +81,7 @@ impl<
         ensures field { IsTrue result → field_of (bits_of U L F) self.new ≡ write p change (field_of (bits_of U L F) self.old) }
         ensures alone { IsTrue result → IsVoxelWritten (bits_of U L F) self.old self.new p (written change ((field_of (bits_of U L F) self.old).cell p)) }
         ensures untouched { result ≡ false → self.new ≡ self.old }
+        ensures limit { self.new.limit ≡ self.old.limit }
         ensures paths { (other : TreePath V) (r : Coord) → IsWhole (bits_of U L F) self.old other r → IsWhole (bits_of U L F) self.new other r }
         ensures steps { steps.new ≤ steps.old + (if result then 1 else 0) }
     {

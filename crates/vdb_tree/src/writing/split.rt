@@ -3,9 +3,11 @@
 ghost use Rattle.std.specs.Prelude.{◌≡◌, ◌≢◌, ◌+◌, ◌<◌, ◌≤◌, IfErr, IfOk, IsSome, OnOk, length};
 ghost use Rattle.vdb_coord.specs.Blocks.{key};
 ghost use Rattle.vdb_coord.specs.declared.Coord.{Coord};
+ghost use Rattle.vdb_coord.specs.declared.Level.TheVariants.{Leaf as leaf_level, Lower, Upper};
 ghost use Rattle.vdb_node.specs.declared.Entry.TheVariants.{Child, Tile};
-ghost use Rattle.vdb_tree.specs.Changes.{AddsNodes, Keeps, KeepsUppers};
+ghost use Rattle.vdb_tree.specs.Changes.{AddsNodes, Keeps, KeepsUppers, SameDescent};
 ghost use Rattle.vdb_tree.specs.Layout.{bits_of, lower_entry, root_at, root_entry, upper_entry};
+ghost use Rattle.vdb_tree.specs.Nodes.{KeepsAllBut};
 ghost use Rattle.vdb_tree.specs.declared.refusal.TreeRefusal.TheVariants.{Memory};
 
 use crate::nodes::{held_place, insert_node};
@@ -31,6 +33,7 @@ impl<
         requires room { length self.old.root < self.old.limit }
         ensures keeps { Keeps (bits_of U L F) self.old self.new }
         ensures adds { AddsNodes (bits_of U L F) self.old self.new }
+        ensures same { (q : Coord) → SameDescent (bits_of U L F) self.old self.new q }
         ensures tiled { root_entry (bits_of U L F) self.new p ≡ Tile cell }
         ensures table { (k : Coord) → k ≢ key (bits_of U L F) p → root_at self.new.root k ≡ root_at self.old.root k }
         ensures entered { OnOk result (IsSome (root_at self.new.root (key (bits_of U L F) p))) }
@@ -46,6 +49,7 @@ impl<
         requires entered { IsSome (root_at self.old.root (key (bits_of U L F) p)) }
         ensures keeps { Keeps (bits_of U L F) self.old self.new }
         ensures adds { AddsNodes (bits_of U L F) self.old self.new }
+        ensures but { KeepsAllBut (bits_of U L F) Upper self.old self.new p }
         ensures table { (k : Coord) → k ≢ key (bits_of U L F) p → root_at self.new.root k ≡ root_at self.old.root k }
         ensures ok { IfOk result (λ slot. root_entry (bits_of U L F) self.new p ≡ Child slot) }
         ensures memory { IfErr result (λ refusal. refusal ≡ Memory) }
@@ -69,6 +73,7 @@ impl<
         requires tiled { upper_entry (bits_of U L F) self.old p ≡ Tile cell }
         ensures keeps { Keeps (bits_of U L F) self.old self.new }
         ensures adds { AddsNodes (bits_of U L F) self.old self.new }
+        ensures but { KeepsAllBut (bits_of U L F) Lower self.old self.new p }
         ensures root { self.new.root ≡ self.old.root }
         ensures ok { IfOk result (λ slot. upper_entry (bits_of U L F) self.new p ≡ Child slot) }
         ensures memory { IfErr result (λ refusal. refusal ≡ Memory) }
@@ -94,6 +99,7 @@ impl<
         requires tiled { lower_entry (bits_of U L F) self.old p ≡ Tile cell }
         ensures keeps { Keeps (bits_of U L F) self.old self.new }
         ensures adds { AddsNodes (bits_of U L F) self.old self.new }
+        ensures but { KeepsAllBut (bits_of U L F) leaf_level self.old self.new p }
         ensures above { KeepsUppers self.old self.new }
         ensures ok { IfOk result (λ slot. lower_entry (bits_of U L F) self.new p ≡ Child slot) }
         ensures memory { IfErr result (λ refusal. refusal ≡ Memory) }

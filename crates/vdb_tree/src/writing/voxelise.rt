@@ -1,11 +1,12 @@
 //! Leaves in place of active tiles.
 
-ghost use Rattle.std.specs.Prelude.{◌≡◌, ◌<◌, false, Some, IfErr, IfNone, IfOk, IfSome, IsTrue, OnOk};
+ghost use Rattle.std.specs.Prelude.{◌≡◌, ◌<◌, false, true, Some, IfErr, IfNone, IfOk, IfSome, IsTrue, OnOk};
 ghost use Rattle.vdb_coord.specs.Blocks.{key};
 ghost use Rattle.vdb_coord.specs.Space.{is_inside};
 ghost use Rattle.vdb_tree.specs.Changes.{AddsNodes, Keeps};
-ghost use Rattle.vdb_tree.specs.Layout.{bits_of, field_of};
+ghost use Rattle.vdb_tree.specs.Layout.{bits_of, cell_at, field_of};
 ghost use Rattle.vdb_tree.specs.Leaves.{HasLeaves};
+ghost use Rattle.vdb_tree.specs.Nodes.{IsActiveIn, MakesNoKey, MakesOnly};
 ghost use Rattle.vdb_tree.specs.Parts.{IsEnd, end_level, left_count};
 ghost use Rattle.vdb_tree.specs.Smallest.{IsLeast};
 ghost use Rattle.vdb_tree.specs.Table.{HasRoom};
@@ -28,9 +29,9 @@ impl<
     const WF: usize,
 > TreeOf<V, U, L, F, WU, WL, WF> {
     /// Makes a leaf of each active tile over a leaf block that meets the box, so that every active voxel of the box lies in a
-    /// leaf (OpenVDB's `Tree::voxelizeActiveTiles`, within a box). No cell changes. It goes through the leaves and the tiles
-    /// that meet the box, an active tile by leaf blocks and an inactive one, of any level, or a root block without an entry,
-    /// at once.
+    /// leaf (OpenVDB's `Tree::voxelizeActiveTiles`, within a box). No cell changes, no other tile becomes a node and no node
+    /// goes. It goes through the leaves and the tiles that meet the box, an active tile by leaf blocks and an inactive one,
+    /// of any level, or a root block without an entry, at once.
     ///
     /// `Memory` says that a growth was refused. The tree is pruned then, so that it has no node over a block of one cell: the
     /// leaves that were made are given back to their pool.
@@ -38,6 +39,9 @@ impl<
         ensures field { field_of (bits_of U L F) self.new ≡ field_of (bits_of U L F) self.old }
         ensures limit { self.new.limit ≡ self.old.limit }
         ensures leaves { OnOk result (HasLeaves (bits_of U L F) self.new bounds) }
+        ensures made { OnOk result (MakesOnly (bits_of U L F) (IsActiveIn (bits_of U L F) bounds) self.old self.new) }
+        ensures adds { OnOk result (AddsNodes (bits_of U L F) self.old self.new) }
+        ensures keys { OnOk result (MakesNoKey self.old self.new) }
         ensures memory { IfErr result (λ refusal. refusal ≡ Memory) }
         ensures given_back { IfErr result (λ _. IsLeast V.eq (bits_of U L F) self.new) }
     {
@@ -55,6 +59,9 @@ impl<
         ensures field { field_of (bits_of U L F) self.new ≡ field_of (bits_of U L F) self.old }
         ensures limit { self.new.limit ≡ self.old.limit }
         ensures leaves { OnOk result (HasLeaves (bits_of U L F) self.new bounds) }
+        ensures made { MakesOnly (bits_of U L F) (IsActiveIn (bits_of U L F) bounds) self.old self.new }
+        ensures adds { AddsNodes (bits_of U L F) self.old self.new }
+        ensures keys { MakesNoKey self.old self.new }
         ensures memory { IfErr result (λ refusal. refusal ≡ Memory) }
     {
         let mut next = Some(bounds.min());
@@ -75,6 +82,8 @@ impl<
         requires inside { IsTrue (is_inside bounds p) }
         ensures keeps { Keeps (bits_of U L F) self.old self.new }
         ensures adds { AddsNodes (bits_of U L F) self.old self.new }
+        ensures made { MakesOnly (bits_of U L F) (IsActiveIn (bits_of U L F) bounds) self.old self.new }
+        ensures keys { MakesNoKey self.old self.new }
         ensures done { IfOk result (IsVoxelisedFrom (bits_of U L F) self.new bounds p) }
         ensures inside { IfOk result (λ next. IfSome next (λ q. IsTrue (is_inside bounds q))) }
         ensures nearer { IfOk result (λ next. left_count (bits_of U L F) next < left_count (bits_of U L F) (Some p)) }
@@ -93,6 +102,7 @@ impl<
         ensures done { IfSome result (IsVoxelisedFrom (bits_of U L F) self.now bounds p) }
         ensures inside { IfSome result (λ next. IfSome next (λ q. IsTrue (is_inside bounds q))) }
         ensures nearer { IfSome result (λ next. left_count (bits_of U L F) next < left_count (bits_of U L F) (Some p)) }
+        ensures active { IfNone result ((cell_at (bits_of U L F) self.now p).on ≡ true) }
         ensures room { IfNone result (HasRoom self.now (key (bits_of U L F) p)) }
     {
         let end = self.end_of(p, steps);
@@ -129,6 +139,7 @@ impl<
     fn is_idle(&self, p: Coord, end: End<V>) -> bool
         requires { IsEnd (bits_of U L F) self.now p end }
         ensures idle { IsTrue result → IsVoxelisedAround (bits_of U L F) self.now (end_level (bits_of U L F) self.now p) p }
+        ensures active { result ≡ false → (cell_at (bits_of U L F) self.now p).on ≡ true }
         ensures room { result ≡ false → HasRoom self.now (key (bits_of U L F) p) }
     {
         let _ = &self.root;
@@ -149,6 +160,8 @@ impl<
         requires room { HasRoom self.old (key (bits_of U L F) p) }
         ensures keeps { Keeps (bits_of U L F) self.old self.new }
         ensures adds { AddsNodes (bits_of U L F) self.old self.new }
+        ensures made { (cell_at (bits_of U L F) self.old p).on ≡ true → MakesOnly (bits_of U L F) (IsActiveIn (bits_of U L F) bounds) self.old self.new }
+        ensures keys { (cell_at (bits_of U L F) self.old p).on ≡ true → MakesNoKey self.old self.new }
         ensures done { IfOk result (IsVoxelisedFrom (bits_of U L F) self.new bounds p) }
         ensures inside { IfOk result (λ next. IfSome next (λ q. IsTrue (is_inside bounds q))) }
         ensures nearer { IfOk result (λ next. left_count (bits_of U L F) next < left_count (bits_of U L F) (Some p)) }

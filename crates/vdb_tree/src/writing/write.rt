@@ -3,12 +3,13 @@
 ghost use Rattle.std.specs.Prelude.{◌≡◌, ◌≢◌, ◌+◌, ◌<◌, ◌≤◌, ◌⊎◌, ◌↔◌, false, ℕ, Ok, IfOk, IfErr, IsOk, IsTrue, OnOk};
 ghost use Rattle.vdb_coord.specs.Blocks.{block_around, key};
 ghost use Rattle.vdb_coord.specs.declared.Coord.{Coord};
-ghost use Rattle.vdb_coord.specs.declared.Level.TheVariants.{Leaf};
+ghost use Rattle.vdb_coord.specs.declared.Level.TheVariants.{Leaf, Lower, Upper};
 ghost use Rattle.vdb_node.specs.declared.Entry.TheVariants.{Child, Tile};
 ghost use Rattle.vdb_tree.specs.Changes.{AddsNodes, IsSwept, Keeps};
 ghost use Rattle.vdb_tree.specs.Field.{write, written};
 ghost use Rattle.vdb_tree.specs.Holders.{IsHeldIn, nodes_to};
 ghost use Rattle.vdb_tree.specs.Layout.{bits_of, cell_at, field_of, lower_entry, root_at, root_entry, upper_entry};
+ghost use Rattle.vdb_tree.specs.Nodes.{KeepsAllBut, KeepsElsewhere};
 ghost use Rattle.vdb_tree.specs.Outcome.{IsOutcome};
 ghost use Rattle.vdb_tree.specs.Paths.{in_leaf};
 ghost use Rattle.vdb_tree.specs.Plain.{is_constant, roots};
@@ -37,7 +38,8 @@ impl<
     /// Where a full root table would need one entry more, plain entries are swept out first. `RootLimit` says that even then
     /// there are more root blocks with a cell that isn't plain than the limit, `Memory` that a growth was refused; both leave
     /// every cell as it was. Neither comes where the cell stands already or where it lies in a leaf, as it does
-    /// wherever the cells of its leaf block aren't all equal. A write visits at most 5 nodes, unless it sweeps.
+    /// wherever the cells of its leaf block aren't all equal. A write visits at most 5 nodes, and over each block that doesn't
+    /// hold the coordinate stands what stood there, unless it sweeps.
     pub fn write(
         &mut self,
         p: Coord,
@@ -47,6 +49,7 @@ impl<
         ensures outcome { IsOutcome V.eq (bits_of U L F) self.old.limit (field_of (bits_of U L F) self.old)
             (write p change (field_of (bits_of U L F) self.old)) (field_of (bits_of U L F) self.new) result }
         ensures limit { self.new.limit ≡ self.old.limit }
+        ensures elsewhere { HasRoom self.old (key (bits_of U L F) p) → KeepsElsewhere (bits_of U L F) self.old self.new p }
         ensures stands { written change ((field_of (bits_of U L F) self.old).cell p) ≡ (field_of (bits_of U L F) self.old).cell p → IsOk result }
         ensures leaf { IsTrue (in_leaf (bits_of U L F) self.old p) → IsOk result }
         ensures mixed { is_constant V.eq (field_of (bits_of U L F) self.old) (block_around (bits_of U L F) Leaf p) ≡ false → IsOk result }
@@ -84,6 +87,7 @@ impl<
             → IsOutcome V.eq (bits_of U L F) self.old.limit (field_of (bits_of U L F) self.old)
             (write p change (field_of (bits_of U L F) self.old)) (field_of (bits_of U L F) self.new) result }
         ensures limit { self.new.limit ≡ self.old.limit }
+        ensures elsewhere { HasRoom self.old (key (bits_of U L F) p) → KeepsElsewhere (bits_of U L F) self.old self.new p }
         ensures steps { HasRoom self.old (key (bits_of U L F) p) → steps.new + nodes_to holder ≤ steps.old + 5 }
     {
         match holder {
@@ -107,6 +111,7 @@ impl<
         ensures outcome { IsOutcome V.eq (bits_of U L F) self.old.limit (field_of (bits_of U L F) self.old)
             (write p change (field_of (bits_of U L F) self.old)) (field_of (bits_of U L F) self.new) result }
         ensures limit { self.new.limit ≡ self.old.limit }
+        ensures elsewhere { KeepsElsewhere (bits_of U L F) self.old self.new p }
         ensures steps { steps.new ≤ steps.old + 4 }
     {
         self.keeps_to_limit(p);
@@ -130,6 +135,7 @@ impl<
         ensures outcome { IsOutcome V.eq (bits_of U L F) self.old.limit (field_of (bits_of U L F) self.old)
             (write p change (field_of (bits_of U L F) self.old)) (field_of (bits_of U L F) self.new) result }
         ensures limit { self.new.limit ≡ self.old.limit }
+        ensures elsewhere { KeepsElsewhere (bits_of U L F) self.old self.new p }
         ensures steps { steps.new ≤ steps.old + 2 }
     {
         self.keeps_to_limit(p);
@@ -149,6 +155,7 @@ impl<
             → IsOutcome V.eq (bits_of U L F) self.old.limit (field_of (bits_of U L F) self.old)
             (write p change (field_of (bits_of U L F) self.old)) (field_of (bits_of U L F) self.new) result }
         ensures limit { self.new.limit ≡ self.old.limit }
+        ensures elsewhere { HasRoom self.old (key (bits_of U L F) p) → KeepsElsewhere (bits_of U L F) self.old self.new p }
         ensures steps { HasRoom self.old (key (bits_of U L F) p) → steps.new ≤ steps.old + 5 }
     {
         self.make_room(p, steps)?;
@@ -212,6 +219,8 @@ impl<
         requires room { HasRoom self.old (key (bits_of U L F) p) }
         ensures keeps { Keeps (bits_of U L F) self.old self.new }
         ensures adds { AddsNodes (bits_of U L F) self.old self.new }
+        ensures elsewhere { KeepsElsewhere (bits_of U L F) self.old self.new p }
+        ensures table { (k : Coord) → k ≢ key (bits_of U L F) p → root_at self.new.root k ≡ root_at self.old.root k }
         ensures ok { IfOk result (λ slot. lower_entry (bits_of U L F) self.new p ≡ Child slot) }
         ensures there { IsTrue (in_leaf (bits_of U L F) self.old p) → IsOk result }
         ensures memory { IfErr result (λ refusal. refusal ≡ Memory) }
@@ -227,6 +236,7 @@ impl<
         requires room { HasRoom self.old (key (bits_of U L F) p) }
         ensures keeps { Keeps (bits_of U L F) self.old self.new }
         ensures adds { AddsNodes (bits_of U L F) self.old self.new }
+        ensures but { KeepsAllBut (bits_of U L F) Upper self.old self.new p }
         ensures table { (k : Coord) → k ≢ key (bits_of U L F) p → root_at self.new.root k ≡ root_at self.old.root k }
         ensures ok { IfOk result (λ slot. root_entry (bits_of U L F) self.new p ≡ Child slot) }
         ensures there { (slot : ℕ) → root_entry (bits_of U L F) self.old p ≡ Child slot → (result ≡ Ok slot) × (self.new ≡ self.old) }
@@ -252,6 +262,7 @@ impl<
         requires { root_entry (bits_of U L F) self.old p ≡ Child upper }
         ensures keeps { Keeps (bits_of U L F) self.old self.new }
         ensures adds { AddsNodes (bits_of U L F) self.old self.new }
+        ensures but { KeepsAllBut (bits_of U L F) Lower self.old self.new p }
         ensures root { self.new.root ≡ self.old.root }
         ensures ok { IfOk result (λ slot. upper_entry (bits_of U L F) self.new p ≡ Child slot) }
         ensures there { (slot : ℕ) → upper_entry (bits_of U L F) self.old p ≡ Child slot → (result ≡ Ok slot) × (self.new ≡ self.old) }
@@ -269,6 +280,8 @@ impl<
         requires { upper_entry (bits_of U L F) self.old p ≡ Child lower }
         ensures keeps { Keeps (bits_of U L F) self.old self.new }
         ensures adds { AddsNodes (bits_of U L F) self.old self.new }
+        ensures but { KeepsAllBut (bits_of U L F) Leaf self.old self.new p }
+        ensures root { self.new.root ≡ self.old.root }
         ensures ok { IfOk result (λ slot. lower_entry (bits_of U L F) self.new p ≡ Child slot) }
         ensures there { (slot : ℕ) → lower_entry (bits_of U L F) self.old p ≡ Child slot → (result ≡ Ok slot) × (self.new ≡ self.old) }
         ensures memory { IfErr result (λ refusal. refusal ≡ Memory) }

@@ -1,6 +1,6 @@
 //! Boxes around active voxels.
 
-use super::{Tiny, all, at, fill, off, on};
+use super::{Leaves4, Leaves16, Tiny, all, at, fill, off, on};
 use crate::active_bounds;
 use std::process::Abort;
 use vdb_coord::Coord;
@@ -210,5 +210,9 @@ fn voxels_here_and_there(rt: HostRuntime) -> Result<(), TreeRefusal> {
     let mut near = Tree::new(rt.alloc(), 0i64, 4096);
     expect_plain(&rt, &mut near, 0, 9, &mut steps)?;
     let mut tiny = Tiny::new(rt.alloc(), 0i32, 4096);
-    expect_plain(&rt, &mut tiny, 1, 5, &mut steps)
+    expect_plain(&rt, &mut tiny, 1, 5, &mut steps)?;
+    let mut small = Leaves4::new(rt.alloc(), 0i32, 4096);
+    expect_plain(&rt, &mut small, 1, 7, &mut steps)?;
+    let mut large = Leaves16::new(rt.alloc(), 0i32, 4096);
+    expect_plain(&rt, &mut large, 1, 20, &mut steps)
 }

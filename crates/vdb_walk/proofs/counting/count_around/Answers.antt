@@ -1,6 +1,4 @@
-use Rattle.std.proofs.Common.{◌≡◌, sym, subst, ◌&&◌, ◌∙◌}
-use Rattle.vdb_coord.specs.Blocks.{block_around}
-use Rattle.vdb_coord.specs.Space.{is_inside}
+use Rattle.std.proofs.Common.{sym, ◌∙◌}
 use Rattle.vdb_coord.specs.declared.Level.TheVariants.{Upper}
 use Rattle.vdb_tree.specs.Layout.{bits_of}
 use Rattle.vdb_walk.proofs.BlockCounts.{around_covered, around_none, around_part}

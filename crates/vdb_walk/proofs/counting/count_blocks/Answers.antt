@@ -1,12 +1,10 @@
-use Rattle.std.proofs.Common.{◌≡◌, ◌+◌, arith, subst, sym, ap, ◌∙◌}
+use Rattle.std.proofs.Common.{◌≡◌, ◌+◌, arith, subst}
 use Rattle.std.specs.Prelude.{Option}
-use Rattle.vdb_coord.specs.Boxes.{is_bounds}
-use Rattle.vdb_coord.specs.Space.{is_box, is_within, everywhere}
 use Rattle.vdb_coord.specs.declared.Coord.{Coord}
 use Rattle.vdb_coord.specs.declared.Level.TheVariants.{Upper}
 use Rattle.vdb_tree.specs.Layout.{bits_of, field_of}
 use Rattle.vdb_tree.specs.Plain.{count}
-use Rattle.vdb_walk.specs.BlocksFrom.{IsBoxStart, active_from}
+use Rattle.vdb_walk.specs.BlocksFrom.{active_from}
 use Rattle.vdb_walk.proofs.BlockCounts.{first_counted, sum_all, sum_fits, sum_more}
 use Rattle.vdb_walk.proofs.counting.count_blocks.Goals as goal
 

@@ -14,16 +14,16 @@ returns-then-is_some-clause-next g c =
     let bits = bits_of g.row.U g.row.L g.row.F in
     let t = c.args.tree.now in
     let listing = subst (λ (o : Option (Held g.row.V.Denot)). IsListing bits t c.args.last c.args.walk.now o) c.in-Some.is c.requires in
-    let first = subst (λ (b : Box). IsFirst bits (IsActivePast bits c.args.last (field_of bits t)) b (option_map (λ item. item.0) c.first_in-found.result)) c.with_leaf.ensures.bounds c.first_in-found.ensures.first in
-    first_found bits (field_of bits t) c.args.walk.now.box c.args.last c.first_in-found.result (found_in_part bits t c.args.last c.args.walk.now c.in-Some.held listing c.first_in-found.result (sym c.is_some.ensures ∙ c.if-is_some.true) first) c.first_in-found.ensures.value
+    let first = c.first_held-found.ensures.first in
+    first_found bits (field_of bits t) c.args.walk.now.box c.args.last c.first_held-found.result (found_in_part bits t c.args.last c.args.walk.now c.in-Some.held listing c.first_held-found.result (sym c.is_some.ensures ∙ c.if-is_some.true) first) c.first_held-found.ensures.value
 
 pub returns-then-is_some-clause-some : goal.returns-then-is_some-clause-some
 returns-then-is_some-clause-some g c =
     let bits = bits_of g.row.U g.row.L g.row.F in
     let t = c.args.tree.now in
     let listing = subst (λ (o : Option (Held g.row.V.Denot)). IsListing bits t c.args.last c.args.walk.now o) c.in-Some.is c.requires in
-    let first = subst (λ (b : Box). IsFirst bits (IsActivePast bits c.args.last (field_of bits t)) b (option_map (λ item. item.0) c.first_in-found.result)) c.with_leaf.ensures.bounds c.first_in-found.ensures.first in
-    subst (λ (o : Option (Held g.row.V.Denot)). IfSome c.first_in-found.result (λ item. IsListing bits t (Some item.0) c.args.walk.now o)) (sym c.in-Some.is) (listing_after bits t c.args.last c.args.walk.now c.in-Some.held listing c.first_in-found.result first)
+    let first = c.first_held-found.ensures.first in
+    subst (λ (o : Option (Held g.row.V.Denot)). IfSome c.first_held-found.result (λ item. IsListing bits t (Some item.0) c.args.walk.now o)) (sym c.in-Some.is) (listing_after bits t c.args.last c.args.walk.now c.in-Some.held listing c.first_held-found.result first)
 
 pub returns-in-Some-next_found-clause-next : goal.returns-in-Some-next_found-clause-next
 returns-in-Some-next_found-clause-next g c =

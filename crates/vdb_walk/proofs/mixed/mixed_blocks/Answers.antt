@@ -1,12 +1,11 @@
-use Rattle.std.proofs.Common.{◌≡◌, ◌+◌, arith, rules, sym, subst, ap, ◌∙◌}
-use Rattle.std.specs.Prelude.{IfSome, Option, Some, None}
-use Rattle.vdb_coord.specs.Space.{Box, everywhere}
+use Rattle.std.proofs.Common.{◌≡◌, ◌+◌, rules, subst, ap, ◌∙◌}
+use Rattle.std.specs.Prelude.{Option}
+use Rattle.vdb_coord.specs.Space.{Box}
 use Rattle.vdb_coord.specs.declared.Coord.{Coord}
-use Rattle.vdb_coord.specs.declared.Bits.{Bits}
 use Rattle.vdb_tree.specs.Field.{Field}
 use Rattle.vdb_tree.specs.Layout.{bits_of, field_of}
 use Rattle.vdb_tree.specs.Plain.{mixed}
-use Rattle.vdb_walk.specs.BlocksFrom.{IsBlockStart, mixed_from}
+use Rattle.vdb_walk.specs.BlocksFrom.{mixed_from}
 use Rattle.vdb_walk.proofs.MixedBlocks.{all_counted, first_counted, sum_few, sum_on, sum_same}
 use Rattle.vdb_walk.proofs.mixed.mixed_blocks.Goals as goal
 

@@ -1,4 +1,3 @@
-use Rattle.vdb_coord.specs.Entries.{AreBits}
 use Rattle.vdb_coord.specs.Order.{IsNextPlace}
 use Rattle.vdb_coord.specs.Space.{everywhere}
 use Rattle.vdb_tree.specs.Layout.{bits_of}

@@ -1,9 +1,5 @@
-use Rattle.std.proofs.Common.{ap, rules, sym, subst, ◌∙◌, false}
-use Rattle.std.specs.Prelude.{◌≡◌, Some, None}
-use Rattle.std.specs.Ordering.{is_lt}
-use Rattle.vdb_coord.specs.Blocks.{block_cmp}
+use Rattle.std.proofs.Common.{sym, ◌∙◌}
 use Rattle.vdb_tree.specs.Layout.{bits_of}
-use Rattle.vdb_walk.specs.BlocksFrom.{IsPartStart}
 use Rattle.vdb_walk.proofs.MixedBlocks.{plain_all, plain_here, plain_there}
 use Rattle.vdb_walk.proofs.mixed.place_from.Goals as goal
 

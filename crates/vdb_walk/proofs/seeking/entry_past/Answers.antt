@@ -1,4 +1,4 @@
-use Rattle.std.proofs.Common.{◌∙◌, ap, arith, sym, ◌+◌}
+use Rattle.std.proofs.Common.{◌∙◌, ap, sym, ◌+◌}
 use Rattle.vdb_walk.proofs.LeafSeeks.{past_entry}
 use Rattle.vdb_walk.proofs.seeking.entry_past.Goals as goal
 

@@ -1,6 +1,5 @@
-use Rattle.std.proofs.Common.{◌*◌, ◌≤◌, ◌∙◌, ℕ, ap, arith, rules, subst, sym}
+use Rattle.std.proofs.Common.{◌∙◌, ℕ, ap, arith, rules, subst, sym}
 use Rattle.std.specs.Prelude.{None, Some}
-use Rattle.vdb_coord.specs.Blocks.{offset}
 use Rattle.vdb_coord.specs.declared.Level.TheVariants.{Leaf}
 use Rattle.vdb_coord.proofs.Places.{entries_is, offset_below}
 use Rattle.vdb_node.specs.Leaf.{cell_in}

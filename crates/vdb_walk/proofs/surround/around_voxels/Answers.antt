@@ -1,16 +1,14 @@
-use Rattle.std.proofs.Common.{Some, arith}
 use Rattle.vdb_walk.proofs.Surrounds.{reaches_all, reaches_next}
 use Rattle.vdb_walk.proofs.surround.around_voxels.Goals as goal
 
 pub voxels-preserved : goal.voxels-preserved
 voxels-preserved g c =
-    let within = c.in-Some.ensures.within in
     record {
       reaches =
-          reaches_next c.args.bits c.args.states.now c.args.found c.args.part c.requires.block c.voxels.from c.in-Some.entry c.in-Some.p c.single.result c.voxels.around (Some c.joined.result) c.voxels.invariant.reaches
-          c.in-Some.ensures.next c.single.ensures c.joined.ensures.least;
-      within = omega (arith, within);
-      order = c.joined.ensures.order;
+          reaches_next c.args.bits c.args.states.now c.args.found c.args.part c.requires.block c.voxels.from c.in-Some.entry c.in-Some.p c.single.result c.voxels.around c.joined-grown.result c.past_run-from.result c.voxels.invariant.reaches
+          c.in-Some.ensures.next c.single.ensures c.joined-grown.ensures.least c.past_run-from.ensures.run;
+      within = c.past_run-from.ensures.within;
+      order = c.joined-grown.ensures.order;
     }
 
 pub returns-clause-least : goal.returns-clause-least

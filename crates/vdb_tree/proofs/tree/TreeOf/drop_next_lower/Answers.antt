@@ -1,6 +1,4 @@
-use Rattle.std.proofs.Common.{◌∙◌, ◌≢◌}
-use Rattle.vdb_coord.specs.Blocks.{block_number}
-use Rattle.vdb_coord.specs.declared.Coord.{Coord}
+use Rattle.std.proofs.Common.{◌∙◌}
 use Rattle.vdb_coord.specs.declared.Level.TheVariants.{Lower, Upper}
 use Rattle.vdb_coord.proofs.Nesting.{upper_from_lower}
 use Rattle.vdb_coord.proofs.Places.{entries_is}

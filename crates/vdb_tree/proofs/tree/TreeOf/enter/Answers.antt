@@ -1,5 +1,5 @@
 use Rattle.std.proofs.Common.{ℕ, ◌+◌, ◌<◌, ◌≤◌, arith}
-use Rattle.vdb_tree.proofs.Splits.{with_entry_keeps, with_entry_adds, with_entry_sound}
+use Rattle.vdb_tree.proofs.Splits.{with_entry_keeps, with_entry_adds, with_entry_same, with_entry_sound}
 use Rattle.vdb_tree.proofs.Sweeps.{other_key}
 use Rattle.vdb_tree.proofs.tree.TreeOf.enter.Goals as goal
 
@@ -25,3 +25,8 @@ returns-clause-adds g c =
 
 pub returns-clause-table : goal.returns-clause-table
 returns-clause-table g c = rw (← c.self.view_is) (λ k d. other_key _ _ _ k _ (rw c.key-key.ensures.value at c.in_ok-put.ensures.ok) d)
+
+pub returns-clause-same : goal.returns-clause-same
+returns-clause-same g c =
+    rw (← c.self.view_is)
+    (with_entry_same _ _ c.self.invariant.1 c.args.p _ _ (rw (← c.self.view_is) at c.requires.tiled) (rw c.key-key.ensures.value at c.in_ok-put.ensures.ok))

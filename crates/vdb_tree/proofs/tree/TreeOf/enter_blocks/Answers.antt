@@ -1,5 +1,7 @@
 use Rattle.vdb_coord.proofs.Boxes.{both}
 use Rattle.vdb_tree.specs.Layout.{bits_of}
+use Rattle.vdb_tree.proofs.MadeNodes.{keys_in_twice}
+use Rattle.vdb_tree.proofs.Passes.{descent_trans}
 use Rattle.vdb_tree.proofs.RoomWalks.{EntersTo, enters_all, enters_next, enters_none}
 use Rattle.vdb_tree.proofs.Splits.{adds_twice}
 use Rattle.vdb_tree.proofs.tree.TreeOf.enter_blocks.Goals as goal
@@ -18,7 +20,7 @@ pub loop-self-preserved : goal.loop-self-preserved
 loop-self-preserved g c =
     let call = c.in_ok-enter_block.ensures in (
       enters_next (bits_of g.row.U g.row.L g.row.F) c.args.bounds c.args.self.now c.loop-self.self c.enter_block.new.self c.loop-self.p c.loop-self.invariant.0
-          call.keeps call.adds call.entered c.in-Some.next c.in-Some.ensures.next,
+          call.keeps call.adds call.same call.keys call.entered c.in-Some.next c.in-Some.ensures.next,
       call.room,
     )
 
@@ -30,4 +32,20 @@ pub returns-in-None-clause-entered : goal.returns-in-None-clause-entered
 returns-in-None-clause-entered g c =
     let call = c.in_ok-enter_block.ensures in
     enters_all (bits_of g.row.U g.row.L g.row.F) c.args.bounds c.args.self.now c.loop-self.self c.enter_block.new.self c.loop-self.p c.loop-self.invariant.0
-    call.keeps call.adds call.entered c.in-None.ensures.next
+    call.keeps call.adds call.same call.keys call.entered c.in-None.ensures.next
+
+pub returns-in_err-enter_block-clause-same : goal.returns-in_err-enter_block-clause-same
+returns-in_err-enter_block-clause-same g c = λ q.
+    descent_trans (bits_of g.row.U g.row.L g.row.F) c.args.self.now c.loop-self.self c.enter_block.new.self q (c.loop-self.invariant.0.same q) (c.in_err-enter_block.ensures.same q)
+
+pub returns-in_err-enter_block-clause-keys : goal.returns-in_err-enter_block-clause-keys
+returns-in_err-enter_block-clause-keys g c =
+    keys_in_twice (bits_of g.row.U g.row.L g.row.F) c.args.bounds c.args.self.now c.loop-self.self c.enter_block.new.self c.loop-self.invariant.0.keys c.in_err-enter_block.ensures.keys
+
+pub returns-in-None-clause-same : goal.returns-in-None-clause-same
+returns-in-None-clause-same g c = λ q.
+    descent_trans (bits_of g.row.U g.row.L g.row.F) c.args.self.now c.loop-self.self c.enter_block.new.self q (c.loop-self.invariant.0.same q) (c.in_ok-enter_block.ensures.same q)
+
+pub returns-in-None-clause-keys : goal.returns-in-None-clause-keys
+returns-in-None-clause-keys g c =
+    keys_in_twice (bits_of g.row.U g.row.L g.row.F) c.args.bounds c.args.self.now c.loop-self.self c.enter_block.new.self c.loop-self.invariant.0.keys c.in_ok-enter_block.ensures.keys

@@ -1,4 +1,4 @@
-use Rattle.std.proofs.Common.{◌≡◌, ◌≢◌, ◌≤◌, arith, inl, refl, subst, sym, ◌∙◌, Err}
+use Rattle.std.proofs.Common.{◌≡◌, ◌≢◌, ◌≤◌, arith, inl, inr, refl, subst, sym, ◌∙◌, Err}
 use Rattle.std.specs.Prelude.{IsSome}
 use Rattle.std.proofs.lemmas.Grind.{common_steps}
 use Rattle.vdb_coord.specs.Blocks.{key}
@@ -8,9 +8,11 @@ use Rattle.vdb_tree.specs.Plain.{roots}
 use Rattle.vdb_tree.specs.declared.refusal.TreeRefusal.TheVariants.{RootLimit}
 use Rattle.vdb_value.specs.declared.Cell.{Cell}
 use Rattle.vdb_tree.proofs.Blocks.{never}
-use Rattle.vdb_tree.proofs.Erasing.{adds_plain_nodes, adds_plain_twice, ready_plain}
+use Rattle.vdb_tree.proofs.Erasing.{adds_plain_none, adds_plain_twice, ready_plain}
+use Rattle.vdb_tree.specs.Changes.{AddsNodes}
+use Rattle.vdb_tree.proofs.MadeNodes.{keys_in_none, keys_in_twice, no_node_twice, same_no_node}
 use Rattle.vdb_tree.proofs.Rooms.{obeys_full, obeys_within, or_entered}
-use Rattle.vdb_tree.proofs.Splits.{keeps_twice}
+use Rattle.vdb_tree.proofs.Splits.{adds_itself, keeps_twice}
 use Rattle.vdb_tree.proofs.Uniform.{cell_exact, cell_same, exact_by}
 use Rattle.vdb_tree.proofs.tree.TreeOf.enter_box.Goals as goal
 
@@ -79,4 +81,52 @@ returns-clause-ready g c =
     let bits = bits_of g.row.U g.row.L g.row.F in
     ready_plain bits c.args.self.now c.enter_blocks.new.self
     (adds_plain_twice bits c.args.self.now c.make_room_for.new.self c.enter_blocks.new.self c.in_ok-make_room_for.ensures.adds
-    (adds_plain_nodes bits c.make_room_for.new.self c.enter_blocks.new.self c.enter_blocks.ensures.keeps c.enter_blocks.ensures.adds))
+    (adds_plain_none bits c.make_room_for.new.self c.enter_blocks.new.self c.enter_blocks.ensures.keeps c.enter_blocks.ensures.same))
+
+pub returns-then-eq-clause-adds : goal.returns-then-eq-clause-adds
+returns-then-eq-clause-adds g c = λ _. adds_itself (bits_of g.row.U g.row.L g.row.F) c.args.self.now
+
+pub returns-in_err-make_room_for-clause-nodes : goal.returns-in_err-make_room_for-clause-nodes
+returns-in_err-make_room_for-clause-nodes g c = c.in_err-make_room_for.ensures.adds.nodes
+
+pub returns-in_err-make_room_for-clause-keys : goal.returns-in_err-make_room_for-clause-keys
+returns-in_err-make_room_for-clause-keys g c = keys_in_none (bits_of g.row.U g.row.L g.row.F) c.args.bounds c.args.self.now c.make_room_for.new.self c.in_err-make_room_for.ensures.keys
+
+pub returns-in_err-make_room_for-clause-no_keys : goal.returns-in_err-make_room_for-clause-no_keys
+returns-in_err-make_room_for-clause-no_keys g c = λ same. c.in_err-make_room_for.ensures.keys
+
+pub returns-in_err-make_room_for-clause-adds : goal.returns-in_err-make_room_for-clause-adds
+returns-in_err-make_room_for-clause-adds g c =
+    let bits = bits_of g.row.U g.row.L g.row.F in
+    let exact = exact_by g.V.PartialEq.eq g.V.Ord.cmp g.met.V.Ord.matches_eq g.met.V.Voxel.exact in
+    λ h. elim h [
+      | inl same ↦ absurd (never c.if-eq.false (c.eq.ensures ∙ cell_same g.V.PartialEq.eq exact g.met.V.Eq.laws.refl c.args.cell _ (subst (λ (s : Layout g.row.V.Denot). c.args.cell ≡ plain s) (sym c.self.view_is) same)))
+      | inr room ↦ subst (λ (t : Layout g.row.V.Denot). AddsNodes bits c.args.self.now t) (sym (c.in_err-make_room_for.ensures.stays room)) (adds_itself bits c.args.self.now)
+    ]
+
+pub returns-clause-nodes : goal.returns-clause-nodes
+returns-clause-nodes g c =
+    let bits = bits_of g.row.U g.row.L g.row.F in
+    no_node_twice bits c.args.self.now c.make_room_for.new.self c.enter_blocks.new.self c.in_ok-make_room_for.ensures.adds.nodes
+    (same_no_node bits c.make_room_for.new.self c.enter_blocks.new.self c.enter_blocks.ensures.same)
+
+pub returns-clause-keys : goal.returns-clause-keys
+returns-clause-keys g c =
+    let bits = bits_of g.row.U g.row.L g.row.F in
+    keys_in_twice bits c.args.bounds c.args.self.now c.make_room_for.new.self c.enter_blocks.new.self
+    (keys_in_none bits c.args.bounds c.args.self.now c.make_room_for.new.self c.in_ok-make_room_for.ensures.keys) c.enter_blocks.ensures.keys
+
+pub returns-clause-no_keys : goal.returns-clause-no_keys
+returns-clause-no_keys g c =
+    let exact = exact_by g.V.PartialEq.eq g.V.Ord.cmp g.met.V.Ord.matches_eq g.met.V.Voxel.exact in
+    λ same.
+    absurd (never c.if-eq.false (c.eq.ensures ∙ cell_same g.V.PartialEq.eq exact g.met.V.Eq.laws.refl c.args.cell _ (subst (λ (s : Layout g.row.V.Denot). c.args.cell ≡ plain s) (sym c.self.view_is) same)))
+
+pub returns-clause-adds : goal.returns-clause-adds
+returns-clause-adds g c =
+    let bits = bits_of g.row.U g.row.L g.row.F in
+    let exact = exact_by g.V.PartialEq.eq g.V.Ord.cmp g.met.V.Ord.matches_eq g.met.V.Voxel.exact in
+    λ h. elim h [
+      | inl same ↦ absurd (never c.if-eq.false (c.eq.ensures ∙ cell_same g.V.PartialEq.eq exact g.met.V.Eq.laws.refl c.args.cell _ (subst (λ (s : Layout g.row.V.Denot). c.args.cell ≡ plain s) (sym c.self.view_is) same)))
+      | inr room ↦ subst (λ (t : Layout g.row.V.Denot). AddsNodes bits t c.enter_blocks.new.self) (c.in_ok-make_room_for.ensures.stays room) c.enter_blocks.ensures.adds
+    ]

@@ -3,6 +3,7 @@ use Rattle.vdb_coord.specs.declared.Coord.{Coord}
 use Rattle.vdb_tree.specs.Changes.{IsNoPlainRoot, Keeps}
 use Rattle.vdb_tree.specs.Layout.{Layout, bits_of}
 use Rattle.vdb_tree.specs.Erase.{AddsPlainTiles}
+use Rattle.vdb_tree.specs.Nodes.{MakesNoKey}
 use Rattle.vdb_tree.proofs.Erasing.{erased_end, erased_next, erased_none, next_of_old}
 use Rattle.vdb_tree.proofs.KeysPast.{fewer_past}
 use Rattle.vdb_tree.proofs.tree.TreeOf.erase_plain.Goals as goal
@@ -32,3 +33,7 @@ returns-clause-swept g c =
 pub returns-clause-keeps : goal.returns-clause-keeps
 returns-clause-keeps g c =
     subst (λ (t : Layout g.row.V.Denot). Keeps (bits_of g.row.U g.row.L g.row.F) c.args.self.now t) (sym (c.in_default.ensures.none refl)) c.loop-key.invariant.adds.keeps
+
+pub returns-clause-keys : goal.returns-clause-keys
+returns-clause-keys g c =
+    subst (λ (t : Layout g.row.V.Denot). MakesNoKey c.args.self.now t) (sym (c.in_default.ensures.none refl)) c.loop-key.invariant.keys

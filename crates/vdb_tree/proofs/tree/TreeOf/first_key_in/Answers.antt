@@ -1,10 +1,7 @@
-use Rattle.std.proofs.Common.{◌≡◌, ◌∙◌, ap, sym, subst, true, false}
-use Rattle.std.specs.Prelude.{Option, Some, None, IsSome, is_some}
+use Rattle.std.proofs.Common.{◌≡◌, ◌∙◌, ap, sym, true, false}
+use Rattle.std.specs.Prelude.{None, IsSome, is_some}
 use Rattle.vdb_coord.specs.Blocks.{key}
-use Rattle.vdb_coord.specs.declared.Coord.{Coord}
 use Rattle.vdb_tree.specs.Layout.{bits_of, root_at}
-use Rattle.vdb_tree.specs.Room.{IsNextMet}
-use Rattle.vdb_tree.specs.Table.{IsNextKey}
 use Rattle.vdb_tree.proofs.KeysMet.{met_first, met_past_first, none_not}
 use Rattle.vdb_tree.proofs.tree.TreeOf.first_key_in.Goals as goal
 

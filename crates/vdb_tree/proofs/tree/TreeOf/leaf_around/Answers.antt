@@ -1,5 +1,7 @@
-use Rattle.std.proofs.Common.{refl}
-use Rattle.vdb_tree.specs.Layout.{bits_of, lower_entry}
+use Rattle.std.proofs.Common.{◌∙◌, refl}
+use Rattle.vdb_coord.specs.declared.Level.TheVariants.{Leaf, Lower, Upper}
+use Rattle.vdb_tree.specs.Layout.{bits_of, lower_entry, root_at}
+use Rattle.vdb_tree.proofs.MadeNodes.{but_elsewhere, elsewhere_twice}
 use Rattle.vdb_tree.proofs.Needed.{child_of}
 use Rattle.vdb_tree.proofs.Splits.{adds_leaves, adds_twice, keeps_twice}
 use Rattle.vdb_tree.proofs.tree.TreeOf.leaf_around.Goals as goal
@@ -30,3 +32,30 @@ returns-clause-there g c = λ leaf.
     let child = child_of (lower_entry bits mid c.args.p) still in
     let is = (c.leaf_in.ensures.there child.0 child.1).0 in
     rw is refl
+
+pub returns-in_err-upper-clause-elsewhere : goal.returns-in_err-upper-clause-elsewhere
+returns-in_err-upper-clause-elsewhere g c =
+    but_elsewhere (bits_of g.row.U g.row.L g.row.F) Upper c.args.self.now c.upper_around.new.self c.args.p c.in_err-upper.ensures.but
+
+pub returns-in_err-lower-clause-elsewhere : goal.returns-in_err-lower-clause-elsewhere
+returns-in_err-lower-clause-elsewhere g c =
+    let bits = bits_of g.row.U g.row.L g.row.F in
+    let at = c.upper_around.new.self in
+    elsewhere_twice bits c.args.self.now at c.lower_in.new.self c.args.p
+    (but_elsewhere bits Upper c.args.self.now at c.args.p c.in_ok-upper.ensures.but) (but_elsewhere bits Lower at c.lower_in.new.self c.args.p c.in_err-lower.ensures.but)
+
+pub returns-clause-elsewhere : goal.returns-clause-elsewhere
+returns-clause-elsewhere g c =
+    let bits = bits_of g.row.U g.row.L g.row.F in
+    let at = c.upper_around.new.self in
+    let mid = c.lower_in.new.self in
+    elsewhere_twice bits c.args.self.now mid c.leaf_in.new.self c.args.p
+    (elsewhere_twice bits c.args.self.now at mid c.args.p
+    (but_elsewhere bits Upper c.args.self.now at c.args.p c.in_ok-upper.ensures.but) (but_elsewhere bits Lower at mid c.args.p c.in_ok-lower.ensures.but))
+    (but_elsewhere bits Leaf mid c.leaf_in.new.self c.args.p c.leaf_in.ensures.but)
+
+pub returns-in_err-lower-clause-table : goal.returns-in_err-lower-clause-table
+returns-in_err-lower-clause-table g c = λ k d. (λ i. root_at (c.in_err-lower.ensures.root i) k) ∙ c.in_ok-upper.ensures.table k d
+
+pub returns-clause-table : goal.returns-clause-table
+returns-clause-table g c = λ k d. (λ i. root_at (c.leaf_in.ensures.root i) k) ∙ (λ i. root_at (c.in_ok-lower.ensures.root i) k) ∙ c.in_ok-upper.ensures.table k d

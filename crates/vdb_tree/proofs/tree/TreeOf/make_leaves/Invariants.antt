@@ -1,7 +1,8 @@
 use Rattle.std.specs.Prelude.{IfSome, IsTrue}
 use Rattle.vdb_coord.specs.Space.{is_inside}
-use Rattle.vdb_tree.specs.Changes.{Keeps}
+use Rattle.vdb_tree.specs.Changes.{AddsNodes, Keeps}
 use Rattle.vdb_tree.specs.Layout.{bits_of}
+use Rattle.vdb_tree.specs.Nodes.{IsActiveIn, MakesNoKey, MakesOnly}
 use Rattle.vdb_tree.specs.Parts.{left_count}
 use Rattle.vdb_tree.specs.Voxelised.{IsVoxelisedTo}
 use Rattle.vdb_tree.proofs.tree.TreeOf.make_leaves.Given as goal
@@ -11,6 +12,9 @@ invariant-loop-next g l =
     let bits = bits_of g.row.U g.row.L g.row.F in
     record {
       keeps : Keeps bits l.fn.self l.self;
+      made : MakesOnly bits (IsActiveIn bits l.fn.bounds) l.fn.self l.self;
+      adds : AddsNodes bits l.fn.self l.self;
+      keys : MakesNoKey l.fn.self l.self;
       inside : IfSome l.next (λ p. IsTrue (is_inside l.fn.bounds p));
       done : IsVoxelisedTo bits l.self l.fn.bounds l.next;
     }

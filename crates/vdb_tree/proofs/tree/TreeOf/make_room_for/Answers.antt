@@ -6,6 +6,7 @@ use Rattle.vdb_tree.specs.Layout.{bits_of, field_of}
 use Rattle.vdb_tree.specs.Plain.{roots}
 use Rattle.vdb_tree.proofs.Equations.{keeps_field}
 use Rattle.vdb_tree.proofs.Erasing.{plain_stays}
+use Rattle.vdb_tree.proofs.Rooms.{room_or_lack}
 use Rattle.vdb_tree.proofs.tree.TreeOf.make_room_for.Goals as goal
 
 pub returns-then-blocks_meeting_in-from-clause-full : goal.returns-then-blocks_meeting_in-from-clause-full
@@ -38,3 +39,12 @@ returns-clause-full g c =
           subst (λ (f : Field g.row.V.Denot). c.args.self.now.limit < roots g.V.PartialEq.eq bits (fill c.args.bounds cell f)) same
           (subst (λ n. n < roots g.V.PartialEq.eq bits (fill c.args.bounds cell swept)) c.erase_plain.ensures.keeps.head.limit h),
     )
+
+pub returns-then-blocks_meeting_in-from-clause-stays : goal.returns-then-blocks_meeting_in-from-clause-stays
+returns-then-blocks_meeting_in-from-clause-stays g c = λ room. refl
+
+pub returns-then-has_room_for-2-clause-stays : goal.returns-then-has_room_for-2-clause-stays
+returns-then-has_room_for-2-clause-stays g c = λ room. absurd (room_or_lack (bits_of g.row.U g.row.L g.row.F) c.args.self.now c.args.bounds room (c.has_room_for.ensures.full c.if-has_room_for.false))
+
+pub returns-clause-stays : goal.returns-clause-stays
+returns-clause-stays g c = λ room. absurd (room_or_lack (bits_of g.row.U g.row.L g.row.F) c.args.self.now c.args.bounds room (c.has_room_for.ensures.full c.if-has_room_for.false))

@@ -1,6 +1,3 @@
-use Rattle.std.proofs.Common.{subst, sym}
-use Rattle.vdb_coord.specs.Order.{IsNextPlace}
-use Rattle.vdb_coord.specs.declared.Level.{Level}
 use Rattle.vdb_tree.specs.Layout.{bits_of}
 use Rattle.vdb_tree.specs.Parts.{end_level}
 use Rattle.vdb_tree.proofs.Voxels.{fewer_left, past_done, place_inside}

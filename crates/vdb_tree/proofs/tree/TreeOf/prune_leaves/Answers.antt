@@ -1,4 +1,4 @@
-use Rattle.std.proofs.Common.{◌≤◌, ◌∙◌, ℕ, arith, refl}
+use Rattle.std.proofs.Common.{◌≤◌, ◌∙◌, ℕ, arith}
 use Rattle.vdb_coord.specs.declared.Level.TheVariants.{Leaf, Lower}
 use Rattle.vdb_tree.specs.Layout.{bits_of}
 use Rattle.vdb_tree.proofs.Passes.{passes_join, passes_none, root_entry_same, upper_entry_same, uppers_same, uppers_trans}

@@ -1,7 +1,7 @@
 use Rattle.std.proofs.Common.{◌*◌, ◌+◌, ◌∙◌, ap, arith, sym}
 use Rattle.vdb_node.specs.declared.Entry.TheVariants.{Child}
 use Rattle.vdb_node.proofs.Sizes.{up_le}
-use Rattle.vdb_tree.proofs.LeafWrites.{leaf_sound, states_field, whole_after}
+use Rattle.vdb_tree.proofs.LeafWrites.{leaf_sound, states_alone, states_field, whole_after}
 use Rattle.vdb_tree.proofs.Sizes.{leaf_small}
 use Rattle.vdb_tree.proofs.tree.TreeOf.set_leaf_states.Goals as goal
 
@@ -23,3 +23,10 @@ returns-clause-field g c =
 
 pub returns-clause-paths : goal.returns-clause-paths
 returns-clause-paths g c = rw (← c.self.view_is) (λ path q h. whole_after _ _ _ _ _ c.at_mut.ensures.node path q h)
+
+pub returns-clause-alone : goal.returns-clause-alone
+returns-clause-alone g c =
+    rw (← c.self.view_is)
+    (states_alone _ _ _ _ _ c.at_mut.ensures.node c.args.p
+    ((rw (← c.self.view_is) at c.requires) ∙ ap Child (sym c.held_place-place.ensures.slot))
+    _ c.set_states.ensures.values c.set_states.ensures.states)

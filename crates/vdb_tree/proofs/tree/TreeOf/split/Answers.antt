@@ -1,7 +1,10 @@
 use Rattle.std.proofs.Common.{◌∙◌}
 use Rattle.vdb_tree.specs.Layout.{bits_of, plain}
 use Rattle.vdb_tree.proofs.Equations.{keeps_field}
-use Rattle.vdb_tree.proofs.Readiness.{box_stays}
+use Rattle.vdb_tree.specs.Nodes.{IsCut}
+use Rattle.vdb_tree.proofs.MadeNodes.{keys_in_none, keys_in_twice, keys_twice, makes_twice, no_node_makes}
+use Rattle.vdb_tree.proofs.Splits.{adds_twice}
+use Rattle.vdb_tree.proofs.Readiness.{box_stays, on_ok, ready_all}
 use Rattle.vdb_tree.proofs.Rooms.{obeys_within}
 use Rattle.vdb_tree.proofs.tree.TreeOf.split.Goals as goal
 
@@ -33,3 +36,31 @@ pub returns-clause-ready : goal.returns-clause-ready
 returns-clause-ready g c = λ box was.
     box_stays (bits_of g.row.U g.row.L g.row.F) box (plain c.args.self.now) c.enter_box.new.self c.split_root_blocks.new.self c.split_root_blocks.ensures.keeps c.split_root_blocks.ensures.adds
     (c.in_ok-enter_box.ensures.ready box was)
+
+pub returns-in_err-enter_box-clause-made : goal.returns-in_err-enter_box-clause-made
+returns-in_err-enter_box-clause-made g c =
+    let bits = bits_of g.row.U g.row.L g.row.F in
+    no_node_makes bits (IsCut bits c.args.bounds c.args.cell) c.args.self.now c.enter_box.new.self c.in_err-enter_box.ensures.nodes
+
+pub returns-clause-made : goal.returns-clause-made
+returns-clause-made g c =
+    let bits = bits_of g.row.U g.row.L g.row.F in
+    makes_twice bits (IsCut bits c.args.bounds c.args.cell) c.args.self.now c.enter_box.new.self c.split_root_blocks.new.self c.in_ok-enter_box.ensures.keeps
+    (no_node_makes bits (IsCut bits c.args.bounds c.args.cell) c.args.self.now c.enter_box.new.self c.in_ok-enter_box.ensures.nodes) c.split_root_blocks.ensures.made
+
+pub returns-clause-keys : goal.returns-clause-keys
+returns-clause-keys g c =
+    let bits = bits_of g.row.U g.row.L g.row.F in
+    keys_in_twice bits c.args.bounds c.args.self.now c.enter_box.new.self c.split_root_blocks.new.self c.in_ok-enter_box.ensures.keys
+    (keys_in_none bits c.args.bounds c.enter_box.new.self c.split_root_blocks.new.self c.split_root_blocks.ensures.keys)
+
+pub returns-clause-no_keys : goal.returns-clause-no_keys
+returns-clause-no_keys g c = λ same. keys_twice c.args.self.now c.enter_box.new.self c.split_root_blocks.new.self (c.in_ok-enter_box.ensures.no_keys same) c.split_root_blocks.ensures.keys
+
+pub returns-clause-adds : goal.returns-clause-adds
+returns-clause-adds g c = λ h. adds_twice (bits_of g.row.U g.row.L g.row.F) c.args.self.now c.enter_box.new.self c.split_root_blocks.new.self (c.in_ok-enter_box.ensures.adds h) c.split_root_blocks.ensures.adds
+
+pub returns-clause-done : goal.returns-clause-done
+returns-clause-done g c =
+    on_ok c.split_root_blocks.result c.split_root_blocks.ensures.ready (λ ready.
+    ready_all (bits_of g.row.U g.row.L g.row.F) c.args.bounds c.args.cell c.enter_box.new.self c.split_root_blocks.new.self c.split_root_blocks.ensures.keeps c.split_root_blocks.ensures.adds c.in_ok-enter_box.ensures.entered ready)

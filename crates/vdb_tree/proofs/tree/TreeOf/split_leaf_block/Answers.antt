@@ -1,10 +1,12 @@
-use Rattle.std.proofs.Common.{◌∙◌, ap, sym}
+use Rattle.std.proofs.Common.{◌≢◌, ◌∙◌, ap, sym}
 use Rattle.vdb_coord.specs.declared.Level.TheVariants.{Leaf}
 use Rattle.vdb_node.specs.declared.Entry.TheVariants.{Tile}
 use Rattle.vdb_tree.specs.Layout.{bits_of}
 use Rattle.vdb_tree.proofs.Descents.{lower_by_block}
+use Rattle.vdb_tree.proofs.Blocks.{never}
+use Rattle.vdb_tree.proofs.MadeNodes.{cut_made}
 use Rattle.vdb_tree.proofs.Readiness.{ready_child, ready_tiled}
-use Rattle.vdb_tree.proofs.Uniform.{cell_exact, exact_by}
+use Rattle.vdb_tree.proofs.Uniform.{cell_exact, cell_same, exact_by}
 use Rattle.vdb_tree.proofs.tree.TreeOf.split_leaf_block.Goals as goal
 
 pub returns-then-eq-clause-ready : goal.returns-then-eq-clause-ready
@@ -23,3 +25,17 @@ pub returns-in_ok-split_lower-in-Tile-clause-ready : goal.returns-in_ok-split_lo
 returns-in_ok-split_lower-in-Tile-clause-ready g c = λ q same.
     let bits = bits_of g.row.U g.row.L g.row.F in
     ready_child bits c.args.bounds c.args.cell Leaf c.split_lower.new.self q _ (lower_by_block bits c.split_lower.new.self q c.args.p same ∙ c.in_ok-split_lower-in-Tile.ensures.ok)
+
+pub returns-in_err-split_lower-in-Tile-clause-made : goal.returns-in_err-split_lower-in-Tile-clause-made
+returns-in_err-split_lower-in-Tile-clause-made g c = λ inside.
+    let exact = exact_by g.V.PartialEq.eq g.V.Ord.cmp g.met.V.Ord.matches_eq g.met.V.Voxel.exact in
+    let other : c.in-Tile.tile ≢ c.args.cell = λ is. never c.if-eq.false (c.eq.ensures ∙ cell_same g.V.PartialEq.eq exact g.met.V.Eq.laws.refl c.in-Tile.tile c.args.cell is) in
+    cut_made (bits_of g.row.U g.row.L g.row.F) c.args.bounds c.args.cell Leaf c.args.self.now c.split_lower.new.self c.args.p c.in-Tile.tile inside (λ covered. never c.if-is_covered.false (c.is_covered.ensures.1 covered))
+    (c.lower_entry.ensures.value ∙ c.in-Tile.is) other c.in_err-split_lower-in-Tile.ensures.but
+
+pub returns-in_ok-split_lower-in-Tile-clause-made : goal.returns-in_ok-split_lower-in-Tile-clause-made
+returns-in_ok-split_lower-in-Tile-clause-made g c = λ inside.
+    let exact = exact_by g.V.PartialEq.eq g.V.Ord.cmp g.met.V.Ord.matches_eq g.met.V.Voxel.exact in
+    let other : c.in-Tile.tile ≢ c.args.cell = λ is. never c.if-eq.false (c.eq.ensures ∙ cell_same g.V.PartialEq.eq exact g.met.V.Eq.laws.refl c.in-Tile.tile c.args.cell is) in
+    cut_made (bits_of g.row.U g.row.L g.row.F) c.args.bounds c.args.cell Leaf c.args.self.now c.split_lower.new.self c.args.p c.in-Tile.tile inside (λ covered. never c.if-is_covered.false (c.is_covered.ensures.1 covered))
+    (c.lower_entry.ensures.value ∙ c.in-Tile.is) other c.in_ok-split_lower-in-Tile.ensures.but

@@ -1,7 +1,8 @@
 use Rattle.std.proofs.Common.{refl, sym, ap, ◌∙◌}
+use Rattle.vdb_coord.specs.declared.Level.TheVariants.{Leaf}
 use Rattle.vdb_node.specs.declared.Entry.TheVariants.{Child}
 use Rattle.vdb_tree.proofs.Pools.{node_puts}
-use Rattle.vdb_tree.proofs.Splits.{room_keeps, room_adds, room_sound, with_leaf_at, with_leaf_keeps, with_leaf_adds, with_leaf_sound}
+use Rattle.vdb_tree.proofs.Splits.{room_adds, room_but, room_keeps, room_sound, with_leaf_at, with_leaf_but, with_leaf_keeps, with_leaf_adds, with_leaf_sound}
 use Rattle.vdb_tree.proofs.tree.TreeOf.split_lower.Goals as goal
 
 pub invariant_of-self : goal.invariant_of-self
@@ -47,6 +48,18 @@ pub returns-clause-adds : goal.returns-clause-adds
 returns-clause-adds g c =
     rw (← c.self.view_is)
     (with_leaf_adds _ _ c.self.invariant.1 c.args.p _ _ _ _ _ _ _ _
+    ((rw (← c.self.view_is) at c.requires.node) ∙ ap Child (sym c.held_place-place.ensures.slot)) (rw (← c.self.view_is) at c.requires.tiled)
+    c.at_mut.ensures.node (rw c.offset-offset.ensures.value at c.set_child.ensures) (node_puts _ _ _ _ c.at_mut.ensures.node)
+    c.in_ok-slot.ensures.vacant c.in_ok-node.ensures.cells (record { here = c.in_ok-slot.ensures.node; others = c.in_ok-slot.ensures.others }))
+
+pub returns-in_err-slot-clause-but : goal.returns-in_err-slot-clause-but
+returns-in_err-slot-clause-but g c =
+    rw (← c.self.view_is) (room_but _ _ _ refl refl refl refl c.in_err-slot.ensures.err refl Leaf c.args.p)
+
+pub returns-clause-but : goal.returns-clause-but
+returns-clause-but g c =
+    rw (← c.self.view_is)
+    (with_leaf_but _ _ c.self.invariant.1 c.args.p _ _ _ _ _ _ _ _
     ((rw (← c.self.view_is) at c.requires.node) ∙ ap Child (sym c.held_place-place.ensures.slot)) (rw (← c.self.view_is) at c.requires.tiled)
     c.at_mut.ensures.node (rw c.offset-offset.ensures.value at c.set_child.ensures) (node_puts _ _ _ _ c.at_mut.ensures.node)
     c.in_ok-slot.ensures.vacant c.in_ok-node.ensures.cells (record { here = c.in_ok-slot.ensures.node; others = c.in_ok-slot.ensures.others }))

@@ -1,9 +1,10 @@
 use Rattle.std.proofs.Common.{refl}
 use Rattle.std.specs.Prelude.{Some}
 use Rattle.vdb_coord.specs.Blocks.{key}
+use Rattle.vdb_coord.specs.declared.Level.TheVariants.{Upper}
 use Rattle.vdb_node.specs.declared.Entry.TheVariants.{Child}
 use Rattle.vdb_tree.specs.Layout.{bits_of}
-use Rattle.vdb_tree.proofs.Splits.{room_keeps, room_adds, room_sound, with_upper_at, with_upper_keeps, with_upper_adds, with_upper_sound}
+use Rattle.vdb_tree.proofs.Splits.{room_adds, room_but, room_keeps, room_sound, with_upper_at, with_upper_but, with_upper_keeps, with_upper_adds, with_upper_sound}
 use Rattle.vdb_tree.proofs.Sweeps.{other_key}
 use Rattle.vdb_tree.proofs.tree.TreeOf.split_root.Goals as goal
 
@@ -51,3 +52,14 @@ returns-clause-adds g c =
 pub returns-clause-table : goal.returns-clause-table
 returns-clause-table g c =
     rw (← c.self.view_is) (λ k d. other_key c.self.inside.root c.set.new.self (key (bits_of g.row.U g.row.L g.row.F) c.args.p) k (Some (Child c.in_ok-slot.slot)) (rw c.key-key.ensures.value at c.set.ensures.updates) d)
+
+pub returns-in_err-slot-clause-but : goal.returns-in_err-slot-clause-but
+returns-in_err-slot-clause-but g c =
+    rw (← c.self.view_is) (room_but _ _ _ refl refl c.in_err-slot.ensures.err refl refl refl Upper c.args.p)
+
+pub returns-clause-but : goal.returns-clause-but
+returns-clause-but g c =
+    rw (← c.self.view_is)
+    (with_upper_but _ _ c.self.invariant.1 c.args.p _ _ _ _ _
+    (rw (← c.self.view_is) at c.requires.tiled) (rw c.key-key.ensures.value at c.set.ensures.updates)
+    c.in_ok-slot.ensures.vacant c.in_ok-node.ensures (record { here = c.in_ok-slot.ensures.node; others = c.in_ok-slot.ensures.others }))

@@ -8,6 +8,8 @@ use Rattle.vdb_tree.specs.Layout.{bits_of, root_at}
 use Rattle.vdb_tree.specs.Ready.{IsReadyTo}
 use Rattle.vdb_tree.specs.Room.{IsNextMet}
 use Rattle.vdb_tree.proofs.KeysPast.{fewer_beyond}
+use Rattle.vdb_tree.specs.Nodes.{IsCut}
+use Rattle.vdb_tree.proofs.MadeNodes.{keys_twice, makes_twice}
 use Rattle.vdb_tree.proofs.Readiness.{next_at_first, roots_end, roots_next, roots_none}
 use Rattle.vdb_tree.proofs.Splits.{adds_twice}
 use Rattle.vdb_tree.proofs.tree.TreeOf.split_root_blocks.Goals as goal
@@ -38,7 +40,7 @@ loop-key-preserved g c =
     let next = subst (λ (o : Option Coord). IsNextMet bits c.args.bounds t.root c.loop-key.passed o) c.in-Some.is c.in_ok-key.ensures.next in
     let table = subst (λ (o : Option Coord). (j : Coord) → o ≢ Some j → root_at n.root j ≡ root_at t.root j) c.in-Some.is c.in_ok-key.ensures.table in
     let ready = subst (λ (o : Option Coord). IfSome o (λ l. (q : Coord) → IsTrue (is_inside c.args.bounds q) → key bits q ≡ l → IsReadyTo bits c.args.bounds c.args.cell Upper n q)) c.in-Some.is c.in_ok-key.ensures.ready in
-    roots_next bits c.args.bounds c.args.cell c.args.self.now t n c.loop-key.passed c.loop-key.invariant c.in_ok-key.ensures.keeps c.in_ok-key.ensures.adds k next
+    roots_next bits c.args.bounds c.args.cell c.args.self.now t n c.loop-key.passed c.loop-key.invariant c.in_ok-key.ensures.keeps c.in_ok-key.ensures.adds k c.in_ok-key.ensures.made c.in_ok-key.ensures.keys next
     (λ j d. table j (λ e. d (some_same j k e))) ready
 
 pub returns-in-None-clause-adds : goal.returns-in-None-clause-adds
@@ -56,3 +58,19 @@ returns-in-None-clause-ready g c =
     let next = subst (λ (o : Option Coord). IsNextMet bits c.args.bounds t.root c.loop-key.passed o) c.in-None.is c.in_ok-key.ensures.next in
     let table = subst (λ (o : Option Coord). (j : Coord) → o ≢ Some j → root_at n.root j ≡ root_at t.root j) c.in-None.is c.in_ok-key.ensures.table in
     roots_end bits c.args.bounds c.args.cell c.args.self.now t n c.loop-key.passed c.loop-key.invariant c.in_ok-key.ensures.keeps c.in_ok-key.ensures.adds next (λ k. table k (none_some k))
+
+pub returns-in_err-key-clause-made : goal.returns-in_err-key-clause-made
+returns-in_err-key-clause-made g c =
+    let bits = bits_of g.row.U g.row.L g.row.F in
+    makes_twice bits (IsCut bits c.args.bounds c.args.cell) c.args.self.now c.loop-key.self c.split_next_root.new.self c.loop-key.invariant.keeps c.loop-key.invariant.made c.in_err-key.ensures.made
+
+pub returns-in_err-key-clause-keys : goal.returns-in_err-key-clause-keys
+returns-in_err-key-clause-keys g c = keys_twice c.args.self.now c.loop-key.self c.split_next_root.new.self c.loop-key.invariant.keys c.in_err-key.ensures.keys
+
+pub returns-in-None-clause-made : goal.returns-in-None-clause-made
+returns-in-None-clause-made g c =
+    let bits = bits_of g.row.U g.row.L g.row.F in
+    makes_twice bits (IsCut bits c.args.bounds c.args.cell) c.args.self.now c.loop-key.self c.split_next_root.new.self c.loop-key.invariant.keeps c.loop-key.invariant.made c.in_ok-key.ensures.made
+
+pub returns-in-None-clause-keys : goal.returns-in-None-clause-keys
+returns-in-None-clause-keys g c = keys_twice c.args.self.now c.loop-key.self c.split_next_root.new.self c.loop-key.invariant.keys c.in_ok-key.ensures.keys

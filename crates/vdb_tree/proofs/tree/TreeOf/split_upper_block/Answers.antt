@@ -1,14 +1,19 @@
-use Rattle.std.proofs.Common.{◌∙◌, ap, sym}
+use Rattle.std.proofs.Common.{◌≢◌, ◌∙◌, ap, refl, subst, sym}
+use Rattle.vdb_coord.specs.Blocks.{key}
 use Rattle.vdb_coord.specs.declared.Level.TheVariants.{Upper}
 use Rattle.vdb_node.specs.declared.Entry.TheVariants.{Tile}
-use Rattle.vdb_tree.specs.Layout.{bits_of, root_at}
+use Rattle.vdb_tree.specs.Layout.{Layout, bits_of, root_at}
+use Rattle.vdb_tree.specs.Nodes.{IsCut, MakesOnly}
+use Rattle.vdb_tree.proofs.Blocks.{never}
 use Rattle.vdb_tree.proofs.Covered.{covered_by_block}
 use Rattle.vdb_tree.proofs.Descents.{root_by_block}
+use Rattle.vdb_tree.proofs.MadeNodes.{cut_made, keys_but, makes_none, makes_twice}
 use Rattle.vdb_tree.proofs.Passes.{root_entry_same}
 use Rattle.vdb_tree.proofs.Readiness.{on_ok, ready_child, ready_tiled, ready_within}
 use Rattle.vdb_tree.proofs.Splits.{adds_twice, keeps_twice}
-use Rattle.vdb_tree.proofs.Uniform.{cell_exact, exact_by}
+use Rattle.vdb_tree.proofs.Uniform.{cell_exact, cell_same, exact_by}
 use Rattle.vdb_tree.proofs.tree.TreeOf.split_upper_block.Goals as goal
+use Rattle.vdb_tree.proofs.tree.TreeOf.split_upper_block.Goals.{in-Tile+else-eq, in_default}
 
 pub returns-then-is_covered-clause-ready : goal.returns-then-is_covered-clause-ready
 returns-then-is_covered-clause-ready g c = λ q _ same.
@@ -42,3 +47,44 @@ returns-clause-ready g c =
 pub returns-clause-table : goal.returns-clause-table
 returns-clause-table g c = λ k d.
     (λ i. root_at (c.split_lower_blocks.ensures.root i) k) ∙ c.in_ok-upper.ensures.table k d
+
+pub returns-in_err-upper-clause-made : goal.returns-in_err-upper-clause-made
+returns-in_err-upper-clause-made g c =
+    let bits = bits_of g.row.U g.row.L g.row.F in
+    let exact = exact_by g.V.PartialEq.eq g.V.Ord.cmp g.met.V.Ord.matches_eq g.met.V.Voxel.exact in
+    let old = c.args.self.now in
+    let mid = c.upper_around.new.self in
+    let kept : MakesOnly bits (IsCut bits c.args.bounds c.args.cell) old mid = elim c.match-root_entry.branch [
+      | in-Tile+else-eq w ↦
+          let other : w.in-Tile.tile ≢ c.args.cell = λ is. never w.if-eq.false (w.eq.ensures ∙ cell_same g.V.PartialEq.eq exact g.met.V.Eq.laws.refl w.in-Tile.tile c.args.cell is) in
+          cut_made bits c.args.bounds c.args.cell Upper old mid c.args.p w.in-Tile.tile c.requires.inside (λ covered. never c.if-is_covered.false (c.is_covered.ensures.1 covered))
+          (c.root_entry.ensures ∙ w.in-Tile.is) other c.in_err-upper.ensures.but
+      | in_default w ↦
+          let same = (c.in_err-upper.ensures.there _ (c.root_entry.ensures ∙ w.in_default.is)).1 in
+          subst (λ (t : Layout g.row.V.Denot). MakesOnly bits (IsCut bits c.args.bounds c.args.cell) old t) (sym same) (makes_none bits (IsCut bits c.args.bounds c.args.cell) old old (λ q level. refl))
+    ] in
+    kept
+
+pub returns-clause-made : goal.returns-clause-made
+returns-clause-made g c =
+    let bits = bits_of g.row.U g.row.L g.row.F in
+    let exact = exact_by g.V.PartialEq.eq g.V.Ord.cmp g.met.V.Ord.matches_eq g.met.V.Voxel.exact in
+    let old = c.args.self.now in
+    let mid = c.upper_around.new.self in
+    let kept : MakesOnly bits (IsCut bits c.args.bounds c.args.cell) old mid = elim c.match-root_entry.branch [
+      | in-Tile+else-eq w ↦
+          let other : w.in-Tile.tile ≢ c.args.cell = λ is. never w.if-eq.false (w.eq.ensures ∙ cell_same g.V.PartialEq.eq exact g.met.V.Eq.laws.refl w.in-Tile.tile c.args.cell is) in
+          cut_made bits c.args.bounds c.args.cell Upper old mid c.args.p w.in-Tile.tile c.requires.inside (λ covered. never c.if-is_covered.false (c.is_covered.ensures.1 covered))
+          (c.root_entry.ensures ∙ w.in-Tile.is) other c.in_ok-upper.ensures.but
+      | in_default w ↦
+          let same = (c.in_ok-upper.ensures.there _ (c.root_entry.ensures ∙ w.in_default.is)).1 in
+          subst (λ (t : Layout g.row.V.Denot). MakesOnly bits (IsCut bits c.args.bounds c.args.cell) old t) (sym same) (makes_none bits (IsCut bits c.args.bounds c.args.cell) old old (λ q level. refl))
+    ] in
+    makes_twice bits (IsCut bits c.args.bounds c.args.cell) old mid c.split_lower_blocks.new.self c.in_ok-upper.ensures.keeps kept c.split_lower_blocks.ensures.made
+
+pub returns-in_err-upper-clause-keys : goal.returns-in_err-upper-clause-keys
+returns-in_err-upper-clause-keys g c = keys_but c.args.self.now c.upper_around.new.self (key (bits_of g.row.U g.row.L g.row.F) c.args.p) c.requires.entered c.in_err-upper.ensures.table
+
+pub returns-clause-keys : goal.returns-clause-keys
+returns-clause-keys g c =
+    keys_but c.args.self.now c.split_lower_blocks.new.self (key (bits_of g.row.U g.row.L g.row.F) c.args.p) c.requires.entered (λ k d. (λ i. root_at (c.split_lower_blocks.ensures.root i) k) ∙ c.in_ok-upper.ensures.table k d)

@@ -2,7 +2,8 @@ use Rattle.std.proofs.Common.{refl}
 use Rattle.vdb_tree.specs.Layout.{bits_of}
 use Rattle.vdb_tree.proofs.Equations.{keeps_field}
 use Rattle.vdb_tree.proofs.Sizes.{internal_small}
-use Rattle.vdb_tree.proofs.Splits.{alike_keeps, alike_sound}
+use Rattle.vdb_tree.proofs.Rooted.{same_size}
+use Rattle.vdb_tree.proofs.Splits.{alike_keeps, alike_sound, alike_tree}
 use Rattle.vdb_tree.proofs.tree.TreeOf.try_copy.Goals as goal
 
 pub drop-lowers-requires-room-T-Destruct : goal.drop-lowers-requires-room-T-Destruct
@@ -27,3 +28,9 @@ returns-clause-field g c =
     rw (← c.self.view_is)
     (keeps_field (bits_of g.row.U g.row.L g.row.F) _ _
     (alike_keeps _ _ _ refl c.in_ok-root.ensures.entries c.in_ok-uppers.ensures.nodes c.in_ok-lowers.ensures.nodes c.in_ok-leaves.ensures.nodes refl))
+
+pub returns-clause-same : goal.returns-clause-same
+returns-clause-same g c =
+    rw (← c.self.view_is)
+    (alike_tree (bits_of g.row.U g.row.L g.row.F) _ _ refl c.in_ok-root.ensures.entries c.in_ok-uppers.ensures.nodes c.in_ok-lowers.ensures.nodes c.in_ok-leaves.ensures.nodes refl
+    (same_size _ _ c.self.invariant.1.apart c.in_ok-root.ensures.entries c.in_ok-root.ensures.size))

@@ -1,6 +1,9 @@
 use Rattle.std.proofs.Common.{◌≡◌, ◌∙◌, refl}
-use Rattle.vdb_tree.specs.Changes.{AddsNodes}
+use Rattle.vdb_coord.specs.declared.Coord.{Coord}
+use Rattle.vdb_coord.specs.declared.Level.TheVariants.{Upper}
+use Rattle.vdb_tree.specs.Changes.{AddsNodes, SameDescent}
 use Rattle.vdb_tree.specs.Layout.{bits_of, root_at}
+use Rattle.vdb_tree.proofs.MadeNodes.{but_after}
 use Rattle.vdb_tree.proofs.Splits.{adds_itself, adds_twice}
 use Rattle.vdb_tree.proofs.tree.TreeOf.upper_around.Goals as goal
 use Rattle.vdb_tree.proofs.tree.TreeOf.upper_around.Goals.{then-is_none+in_ok-enter, else-is_none}
@@ -21,3 +24,12 @@ returns-clause-table g c = λ k d.
       | else-is_none w ↦ rw w.self-is refl
     ] in
     c.split_root.ensures.table k d ∙ entered
+
+pub returns-clause-but : goal.returns-clause-but
+returns-clause-but g c =
+    let bits = bits_of g.row.U g.row.L g.row.F in
+    let entered : (q : Coord) → SameDescent bits c.args.self.now c.if-is_none.self q = elim c.if-is_none.branch [
+      | then-is_none+in_ok-enter w ↦ rw w.self-is w.in_ok-enter.ensures.same
+      | else-is_none w ↦ rw w.self-is (λ q level. refl)
+    ] in
+    but_after bits Upper c.args.self.now c.if-is_none.self c.split_root.new.self c.args.p entered c.split_root.ensures.but

@@ -6,6 +6,7 @@ use Rattle.vdb_tree.specs.Paths.{is_child}
 use Rattle.vdb_tree.specs.Plain.{roots}
 use Rattle.vdb_tree.proofs.Blocks.{never}
 use Rattle.vdb_tree.proofs.Equations.{changes_field}
+use Rattle.vdb_tree.proofs.MadeNodes.{elsewhere_itself, elsewhere_same}
 use Rattle.vdb_tree.proofs.Uniform.{cell_exact, cell_same, exact_by}
 use Rattle.vdb_tree.proofs.Writes.{leaf_has_room, standing_field, tile_field_cell}
 use Rattle.vdb_tree.proofs.tree.TreeOf.write.Goals as goal
@@ -61,3 +62,12 @@ returns-clause-outcome g c =
 
 pub returns-clause-mixed : goal.returns-clause-mixed
 returns-clause-mixed g c = λ h. absurd (never (ap is_child (c.held_entry-holder.ensures.value ∙ c.in-Tile.is)) (c.has_leaf_if_mixed.ensures h))
+
+pub returns-in-Child-clause-elsewhere : goal.returns-in-Child-clause-elsewhere
+returns-in-Child-clause-elsewhere g c = λ room. elsewhere_same (bits_of g.row.U g.row.L g.row.F) c.args.self.now c.write_voxel.new.self c.args.p c.write_voxel.ensures.same
+
+pub returns-then-eq-clause-elsewhere : goal.returns-then-eq-clause-elsewhere
+returns-then-eq-clause-elsewhere g c = λ room. elsewhere_itself (bits_of g.row.U g.row.L g.row.F) c.args.self.now c.args.p
+
+pub returns-clause-elsewhere : goal.returns-clause-elsewhere
+returns-clause-elsewhere g c = c.write_tile.ensures.elsewhere

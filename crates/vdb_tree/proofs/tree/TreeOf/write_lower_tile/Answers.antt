@@ -2,6 +2,8 @@ use Rattle.std.proofs.Common.{◌≡◌, arith, Err}
 use Rattle.std.proofs.lemmas.Grind.{common_steps}
 use Rattle.vdb_tree.specs.declared.refusal.TreeRefusal.TheVariants.{Memory}
 use Rattle.vdb_tree.specs.Layout.{bits_of}
+use Rattle.vdb_coord.specs.declared.Level.TheVariants.{Leaf}
+use Rattle.vdb_tree.proofs.MadeNodes.{but_elsewhere, elsewhere_same, elsewhere_twice}
 use Rattle.vdb_tree.proofs.Writes.{kept_outcome, lower_has_room, written_field}
 use Rattle.vdb_tree.proofs.tree.TreeOf.write_lower_tile.Goals as goal
 
@@ -17,3 +19,12 @@ returns-clause-outcome g c =
     let bits = bits_of g.row.U g.row.L g.row.F in
     let room = lower_has_room bits c.args.self.now c.args.p c.args.lower c.requires.node in
     (written_field bits c.args.self.now c.split_lower.new.self c.write_voxel.new.self c.args.p c.args.change c.split_lower.ensures.keeps c.write_voxel.ensures.changes, c.keeps_to_limit.ensures.within room c.args.change)
+
+pub returns-in_err-leaf-clause-elsewhere : goal.returns-in_err-leaf-clause-elsewhere
+returns-in_err-leaf-clause-elsewhere g c = but_elsewhere (bits_of g.row.U g.row.L g.row.F) Leaf c.args.self.now c.split_lower.new.self c.args.p c.split_lower.ensures.but
+
+pub returns-clause-elsewhere : goal.returns-clause-elsewhere
+returns-clause-elsewhere g c =
+    let bits = bits_of g.row.U g.row.L g.row.F in
+    let made = c.split_lower.new.self in
+    elsewhere_twice bits c.args.self.now made c.write_voxel.new.self c.args.p (but_elsewhere bits Leaf c.args.self.now made c.args.p c.split_lower.ensures.but) (elsewhere_same bits made c.write_voxel.new.self c.args.p c.write_voxel.ensures.same)

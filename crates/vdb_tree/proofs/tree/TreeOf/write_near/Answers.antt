@@ -17,3 +17,6 @@ returns-in-ToLeaf-clause-alone g c written_here =
     let here = fits_everywhere c.args.p (search rules) (search rules) (search rules) in
     subst (λ cell. IsVoxelWritten bits c.args.self.now c.write_voxel.new.self c.args.p (written c.args.change cell))
     (sym (cell_inside c.args.self.now.background (cell_at bits c.args.self.now) c.args.p here)) c.write_voxel.ensures.alone
+
+pub returns-in-ToLeaf-clause-limit : goal.returns-in-ToLeaf-clause-limit
+returns-in-ToLeaf-clause-limit g c = c.write_voxel.ensures.changes.head.limit

@@ -1,7 +1,9 @@
-use Rattle.std.proofs.Common.{◌≡◌, arith, Err}
+use Rattle.std.proofs.Common.{◌≡◌, arith, subst, sym, Err}
 use Rattle.std.proofs.lemmas.Grind.{common_steps}
 use Rattle.vdb_tree.specs.declared.refusal.TreeRefusal.TheVariants.{Memory}
-use Rattle.vdb_tree.specs.Layout.{bits_of}
+use Rattle.vdb_tree.specs.Layout.{Layout, bits_of}
+use Rattle.vdb_tree.specs.Nodes.{KeepsElsewhere}
+use Rattle.vdb_tree.proofs.MadeNodes.{elsewhere_itself, elsewhere_same, elsewhere_twice}
 use Rattle.vdb_tree.proofs.Splits.{keeps_twice}
 use Rattle.vdb_tree.proofs.Writes.{kept_outcome, written_field}
 use Rattle.vdb_tree.proofs.tree.TreeOf.write_root_tile.Goals as goal
@@ -18,3 +20,20 @@ returns-clause-outcome g c = λ _.
     let bits = bits_of g.row.U g.row.L g.row.F in
     let keeps = keeps_twice bits c.args.self.now c.make_room.new.self c.leaf_around.new.self c.make_room.ensures.keeps c.leaf_around.ensures.keeps in
     (written_field bits c.args.self.now c.leaf_around.new.self c.write_voxel.new.self c.args.p c.args.change keeps c.write_voxel.ensures.changes, c.in_ok-make_room.ensures.within c.args.change)
+
+pub returns-in_err-make_room-clause-elsewhere : goal.returns-in_err-make_room-clause-elsewhere
+returns-in_err-make_room-clause-elsewhere g c = λ room.
+    let bits = bits_of g.row.U g.row.L g.row.F in
+    subst (λ (t : Layout g.row.V.Denot). KeepsElsewhere bits c.args.self.now t c.args.p) (sym (c.make_room.ensures.there room).1) (elsewhere_itself bits c.args.self.now c.args.p)
+
+pub returns-in_err-leaf-clause-elsewhere : goal.returns-in_err-leaf-clause-elsewhere
+returns-in_err-leaf-clause-elsewhere g c = λ room.
+    let bits = bits_of g.row.U g.row.L g.row.F in
+    subst (λ (t : Layout g.row.V.Denot). KeepsElsewhere bits t c.leaf_around.new.self c.args.p) (c.make_room.ensures.there room).1 c.leaf_around.ensures.elsewhere
+
+pub returns-clause-elsewhere : goal.returns-clause-elsewhere
+returns-clause-elsewhere g c = λ room.
+    let bits = bits_of g.row.U g.row.L g.row.F in
+    let made = c.leaf_around.new.self in
+    let around = subst (λ (t : Layout g.row.V.Denot). KeepsElsewhere bits t made c.args.p) (c.make_room.ensures.there room).1 c.leaf_around.ensures.elsewhere in
+    elsewhere_twice bits c.args.self.now made c.write_voxel.new.self c.args.p around (elsewhere_same bits made c.write_voxel.new.self c.args.p c.write_voxel.ensures.same)

@@ -2,6 +2,8 @@ use Rattle.std.proofs.Common.{◌≡◌, arith, Err}
 use Rattle.std.proofs.lemmas.Grind.{common_steps}
 use Rattle.vdb_tree.specs.declared.refusal.TreeRefusal.TheVariants.{Memory}
 use Rattle.vdb_tree.specs.Layout.{bits_of}
+use Rattle.vdb_coord.specs.declared.Level.TheVariants.{Leaf, Lower}
+use Rattle.vdb_tree.proofs.MadeNodes.{but_elsewhere, elsewhere_same, elsewhere_twice}
 use Rattle.vdb_tree.proofs.Splits.{keeps_twice}
 use Rattle.vdb_tree.proofs.Writes.{kept_outcome, upper_has_room, written_field}
 use Rattle.vdb_tree.proofs.tree.TreeOf.write_upper_tile.Goals as goal
@@ -27,3 +29,21 @@ returns-clause-outcome g c =
     let room = upper_has_room bits c.args.self.now c.args.p c.args.upper c.requires.node in
     let keeps = keeps_twice bits c.args.self.now c.split_upper.new.self c.leaf_in.new.self c.split_upper.ensures.keeps c.leaf_in.ensures.keeps in
     (written_field bits c.args.self.now c.leaf_in.new.self c.write_voxel.new.self c.args.p c.args.change keeps c.write_voxel.ensures.changes, c.keeps_to_limit.ensures.within room c.args.change)
+
+pub returns-in_err-lower-clause-elsewhere : goal.returns-in_err-lower-clause-elsewhere
+returns-in_err-lower-clause-elsewhere g c = but_elsewhere (bits_of g.row.U g.row.L g.row.F) Lower c.args.self.now c.split_upper.new.self c.args.p c.split_upper.ensures.but
+
+pub returns-in_err-leaf-clause-elsewhere : goal.returns-in_err-leaf-clause-elsewhere
+returns-in_err-leaf-clause-elsewhere g c =
+    let bits = bits_of g.row.U g.row.L g.row.F in
+    let mid = c.split_upper.new.self in
+    elsewhere_twice bits c.args.self.now mid c.leaf_in.new.self c.args.p (but_elsewhere bits Lower c.args.self.now mid c.args.p c.split_upper.ensures.but) (but_elsewhere bits Leaf mid c.leaf_in.new.self c.args.p c.leaf_in.ensures.but)
+
+pub returns-clause-elsewhere : goal.returns-clause-elsewhere
+returns-clause-elsewhere g c =
+    let bits = bits_of g.row.U g.row.L g.row.F in
+    let mid = c.split_upper.new.self in
+    let made = c.leaf_in.new.self in
+    elsewhere_twice bits c.args.self.now made c.write_voxel.new.self c.args.p
+    (elsewhere_twice bits c.args.self.now mid made c.args.p (but_elsewhere bits Lower c.args.self.now mid c.args.p c.split_upper.ensures.but) (but_elsewhere bits Leaf mid made c.args.p c.leaf_in.ensures.but))
+    (elsewhere_same bits made c.write_voxel.new.self c.args.p c.write_voxel.ensures.same)

@@ -1,6 +1,7 @@
-use Rattle.std.proofs.Common.{◌∙◌, ap, sym}
+use Rattle.std.proofs.Common.{◌∙◌, ap, refl, sym}
 use Rattle.vdb_node.specs.declared.Entry.TheVariants.{Child}
 use Rattle.vdb_tree.proofs.LeafWrites.{leaf_sound, whole_after, write_alone, write_changes}
+use Rattle.vdb_tree.proofs.Passes.{descent_by}
 use Rattle.vdb_tree.proofs.tree.TreeOf.write_voxel.Goals as goal
 
 pub invariant_of-self : goal.invariant_of-self
@@ -22,3 +23,6 @@ returns-clause-alone g c =
 
 pub returns-clause-paths : goal.returns-clause-paths
 returns-clause-paths g c = rw (← c.self.view_is) (λ path q h. whole_after _ _ _ _ _ c.at_mut-leaf.ensures.node path q h)
+
+pub returns-clause-same : goal.returns-clause-same
+returns-clause-same g c = rw (← c.self.view_is) (λ q. descent_by _ _ _ q refl refl refl)

@@ -1,6 +1,6 @@
 use Rattle.std.proofs.Common.{◌≤◌, ◌*◌, ◌-◌}
 use Rattle.vdb_walk.proofs.VoxelSeeks.{IsIdleTo}
-use Rattle.vdb_walk.proofs.voxels.next_set.Given as goal
+use Rattle.vdb_walk.proofs.voxels.next_set_in.Given as goal
 
 abbrev pub invariant-loop-index : goal.invariant-loop-index
 invariant-loop-index g l = record { idle : IsIdleTo l.bits l.states l.part l.from l.at; within : l.at ≤ 64 * g.row.W }
