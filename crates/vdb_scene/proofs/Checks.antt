@@ -6,7 +6,9 @@ use Rattle.vdb_value.specs.declared.Cell.{Cell}
 use Rattle.vdb_value.specs.declared.Kind.TheVariants as kinds
 use Rattle.vdb_scene.specs.Names.{is_name}
 use Rattle.vdb_scene.specs.Scene.{Scene, field_at, new_grid}
-use Rattle.vdb_scene.specs.Step.{Refused, Step, after, first_of_all, refusal, takes_memory, tried}
+use Rattle.vdb_scene.specs.Refusals.{first_of_all}
+use Rattle.vdb_scene.specs.Replies.{Refused}
+use Rattle.vdb_scene.specs.Step.{Step, after, refusal, takes_memory, tried}
 use Rattle.vdb_scene.specs.declared.answer.Refusal.TheVariants as refusals
 use Rattle.vdb_scene.specs.declared.scalar.Scalar.{Scalar}
 use Rattle.vdb_scene.specs.declared.scalar.Scalar.TheVariants.{Bool as truth, I32}

@@ -14,8 +14,10 @@ use Rattle.vdb_scene.specs.Doing.{CarriesOut}
 use Rattle.vdb_scene.specs.Grids.{grid_field, grid_limit, grid_of, scene_over}
 use Rattle.vdb_scene.specs.Scalars.{has_form, has_value, kind_of, scalar, scalar_eq}
 use Rattle.vdb_scene.specs.Scene.{Grid, Scene, is_named}
-use Rattle.vdb_scene.specs.Step as replies
-use Rattle.vdb_scene.specs.Step.{after, are_places, box_between, changed, first_of_all, no_box, of_tree, other_form, out_of_range, refusal, refused_if}
+use Rattle.vdb_scene.specs.Replies as replies
+use Rattle.vdb_scene.specs.Places.{are_places, box_between}
+use Rattle.vdb_scene.specs.Refusals.{first_of_all, no_box, of_tree, other_form, out_of_range, refused_if}
+use Rattle.vdb_scene.specs.Step.{after, changed, refusal}
 use Rattle.vdb_scene.specs.declared.any_grid.AnyGrid.{AnyGrid}
 use Rattle.vdb_scene.specs.declared.answer.Answer.TheVariants.{Done}
 use Rattle.vdb_scene.specs.declared.answer.Refusal.{Refusal}

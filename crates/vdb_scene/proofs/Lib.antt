@@ -7,4 +7,5 @@ pub mod Listings
 pub mod Rows
 pub mod Reports
 pub mod Steps
+pub mod Trees
 pub mod Writing

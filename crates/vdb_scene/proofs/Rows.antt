@@ -8,7 +8,7 @@ use Rattle.std.proofs.lemmas.Int.{ints}
 use Rattle.vdb_coord.specs.Space.{extent, range}
 use Rattle.vdb_scene.specs.Grids.{grid_field}
 use Rattle.vdb_scene.specs.Slices.{numbers_left, rows_left}
-use Rattle.vdb_scene.specs.Step.{row_at}
+use Rattle.vdb_scene.specs.Replies.{row_at}
 use Rattle.vdb_scene.specs.declared.slice.Slice.{Slice}
 
 -- numbers from a on, all made by a function, are those from 0 on

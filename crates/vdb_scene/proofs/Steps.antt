@@ -1,12 +1,15 @@
 -- Steps of the abstract scene, from what was found out about a command.
 use Rattle.std.proofs.Common.{◌≡◌, refl, ap, ◌∙◌, ℕ, Bool, true, false, cond, ◌&&◌, not, List, [], ◌∷◌, Option, Some, None, unwrap_or, Ok, Err, inl, inr}
-use Rattle.vdb_scene.specs.Doing.{AppliesTo, CarriesOut}
+use Rattle.vdb_scene.specs.Doing.{CarriesOut, ShowsStep}
 use Rattle.vdb_tree.specs.Field.{Field}
 use Rattle.vdb_scene.specs.Scalars.{kind_of}
 use Rattle.vdb_scene.specs.Scene.{Grid, Scene, field_at, grid_at, kind_at, new_grid, the_grid}
 use Rattle.vdb_scene.specs.declared.scalar.Scalar.{Scalar}
 use Rattle.vdb_scene.specs.declared.scalar.Scalar.TheVariants.{Bool as truth}
-use Rattle.vdb_scene.specs.Step.{Refused, first_of_all, is_accessor, is_place, refusal}
+use Rattle.vdb_scene.specs.Places.{is_accessor, is_place}
+use Rattle.vdb_scene.specs.Refusals.{first_of_all}
+use Rattle.vdb_scene.specs.Replies.{Refused}
+use Rattle.vdb_scene.specs.Step.{refusal}
 use Rattle.vdb_scene.specs.declared.answer.Answer.{Answer}
 use Rattle.vdb_scene.specs.declared.answer.Answer.TheVariants as answers
 use Rattle.vdb_scene.specs.declared.answer.Refusal.{Refusal}
@@ -92,10 +95,10 @@ test_fails true x h = absurd (some_none x h)
 test_fails false x h = refl
 
 -- a command that was carried out is a step
-pub step_done : (s : Scene) (c : Command) (answer : Answer) (next : Scene) → CarriesOut s c (Ok answer) next → AppliesTo s c answer next
+pub step_done : (s : Scene) (c : Command) (answer : Answer) (next : Scene) → CarriesOut s c (Ok answer) next → ShowsStep s c answer next
 step_done s c answer next h = (h.1.0, h.1.1, inr (inl (h.0, h.1.2, h.2)))
 
 -- and so is one that was refused
-pub step_refused : (s : Scene) (c : Command) (r : Refusal) (next : Scene) → CarriesOut s c (Err r) next → AppliesTo s c (answers.Refused r) next
+pub step_refused : (s : Scene) (c : Command) (r : Refusal) (next : Scene) → CarriesOut s c (Err r) next → ShowsStep s c (answers.Refused r) next
 step_refused s c refusals.Memory next h = (Refused refusals.Memory, refl, inr (inr (h.0, h.1, refl, h.2)))
 step_refused s c r next h = (Refused r, refl, inl (r, h.0, refl, h.1))

@@ -16,8 +16,10 @@ use Rattle.vdb_scene.specs.Doing.{CarriesOut}
 use Rattle.vdb_scene.specs.Grids.{grid_field, grid_limit, grid_of, scene_over}
 use Rattle.vdb_scene.specs.Scalars.{has_form, has_value, kind_of, scalar, scalar_eq}
 use Rattle.vdb_scene.specs.Scene.{Grid, Scene, field_at, grid_at, is_named, kind_at, limit_at}
-use Rattle.vdb_scene.specs.Step as replies
-use Rattle.vdb_scene.specs.Step.{Answers, after, after_write, changed, first_of_all, is_accessor, is_place, line_takes_memory, of_tree, other_form, out_of_range, passes, place, refusal, refused_if, takes_memory, tried_write, write_at, write_command, write_takes_memory}
+use Rattle.vdb_scene.specs.Replies as replies
+use Rattle.vdb_scene.specs.Places.{is_accessor, is_place, place}
+use Rattle.vdb_scene.specs.Refusals.{first_of_all, of_tree, other_form, out_of_range, refused_if}
+use Rattle.vdb_scene.specs.Step.{Answers, after, after_write, changed, line_takes_memory, passes, refusal, takes_memory, tried_write, write_at, write_command, write_takes_memory}
 use Rattle.vdb_scene.specs.declared.any_grid.AnyGrid.{AnyGrid}
 use Rattle.vdb_scene.specs.declared.answer.Answer.TheVariants.{Done}
 use Rattle.vdb_scene.specs.declared.answer.Refusal.{Refusal}

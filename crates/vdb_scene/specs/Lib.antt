@@ -2,6 +2,9 @@
 pub mod Names
 pub mod Scalars
 pub mod Scene
+pub mod Places
+pub mod Replies
+pub mod Refusals
 pub mod Step
 pub mod Grids
 pub mod Readers

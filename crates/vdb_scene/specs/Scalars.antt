@@ -1,9 +1,11 @@
 -- Values of the three kinds, and what a line's words for them mean.
-use Rattle.std.specs.Prelude.{ℕ, ℤ, pos, Bool, true, false, List}
+use Rattle.std.specs.Prelude.{ℕ, ℤ, pos, Bool, true, false, ◌&&◌, ◌||◌, List, Option, None}
+use Rattle.std.specs.Int.{int_max, int_min, w32, w64}
+use Rattle.std.specs.Option.{option_map}
 use Rattle.std.specs.Ordering.{int_eq}
 use Rattle.std.specs.Fmt.{signed_decimal}
 use Rattle.std.proofs.Math.Bool.{beq}
-use Rattle.vdb_value.specs.Values.{has_number, truth_text}
+use Rattle.vdb_value.specs.Values.{has_number, number_bytes, sum_in, truth_bytes, truth_text}
 use Rattle.vdb_value.specs.declared.Kind.{Kind}
 use Rattle.vdb_value.specs.declared.Kind.TheVariants as kinds
 use Rattle.vdb_scene.specs.declared.command.Literal.{Literal}
@@ -42,6 +44,34 @@ abbrev pub scalar_text : Scalar → List ℕ
 scalar_text (truth b) = truth_text b
 scalar_text (I32 z) = signed_decimal z
 scalar_text (I64 z) = signed_decimal z
+
+-- ---- two values of one kind
+
+-- the lesser of two values of one kind: `and` for truth values; the first stands where they are of two kinds, which is refused before
+abbrev pub scalar_lesser : Scalar → Scalar → Scalar
+scalar_lesser (truth a) (truth b) = truth (a && b)
+scalar_lesser (I32 y) (I32 z) = I32 (int_min y z)
+scalar_lesser (I64 y) (I64 z) = I64 (int_min y z)
+scalar_lesser x y = x
+
+-- the greater of them: `or` for truth values
+abbrev pub scalar_greater : Scalar → Scalar → Scalar
+scalar_greater (truth a) (truth b) = truth (a || b)
+scalar_greater (I32 y) (I32 z) = I32 (int_max y z)
+scalar_greater (I64 y) (I64 z) = I64 (int_max y z)
+scalar_greater x y = x
+
+-- the sum of two numbers of one kind, where the kind has it
+abbrev pub scalar_sum : Scalar → Scalar → Option Scalar
+scalar_sum (I32 y) (I32 z) = option_map I32 (sum_in kinds.I32 y z)
+scalar_sum (I64 y) (I64 z) = option_map I64 (sum_in kinds.I64 y z)
+scalar_sum x y = None
+
+-- the bytes of a value, most significant first: 1 for a truth value, 4 or 8 for a number
+abbrev pub scalar_bytes : Scalar → List ℕ
+scalar_bytes (truth b) = truth_bytes b
+scalar_bytes (I32 z) = number_bytes w32 z
+scalar_bytes (I64 z) = number_bytes w64 z
 
 -- ---- as a line has them
 

@@ -4,8 +4,8 @@ use Rattle.vdb_coord.specs.Space.{Box}
 use Rattle.vdb_coord.specs.declared.Coord.{Coord}
 use Rattle.vdb_scene.specs.Listings.{voxels_of}
 use Rattle.vdb_scene.specs.Slices.{rows_left}
-use Rattle.vdb_scene.specs.Step.{Reply, listing}
-use Rattle.vdb_scene.specs.Step as replies
+use Rattle.vdb_scene.specs.Replies.{Reply, listing}
+use Rattle.vdb_scene.specs.Replies as replies
 use Rattle.vdb_scene.specs.declared.answer.Answer.{Answer}
 use Rattle.vdb_scene.specs.declared.answer.Answer.TheVariants.{Done, Refused, Value, List, Slice, Count, Bounds, Census}
 

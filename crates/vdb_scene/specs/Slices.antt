@@ -4,7 +4,7 @@ use Rattle.vdb_coord.specs.Space.{coord, range}
 use Rattle.vdb_value.specs.declared.Cell.{Cell}
 use Rattle.vdb_scene.specs.Grids.{grid_field}
 use Rattle.vdb_scene.specs.Readers.{field_read}
-use Rattle.vdb_scene.specs.Step.{Row, row_at}
+use Rattle.vdb_scene.specs.Replies.{Row, row_at}
 use Rattle.vdb_scene.specs.declared.scalar.Scalar.{Scalar}
 use Rattle.vdb_scene.specs.declared.slice.Slice.{Slice}
 use Rattle.vdb_scene.specs.declared.slice.SliceRow.{SliceRow}

@@ -1,78 +1,28 @@
 -- What a command makes of a scene: when it is refused, what it answers, and the scene after it.
-use Rattle.std.specs.Prelude.{◌≡◌, ◌⊎◌, ℕ, ℤ, pos, Bool, true, false, not, ◌&&◌, if◌then◌else◌, List, [], ◌∷◌, length, Option, Some, None, is_some, is_none, IsTrue, nat_le, nat_lt, ◌||◌, map, take, unsigned_abs, Result, Ok, Err}
+use Rattle.std.specs.Prelude.{◌≡◌, ◌⊎◌, ℕ, Bool, true, false, not, ◌&&◌, List, [], ◌∷◌, Option, Some, None, IsTrue, Result, Ok, Err}
 use Rattle.vdb_coord.specs.Blocks.{block_around, vdb}
-use Rattle.vdb_coord.specs.Space.{Box, coord, everywhere, extent, is_between, is_box, range, volume}
+use Rattle.vdb_coord.specs.Space.{Box}
 use Rattle.vdb_coord.specs.declared.Level.TheVariants.{Leaf}
 use Rattle.vdb_coord.specs.declared.Coord.{Coord}
 use Rattle.vdb_value.specs.declared.Cell.{Cell}
 use Rattle.vdb_tree.specs.declared.Write.{Write}
 use Rattle.vdb_tree.specs.declared.Write.TheVariants as writes
-use Rattle.vdb_tree.specs.declared.refusal.TreeRefusal.{TreeRefusal}
-use Rattle.vdb_tree.specs.declared.refusal.TreeRefusal.TheVariants.{Memory, RootLimit}
 use Rattle.vdb_tree.specs.Field.{Field, as_write_of, clip, fill, write, written}
-use Rattle.vdb_tree.specs.Plain.{cell_eq, count, is_constant, roots}
+use Rattle.vdb_tree.specs.Plain.{cell_eq, count, is_constant}
 use Rattle.vdb_walk.specs.Reports.{IsActiveBounds, active, census}
-use Rattle.vdb_walk.specs.declared.smallest.Census.{Census as Smallest}
-use Rattle.vdb_scene.specs.Scalars.{has_form, has_value, is_near, number, scalar, scalar_eq}
-use Rattle.vdb_scene.specs.Scene.{Grid, Scene, field_at, grid_at, kind_at, limit_at, new_grid, the_grid, with_changed, with_grid, without_grid}
+use Rattle.vdb_scene.specs.Places.{are_places, box_between, count_of, flat, is_limit, is_place, place, region}
+use Rattle.vdb_scene.specs.Refusals.{first_of_all, grid_limit, name_taken, no_accessor, no_box, no_grid, other_form, out_of_range, root_limit, too_large, too_wide, tried_region}
+use Rattle.vdb_scene.specs.Replies.{Bounds, Census, Count, Done, Refused, Reply, Slice, Value, listing, rows}
+use Rattle.vdb_scene.specs.Scalars.{has_form, has_value, scalar, scalar_eq}
+use Rattle.vdb_scene.specs.Scene.{Grid, Scene, field_at, kind_at, new_grid, the_grid, with_changed, with_grid, without_grid}
 use Rattle.vdb_scene.specs.declared.command.Command.{Command}
 use Rattle.vdb_scene.specs.declared.command.Command.TheVariants as commands
-use Rattle.vdb_scene.specs.declared.command.Area.{Area}
-use Rattle.vdb_scene.specs.declared.command.Corners.{Corners}
 use Rattle.vdb_scene.specs.declared.command.Literal.{Literal}
 use Rattle.vdb_scene.specs.declared.command.Num.{Num}
 use Rattle.vdb_scene.specs.declared.command.Point.{Point}
 use Rattle.vdb_scene.specs.declared.answer.Refusal.{Refusal}
 use Rattle.vdb_scene.specs.declared.answer.Refusal.TheVariants as refusals
 use Rattle.vdb_scene.specs.declared.scalar.Scalar.{Scalar}
-
--- ---- places of a line
-
--- the coordinate that a line names
-abbrev pub place : Point → Coord
-place p = coord (number p.x) (number p.y) (number p.z)
-
--- whether a number of a line is one from low to high
-abbrev pub is_from : ℤ → ℤ → Num → Bool
-is_from low high n = is_near (is_between low high) n
-
--- whether it has 32 bits
-abbrev pub is_component : Num → Bool
-is_component n = is_from everywhere.min.x everywhere.max.x n
-
--- whether a line names a coordinate
-abbrev pub is_place : Point → Bool
-is_place p = is_component p.x && is_component p.y && is_component p.z
-
--- the box between two corners of a line
-abbrev pub box_between : Corners → Box
-box_between c = record { min = place c.min; max = place c.max }
-
--- whether both corners are coordinates
-abbrev pub are_places : Corners → Bool
-are_places c = is_place c.min && is_place c.max
-
--- the corners of a part of a plane of one z
-abbrev pub flat : Num → Area → Corners
-flat z a = record { min = record { x = a.min_x; y = a.min_y; z = z }; max = record { x = a.max_x; y = a.max_y; z = z } }
-
--- the box of a line, or that of all coordinates
-abbrev pub region : Option Corners → Box
-region None = everywhere
-region (Some c) = box_between c
-
--- whether a line names an accessor, 0 to 7, or none
-abbrev pub is_accessor : Option Num → Bool
-is_accessor None = true
-is_accessor (Some k) = is_from (pos 0) (pos 7) k
-
--- whether a line names a limit of a listing, 1 to 4,096
-abbrev pub is_limit : Num → Bool
-is_limit n = is_from (pos 1) (pos 4096) n
-
--- the number of a line as a count
-abbrev pub count_of : Num → ℕ
-count_of n = unsigned_abs (number n)
 
 -- ---- writes of voxels
 
@@ -90,8 +40,6 @@ passes test (writes.Off v) = test v
 passes test (writes.State on) = true
 passes test (writes.Value v) = test v
 
--- ---- the scene after a command that isn't refused
-
 -- the scene with the field of a name changed
 abbrev pub changed : Scene → List ℕ → (Field Scalar → Field Scalar) → Scene
 changed s name change = with_changed s name (record (the_grid s name) { field = change (field_at s name) })
@@ -108,172 +56,11 @@ after_write s name p w = changed s name (write (place p) (write_at s name w))
 abbrev pub cell_at : Scene → List ℕ → Literal → Bool → Cell Scalar
 cell_at s name v on = record { value = scalar (kind_at s name) v; on = on }
 
--- the scene after each command
-abbrev pub after : Scene → Command → Scene
-after s (commands.Grid name kind background) = with_grid s name (new_grid (scalar kind background))
-after s (commands.Drop name) = without_grid s name
-after s (commands.Copy from to) = with_grid s to (the_grid s from)
-after s (commands.Get name k p) = s
-after s (commands.Set name k p v) = after_write s name p (writes.On v)
-after s (commands.Unset name k p v) = after_write s name p (writes.Off v)
-after s (commands.Only name k p v) = after_write s name p (writes.Value v)
-after s (commands.State name k p on) = after_write s name p (writes.State on)
-after s (commands.Fill name c v on) = changed s name (fill (box_between c) (cell_at s name v on))
-after s (commands.Clip name c) = changed s name (clip (box_between c))
-after s (commands.Prune name) = s
-after s (commands.Voxelise name c) = s
-after s (commands.List name c limit) = s
-after s (commands.Slice name z a) = s
-after s (commands.Count name c) = s
-after s (commands.Bounds name) = s
-after s (commands.Census name) = s
-
--- ---- when a command is refused
-
--- why a grid's tree refuses a change
-abbrev pub of_tree : TreeRefusal → Refusal
-of_tree RootLimit = refusals.RootLimit
-of_tree Memory = refusals.Memory
-
--- the refusal where a test holds
-abbrev pub refused_if : Bool → Refusal → Option Refusal
-refused_if test r = if test then Some r else None
-
-module _ (s : Scene) where
-  -- the grid isn't there
-  abbrev pub no_grid : List ℕ → Option Refusal
-  no_grid name = refused_if (is_none (grid_at s name)) refusals.NoGrid
-
-  -- the name is taken
-  abbrev pub name_taken : List ℕ → Option Refusal
-  name_taken name = refused_if (is_some (grid_at s name)) refusals.NameTaken
-
-  -- there are 64 grids
-  abbrev pub grid_limit : Option Refusal
-  grid_limit = refused_if (nat_le 64 (length s)) refusals.GridLimit
-
-  -- more root blocks than the grid's limit wouldn't be plain after this change
-  abbrev pub root_limit : List ℕ → (Field Scalar → Field Scalar) → Option Refusal
-  root_limit name change = refused_if (nat_lt (limit_at s name) (roots scalar_eq vdb (change (field_at s name)))) refusals.RootLimit
-
--- something has another form than the kind's values
-abbrev pub other_form : Bool → Option Refusal
-other_form fits = refused_if (not fits) refusals.Kind
-
--- something doesn't fit its range
-abbrev pub out_of_range : Bool → Option Refusal
-out_of_range fits = refused_if (not fits) refusals.ValueRange
-
--- no such accessor
-abbrev pub no_accessor : Option Num → Option Refusal
-no_accessor k = refused_if (not (is_accessor k)) refusals.NoAccessor
-
--- a minimum is greater than its maximum
-abbrev pub no_box : Corners → Option Refusal
-no_box c = refused_if (not (is_box (box_between c))) refusals.Box
-
--- a box has more voxels than so many
-abbrev pub too_large : ℕ → Box → Option Refusal
-too_large most box = refused_if (nat_lt most (volume box)) refusals.TooLarge
-
--- a slice has more columns or rows than so many
-abbrev pub too_wide : ℕ → Box → Option Refusal
-too_wide most box = refused_if (nat_lt most (extent box.min.x box.max.x) || nat_lt most (extent box.min.y box.max.y)) refusals.TooLarge
-
--- what the box of a line may be refused for, if there is one
-abbrev pub tried_region : Option Corners → List (Option Refusal)
-tried_region None = []
-tried_region (Some c) = out_of_range (are_places c) ∷ no_box c ∷ []
-
 -- what a write of a voxel may be refused for
 abbrev pub tried_write : Scene → List ℕ → Option Num → Point → Write Literal → List (Option Refusal)
 tried_write s name k p w =
     no_grid s name ∷ other_form (passes (has_form (kind_at s name)) w) ∷ out_of_range (is_place p && passes (has_value (kind_at s name)) w)
     ∷ no_accessor k ∷ root_limit s name (write (place p) (write_at s name w)) ∷ []
-
--- what each command may be refused for, in the one order of all refusals
-abbrev pub tried : Scene → Command → List (Option Refusal)
-tried s (commands.Grid name kind v) = name_taken s name ∷ grid_limit s ∷ other_form (has_form kind v) ∷ out_of_range (has_value kind v) ∷ []
-tried s (commands.Drop name) = no_grid s name ∷ []
-tried s (commands.Copy from to) = no_grid s from ∷ name_taken s to ∷ grid_limit s ∷ []
-tried s (commands.Get name k p) = no_grid s name ∷ out_of_range (is_place p) ∷ no_accessor k ∷ []
-tried s (commands.Set name k p v) = tried_write s name k p (writes.On v)
-tried s (commands.Unset name k p v) = tried_write s name k p (writes.Off v)
-tried s (commands.Only name k p v) = tried_write s name k p (writes.Value v)
-tried s (commands.State name k p on) = tried_write s name k p (writes.State on)
-tried s (commands.Fill name c v on) =
-    no_grid s name ∷ other_form (has_form (kind_at s name) v) ∷ out_of_range (are_places c && has_value (kind_at s name) v) ∷ no_box c
-    ∷ root_limit s name (fill (box_between c) (cell_at s name v on)) ∷ []
-tried s (commands.Clip name c) = no_grid s name ∷ out_of_range (are_places c) ∷ no_box c ∷ []
-tried s (commands.Prune name) = no_grid s name ∷ []
-tried s (commands.Voxelise name c) = no_grid s name ∷ out_of_range (are_places c) ∷ no_box c ∷ too_large 2097152 (box_between c) ∷ []
-tried s (commands.List name c limit) = no_grid s name ∷ out_of_range (is_limit limit && are_places c) ∷ no_box c ∷ []
-tried s (commands.Slice name z a) = no_grid s name ∷ out_of_range (are_places (flat z a)) ∷ no_box (flat z a) ∷ too_wide 64 (box_between (flat z a)) ∷ []
-tried s (commands.Count name c) = no_grid s name ∷ tried_region c
-tried s (commands.Bounds name) = no_grid s name ∷ []
-tried s (commands.Census name) = no_grid s name ∷ []
-
--- the first refusal of a list, if there is one
-abbrev pub first_of_all : List (Option Refusal) → Option Refusal
-first_of_all [] = None
-first_of_all (None ∷ rest) = first_of_all rest
-first_of_all (Some r ∷ rest) = Some r
-
--- why a command is refused, if it is
-abbrev pub refusal : Scene → Command → Option Refusal
-refusal s c = first_of_all (tried s c)
-
--- ---- the answer
-
--- A row of a slice: its y, and the cells by rising x.
-pub record Row : Type 0 where
-  pub y : ℤ
-  pub cells : List (Cell Scalar)
-
--- the row of y and z, from one x to another
-abbrev pub row_at : Field Scalar → ℤ → ℤ → ℤ → ℤ → Row
-row_at f low high z y = record { y = y; cells = map (λ x. f.cell (coord x y z)) (range low high) }
-
--- the rows of a box at its least z, by rising y
-abbrev pub rows : Field Scalar → Box → List Row
-rows f box = map (row_at f box.min.x box.max.x box.min.z) (range box.min.y box.max.y)
-
--- what a command answers
-pub data Reply : Type 0 where
-  Done : Reply
-  Refused : (refusal : Refusal) → Reply
-  Value : (cell : Cell Scalar) → Reply
-  Listing : (voxels : List (Coord × Scalar)) → (more : Bool) → Reply
-  Slice : (rows : List Row) → Reply
-  Count : (active : ℕ) → Reply
-  Bounds : (box : Option Box) → Reply
-  Census : (counts : Smallest) → Reply
-
--- the first so many of some voxels, and whether there are more
-abbrev pub listing : ℕ → List (Coord × Scalar) → Reply
-listing n voxels = Listing (take n voxels) (nat_lt n (length voxels))
-
--- the answer to a command that isn't refused
-abbrev pub Answers : Scene → Command → Reply → Type 0
-Answers s (commands.Grid name kind v) reply = reply ≡ Done
-Answers s (commands.Drop name) reply = reply ≡ Done
-Answers s (commands.Copy from to) reply = reply ≡ Done
-Answers s (commands.Get name k p) reply = reply ≡ Value ((field_at s name).cell (place p))
-Answers s (commands.Set name k p v) reply = reply ≡ Done
-Answers s (commands.Unset name k p v) reply = reply ≡ Done
-Answers s (commands.Only name k p v) reply = reply ≡ Done
-Answers s (commands.State name k p on) reply = reply ≡ Done
-Answers s (commands.Fill name c v on) reply = reply ≡ Done
-Answers s (commands.Clip name c) reply = reply ≡ Done
-Answers s (commands.Prune name) reply = reply ≡ Done
-Answers s (commands.Voxelise name c) reply = reply ≡ Done
-Answers s (commands.List name c limit) reply = reply ≡ listing (count_of limit) (active vdb (field_at s name) (box_between c))
-Answers s (commands.Slice name z a) reply = reply ≡ Slice (rows (field_at s name) (box_between (flat z a)))
-Answers s (commands.Count name c) reply = reply ≡ Count (count (field_at s name) (region c))
-Answers s (commands.Bounds name) reply = (box : Option Box) × (reply ≡ Bounds box) × IsActiveBounds (field_at s name) box
-Answers s (commands.Census name) reply = reply ≡ Census (census scalar_eq vdb (field_at s name))
-
--- ---- want of memory
 
 -- whether a write may take memory: where the cell changes, and the cells of the leaf block around it are all equal
 abbrev pub write_takes_memory : Field Scalar → Coord → Write Scalar → Bool
@@ -283,26 +70,148 @@ write_takes_memory f p w = not (cell_eq scalar_eq (written w (f.cell p)) (f.cell
 abbrev pub line_takes_memory : Scene → List ℕ → Point → Write Literal → Bool
 line_takes_memory s name p w = write_takes_memory (field_at s name) (place p) (write_at s name w)
 
--- whether a command may take memory: to make or copy a grid, for such a write, and for nodes in place of tiles, where a box is
--- filled, clipped or voxelised
+-- ---- what a command means
+
+-- What a command means on a scene: what it may be refused for, in the one order of all refusals; and where nothing of it
+-- applies, the scene after it, what it answers, and whether it may take memory.
+pub record Meaning : Type 1 where
+  pub tried : List (Option Refusal)
+  pub after : Scene
+  pub Answers : Reply → Type 0
+  pub takes_memory : Bool
+
+-- this answer and no other
+abbrev pub only : Reply → Reply → Type 0
+only answer reply = reply ≡ answer
+
+-- a write of a voxel
+abbrev pub meaning_of_write : Scene → List ℕ → Option Num → Point → Write Literal → Meaning
+meaning_of_write s name k p w = record {
+  tried = tried_write s name k p w;
+  after = after_write s name p w;
+  Answers = only Done;
+  takes_memory = line_takes_memory s name p w;
+}
+
+-- what each command means
+abbrev pub meaning : Scene → Command → Meaning
+-- a grid that was never written, with this background
+meaning s (commands.Grid name kind v) = record {
+  tried = name_taken s name ∷ grid_limit s ∷ other_form (has_form kind v) ∷ out_of_range (has_value kind v) ∷ [];
+  after = with_grid s name (new_grid (scalar kind v));
+  Answers = only Done;
+  takes_memory = true;
+}
+-- the grid goes
+meaning s (commands.Drop name) = record {
+  tried = no_grid s name ∷ [];
+  after = without_grid s name;
+  Answers = only Done;
+  takes_memory = false;
+}
+-- a second grid with the field and the limit of the first
+meaning s (commands.Copy from to) = record {
+  tried = no_grid s from ∷ name_taken s to ∷ grid_limit s ∷ [];
+  after = with_grid s to (the_grid s from);
+  Answers = only Done;
+  takes_memory = true;
+}
+-- the cell of a voxel
+meaning s (commands.Get name k p) = record {
+  tried = no_grid s name ∷ out_of_range (is_place p) ∷ no_accessor k ∷ [];
+  after = s;
+  Answers = only (Value ((field_at s name).cell (place p)));
+  takes_memory = false;
+}
+-- the four writes of a voxel: the value and active, the value and inactive, the value alone, the state alone
+meaning s (commands.Set name k p v) = meaning_of_write s name k p (writes.On v)
+meaning s (commands.Unset name k p v) = meaning_of_write s name k p (writes.Off v)
+meaning s (commands.Only name k p v) = meaning_of_write s name k p (writes.Value v)
+meaning s (commands.State name k p on) = meaning_of_write s name k p (writes.State on)
+-- each voxel of the box gets one cell
+meaning s (commands.Fill name c v on) = record {
+  tried = no_grid s name ∷ other_form (has_form (kind_at s name) v) ∷ out_of_range (are_places c && has_value (kind_at s name) v) ∷ no_box c
+      ∷ root_limit s name (fill (box_between c) (cell_at s name v on)) ∷ [];
+  after = changed s name (fill (box_between c) (cell_at s name v on));
+  Answers = only Done;
+  takes_memory = true;
+}
+-- each voxel outside the box gets the background, inactive
+meaning s (commands.Clip name c) = record {
+  tried = no_grid s name ∷ out_of_range (are_places c) ∷ no_box c ∷ [];
+  after = changed s name (clip (box_between c));
+  Answers = only Done;
+  takes_memory = true;
+}
+-- no cell changes; of the tree it is said in Doing
+meaning s (commands.Prune name) = record {
+  tried = no_grid s name ∷ [];
+  after = s;
+  Answers = only Done;
+  takes_memory = false;
+}
+-- no cell changes; of the tree it is said in Doing
+meaning s (commands.Voxelise name c) = record {
+  tried = no_grid s name ∷ out_of_range (are_places c) ∷ no_box c ∷ too_large 2097152 (box_between c) ∷ [];
+  after = s;
+  Answers = only Done;
+  takes_memory = true;
+}
+-- the first active voxels of the box in block order, and whether there are more
+meaning s (commands.List name c limit) = record {
+  tried = no_grid s name ∷ out_of_range (is_limit limit && are_places c) ∷ no_box c ∷ [];
+  after = s;
+  Answers = only (listing (count_of limit) (active vdb (field_at s name) (box_between c)));
+  takes_memory = false;
+}
+-- the cells of a part of a plane, row by row
+meaning s (commands.Slice name z a) = record {
+  tried = no_grid s name ∷ out_of_range (are_places (flat z a)) ∷ no_box (flat z a) ∷ too_wide 64 (box_between (flat z a)) ∷ [];
+  after = s;
+  Answers = only (Slice (rows (field_at s name) (box_between (flat z a))));
+  takes_memory = false;
+}
+-- how many voxels of the box, or of all, are active
+meaning s (commands.Count name c) = record {
+  tried = no_grid s name ∷ tried_region c;
+  after = s;
+  Answers = only (Count (count (field_at s name) (region c)));
+  takes_memory = false;
+}
+-- the least box around the active voxels, if there are any
+meaning s (commands.Bounds name) = record {
+  tried = no_grid s name ∷ [];
+  after = s;
+  Answers = λ reply. (box : Option Box) × (reply ≡ Bounds box) × IsActiveBounds (field_at s name) box;
+  takes_memory = false;
+}
+-- how large the smallest tree of the field is
+meaning s (commands.Census name) = record {
+  tried = no_grid s name ∷ [];
+  after = s;
+  Answers = only (Census (census scalar_eq vdb (field_at s name)));
+  takes_memory = false;
+}
+
+-- what a command may be refused for, in order
+abbrev pub tried : Scene → Command → List (Option Refusal)
+tried s c = (meaning s c).tried
+
+-- why a command is refused, if it is
+abbrev pub refusal : Scene → Command → Option Refusal
+refusal s c = first_of_all (tried s c)
+
+-- the scene after a command that isn't refused
+abbrev pub after : Scene → Command → Scene
+after s c = (meaning s c).after
+
+-- the answer to a command that isn't refused
+abbrev pub Answers : Scene → Command → Reply → Type 0
+Answers s c reply = (meaning s c).Answers reply
+
+-- whether a command may take memory
 abbrev pub takes_memory : Scene → Command → Bool
-takes_memory s (commands.Grid name kind v) = true
-takes_memory s (commands.Drop name) = false
-takes_memory s (commands.Copy from to) = true
-takes_memory s (commands.Get name k p) = false
-takes_memory s (commands.Set name k p v) = line_takes_memory s name p (writes.On v)
-takes_memory s (commands.Unset name k p v) = line_takes_memory s name p (writes.Off v)
-takes_memory s (commands.Only name k p v) = line_takes_memory s name p (writes.Value v)
-takes_memory s (commands.State name k p on) = line_takes_memory s name p (writes.State on)
-takes_memory s (commands.Fill name c v on) = true
-takes_memory s (commands.Clip name c) = true
-takes_memory s (commands.Prune name) = false
-takes_memory s (commands.Voxelise name c) = true
-takes_memory s (commands.List name c limit) = false
-takes_memory s (commands.Slice name z a) = false
-takes_memory s (commands.Count name c) = false
-takes_memory s (commands.Bounds name) = false
-takes_memory s (commands.Census name) = false
+takes_memory s c = (meaning s c).takes_memory
 
 -- ---- one step
 

@@ -1,7 +1,7 @@
 //! What a command answers.
 
 ghost use Rattle.std.specs.Prelude.{◌≡◌};
-ghost use Rattle.vdb_scene.specs.Step.{of_tree};
+ghost use Rattle.vdb_scene.specs.Refusals.{of_tree};
 
 use crate::{Scalar, Slice, Voxels};
 use vdb_coord::Coord;

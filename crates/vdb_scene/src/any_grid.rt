@@ -1,5 +1,5 @@
 //! A grid of any kind.
-ghost use Rattle.std.specs.Prelude.{◌≡◌, false, IfErr, IfOk, IsOk, IsTrue, OnOk};
+ghost use Rattle.std.specs.Prelude.{◌≡◌, ◌+◌, ◌≤◌, false, IfErr, IfOk, IsOk, IsTrue, OnOk};
 ghost use Rattle.std.specs.Option.{unwrap_or};
 ghost use Rattle.vdb_coord.specs.Blocks.{vdb};
 ghost use Rattle.vdb_coord.specs.Space.{everywhere};
@@ -53,9 +53,10 @@ impl AnyGrid {
         }
     }
 
-    /// The cell of a voxel.
+    /// The cell of a voxel, by at most three visits.
     pub fn get(&self, at: Coord, steps: &mut Steps) -> Cell<Scalar>
-        ensures { result ≡ (grid_field self.now).cell at }
+        ensures cell { result ≡ (grid_field self.now).cell at }
+        ensures steps { steps.new ≤ steps.old + 3 }
     {
         match self {
             AnyGrid::Bool(tree) => grid_tree::get(tree, at, steps),

@@ -3,11 +3,13 @@ ghost use Rattle.std.specs.Prelude.{◌≡◌, IfOk, IfErr, Some, None, ◌∷�
 ghost use Rattle.std.specs.Borrow.{sem};
 ghost use Rattle.std.specs.Io.BufRead.{Rests};
 ghost use Rattle.vdb_coord.specs.Space.{extent, is_box};
-ghost use Rattle.vdb_scene.specs.Doing.{AppliesTo, CarriesOut};
+ghost use Rattle.vdb_scene.specs.Doing.{AppliesTo, CarriesOut, LeavesTrees, answer_of};
 ghost use Rattle.vdb_scene.specs.Grids.{scene_of};
 ghost use Rattle.vdb_scene.specs.contracts.scene.Scene.{the_row};
 ghost use Rattle.vdb_scene.specs.Scalars.{has_form, has_value, number, scalar};
-ghost use Rattle.vdb_scene.specs.Step.{are_places, box_between, count_of, first_of_all, flat as flat_corners, is_accessor, is_component, is_limit, is_place, no_box, other_form, out_of_range, passes, place, write_command};
+ghost use Rattle.vdb_scene.specs.Places.{are_places, box_between, count_of, flat as flat_corners, is_accessor, is_component, is_limit, is_place, place};
+ghost use Rattle.vdb_scene.specs.Refusals.{first_of_all, no_box, other_form, out_of_range};
+ghost use Rattle.vdb_scene.specs.Step.{passes, write_command};
 ghost use Rattle.vdb_tree.specs.Field.{as_write_of};
 ghost use Rattle.vdb_scene.specs.declared.command.Command.TheVariants as commands;
 
@@ -171,7 +173,8 @@ impl Scene {
         kind: Kind,
         background: Literal,
     ) -> Result<Answer<'static>, Refusal>
-        ensures { CarriesOut (scene_of self.old) (commands.Grid name kind background) result (scene_of self.new) }
+        ensures step { CarriesOut (scene_of self.old) (commands.Grid name kind background) result (scene_of self.new) }
+        ensures trees { LeavesTrees (commands.Grid name kind background) (answer_of result) self.old self.new }
     {
         if self.has(&name) {
             return Err(Refusal::NameTaken);
@@ -186,7 +189,8 @@ impl Scene {
 
     /// Carries out a command that takes a grid away.
     fn take(&mut self, name: &Name) -> Result<Answer<'static>, Refusal>
-        ensures { CarriesOut (scene_of self.old) (commands.Drop name.now) result (scene_of self.new) }
+        ensures step { CarriesOut (scene_of self.old) (commands.Drop name.now) result (scene_of self.new) }
+        ensures trees { LeavesTrees (commands.Drop name.now) (answer_of result) self.old self.new }
     {
         if self.grids.remove(name).is_none() {
             return Err(Refusal::NoGrid);
@@ -196,7 +200,8 @@ impl Scene {
 
     /// Carries out a command that copies a grid.
     fn copy(&mut self, from: &Name, to: Name) -> Result<Answer<'static>, Refusal>
-        ensures { CarriesOut (scene_of self.old) (commands.Copy from.now to) result (scene_of self.new) }
+        ensures step { CarriesOut (scene_of self.old) (commands.Copy from.now to) result (scene_of self.new) }
+        ensures trees { LeavesTrees (commands.Copy from.now to) (answer_of result) self.old self.new }
     {
         let Some(grid) = self.get(from) else {
             return Err(Refusal::NoGrid);
@@ -244,7 +249,8 @@ impl Scene {
         change: Write<Literal>,
         steps: &mut Steps,
     ) -> Result<Answer<'static>, Refusal>
-        ensures { CarriesOut (scene_of self.old) (write_command name.now accessor at.now change) result (scene_of self.new) }
+        ensures step { CarriesOut (scene_of self.old) (write_command name.now accessor at.now change) result (scene_of self.new) }
+        ensures trees { LeavesTrees (write_command name.now accessor at.now change) (answer_of result) self.old self.new }
     {
         let Some(grid) = self.grids.get_mut(name) else {
             return Err(Refusal::NoGrid);
@@ -269,7 +275,8 @@ impl Scene {
         on: bool,
         steps: &mut Steps,
     ) -> Result<Answer<'static>, Refusal>
-        ensures { CarriesOut (scene_of self.old) (commands.Fill name.now corners.now value on) result (scene_of self.new) }
+        ensures step { CarriesOut (scene_of self.old) (commands.Fill name.now corners.now value on) result (scene_of self.new) }
+        ensures trees { LeavesTrees (commands.Fill name.now corners.now value on) (answer_of result) self.old self.new }
     {
         let Some(grid) = self.grids.get_mut(name) else {
             return Err(Refusal::NoGrid);
@@ -287,7 +294,8 @@ impl Scene {
         corners: &Corners,
         steps: &mut Steps,
     ) -> Result<Answer<'static>, Refusal>
-        ensures { CarriesOut (scene_of self.old) (commands.Clip name.now corners.now) result (scene_of self.new) }
+        ensures step { CarriesOut (scene_of self.old) (commands.Clip name.now corners.now) result (scene_of self.new) }
+        ensures trees { LeavesTrees (commands.Clip name.now corners.now) (answer_of result) self.old self.new }
     {
         let Some(grid) = self.grids.get_mut(name) else {
             return Err(Refusal::NoGrid);
@@ -299,7 +307,8 @@ impl Scene {
 
     /// Carries out a command that prunes a grid.
     fn prune(&mut self, name: &Name, steps: &mut Steps) -> Result<Answer<'static>, Refusal>
-        ensures { CarriesOut (scene_of self.old) (commands.Prune name.now) result (scene_of self.new) }
+        ensures step { CarriesOut (scene_of self.old) (commands.Prune name.now) result (scene_of self.new) }
+        ensures trees { LeavesTrees (commands.Prune name.now) (answer_of result) self.old self.new }
     {
         let Some(grid) = self.grids.get_mut(name) else {
             return Err(Refusal::NoGrid);
@@ -315,7 +324,8 @@ impl Scene {
         corners: &Corners,
         steps: &mut Steps,
     ) -> Result<Answer<'static>, Refusal>
-        ensures { CarriesOut (scene_of self.old) (commands.Voxelise name.now corners.now) result (scene_of self.new) }
+        ensures step { CarriesOut (scene_of self.old) (commands.Voxelise name.now corners.now) result (scene_of self.new) }
+        ensures trees { LeavesTrees (commands.Voxelise name.now corners.now) (answer_of result) self.old self.new }
     {
         let Some(grid) = self.grids.get_mut(name) else {
             return Err(Refusal::NoGrid);
@@ -359,7 +369,7 @@ impl Scene {
     /// Carries out a command and answers it. Refusals are tried in their one order, the first that applies is answered,
     /// and then the scene is as it was; so it is where the answer is want of memory, which comes in place of nothing else.
     pub fn apply(&mut self, command: &Command, steps: &mut Steps) -> Answer<'_>
-        ensures* step { sem 𝓛 (Rests the_row self.entry (λ new. AppliesTo (scene_of self.old) command.now result (scene_of new))) }
+        ensures* step { sem 𝓛 (Rests the_row self.entry (λ new. AppliesTo self.old command.now result new)) }
     {
         match self.carry_out(command, steps) {
             Ok(answer) => answer,
@@ -369,7 +379,7 @@ impl Scene {
 
     /// Carries out a command.
     fn carry_out(&mut self, command: &Command, steps: &mut Steps) -> Result<Answer<'_>, Refusal>
-        ensures* step { sem 𝓛 (Rests the_row self.entry (λ new. CarriesOut (scene_of self.old) command.now result (scene_of new))) }
+        ensures* step { sem 𝓛 (Rests the_row self.entry (λ new. CarriesOut (scene_of self.old) command.now result (scene_of new) × LeavesTrees command.now (answer_of result) self.old new)) }
     {
         match command {
             Command::Grid {

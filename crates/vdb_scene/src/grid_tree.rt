@@ -1,6 +1,6 @@
 //! Calls on a tree of one type of values as a grid of any kind.
 
-ghost use Rattle.std.specs.Prelude.{◌≡◌, false, IfErr, IsOk, IsTrue};
+ghost use Rattle.std.specs.Prelude.{◌≡◌, ◌+◌, ◌≤◌, false, IfErr, IsOk, IsTrue};
 ghost use Rattle.std.specs.Option.{unwrap_or};
 ghost use Rattle.vdb_coord.specs.Blocks.{vdb};
 ghost use Rattle.vdb_coord.specs.Space.{everywhere};
@@ -21,9 +21,10 @@ use vdb_tree::{Tree, TreeRefusal, Write};
 use vdb_value::Cell;
 use vdb_walk::Census;
 
-/// The cell of a voxel.
+/// The cell of a voxel, by at most three visits.
 pub fn get<V: GridValue>(tree: &Tree<V>, at: Coord, steps: &mut Steps) -> Cell<Scalar>
-    ensures { result ≡ (as_field_of V.as_scalar (field_of vdb tree.now)).cell at }
+    ensures cell { result ≡ (as_field_of V.as_scalar (field_of vdb tree.now)).cell at }
+    ensures steps { steps.new ≤ steps.old + 3 }
 {
     let cell = tree.get(at, steps);
     Cell {

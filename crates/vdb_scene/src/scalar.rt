@@ -1,7 +1,8 @@
 //! Values of any kind.
 
+ghost use Rattle.std.specs.Option.{option_map};
 ghost use Rattle.std.specs.Prelude.{◌≡◌, refl};
-ghost use Rattle.vdb_scene.specs.Scalars.{kind_of, scalar_eq};
+ghost use Rattle.vdb_scene.specs.Scalars.{kind_of, scalar_bytes, scalar_eq, scalar_greater, scalar_lesser, scalar_sum};
 ghost use Rattle.vdb_scene.specs.declared.scalar.Scalar.{Scalar};
 ghost use Rattle.vdb_scene.specs.declared.scalar.Scalar.TheVariants as scalars;
 
@@ -34,6 +35,15 @@ pub trait GridValue: Stored<512> + Stored<64> + Stored<8> {
 
     /// Values are equal where they are so as values of any kind.
     ghost same_eq: { (x y : Self) → scalar_eq (as_scalar x) (as_scalar y) ≡ Self.eq x y };
+
+    /// The lesser, the greater, the sum and the bytes are those of values of any kind.
+    ghost same_lesser: { (x y : Self) → scalar_lesser (as_scalar x) (as_scalar y) ≡ as_scalar (Self.lesser x y) };
+
+    ghost same_greater: { (x y : Self) → scalar_greater (as_scalar x) (as_scalar y) ≡ as_scalar (Self.greater x y) };
+
+    ghost same_sum: { (x y : Self) → scalar_sum (as_scalar x) (as_scalar y) ≡ option_map as_scalar (Self.sum_of x y) };
+
+    ghost same_bytes: { (x : Self) → scalar_bytes (as_scalar x) ≡ Self.bytes_of x };
 }
 
 impl GridValue for bool {
@@ -53,6 +63,14 @@ impl GridValue for bool {
     ghost same_kind = { λ x. refl };
 
     ghost same_eq = { λ x y. refl };
+
+    ghost same_lesser = { λ x y. refl };
+
+    ghost same_greater = { λ x y. refl };
+
+    ghost same_sum = { λ x y. refl };
+
+    ghost same_bytes = { λ x. refl };
 }
 
 impl GridValue for i32 {
@@ -72,6 +90,14 @@ impl GridValue for i32 {
     ghost same_kind = { λ x. refl };
 
     ghost same_eq = { λ x y. refl };
+
+    ghost same_lesser = { λ x y. refl };
+
+    ghost same_greater = { λ x y. refl };
+
+    ghost same_sum = { λ x y. refl };
+
+    ghost same_bytes = { λ x. refl };
 }
 
 impl GridValue for i64 {
@@ -91,4 +117,12 @@ impl GridValue for i64 {
     ghost same_kind = { λ x. refl };
 
     ghost same_eq = { λ x y. refl };
+
+    ghost same_lesser = { λ x y. refl };
+
+    ghost same_greater = { λ x y. refl };
+
+    ghost same_sum = { λ x y. refl };
+
+    ghost same_bytes = { λ x. refl };
 }

@@ -1,6 +1,9 @@
 //! Scenes: grids under names.
 ghost use Rattle.std.specs.Prelude.{◌≡◌, ◌++◌, ◌∷◌, [], IfErr, OnErr, OnOk, map, length, is_some, nat_le};
+ghost use Rattle.std.specs.Cmp.Lexicographic.{slice_cmp};
+ghost use Rattle.std.specs.List.Sorted.{IsStrictlySortedBy};
 ghost use Rattle.std.specs.Option.{option_map};
+ghost use Rattle.std.specs.Ordering.{nat_cmp};
 ghost use Rattle.vdb_scene.specs.Grids.{grid_of, scene_of};
 ghost use Rattle.vdb_scene.specs.Scene.{grid_at, with_grid};
 ghost use Rattle.vdb_scene.specs.Step.{Inserts};
@@ -41,9 +44,10 @@ impl Scene {
         self.grids.get(name)
     }
 
-    /// The names of the grids, by rising bytes.
+    /// The names of the grids. They rise by their bytes, and each stands once.
     pub fn names(&self) -> Keys<'_, Name, AnyGrid>
-        ensures { result ≡ map (λ e. e.0) (scene_of self.now) }
+        ensures names { result ≡ map (λ e. e.0) (scene_of self.now) }
+        ensures rising { IsStrictlySortedBy (slice_cmp nat_cmp) result }
     {
         self.grids.keys()
     }

@@ -3,7 +3,7 @@ ghost use Rattle.std.specs.Prelude.{◌≡◌, length};
 ghost use Rattle.vdb_coord.specs.Space.{extent};
 ghost use Rattle.vdb_scene.specs.Grids.{grid_field};
 ghost use Rattle.vdb_scene.specs.Slices.{HandsCell, HandsNumber, HandsRow, cell_at, rows_left};
-ghost use Rattle.vdb_scene.specs.Step.{rows};
+ghost use Rattle.vdb_scene.specs.Replies.{rows};
 
 use crate::reader::AnyReader;
 use crate::{AnyGrid, Scalar};

@@ -9,7 +9,7 @@ use Rattle.vdb_scene.specs.declared.command.Num.TheVariants.{Near, Far}
 use Rattle.vdb_scene.specs.declared.answer.Refusal.TheVariants as refusals
 use Rattle.vdb_scene.specs.declared.scalar.Scalar.TheVariants.{I32, I64}
 use Rattle.vdb_coord.specs.Space.{coord}
-use Rattle.vdb_scene.specs.Step.{Done, Refused, Value, Count, Bounds, Census}
+use Rattle.vdb_scene.specs.Replies.{Done, Refused, Value, Count, Bounds, Census}
 use Rattle.vdb_script.specs.Lines.{lines, tokens}
 use Rattle.vdb_script.specs.Grammar.{number_of, parse}
 use Rattle.vdb_script.specs.Run.{read}

@@ -6,7 +6,7 @@ use Rattle.vdb_coord.specs.Space.{Box}
 use Rattle.vdb_coord.specs.declared.Coord.{Coord}
 use Rattle.vdb_value.specs.declared.Cell.{Cell}
 use Rattle.vdb_scene.specs.Scalars.{scalar_text}
-use Rattle.vdb_scene.specs.Step.{Reply, Row, Done, Refused, Value, Listing, Slice, Count, Bounds, Census}
+use Rattle.vdb_scene.specs.Replies.{Reply, Row, Done, Refused, Value, Listing, Slice, Count, Bounds, Census}
 use Rattle.vdb_scene.specs.declared.answer.Refusal.{Refusal}
 use Rattle.vdb_scene.specs.declared.answer.Refusal.TheVariants as refusals
 use Rattle.vdb_scene.specs.declared.scalar.Scalar.{Scalar}

@@ -1,7 +1,7 @@
 //! Voxels that are listed, as text.
 ghost use Rattle.std.specs.Prelude.{◌≡◌, ◌≤◌, ◌||◌, ◌++◌, drop, flat_map, IfOk, OnOk, is_err, length, take};
 ghost use Rattle.vdb_scene.specs.Listings.{listed_of, voxels_of};
-ghost use Rattle.vdb_scene.specs.Step.{listing as listing_reply};
+ghost use Rattle.vdb_scene.specs.Replies.{listing as listing_reply};
 ghost use Rattle.vdb_scene.specs.Watched.{has_failed, source};
 ghost use Rattle.vdb_script.specs.Text.{last_line, more_word, text, voxel_line};
 ghost use Rattle.vdb_script.specs.Writing.{Adds, Writes};

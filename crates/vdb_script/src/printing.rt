@@ -3,8 +3,8 @@
 ghost use Rattle.std.specs.Prelude.{◌≡◌, ◌≤◌, ◌||◌, [], ◌∷◌, ◌++◌, if◌then◌else◌, is_err, length, map};
 ghost use Rattle.vdb_scene.specs.Scalars.{scalar_text};
 ghost use Rattle.vdb_scene.specs.Shown.{Shows};
-ghost use Rattle.vdb_scene.specs.Step.{Reply};
-ghost use Rattle.vdb_scene.specs.Step as replies;
+ghost use Rattle.vdb_scene.specs.Replies.{Reply};
+ghost use Rattle.vdb_scene.specs.Replies as replies;
 ghost use Rattle.vdb_scene.specs.Watched.{has_failed, source};
 ghost use Rattle.vdb_script.specs.Text.{line, state_text, text, word};
 ghost use Rattle.vdb_script.specs.Writing.{Writes};

@@ -2,7 +2,7 @@
 ghost use Rattle.std.specs.Prelude.{◌≡◌, ◌≤◌, length, Some, option_map};
 ghost use Rattle.std.specs.Fmt.{signed_decimal};
 ghost use Rattle.vdb_scene.specs.Shown.{box_of_corners};
-ghost use Rattle.vdb_scene.specs.Step as replies;
+ghost use Rattle.vdb_scene.specs.Replies as replies;
 ghost use Rattle.vdb_script.specs.Text.{text};
 
 use crate::printing::{ANSWER_LIMIT, compose};

@@ -2,7 +2,7 @@
 ghost use Rattle.std.specs.Prelude.{◌≡◌, ◌≤◌, ◌||◌, [], ◌∷◌, ◌++◌, flat_map, codes, is_err, length};
 ghost use Rattle.std.specs.Fmt.{signed_decimal};
 ghost use Rattle.vdb_scene.specs.Slices.{cells_left, rows_left};
-ghost use Rattle.vdb_scene.specs.Step as replies;
+ghost use Rattle.vdb_scene.specs.Replies as replies;
 ghost use Rattle.vdb_scene.specs.Watched.{has_failed, source};
 ghost use Rattle.vdb_script.specs.Text.{cell_text, last_line, row_line, text};
 ghost use Rattle.vdb_script.specs.Writing.{Adds, Writes};

@@ -3,7 +3,8 @@ use Rattle.std.proofs.Common.{◌≡◌, refl, ℕ, pos, false, List, [], ◌∷
 use Rattle.std.specs.Fmt.{digits}
 use Rattle.vdb_value.specs.declared.Kind.TheVariants as kinds
 use Rattle.vdb_scene.specs.Scene.{Scene}
-use Rattle.vdb_scene.specs.Step.{Reply, Done, Value, after}
+use Rattle.vdb_scene.specs.Replies.{Reply, Done, Value}
+use Rattle.vdb_scene.specs.Step.{after}
 use Rattle.vdb_scene.specs.declared.scalar.Scalar.TheVariants.{I32}
 use Rattle.vdb_scene.specs.declared.command.Command.TheVariants as commands
 use Rattle.vdb_scene.specs.declared.command.Literal.TheVariants.{Number}

@@ -4,10 +4,10 @@ use Rattle.std.specs.Prelude.{nat_lt}
 use Rattle.std.specs.Io.KnownBytes.{Appends}
 use Rattle.std.proofs.KnownBytes.{Appends-nil}
 use Rattle.std.proofs.lemmas.Bool.Decides.{nat_tests}
-use Rattle.vdb_scene.specs.Doing.{AppliesTo}
+use Rattle.vdb_scene.specs.Doing.{ShowsStep}
 use Rattle.vdb_scene.specs.Scene.{Scene}
 use Rattle.vdb_scene.specs.Shown.{Shows}
-use Rattle.vdb_scene.specs.Step.{Reply, Refused}
+use Rattle.vdb_scene.specs.Replies.{Reply, Refused}
 use Rattle.vdb_scene.specs.declared.answer.Answer.{Answer}
 use Rattle.vdb_scene.specs.declared.answer.Answer.TheVariants as answers
 use Rattle.vdb_scene.specs.declared.answer.Refusal.{Refusal}
@@ -42,7 +42,7 @@ module _ (s : Scene) (line : List ℕ) (turn : Turn) (old new : Option (List ℕ
   module _ (answer : Answer) (refused : (reply : Reply) → Shows answer reply → turn.refused ≡ is_refused reply)
       (out : (reply : Reply) → Shows answer reply → Writes old new turn.written (text reply)) where
     -- a command
-    pub turn_applied : (c : Command) (next : Scene) → length line < 257 → parse line ≡ Ok (Some c) → AppliesTo s c answer next → TakesTurn s line turn old new next
+    pub turn_applied : (c : Command) (next : Scene) → length line < 257 → parse line ≡ Ok (Some c) → ShowsStep s c answer next → TakesTurn s line turn old new next
     turn_applied c next few is h = record {
       replies = h.0 ∷ [];
       takes = subst (λ r. TakesLine s r (h.0 ∷ []) next) (sym (read_short line few ∙ is)) (h.0, refl, h.2);

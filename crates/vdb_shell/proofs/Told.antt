@@ -5,7 +5,7 @@ use Rattle.std.specs.Io.KnownBytes.{Consumes, IsAtEnd, prepend_known}
 use Rattle.std.proofs.KnownBytes.{Consumes-trans}
 use Rattle.std.proofs.Math.Seq.{take-append_seam}
 use Rattle.vdb_scene.specs.Scene.{Scene}
-use Rattle.vdb_scene.specs.Step.{Reply}
+use Rattle.vdb_scene.specs.Replies.{Reply}
 use Rattle.vdb_script.specs.Lines.{lines, script_lines, whole_lines}
 use Rattle.vdb_script.specs.Reading.{HandsLine, HandsPart, HandsTooMuch, Stock, budget, line_end}
 use Rattle.vdb_script.specs.Run.{Run, TakesLine, read}

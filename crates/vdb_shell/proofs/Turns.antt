@@ -5,7 +5,7 @@ use Rattle.std.specs.Io.KnownBytes.{Appends, Consumes, prepend_known}
 use Rattle.std.proofs.KnownBytes.{Appends-nil, Appends-trans}
 use Rattle.std.proofs.lemmas.Grind.{flat_map-append}
 use Rattle.vdb_scene.specs.Scene.{Scene}
-use Rattle.vdb_scene.specs.Step.{Reply}
+use Rattle.vdb_scene.specs.Replies.{Reply}
 use Rattle.vdb_script.specs.Reading.{HandsEnd, HandsLine, HandsPart, HandsTooMuch, Stock, budget}
 use Rattle.vdb_script.specs.Run.{TakesLine, read}
 use Rattle.vdb_script.specs.Text.{answers_text, text}

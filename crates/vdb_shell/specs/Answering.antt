@@ -3,7 +3,7 @@ use Rattle.std.specs.Prelude.{◌≡◌, ℕ, Bool, true, false, List, [], ◌�
 use Rattle.std.specs.List.{list_any}
 use Rattle.std.specs.Io.KnownBytes.{Appends}
 use Rattle.vdb_scene.specs.Scene.{Scene}
-use Rattle.vdb_scene.specs.Step.{Reply}
+use Rattle.vdb_scene.specs.Replies.{Reply}
 use Rattle.vdb_script.specs.Run.{TakesLine, read}
 use Rattle.vdb_script.specs.Text.{answers_text, text}
 use Rattle.vdb_script.specs.Writing.{HasCut}

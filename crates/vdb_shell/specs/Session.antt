@@ -2,7 +2,7 @@
 use Rattle.std.specs.Prelude.{◌≡◌, ℕ, ◌^◌, ◌<◌, ◌≤◌, ◌+◌, Bool, true, false, if◌then◌else◌, List, [], ◌∷◌, ◌++◌, length, take, Option, Some, None}
 use Rattle.std.specs.List.{list_any}
 use Rattle.vdb_scene.specs.Scene.{Scene}
-use Rattle.vdb_scene.specs.Step.{Reply, Done, Refused, Value, Listing, Slice, Count, Bounds, Census}
+use Rattle.vdb_scene.specs.Replies.{Reply, Done, Refused, Value, Listing, Slice, Count, Bounds, Census}
 use Rattle.vdb_script.specs.Lines.{lines, script_lines, whole_lines}
 use Rattle.vdb_script.specs.Run.{Run}
 use Rattle.vdb_script.specs.Text.{answers_text, text}

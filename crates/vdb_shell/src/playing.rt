@@ -3,7 +3,7 @@ ghost use Rattle.std.specs.Prelude.{◌≡◌, ◌<◌, ◌||◌, ◌↔◌, fal
 ghost use Rattle.std.specs.Io.KnownBytes.{Appends, Consumes};
 ghost use Rattle.vdb_scene.specs.Grids.{scene_of};
 ghost use Rattle.vdb_scene.specs.Shown.{Shows};
-ghost use Rattle.vdb_scene.specs.Step.{Reply};
+ghost use Rattle.vdb_scene.specs.Replies.{Reply};
 ghost use Rattle.vdb_scene.specs.Watched.{has_failed, source};
 ghost use Rattle.vdb_script.specs.Reading.{EndsWith, HandsEnd, HandsLine, HandsPart, HandsTooMuch, ahead, budget};
 ghost use Rattle.vdb_script.specs.Text.{text};

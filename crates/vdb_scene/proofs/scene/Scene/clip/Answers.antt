@@ -1,21 +1,23 @@
 use Rattle.std.proofs.Common.{◌∙◌, ap, refl, sym, Some}
 use Rattle.std.proofs.lemmas.Result.{err_from_is_err_and}
 use Rattle.vdb_tree.specs.Field.{clip}
-use Rattle.vdb_scene.specs.Step as replies
-use Rattle.vdb_scene.specs.Step.{changed, of_tree}
+use Rattle.vdb_scene.specs.Replies as replies
+use Rattle.vdb_scene.specs.Refusals.{of_tree}
+use Rattle.vdb_scene.specs.Step.{changed}
 use Rattle.vdb_scene.proofs.Lent.{changed_field, found, kept, missing, unchanged}
 use Rattle.vdb_scene.proofs.Steps.{corners_first, refused}
 use Rattle.vdb_scene.specs.Grids.{grid_field, grid_limit, scene_of}
 use Rattle.vdb_scene.specs.declared.command.Command.TheVariants as commands
+use Rattle.vdb_scene.proofs.Trees.{refused_leaves, same_back}
 use Rattle.vdb_scene.proofs.scene.Scene.clip.Goals as goal
 
-pub returns-in_default : goal.returns-in_default
-returns-in_default c =
+pub returns-in_default-clause-step : goal.returns-in_default-clause-step
+returns-in_default-clause-step c =
     let grids = c.args.self.now.grids.entries in
     (rw (missing grids c.args.name.now (sym c.in_default.ensures.value)) refl, rw c.get_mut.follows.holds-at-none refl)
 
-pub returns-in_err-bounds : goal.returns-in_err-bounds
-returns-in_err-bounds c =
+pub returns-in_err-bounds-clause-step : goal.returns-in_err-bounds-clause-step
+returns-in_err-bounds-clause-step c =
     let grids = c.args.self.now.grids.entries in
     let grid = c.in-Some.grid.now in
     let there = sym c.in-Some.ensures.value in
@@ -24,8 +26,8 @@ returns-in_err-bounds c =
     rw exit.1 (refused (scene_of c.args.self.now) (commands.Clip c.args.name.now c.args.corners.now) _ _ (rw (found grids c.args.name.now grid there) first.0) first.1
     (unchanged grids c.args.name.now _ grid grid there (c.get_mut.follows.holds grid).0 refl refl))
 
-pub returns-in_err-clip : goal.returns-in_err-clip
-returns-in_err-clip c =
+pub returns-in_err-clip-clause-step : goal.returns-in_err-clip-clause-step
+returns-in_err-clip-clause-step c =
     let grids = c.args.self.now.grids.entries in
     let grid = c.in-Some.grid.now in
     let there = sym c.in-Some.ensures.value in
@@ -37,8 +39,8 @@ returns-in_err-clip c =
       unchanged grids c.args.name.now _ grid c.clip.new.self there (c.get_mut.follows.holds c.clip.new.self).0 same c.in_err-clip.ensures.limit,
     )
 
-pub returns : goal.returns
-returns c =
+pub returns-clause-step : goal.returns-clause-step
+returns-clause-step c =
     let grids = c.args.self.now.grids.entries in
     let grid = c.in-Some.grid.now in
     let there = sym c.in-Some.ensures.value in (
@@ -47,3 +49,8 @@ returns c =
       changed_field grids c.args.name.now _ grid c.clip.new.self there (c.get_mut.follows.holds c.clip.new.self).0 (clip c.in_ok-bounds.bounds) c.in_ok-clip.ensures.outcome.0 c.in_ok-clip.ensures.limit
           ∙ ap (λ box. changed (scene_of c.args.self.now) c.args.name.now (clip box)) c.in_ok-bounds.ensures.bounds,
     )
+
+pub returns-in_err-bounds-clause-trees : goal.returns-in_err-bounds-clause-trees
+returns-in_err-bounds-clause-trees c =
+    let exit = err_from_is_err_and c.from_residual.result c.from_residual.ensures.1 in
+    rw exit.1 (refused_leaves c.args.self.now (record c.args.self.now { grids = c.get_mut.follows.lender c.in-Some.grid.now }) (commands.Clip c.args.name.now c.args.corners.now) _ (same_back c.args.self.now.grids.entries _ c.args.name.now c.in-Some.grid.now (sym c.in-Some.ensures.value) (c.get_mut.follows.holds c.in-Some.grid.now).0))

@@ -5,14 +5,16 @@ use Rattle.vdb_tree.specs.Field.{fill}
 use Rattle.vdb_scene.specs.Grids.{grid_field, grid_limit}
 use Rattle.vdb_scene.proofs.Lent.{changed_field, kept, unchanged}
 use Rattle.vdb_scene.proofs.Filling.{fill_corners_refused, fill_done, fill_missing, fill_refused, fill_value_refused}
+use Rattle.vdb_scene.proofs.Trees.{refused_leaves, same_back}
+use Rattle.vdb_scene.specs.declared.command.Command.TheVariants as commands
 use Rattle.vdb_scene.proofs.scene.Scene.fill.Goals as goal
 
-pub returns-in_default : goal.returns-in_default
-returns-in_default c =
+pub returns-in_default-clause-step : goal.returns-in_default-clause-step
+returns-in_default-clause-step c =
     fill_missing c.args.self.now.grids.entries c.args.name.now c.args.corners.now c.args.value c.args.on _ (sym c.in_default.ensures.value) (rw c.get_mut.follows.holds-at-none refl)
 
-pub returns-in_err-value : goal.returns-in_err-value
-returns-in_err-value c =
+pub returns-in_err-value-clause-step : goal.returns-in_err-value-clause-step
+returns-in_err-value-clause-step c =
     let grids = c.args.self.now.grids.entries in
     let grid = c.in-Some.grid.now in
     let there = sym c.in-Some.ensures.value in
@@ -20,8 +22,8 @@ returns-in_err-value c =
     rw exit.1 (fill_value_refused grids c.args.name.now c.args.corners.now c.args.value c.args.on _ grid there c.kind.result c.kind.ensures _ (c.in_err-value.ensures.refusal ∙ ap Some (sym exit.2))
     (unchanged grids c.args.name.now _ grid grid there (c.get_mut.follows.holds grid).0 refl refl))
 
-pub returns-in_err-bounds : goal.returns-in_err-bounds
-returns-in_err-bounds c =
+pub returns-in_err-bounds-clause-step : goal.returns-in_err-bounds-clause-step
+returns-in_err-bounds-clause-step c =
     let grids = c.args.self.now.grids.entries in
     let grid = c.in-Some.grid.now in
     let there = sym c.in-Some.ensures.value in
@@ -29,8 +31,8 @@ returns-in_err-bounds c =
     rw exit.1 (fill_corners_refused grids c.args.name.now c.args.corners.now c.args.value c.args.on _ grid there c.kind.result c.kind.ensures c.in_ok-value.ensures.form c.in_ok-value.ensures.range
     _ (c.in_err-bounds.ensures.refusal ∙ ap Some (sym exit.2)) (unchanged grids c.args.name.now _ grid grid there (c.get_mut.follows.holds grid).0 refl refl))
 
-pub returns-in_err-fill : goal.returns-in_err-fill
-returns-in_err-fill c =
+pub returns-in_err-fill-clause-step : goal.returns-in_err-fill-clause-step
+returns-in_err-fill-clause-step c =
     let grids = c.args.self.now.grids.entries in
     let grid = c.in-Some.grid.now in
     let there = sym c.in-Some.ensures.value in
@@ -42,8 +44,8 @@ returns-in_err-fill c =
     c.in_err-fill.field-0.0 (grid_field c.fill.new.self) c.in_err-fill.ensures.outcome
     (unchanged grids c.args.name.now _ grid c.fill.new.self there (c.get_mut.follows.holds c.fill.new.self).0 same c.in_err-fill.ensures.limit))
 
-pub returns : goal.returns
-returns c =
+pub returns-clause-step : goal.returns-clause-step
+returns-clause-step c =
     let grids = c.args.self.now.grids.entries in
     let grid = c.in-Some.grid.now in
     let there = sym c.in-Some.ensures.value in
@@ -51,3 +53,13 @@ returns c =
     c.in_ok-bounds.ensures.places c.in_ok-bounds.ensures.ordered c.in_ok-bounds.bounds c.in_ok-bounds.ensures.bounds c.in_ok-value.value c.in_ok-value.ensures.value c.in_ok-fill.ensures.outcome.1
     (changed_field grids c.args.name.now _ grid c.fill.new.self there (c.get_mut.follows.holds c.fill.new.self).0 (fill c.in_ok-bounds.bounds (record { value = c.in_ok-value.value; on = c.args.on }))
     c.in_ok-fill.ensures.outcome.0 c.in_ok-fill.ensures.limit)
+
+pub returns-in_err-value-clause-trees : goal.returns-in_err-value-clause-trees
+returns-in_err-value-clause-trees c =
+    let exit = err_from_is_err_and c.from_residual.result c.from_residual.ensures.1 in
+    rw exit.1 (refused_leaves c.args.self.now (record c.args.self.now { grids = c.get_mut.follows.lender c.in-Some.grid.now }) (commands.Fill c.args.name.now c.args.corners.now c.args.value c.args.on) _ (same_back c.args.self.now.grids.entries _ c.args.name.now c.in-Some.grid.now (sym c.in-Some.ensures.value) (c.get_mut.follows.holds c.in-Some.grid.now).0))
+
+pub returns-in_err-bounds-clause-trees : goal.returns-in_err-bounds-clause-trees
+returns-in_err-bounds-clause-trees c =
+    let exit = err_from_is_err_and c.from_residual-in_err-bounds.result c.from_residual-in_err-bounds.ensures.1 in
+    rw exit.1 (refused_leaves c.args.self.now (record c.args.self.now { grids = c.get_mut.follows.lender c.in-Some.grid.now }) (commands.Fill c.args.name.now c.args.corners.now c.args.value c.args.on) _ (same_back c.args.self.now.grids.entries _ c.args.name.now c.in-Some.grid.now (sym c.in-Some.ensures.value) (c.get_mut.follows.holds c.in-Some.grid.now).0))

@@ -1,15 +1,15 @@
 use Rattle.std.proofs.Common.{refl, sym}
-use Rattle.vdb_scene.specs.Step as replies
+use Rattle.vdb_scene.specs.Replies as replies
 use Rattle.vdb_scene.proofs.Lent.{found, missing, unchanged}
 use Rattle.vdb_scene.proofs.scene.Scene.prune.Goals as goal
 
-pub returns-in_default : goal.returns-in_default
-returns-in_default c =
+pub returns-in_default-clause-step : goal.returns-in_default-clause-step
+returns-in_default-clause-step c =
     let grids = c.args.self.now.grids.entries in
     (rw (missing grids c.args.name.now (sym c.in_default.ensures.value)) refl, rw c.get_mut.follows.holds-at-none refl)
 
-pub returns : goal.returns
-returns c =
+pub returns-clause-step : goal.returns-clause-step
+returns-clause-step c =
     let grids = c.args.self.now.grids.entries in
     let grid = c.in-Some.grid.now in
     let there = sym c.in-Some.ensures.value in (

@@ -1,22 +1,24 @@
-use Rattle.std.proofs.Common.{◌∙◌, ◌<◌, ◌≤◌, ap, refl, sym, Some}
+use Rattle.std.proofs.Common.{◌∙◌, ◌<◌, ◌≤◌, ap, refl, subst, sym, Some}
 use Rattle.std.proofs.lemmas.Bool.{le-ltb, lt-ltb}
 use Rattle.std.proofs.lemmas.Result.{err_from_is_err_and}
 use Rattle.vdb_coord.specs.Space.{volume}
-use Rattle.vdb_scene.specs.Step as replies
-use Rattle.vdb_scene.specs.Step.{box_between, of_tree}
+use Rattle.vdb_scene.specs.Replies as replies
+use Rattle.vdb_scene.specs.Places.{box_between}
+use Rattle.vdb_scene.specs.Refusals.{of_tree}
 use Rattle.vdb_scene.proofs.Lent.{found, missing, unchanged}
 use Rattle.vdb_scene.proofs.Steps.{corners_first, refused}
-use Rattle.vdb_scene.specs.Grids.{scene_of}
+use Rattle.vdb_scene.specs.Grids.{IsVoxelised, scene_of}
 use Rattle.vdb_scene.specs.declared.command.Command.TheVariants as commands
+use Rattle.vdb_scene.proofs.Trees.{refused_leaves, same_back}
 use Rattle.vdb_scene.proofs.scene.Scene.voxelise.Goals as goal
 
-pub returns-in_default : goal.returns-in_default
-returns-in_default c =
+pub returns-in_default-clause-step : goal.returns-in_default-clause-step
+returns-in_default-clause-step c =
     let grids = c.args.self.now.grids.entries in
     (rw (missing grids c.args.name.now (sym c.in_default.ensures.value)) refl, rw c.get_mut.follows.holds-at-none refl)
 
-pub returns-in_err-bounds : goal.returns-in_err-bounds
-returns-in_err-bounds c =
+pub returns-in_err-bounds-clause-step : goal.returns-in_err-bounds-clause-step
+returns-in_err-bounds-clause-step c =
     let grids = c.args.self.now.grids.entries in
     let grid = c.in-Some.grid.now in
     let there = sym c.in-Some.ensures.value in
@@ -25,8 +27,8 @@ returns-in_err-bounds c =
     rw exit.1 (refused (scene_of c.args.self.now) (commands.Voxelise c.args.name.now c.args.corners.now) _ _ (rw (found grids c.args.name.now grid there) first.0) first.1
     (unchanged grids c.args.name.now _ grid grid there (c.get_mut.follows.holds grid).0 refl refl))
 
-pub returns-then-volume-gt-VOXELISE_LIMIT : goal.returns-then-volume-gt-VOXELISE_LIMIT
-returns-then-volume-gt-VOXELISE_LIMIT c =
+pub returns-then-volume-gt-VOXELISE_LIMIT-clause-step : goal.returns-then-volume-gt-VOXELISE_LIMIT-clause-step
+returns-then-volume-gt-VOXELISE_LIMIT-clause-step c =
     let grids = c.args.self.now.grids.entries in
     let grid = c.in-Some.grid.now in
     let there = sym c.in-Some.ensures.value in
@@ -35,8 +37,8 @@ returns-then-volume-gt-VOXELISE_LIMIT c =
       unchanged grids c.args.name.now _ grid grid there (c.get_mut.follows.holds grid).0 refl refl,
     )
 
-pub returns-in_err-voxelise : goal.returns-in_err-voxelise
-returns-in_err-voxelise c =
+pub returns-in_err-voxelise-clause-step : goal.returns-in_err-voxelise-clause-step
+returns-in_err-voxelise-clause-step c =
     let grids = c.args.self.now.grids.entries in
     let grid = c.in-Some.grid.now in
     let there = sym c.in-Some.ensures.value in
@@ -48,8 +50,8 @@ returns-in_err-voxelise c =
       unchanged grids c.args.name.now _ grid c.voxelise.new.self there (c.get_mut.follows.holds c.voxelise.new.self).0 c.in_err-voxelise.ensures.field c.in_err-voxelise.ensures.limit,
     )
 
-pub returns : goal.returns
-returns c =
+pub returns-clause-step : goal.returns-clause-step
+returns-clause-step c =
     let grids = c.args.self.now.grids.entries in
     let grid = c.in-Some.grid.now in
     let there = sym c.in-Some.ensures.value in
@@ -58,3 +60,14 @@ returns c =
       (replies.Done, refl, refl),
       unchanged grids c.args.name.now _ grid c.voxelise.new.self there (c.get_mut.follows.holds c.voxelise.new.self).0 c.in_ok-voxelise.ensures.field c.in_ok-voxelise.ensures.limit,
     )
+
+pub returns-in_err-bounds-clause-trees : goal.returns-in_err-bounds-clause-trees
+returns-in_err-bounds-clause-trees c =
+    let exit = err_from_is_err_and c.from_residual.result c.from_residual.ensures.1 in
+    rw exit.1 (refused_leaves c.args.self.now (record c.args.self.now { grids = c.get_mut.follows.lender c.in-Some.grid.now }) (commands.Voxelise c.args.name.now c.args.corners.now) _ (same_back c.args.self.now.grids.entries _ c.args.name.now c.in-Some.grid.now (sym c.in-Some.ensures.value) (c.get_mut.follows.holds c.in-Some.grid.now).0))
+
+pub returns-then-volume-gt-VOXELISE_LIMIT-clause-trees : goal.returns-then-volume-gt-VOXELISE_LIMIT-clause-trees
+returns-then-volume-gt-VOXELISE_LIMIT-clause-trees c = same_back c.args.self.now.grids.entries _ c.args.name.now c.in-Some.grid.now (sym c.in-Some.ensures.value) (c.get_mut.follows.holds c.in-Some.grid.now).0
+
+pub returns-clause-trees : goal.returns-clause-trees
+returns-clause-trees c = (c.voxelise.new.self, (c.get_mut.follows.holds c.voxelise.new.self).0, subst (IsVoxelised c.voxelise.new.self) c.in_ok-bounds.ensures.bounds c.in_ok-voxelise.ensures.leaves)

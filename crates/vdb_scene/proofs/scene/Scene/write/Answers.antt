@@ -6,14 +6,16 @@ use Rattle.vdb_scene.specs.Grids.{grid_field, grid_limit}
 use Rattle.vdb_scene.proofs.Lent.{changed_field, kept, unchanged}
 use Rattle.vdb_scene.proofs.Steps.{test_fails, test_passes}
 use Rattle.vdb_scene.proofs.Writing.{write_accessor_refused, write_done, write_missing, write_place_refused, write_refused, write_value_refused}
+use Rattle.vdb_scene.proofs.Trees.{refused_leaves, same_back, write_leaves}
+use Rattle.vdb_scene.specs.Step.{write_command}
 use Rattle.vdb_scene.proofs.scene.Scene.write.Goals as goal
 
-pub returns-in_default : goal.returns-in_default
-returns-in_default c =
+pub returns-in_default-clause-step : goal.returns-in_default-clause-step
+returns-in_default-clause-step c =
     write_missing c.args.self.now.grids.entries c.args.name.now c.args.accessor c.args.at.now c.args.change _ (sym c.in_default.ensures.value) (rw c.get_mut.follows.holds-at-none refl)
 
-pub returns-in_err-change : goal.returns-in_err-change
-returns-in_err-change c =
+pub returns-in_err-change-clause-step : goal.returns-in_err-change-clause-step
+returns-in_err-change-clause-step c =
     let grids = c.args.self.now.grids.entries in
     let grid = c.in-Some.grid.now in
     let there = sym c.in-Some.ensures.value in
@@ -21,8 +23,8 @@ returns-in_err-change c =
     rw exit.1 (write_value_refused grids c.args.name.now c.args.accessor c.args.at.now c.args.change _ grid there c.kind.result c.kind.ensures _ (c.in_err-change.ensures.refusal ∙ ap Some (sym exit.2))
     (unchanged grids c.args.name.now _ grid grid there (c.get_mut.follows.holds grid).0 refl refl))
 
-pub returns-in_default-place_of : goal.returns-in_default-place_of
-returns-in_default-place_of c =
+pub returns-in_default-place_of-clause-step : goal.returns-in_default-place_of-clause-step
+returns-in_default-place_of-clause-step c =
     let grids = c.args.self.now.grids.entries in
     let grid = c.in-Some.grid.now in
     let there = sym c.in-Some.ensures.value in
@@ -30,8 +32,8 @@ returns-in_default-place_of c =
     c.in_ok-change.ensures.form c.in_ok-change.ensures.range (test_fails _ _ (sym c.in_default-place_of.ensures))
     (unchanged grids c.args.name.now _ grid grid there (c.get_mut.follows.holds grid).0 refl refl)
 
-pub returns-then-not-names_accessor : goal.returns-then-not-names_accessor
-returns-then-not-names_accessor c =
+pub returns-then-not-names_accessor-clause-step : goal.returns-then-not-names_accessor-clause-step
+returns-then-not-names_accessor-clause-step c =
     let grids = c.args.self.now.grids.entries in
     let grid = c.in-Some.grid.now in
     let there = sym c.in-Some.ensures.value in
@@ -39,8 +41,8 @@ returns-then-not-names_accessor c =
     c.in_ok-change.ensures.form c.in_ok-change.ensures.range (test_passes _ _ _ (sym c.in-Some-place_of.ensures)).0 (sym c.names_accessor.ensures ∙ c.if-not-names_accessor.true)
     (unchanged grids c.args.name.now _ grid grid there (c.get_mut.follows.holds grid).0 refl refl)
 
-pub returns-in_err-write : goal.returns-in_err-write
-returns-in_err-write c =
+pub returns-in_err-write-clause-step : goal.returns-in_err-write-clause-step
+returns-in_err-write-clause-step c =
     let grids = c.args.self.now.grids.entries in
     let grid = c.in-Some.grid.now in
     let there = sym c.in-Some.ensures.value in
@@ -51,8 +53,8 @@ returns-in_err-write c =
     c.in-Some-place_of.at at.1 c.in_ok-change.change c.in_ok-change.ensures.value c.in_err-write.field-0.0 (grid_field c.write.new.self) c.in_err-write.ensures.outcome c.in_err-write.ensures.memory
     (unchanged grids c.args.name.now _ grid c.write.new.self there (c.get_mut.follows.holds c.write.new.self).0 (kept c.in_err-write.field-0.0 (grid_limit grid) (grid_field grid) (write c.in-Some-place_of.at c.in_ok-change.change (grid_field grid)) (grid_field c.write.new.self) c.in_err-write.ensures.outcome) c.in_err-write.ensures.limit))
 
-pub returns : goal.returns
-returns c =
+pub returns-clause-step : goal.returns-clause-step
+returns-clause-step c =
     let grids = c.args.self.now.grids.entries in
     let grid = c.in-Some.grid.now in
     let there = sym c.in-Some.ensures.value in
@@ -62,3 +64,17 @@ returns c =
     c.in-Some-place_of.at at.1 c.in_ok-change.change c.in_ok-change.ensures.value c.in_ok-write.ensures.outcome.1
     (changed_field grids c.args.name.now _ grid c.write.new.self there (c.get_mut.follows.holds c.write.new.self).0 (write c.in-Some-place_of.at c.in_ok-change.change)
     c.in_ok-write.ensures.outcome.0 c.in_ok-write.ensures.limit)
+
+pub returns-in_err-change-clause-trees : goal.returns-in_err-change-clause-trees
+returns-in_err-change-clause-trees c =
+    let exit = err_from_is_err_and c.from_residual.result c.from_residual.ensures.1 in
+    rw exit.1 (refused_leaves c.args.self.now (record c.args.self.now { grids = c.get_mut.follows.lender c.in-Some.grid.now }) (write_command c.args.name.now c.args.accessor c.args.at.now c.args.change) _ (same_back c.args.self.now.grids.entries _ c.args.name.now c.in-Some.grid.now (sym c.in-Some.ensures.value) (c.get_mut.follows.holds c.in-Some.grid.now).0))
+
+pub returns-in_default-place_of-clause-trees : goal.returns-in_default-place_of-clause-trees
+returns-in_default-place_of-clause-trees c = same_back c.args.self.now.grids.entries _ c.args.name.now c.in-Some.grid.now (sym c.in-Some.ensures.value) (c.get_mut.follows.holds c.in-Some.grid.now).0
+
+pub returns-then-not-names_accessor-clause-trees : goal.returns-then-not-names_accessor-clause-trees
+returns-then-not-names_accessor-clause-trees c = same_back c.args.self.now.grids.entries _ c.args.name.now c.in-Some.grid.now (sym c.in-Some.ensures.value) (c.get_mut.follows.holds c.in-Some.grid.now).0
+
+pub returns-clause-trees : goal.returns-clause-trees
+returns-clause-trees c = write_leaves c.args.self.now (record c.args.self.now { grids = c.get_mut.follows.lender c.write.new.self }) c.args.name.now c.args.accessor c.args.at.now c.args.change

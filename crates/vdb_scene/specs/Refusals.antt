@@ -1,0 +1,77 @@
+-- What a command may be refused for, each with the test that refuses it.
+use Rattle.std.specs.Prelude.{ℕ, Bool, not, ◌||◌, if◌then◌else◌, List, [], ◌∷◌, length, Option, Some, None, is_some, is_none, nat_le, nat_lt}
+use Rattle.vdb_coord.specs.Blocks.{vdb}
+use Rattle.vdb_coord.specs.Space.{Box, extent, is_box, volume}
+use Rattle.vdb_tree.specs.Field.{Field}
+use Rattle.vdb_tree.specs.Plain.{roots}
+use Rattle.vdb_tree.specs.declared.refusal.TreeRefusal.{TreeRefusal}
+use Rattle.vdb_tree.specs.declared.refusal.TreeRefusal.TheVariants.{Memory, RootLimit}
+use Rattle.vdb_scene.specs.Places.{are_places, box_between, is_accessor}
+use Rattle.vdb_scene.specs.Scalars.{scalar_eq}
+use Rattle.vdb_scene.specs.Scene.{Scene, field_at, grid_at, limit_at}
+use Rattle.vdb_scene.specs.declared.answer.Refusal.{Refusal}
+use Rattle.vdb_scene.specs.declared.answer.Refusal.TheVariants as refusals
+use Rattle.vdb_scene.specs.declared.command.Corners.{Corners}
+use Rattle.vdb_scene.specs.declared.command.Num.{Num}
+use Rattle.vdb_scene.specs.declared.scalar.Scalar.{Scalar}
+
+-- why a grid's tree refuses a change
+abbrev pub of_tree : TreeRefusal → Refusal
+of_tree RootLimit = refusals.RootLimit
+of_tree Memory = refusals.Memory
+
+-- the refusal where a test holds
+abbrev pub refused_if : Bool → Refusal → Option Refusal
+refused_if test r = if test then Some r else None
+
+module _ (s : Scene) where
+  -- the grid isn't there
+  abbrev pub no_grid : List ℕ → Option Refusal
+  no_grid name = refused_if (is_none (grid_at s name)) refusals.NoGrid
+
+  -- the name is taken
+  abbrev pub name_taken : List ℕ → Option Refusal
+  name_taken name = refused_if (is_some (grid_at s name)) refusals.NameTaken
+
+  -- there are 64 grids
+  abbrev pub grid_limit : Option Refusal
+  grid_limit = refused_if (nat_le 64 (length s)) refusals.GridLimit
+
+  -- more root blocks than the grid's limit wouldn't be plain after this change
+  abbrev pub root_limit : List ℕ → (Field Scalar → Field Scalar) → Option Refusal
+  root_limit name change = refused_if (nat_lt (limit_at s name) (roots scalar_eq vdb (change (field_at s name)))) refusals.RootLimit
+
+-- something has another form than the kind's values
+abbrev pub other_form : Bool → Option Refusal
+other_form fits = refused_if (not fits) refusals.Kind
+
+-- something doesn't fit its range
+abbrev pub out_of_range : Bool → Option Refusal
+out_of_range fits = refused_if (not fits) refusals.ValueRange
+
+-- no such accessor
+abbrev pub no_accessor : Option Num → Option Refusal
+no_accessor k = refused_if (not (is_accessor k)) refusals.NoAccessor
+
+-- a minimum is greater than its maximum
+abbrev pub no_box : Corners → Option Refusal
+no_box c = refused_if (not (is_box (box_between c))) refusals.Box
+
+-- a box has more voxels than so many
+abbrev pub too_large : ℕ → Box → Option Refusal
+too_large most box = refused_if (nat_lt most (volume box)) refusals.TooLarge
+
+-- a slice has more columns or rows than so many
+abbrev pub too_wide : ℕ → Box → Option Refusal
+too_wide most box = refused_if (nat_lt most (extent box.min.x box.max.x) || nat_lt most (extent box.min.y box.max.y)) refusals.TooLarge
+
+-- what the box of a line may be refused for, if there is one
+abbrev pub tried_region : Option Corners → List (Option Refusal)
+tried_region None = []
+tried_region (Some c) = out_of_range (are_places c) ∷ no_box c ∷ []
+
+-- the first refusal of a list, if there is one
+abbrev pub first_of_all : List (Option Refusal) → Option Refusal
+first_of_all [] = None
+first_of_all (None ∷ rest) = first_of_all rest
+first_of_all (Some r ∷ rest) = Some r
