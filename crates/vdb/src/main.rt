@@ -26,7 +26,7 @@ fn main(rt: HostRuntime) -> ExitCode {
     ExitCode::from(outcome.status)
 }
 
-/// Whether the command line has a word beside the program's name, or can't be read for want of memory.
+/// Whether the command line has a word beside the program's name, or can't be read for lack of memory.
 fn has_words(rt: &HostRuntime) -> bool {
     match env::args(rt) {
         Ok(words) => words.count() > 1,

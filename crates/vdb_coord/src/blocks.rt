@@ -159,8 +159,7 @@ impl Coord {
         Bounds::between(min, max)
     }
 
-    /// Where the entry of the level's node around this coordinate that holds it stands in the node, counted in entries
-    /// along each axis.
+    /// Where the entry that holds this coordinate is in the level's node around it, counted in entries along each axis.
     pub fn place_in(self, bits: Bits, level: Level) -> Coord
         requires { AreBits bits }
         ensures { result ≡ place bits level self }

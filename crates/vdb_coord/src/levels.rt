@@ -49,7 +49,7 @@ impl Bits {
         1 << (3 * bits)
     }
 
-    /// Where the entry with this index stands in a node of the level, counted in entries along each axis.
+    /// Where the entry with this index is in a node of the level, counted in entries along each axis.
     pub fn place_of(self, level: Level, index: u16) -> Coord
         requires configured { AreBits self }
         requires within { index < entries self level }

@@ -190,7 +190,8 @@ fn try_leaf_copy<V: Stored<8>>(
     Ok(())
 }
 
-// The same for an internal node with a tile and a child set.
+// An internal node with a tile and a child set has a copy with the same entries, and a change of the copy leaves the node as it
+// was.
 fn try_internal_copy<V: Stored<8>>(
     rt: &impl Abort,
     alloc: Global,

@@ -3,8 +3,8 @@ use Rattle.std.specs.Prelude.{◌≡◌, ◌⊎◌, ℕ, ◌+◌, ◌-◌, ◌^�
 use Rattle.std.specs.Coded.{Coded, code_by, coded×, coded_ℕ, coded_list, coded_option}
 use denote.RawPtr.{Ptr, coded_ptr}
 
--- the node or nothing in each slot that was ever held, the vacant ones of these with the one that was
--- vacated last in front, and where each slot lies, also those that were never held
+-- the node or nothing in each slot that was ever held, the vacant ones of these with the one that was vacated last first, and
+-- where each slot lies, also those that were never held
 pub record Contents (T : Type 0) : Type 0 where
   pub nodes : List (Option T)
   pub vacant : List ℕ

@@ -1,4 +1,4 @@
--- What a storage and a block own and lend, at items of the row R.
+-- What a storage and a block own, and what is borrowed from them, at items of the row R.
 use Rattle.std.specs.Prelude.{ℕ, ◌*◌, ◌^◌, List, [], ◌∷◌}
 use Rattle.std.specs.Mem.{type_size}
 use base.Fraction.{full_share}

@@ -135,15 +135,15 @@ impl<T> Pool<T> {
         ensures node { node_at self.old (place_slot place) ≡ Some result.now }
         ensures step { steps.new ≡ min (steps.old + 1) (2 ^ 64 - 1) }
     {
-        steps.step(); // a node is lent
+        steps.step(); // a node is borrowed
         self.storage.get_mut(place.address, place.slot).node_mut()
     }
 
-    /// Makes sure of room for `n` inserts, by as many chunks as that takes.
+    /// Makes sure of capacity for `n` inserts, by as many chunks as that takes.
     ///
-    /// Where there is room already, nothing changes and the answer is `Ok`. The error comes where the allocator has no
-    /// memory, or where there would be more than 4,294,967,295 slots. Nodes, vacant slots and live places stay as they
-    /// were, also with an error, which may leave more room than there was.
+    /// Where there is capacity already, nothing changes and the answer is `Ok`. The error comes where the allocator has no
+    /// memory, or where there would be more than 4,294,967,295 slots. Nodes, vacant slots and live places stay as they were,
+    /// also with an error, which may leave more capacity than there was.
     pub fn reserve(&mut self, n: u64) -> Result<(), Memory>
         ensures room { OnOk result (n ≤ spare_of self.new) }
         ensures had_room { n ≤ spare_of self.old → IsOk result × (self.new ≡ self.old) }
@@ -178,8 +178,8 @@ impl<T> Pool<T> {
         Ok(())
     }
 
-    /// Puts a node into the slot that was vacated last, or else into the lowest one that was never held, and gives its
-    /// place. There has to be room, which `reserve` makes. Other places stay live.
+    /// Puts a node into the slot that was vacated last, or else into the lowest one that was never held, and gives its place.
+    /// There has to be capacity, which `reserve` makes. Other places stay live.
     pub fn insert(&mut self, node: T) -> Place<T>
         requires { 0 < spare_of self.old }
         ensures slot { place_slot result ≡ next_slot self.old }

@@ -1,7 +1,7 @@
 //! Why a pool could not grow.
 use std::alloc::AllocError;
 
-/// There is no room for so many nodes: the allocator had no memory, or there would be more than 4,294,967,295 slots.
+/// There is no capacity for so many nodes: the allocator had no memory, or there would be more than 4,294,967,295 slots.
 #[derive(Clone, Copy, Drop, Debug)]
 pub struct Memory;
 

@@ -1,7 +1,7 @@
 //! The memory of the slots: the one module with raw pointers.
 //!
-//! Who owns which memory is ghost data: a `Storage` owns the places of its list, and a `Block` the right to give a
-//! block of them back. An `Address` is a plain pointer that owns nothing.
+//! Who owns which memory is ghost data: a `Storage` owns the places of its list, and a `Block` the right to give a block of
+//! them back. An `Address` is a pointer that owns nothing.
 ghost use Rattle.std.specs.Prelude.{◌≡◌, ℕ, ◌+◌, ◌*◌, ◌<◌, ◌≤◌, List, [], ◌∷◌, ◌++◌, length, take, drop, get_or, IfOk, slice_index_or, ⊤};
 ghost use Rattle.std.specs.Borrow.{sem};
 ghost use denote.RawPtr.{Ptr, null_ptr, ◌+ₚ◌};

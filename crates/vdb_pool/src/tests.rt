@@ -93,7 +93,7 @@ fn nodes_are_dropped_with_the_pool(rt: HostRuntime) -> Result<(), Fail> {
     Ok(())
 }
 
-// Refused for want of slot numbers, and at a run with refused allocations for want of memory.
+// Refused for lack of slot numbers, and at a run with refused allocations for lack of memory.
 #[test]
 fn a_refused_reserve_keeps_everything(rt: HostRuntime) -> Result<(), Memory> {
     let mut steps = Steps::new(&rt);

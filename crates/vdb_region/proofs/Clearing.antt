@@ -11,7 +11,7 @@ use Rattle.vdb_coord.specs.declared.face.Face.{Face}
 use Rattle.vdb_coord.proofs.Boxes.{and_true}
 use Rattle.vdb_coord.proofs.CountBounds.{count_at_most, member_passing}
 use Rattle.vdb_tree.specs.Field.{Field, clip, field, fill, off}
-use Rattle.vdb_tree.specs.Plain.{is_plain, root_keys, roots}
+use Rattle.vdb_tree.specs.ConstantBlocks.{is_background, root_keys, roots}
 use Rattle.vdb_tree.proofs.Blocks.{never}
 use Rattle.vdb_tree.proofs.Fields.{cell_inside, same_cells}
 use Rattle.vdb_tree.proofs.Rooted.{not_from, was_false}
@@ -92,16 +92,16 @@ module _ {V : Type 0} (background : V) (cells : Coord → Cell V) where
         (ring (is_inside b q) (is_inside (hull bits Leaf b) q) (is_inside (hull bits Lower b) q) (is_inside (hull bits Upper b) q) true (off background) (cells q) refl
         (hull_holds bits b Leaf q) (hull_holds bits b Lower q) (hull_holds bits b Upper q)))
 
--- root blocks that aren't plain are no more where none comes
+-- root blocks that hold anything but the background are no more where none comes
 pub fewer_roots : {V : Type 0} (eq : V → V → Bool) (bits : Bits) (f g : Field V)
-    → ((k : Coord) → is_plain eq f (block bits Upper k) ≡ true → is_plain eq g (block bits Upper k) ≡ true) → roots eq bits g ≤ roots eq bits f
+    → ((k : Coord) → is_background eq f (block bits Upper k) ≡ true → is_background eq g (block bits Upper k) ≡ true) → roots eq bits g ≤ roots eq bits f
 fewer_roots eq bits f g h =
-    count_at_most (block_numbers bits Upper) (λ n. not (is_plain eq g (block bits Upper n))) (root_keys eq bits f)
-    (λ k inside n. member_passing (block_numbers bits Upper) (λ n. not (is_plain eq f (block bits Upper n))) k ∙ and_true _ _ inside (not_from _ (unplain (is_plain eq f (block bits Upper k)) (h k) (was_false _ n))))
+    count_at_most (block_numbers bits Upper) (λ n. not (is_background eq g (block bits Upper n))) (root_keys eq bits f)
+    (λ k inside n. member_passing (block_numbers bits Upper) (λ n. not (is_background eq f (block bits Upper n))) k ∙ and_true _ _ inside (not_from _ (non_background (is_background eq f (block bits Upper k)) (h k) (was_false _ n))))
   where
-    unplain : (s : Bool) {t : Bool} → (s ≡ true → t ≡ true) → t ≡ false → s ≡ false
-    unplain true imp e = absurd (never e (imp refl))
-    unplain false imp e = refl
+    non_background : (s : Bool) {t : Bool} → (s ≡ true → t ≡ true) → t ≡ false → s ≡ false
+    non_background true imp e = absurd (never e (imp refl))
+    non_background false imp e = refl
 
 cut : {V : Type 0} (v : V) (i j : Bool) (x : Cell V) → x ≡ off v → cond i (cond j x (off v)) (off v) ≡ off v
 cut v true true x e = e
@@ -113,5 +113,5 @@ pub clip_within : {V : Type 0} (eq : V → V → Bool) (exact : (x y : V) → eq
     → roots eq bits (clip b (field background cells)) ≤ roots eq bits (field background cells)
 clip_within eq exact itself bits b background cells =
     let f = field background cells in
-    fewer_roots eq bits f (clip b f) (λ k plain.
-    uniform_from eq exact itself (clip b f) (block bits Upper k) (off background) (λ p inside. cut background (is_inside everywhere p) (is_inside b p) (f.cell p) (uniform_cells eq exact itself f (block bits Upper k) (off background) plain p inside)))
+    fewer_roots eq bits f (clip b f) (λ k background_cell.
+    uniform_from eq exact itself (clip b f) (block bits Upper k) (off background) (λ p inside. cut background (is_inside everywhere p) (is_inside b p) (f.cell p) (uniform_cells eq exact itself f (block bits Upper k) (off background) background_cell p inside)))

@@ -18,8 +18,8 @@ use Rattle.vdb_coord.proofs.Nesting.{inside_around, lower_from_leaf, number_in_b
 use Rattle.vdb_coord.proofs.Walk.{min_inside}
 use Rattle.vdb_node.specs.declared.Entry.TheVariants.{Tile}
 use Rattle.vdb_value.specs.declared.Cell.{Cell}
-use Rattle.vdb_tree.specs.Layout.{Layout, entry_over, plain}
-use Rattle.vdb_tree.specs.Ready.{IsCovered, IsReady}
+use Rattle.vdb_tree.specs.Layout.{Layout, entry_over, background_cell}
+use Rattle.vdb_tree.specs.SplitBox.{IsCovered, IsSplit}
 use Rattle.vdb_tree.proofs.Blocks.{never}
 use Rattle.vdb_tree.proofs.Covered.{covered_from, covered_inside}
 use Rattle.vdb_tree.proofs.Passes.{entry_by_block}
@@ -74,7 +74,7 @@ module _ (bits : Bits) (b : Box) where
       each MinusZ = let n = number_at k b.min.z in not_le (first_of k n) q.z ∙ ap not (begins_by k n q.z) ∙ sym (not_le n (number_at k q.z))
       each PlusZ = let n = number_at k b.max.z in not_le q.z (last_of k n) ∙ ap not (ends_by k n q.z) ∙ sym (not_le (number_at k q.z) n)
 
-  -- so it is with the others of its block
+  -- the others of its block are so, too
   held_alike : (level : Level) (p r : Coord) → block_number bits level r ≡ block_number bits level p → is_inside (hull bits level b) r ≡ is_inside (hull bits level b) p
   held_alike level p r same = hull_inside level r ∙ ap (is_inside (numbers_over bits level b)) same ∙ sym (hull_inside level p)
 
@@ -94,9 +94,9 @@ module _ (bits : Bits) (b : Box) where
   inner_holds WithinLowers q h = hull_holds Leaf q h
   inner_holds WithinLeaves q h = h
 
-  -- ---- a side of a ring, in a tree that is ready in the box for the plain cell
+  -- ---- a side of a ring, in a tree that is split for the box and the background cell
 
-  module _ {V : Type 0} (configured : AreBits bits) (is : is_box b ≡ true) (t : Layout V) (ready : IsReady bits b (plain t) t) (face : Face) (s : Box) where
+  module _ {V : Type 0} (configured : AreBits bits) (is : is_box b ≡ true) (t : Layout V) (edges : IsSplit bits b (background_cell t) t) (face : Face) (s : Box) where
     -- a block within the side
     covered_side : (out inn : Box) → ((q : Coord) → is_inside s q ≡ (is_inside out q && is_beyond inn q face)) → (level : Level) (p : Coord) → is_inside s p ≡ true
         → ((r : Coord) → block_number bits level r ≡ block_number bits level p → is_inside out p ≡ true → is_inside out r ≡ true)
@@ -107,16 +107,16 @@ module _ (bits : Bits) (b : Box) where
 
     -- a tile over a block that meets the box, and isn't all in it
     crossing_tile : (meeting level : Level) → ((q r : Coord) → block_number bits meeting q ≡ block_number bits meeting r → block_number bits level q ≡ block_number bits level r)
-        → (p : Coord) → is_inside (hull bits meeting b) p ≡ true → (is_inside b p ≡ true → ⊥) → (tile : Cell V) → entry_over bits level t p ≡ Tile tile → tile ≡ plain t
+        → (p : Coord) → is_inside (hull bits meeting b) p ≡ true → (is_inside b p ≡ true → ⊥) → (tile : Cell V) → entry_over bits level t p ≡ Tile tile → tile ≡ background_cell t
     crossing_tile meeting level up p held out tile e =
         let block = block_around bits meeting p in
         let here = inside_around bits meeting p in
         let meets = meets_block bits meeting (block_number bits meeting p) b ∙ sym (hull_inside meeting p) ∙ held in
         let c = common_from_meets block b (box_from_inside block p here) is meets in
         let same = up c.0 p (number_in_block bits meeting (block_number bits meeting p) c.0 c.1) in
-        elim (ready.tiles level c.0 c.2 tile (entry_by_block bits level t c.0 p same ∙ e)) [
+        elim (edges.tiles level c.0 c.2 tile (entry_by_block bits level t c.0 p same ∙ e)) [
           | inl covered ↦ absurd (out (covered_inside bits b level c.0 p covered (sym same)))
-          | inr plain ↦ plain
+          | inr background_cell ↦ background_cell
         ]
 
     upper_from_leaf : (q r : Coord) → block_number bits Leaf q ≡ block_number bits Leaf r → block_number bits Upper q ≡ block_number bits Upper r
@@ -129,7 +129,7 @@ module _ (bits : Bits) (b : Box) where
     Sides r = (q : Coord) → is_inside s q ≡ (is_inside (outer bits b r) q && is_beyond (inner bits b r) q face)
 
     abbrev Ready : Level → Type 0
-    Ready level = (p : Coord) → IsTrue (is_inside s p) → (tile : Cell V) → entry_over bits level t p ≡ Tile tile → IsCovered bits s level p ⊎ (tile ≡ plain t)
+    Ready level = (p : Coord) → IsTrue (is_inside s p) → (tile : Cell V) → entry_over bits level t p ≡ Tile tile → IsCovered bits s level p ⊎ (tile ≡ background_cell t)
 
     around : (level : Level) → ((q r : Coord) → block_number bits level q ≡ block_number bits level r → block_number bits Upper q ≡ block_number bits Upper r) → Sides AroundRoots → Ready level
     around level up ins p h tile e = inl (covered_side everywhere (hull bits Upper b) ins level p h (λ r same range. block_in_range bits level configured p r range same) (λ r same. beyond_alike Upper face p r (up r p same)))
@@ -160,5 +160,5 @@ module _ (bits : Bits) (b : Box) where
     each WithinLeaves ins Lower = across WithinLeaves Leaf Lower (lower_from_leaf bits) ins
     each WithinLeaves ins Upper = across WithinLeaves Leaf Upper upper_from_leaf ins
 
-    pub ready_side : (ring : Ring) → ((q : Coord) → is_inside s q ≡ (is_inside (outer bits b ring) q && is_beyond (inner bits b ring) q face)) → IsReady bits s (plain t) t
-    ready_side ring inside = record { tiles = each ring inside; entered = λ p h. inl refl }
+    pub split_side : (ring : Ring) → ((q : Coord) → is_inside s q ≡ (is_inside (outer bits b ring) q && is_beyond (inner bits b ring) q face)) → IsSplit bits s (background_cell t) t
+    split_side ring inside = record { tiles = each ring inside; entered = λ p h. inl refl }

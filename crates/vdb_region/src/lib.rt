@@ -5,12 +5,12 @@
 #![tactic(auto)]
 
 mod beyond;
-mod clipping;
-mod filling;
+mod clip_box;
+mod fill_box;
 mod rings;
 
-pub use clipping::clip;
-pub use filling::fill;
+pub use clip_box::clip;
+pub use fill_box::fill;
 
 #[cfg(test)]
 mod tests;

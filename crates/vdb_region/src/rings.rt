@@ -10,8 +10,8 @@ ghost use Rattle.vdb_region.specs.Rings.{hull as hull_of, inner as inner_of, out
 use crate::beyond::half;
 use vdb_coord::{Bits, Bounds, Coord, Face, Level};
 
-/// One of the rings around a box that are as wide as its blocks: a tree that is ready to be painted in the box with the plain
-/// cell is ready in each of their sides, too, since a block that meets the box and lies across its edge is no tile.
+/// One of the rings around a box that are as wide as its blocks: a tree that is split for the box and the background cell is
+/// split for each of their sides, too, since a block that the edge of the box crosses is no tile.
 #[derive(Clone, Copy, Debug, PartialEq, Eq)]
 pub(crate) enum Ring {
     /// All around the root blocks that meet the box.

@@ -2,7 +2,7 @@
 mod Checks
 pub mod Entries
 pub mod Filling
-pub mod Lent
+pub mod Borrowed
 pub mod Listings
 pub mod Rows
 pub mod Reports

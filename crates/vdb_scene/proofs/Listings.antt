@@ -13,7 +13,7 @@ use Rattle.vdb_value.specs.declared.Cell.{Cell}
 use Rattle.vdb_tree.specs.Field.{Field, as_field_of}
 use Rattle.vdb_tree.specs.Layout.{Layout, cell_at, field_of}
 use Rattle.vdb_tree.proofs.AsFieldOf.{as_field_of_cell}
-use Rattle.vdb_walk.specs.Reports.{HandsOut, Listed, active, in_block_order}
+use Rattle.vdb_walk.specs.Reports.{Yields, Listed, active, in_block_order}
 use Rattle.vdb_scene.specs.Listings.{as_listed_of, as_voxels_of, box_across}
 
 -- ---- the box of two corners
@@ -81,8 +81,8 @@ module _ {V U : Type 0} (make : V → U) where
   pub made_more : (more : Bool) (l : Listed V) → (IsTrue more → l.rest ≢ []) × (l.rest ≢ [] → IsTrue more) → (IsTrue more → (as_listed_of make l).rest ≢ []) × ((as_listed_of make l).rest ≢ [] → IsTrue more)
   made_more more l h = (λ yes none. h.0 yes (none_made l.rest none), λ some. h.1 (λ none. some (ap (as_voxels_of make) none)))
 
--- what one hands out, with its value made another, is handed out of the other
-pub made_next : {V U : Type 0} (make : V → U) (old new : Listed V) (item : Option (Coord × V)) → HandsOut old item new → HandsOut (as_listed_of make old) (option_map (λ i. (i.0, make i.1)) item) (as_listed_of make new)
+-- what one yields, with its value made another, is yielded of the other
+pub made_next : {V U : Type 0} (make : V → U) (old new : Listed V) (item : Option (Coord × V)) → Yields old item new → Yields (as_listed_of make old) (option_map (λ i. (i.0, make i.1)) item) (as_listed_of make new)
 made_next make old new (Some item) h = (ap (as_voxels_of make) h.0, h.1)
 made_next make old new None h = (of_end h.0, ap (as_listed_of make) h.1)
   where

@@ -10,7 +10,7 @@ use Rattle.vdb_coord.specs.declared.Level.{Level}
 use Rattle.vdb_coord.specs.declared.Level.TheVariants.{Leaf, Lower, Upper}
 use Rattle.vdb_tree.specs.Field.{Field, as_field_of}
 use Rattle.vdb_tree.specs.Layout.{Layout, cell_at, field_of}
-use Rattle.vdb_tree.specs.Plain.{count, mixed}
+use Rattle.vdb_tree.specs.ConstantBlocks.{count, non_constant}
 use Rattle.vdb_tree.proofs.AsFieldOf.{as_field_of_cell, as_field_of_constant, as_field_of_roots}
 use Rattle.vdb_value.specs.declared.Cell.{Cell}
 use Rattle.vdb_walk.specs.Reports.{IsActiveBounds, census}
@@ -37,8 +37,8 @@ module _ {V U : Type 0} (make : V → U) (t : Layout V) where
 
   module _ (eq : V → V → Bool) (made_eq : U → U → Bool) (same : (v w : V) → made_eq (make v) (make w) ≡ eq v w) where
     -- so many blocks of a level aren't constant
-    made_mixed : (bits : Bits) (level : Level) → mixed made_eq bits level after ≡ mixed eq bits level before
-    made_mixed bits level =
+    made_non_constant : (bits : Bits) (level : Level) → non_constant made_eq bits level after ≡ non_constant eq bits level before
+    made_non_constant bits level =
         ap (λ (test : Coord → Bool). count_by test (coordinates (block_numbers bits level)))
         (fun_ext (λ n. ap not (as_field_of_constant make t.background (cell_at vdb t) eq made_eq same (block bits level n))))
 
@@ -46,7 +46,7 @@ module _ {V U : Type 0} (make : V → U) (t : Layout V) where
     pub made_census : census made_eq vdb after ≡ census eq vdb before
     made_census =
         let roots = as_field_of_roots make t.background (cell_at vdb t) eq made_eq same vdb in
-        let upper = made_mixed vdb Upper in
-        let lower = made_mixed vdb Lower in
-        let leaf = made_mixed vdb Leaf in
+        let upper = made_non_constant vdb Upper in
+        let lower = made_non_constant vdb Lower in
+        let leaf = made_non_constant vdb Leaf in
         λ i. record { roots = roots i; upper = upper i; lower = lower i; leaf = leaf i }

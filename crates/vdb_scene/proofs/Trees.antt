@@ -20,7 +20,7 @@ use Rattle.vdb_scene.specs.declared.command.Point.{Point}
 use Rattle.vdb_scene.specs.declared.scene.Scene.{Scene}
 use Rattle.vdb_scene.proofs.Entries.{set_value-found}
 
--- the grids where one was lent and comes back as it was
+-- the grids where one was borrowed and comes back as it was
 pub same_back : (grids after : List (List ℕ × AnyGrid)) (name : List ℕ) (grid : AnyGrid) → lookup (is_named name) grids ≡ Some grid → after ≡ set_value (is_named name) grids grid → after ≡ grids
 same_back grids after name grid there back = back ∙ set_value-found (is_named name) grids grid there
 

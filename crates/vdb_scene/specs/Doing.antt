@@ -7,7 +7,7 @@ use Rattle.vdb_scene.specs.Scene.{is_named}
 use Rattle.vdb_scene.specs.Shown.{Shows}
 use Rattle.vdb_scene.specs.Places.{box_between}
 use Rattle.vdb_scene.specs.Replies.{Reply}
-use Rattle.vdb_scene.specs.Step.{Answers, Step, after, refusal, takes_memory}
+use Rattle.vdb_scene.specs.Step.{IsReply, Step, after, refusal, takes_memory}
 use Rattle.vdb_scene.specs.declared.any_grid.AnyGrid.{AnyGrid}
 use Rattle.vdb_scene.specs.declared.command.Command.{Command}
 use Rattle.vdb_scene.specs.declared.command.Command.TheVariants as commands
@@ -19,9 +19,9 @@ use Rattle.vdb_scene.specs.declared.scene.Scene.{Scene}
 
 -- ---- the step of the abstract scene
 
--- an answer and the scene after the command; or its refusal, or want of memory, and the scene before it
+-- an answer and the scene after the command; or its refusal, or the refusal `Memory`, and the scene before it
 abbrev pub CarriesOut : abstract_scene.Scene → Command → Result Answer Refusal → abstract_scene.Scene → Type 0
-CarriesOut s c (Ok answer) next = (refusal s c ≡ None) × ((reply : Reply) × Shows answer reply × Answers s c reply) × (next ≡ after s c)
+CarriesOut s c (Ok answer) next = (refusal s c ≡ None) × ((reply : Reply) × Shows answer reply × IsReply s c reply) × (next ≡ after s c)
 CarriesOut s c (Err refusals.Memory) next = (refusal s c ≡ None) × IsTrue (takes_memory s c) × (next ≡ s)
 CarriesOut s c (Err r) next = (refusal s c ≡ Some r) × (next ≡ s)
 
@@ -52,8 +52,8 @@ Shapes (commands.Bounds name) old new = KeepsGrids old new
 Shapes (commands.Census name) old new = KeepsGrids old new
 Shapes _ old new = Unit {0}
 
--- What a command makes of the trees, by its answer: one that is refused leaves each grid as it is, but for a grid's limit and
--- want of memory, which may come after some nodes were made.
+-- What a command makes of the trees, by its answer: one that is refused leaves each grid as it is, but for `RootLimit` and
+-- `Memory`, which may come after some nodes were made.
 abbrev pub LeavesTrees : Command → Answer → Scene → Scene → Type 0
 LeavesTrees c (Refused refusals.RootLimit) old new = Unit {0}
 LeavesTrees c (Refused refusals.Memory) old new = Unit {0}

@@ -21,7 +21,7 @@ grid_field (Bool t) = as_field_of scalars.Bool (field_of vdb t)
 grid_field (I32 t) = as_field_of scalars.I32 (field_of vdb t)
 grid_field (I64 t) = as_field_of scalars.I64 (field_of vdb t)
 
--- how many of its root blocks may not be plain
+-- how many of its root blocks may hold anything but the background
 abbrev pub grid_limit : AnyGrid → ℕ
 grid_limit (Bool t) = t.limit
 grid_limit (I32 t) = t.limit

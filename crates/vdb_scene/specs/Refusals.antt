@@ -3,10 +3,10 @@ use Rattle.std.specs.Prelude.{ℕ, Bool, not, ◌||◌, if◌then◌else◌, Lis
 use Rattle.vdb_coord.specs.Blocks.{vdb}
 use Rattle.vdb_coord.specs.Space.{Box, extent, is_box, volume}
 use Rattle.vdb_tree.specs.Field.{Field}
-use Rattle.vdb_tree.specs.Plain.{roots}
+use Rattle.vdb_tree.specs.ConstantBlocks.{roots}
 use Rattle.vdb_tree.specs.declared.refusal.TreeRefusal.{TreeRefusal}
 use Rattle.vdb_tree.specs.declared.refusal.TreeRefusal.TheVariants.{Memory, RootLimit}
-use Rattle.vdb_scene.specs.Places.{are_places, box_between, is_accessor}
+use Rattle.vdb_scene.specs.Places.{name_coords, box_between, is_accessor}
 use Rattle.vdb_scene.specs.Scalars.{scalar_eq}
 use Rattle.vdb_scene.specs.Scene.{Scene, field_at, grid_at, limit_at}
 use Rattle.vdb_scene.specs.declared.answer.Refusal.{Refusal}
@@ -34,10 +34,10 @@ module _ (s : Scene) where
   name_taken name = refused_if (is_some (grid_at s name)) refusals.NameTaken
 
   -- there are 64 grids
-  abbrev pub grid_limit : Option Refusal
-  grid_limit = refused_if (nat_le 64 (length s)) refusals.GridLimit
+  abbrev pub too_many_grids : Option Refusal
+  too_many_grids = refused_if (nat_le 64 (length s)) refusals.GridLimit
 
-  -- more root blocks than the grid's limit wouldn't be plain after this change
+  -- more root blocks than the grid's limit would hold anything but the background after this change
   abbrev pub root_limit : List ℕ → (Field Scalar → Field Scalar) → Option Refusal
   root_limit name change = refused_if (nat_lt (limit_at s name) (roots scalar_eq vdb (change (field_at s name)))) refusals.RootLimit
 
@@ -68,7 +68,7 @@ too_wide most box = refused_if (nat_lt most (extent box.min.x box.max.x) || nat_
 -- what the box of a line may be refused for, if there is one
 abbrev pub tried_region : Option Corners → List (Option Refusal)
 tried_region None = []
-tried_region (Some c) = out_of_range (are_places c) ∷ no_box c ∷ []
+tried_region (Some c) = out_of_range (name_coords c) ∷ no_box c ∷ []
 
 -- the first refusal of a list, if there is one
 abbrev pub first_of_all : List (Option Refusal) → Option Refusal

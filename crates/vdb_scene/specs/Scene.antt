@@ -11,7 +11,7 @@ use Rattle.vdb_scene.specs.declared.scalar.Scalar.{Scalar}
 use Rattle.vdb_scene.specs.declared.scalar.Scalar.TheVariants.{Bool as truth}
 
 -- what a name stands for: one total function from coordinates to cells, whose background tells its kind, and how many of its
--- root blocks may not be plain
+-- root blocks may hold anything but the background
 pub record Grid : Type 0 where
   pub field : Field Scalar
   pub limit : ℕ

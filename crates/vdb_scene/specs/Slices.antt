@@ -1,4 +1,4 @@
--- What a slice and its rows have yet to hand out.
+-- What a slice and its rows are still to yield.
 use Rattle.std.specs.Prelude.{◌≡◌, ℤ, List, [], ◌∷◌, map, Option, Some, None}
 use Rattle.vdb_coord.specs.Space.{coord, range}
 use Rattle.vdb_value.specs.declared.Cell.{Cell}
@@ -14,29 +14,29 @@ abbrev pub numbers_left : Option ℤ → ℤ → List ℤ
 numbers_left None last = []
 numbers_left (Some next) last = range next last
 
--- the next of these numbers is handed out, or none where none is left
-abbrev pub HandsNumber : Option ℤ → ℤ → Option ℤ → Option ℤ → Type 0
-HandsNumber old last None new = (numbers_left old last ≡ []) × (numbers_left new last ≡ [])
-HandsNumber old last (Some number) new = numbers_left old last ≡ number ∷ numbers_left new last
+-- the next of these numbers is yielded, or none where none is left
+abbrev pub YieldsNumber : Option ℤ → ℤ → Option ℤ → Option ℤ → Type 0
+YieldsNumber old last None new = (numbers_left old last ≡ []) × (numbers_left new last ≡ [])
+YieldsNumber old last (Some number) new = numbers_left old last ≡ number ∷ numbers_left new last
 
 -- the cell of a row at an x
-abbrev pub cell_at : SliceRow → ℤ → Cell Scalar
-cell_at r x = (field_read r.cells).cell (coord x r.y r.z)
+abbrev pub row_cell : SliceRow → ℤ → Cell Scalar
+row_cell r x = (field_read r.cells).cell (coord x r.y r.z)
 
--- the cells that a row has yet to hand out
+-- the cells that a row is still to yield
 abbrev pub cells_left : SliceRow → List (Cell Scalar)
-cells_left r = map (cell_at r) (numbers_left r.x r.last)
+cells_left r = map (row_cell r) (numbers_left r.x r.last)
 
--- the rows that a slice has yet to hand out
+-- the rows that a slice is still to yield
 abbrev pub rows_left : Slice → List Row
 rows_left s = map (row_at (grid_field s.grid.now) s.min.x s.max.x s.min.z) (numbers_left s.y s.max.y)
 
--- a row hands out its next cell, or none where none is left
-abbrev pub HandsCell : SliceRow → Option (Cell Scalar) → SliceRow → Type 0
-HandsCell old None new = (cells_left old ≡ []) × (cells_left new ≡ []) × (new.y ≡ old.y)
-HandsCell old (Some cell) new = (cells_left old ≡ cell ∷ cells_left new) × (new.y ≡ old.y)
+-- a row yields its next cell, or none where none is left
+abbrev pub YieldsCell : SliceRow → Option (Cell Scalar) → SliceRow → Type 0
+YieldsCell old None new = (cells_left old ≡ []) × (cells_left new ≡ []) × (new.y ≡ old.y)
+YieldsCell old (Some cell) new = (cells_left old ≡ cell ∷ cells_left new) × (new.y ≡ old.y)
 
--- a slice hands out its next row, or none where none is left
-abbrev pub HandsRow : Slice → Option SliceRow → Slice → Type 0
-HandsRow old None new = (rows_left old ≡ []) × (rows_left new ≡ [])
-HandsRow old (Some row) new = rows_left old ≡ record { y = row.y; cells = cells_left row } ∷ rows_left new
+-- a slice yields its next row, or none where none is left
+abbrev pub YieldsRow : Slice → Option SliceRow → Slice → Type 0
+YieldsRow old None new = (rows_left old ≡ []) × (rows_left new ≡ [])
+YieldsRow old (Some row) new = rows_left old ≡ record { y = row.y; cells = cells_left row } ∷ rows_left new

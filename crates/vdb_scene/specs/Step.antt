@@ -8,10 +8,10 @@ use Rattle.vdb_value.specs.declared.Cell.{Cell}
 use Rattle.vdb_tree.specs.declared.Write.{Write}
 use Rattle.vdb_tree.specs.declared.Write.TheVariants as writes
 use Rattle.vdb_tree.specs.Field.{Field, as_write_of, clip, fill, write, written}
-use Rattle.vdb_tree.specs.Plain.{cell_eq, count, is_constant}
+use Rattle.vdb_tree.specs.ConstantBlocks.{cell_eq, count, is_constant}
 use Rattle.vdb_walk.specs.Reports.{IsActiveBounds, active, census}
-use Rattle.vdb_scene.specs.Places.{are_places, box_between, count_of, flat, is_limit, is_place, place, region}
-use Rattle.vdb_scene.specs.Refusals.{first_of_all, grid_limit, name_taken, no_accessor, no_box, no_grid, other_form, out_of_range, root_limit, too_large, too_wide, tried_region}
+use Rattle.vdb_scene.specs.Places.{name_coords, box_between, count_of, flat, is_limit, names_coord, coord_named, region}
+use Rattle.vdb_scene.specs.Refusals.{first_of_all, too_many_grids, name_taken, no_accessor, no_box, no_grid, other_form, out_of_range, root_limit, too_large, too_wide, tried_region}
 use Rattle.vdb_scene.specs.Replies.{Bounds, Census, Count, Done, Refused, Reply, Slice, Value, listing, rows}
 use Rattle.vdb_scene.specs.Scalars.{has_form, has_value, scalar, scalar_eq}
 use Rattle.vdb_scene.specs.Scene.{Grid, Scene, field_at, kind_at, new_grid, the_grid, with_changed, with_grid, without_grid}
@@ -50,17 +50,17 @@ write_at s name w = as_write_of (scalar (kind_at s name)) w
 
 -- the scene with one voxel of a grid written
 abbrev pub after_write : Scene → List ℕ → Point → Write Literal → Scene
-after_write s name p w = changed s name (write (place p) (write_at s name w))
+after_write s name p w = changed s name (write (coord_named p) (write_at s name w))
 
 -- the cell that a line writes to each voxel of a box
-abbrev pub cell_at : Scene → List ℕ → Literal → Bool → Cell Scalar
-cell_at s name v on = record { value = scalar (kind_at s name) v; on = on }
+abbrev pub cell_of_line : Scene → List ℕ → Literal → Bool → Cell Scalar
+cell_of_line s name v on = record { value = scalar (kind_at s name) v; on = on }
 
 -- what a write of a voxel may be refused for
 abbrev pub tried_write : Scene → List ℕ → Option Num → Point → Write Literal → List (Option Refusal)
 tried_write s name k p w =
-    no_grid s name ∷ other_form (passes (has_form (kind_at s name)) w) ∷ out_of_range (is_place p && passes (has_value (kind_at s name)) w)
-    ∷ no_accessor k ∷ root_limit s name (write (place p) (write_at s name w)) ∷ []
+    no_grid s name ∷ other_form (passes (has_form (kind_at s name)) w) ∷ out_of_range (names_coord p && passes (has_value (kind_at s name)) w)
+    ∷ no_accessor k ∷ root_limit s name (write (coord_named p) (write_at s name w)) ∷ []
 
 -- whether a write may take memory: where the cell changes, and the cells of the leaf block around it are all equal
 abbrev pub write_takes_memory : Field Scalar → Coord → Write Scalar → Bool
@@ -68,7 +68,7 @@ write_takes_memory f p w = not (cell_eq scalar_eq (written w (f.cell p)) (f.cell
 
 -- whether that of a line may
 abbrev pub line_takes_memory : Scene → List ℕ → Point → Write Literal → Bool
-line_takes_memory s name p w = write_takes_memory (field_at s name) (place p) (write_at s name w)
+line_takes_memory s name p w = write_takes_memory (field_at s name) (coord_named p) (write_at s name w)
 
 -- ---- what a command means
 
@@ -77,7 +77,7 @@ line_takes_memory s name p w = write_takes_memory (field_at s name) (place p) (w
 pub record Meaning : Type 1 where
   pub tried : List (Option Refusal)
   pub after : Scene
-  pub Answers : Reply → Type 0
+  pub IsReply : Reply → Type 0
   pub takes_memory : Bool
 
 -- this answer and no other
@@ -89,7 +89,7 @@ abbrev pub meaning_of_write : Scene → List ℕ → Option Num → Point → Wr
 meaning_of_write s name k p w = record {
   tried = tried_write s name k p w;
   after = after_write s name p w;
-  Answers = only Done;
+  IsReply = only Done;
   takes_memory = line_takes_memory s name p w;
 }
 
@@ -97,30 +97,30 @@ meaning_of_write s name k p w = record {
 abbrev pub meaning : Scene → Command → Meaning
 -- a grid that was never written, with this background
 meaning s (commands.Grid name kind v) = record {
-  tried = name_taken s name ∷ grid_limit s ∷ other_form (has_form kind v) ∷ out_of_range (has_value kind v) ∷ [];
+  tried = name_taken s name ∷ too_many_grids s ∷ other_form (has_form kind v) ∷ out_of_range (has_value kind v) ∷ [];
   after = with_grid s name (new_grid (scalar kind v));
-  Answers = only Done;
+  IsReply = only Done;
   takes_memory = true;
 }
 -- the grid goes
 meaning s (commands.Drop name) = record {
   tried = no_grid s name ∷ [];
   after = without_grid s name;
-  Answers = only Done;
+  IsReply = only Done;
   takes_memory = false;
 }
 -- a second grid with the field and the limit of the first
 meaning s (commands.Copy from to) = record {
-  tried = no_grid s from ∷ name_taken s to ∷ grid_limit s ∷ [];
+  tried = no_grid s from ∷ name_taken s to ∷ too_many_grids s ∷ [];
   after = with_grid s to (the_grid s from);
-  Answers = only Done;
+  IsReply = only Done;
   takes_memory = true;
 }
 -- the cell of a voxel
 meaning s (commands.Get name k p) = record {
-  tried = no_grid s name ∷ out_of_range (is_place p) ∷ no_accessor k ∷ [];
+  tried = no_grid s name ∷ out_of_range (names_coord p) ∷ no_accessor k ∷ [];
   after = s;
-  Answers = only (Value ((field_at s name).cell (place p)));
+  IsReply = only (Value ((field_at s name).cell (coord_named p)));
   takes_memory = false;
 }
 -- the four writes of a voxel: the value and active, the value and inactive, the value alone, the state alone
@@ -130,66 +130,66 @@ meaning s (commands.Only name k p v) = meaning_of_write s name k p (writes.Value
 meaning s (commands.State name k p on) = meaning_of_write s name k p (writes.State on)
 -- each voxel of the box gets one cell
 meaning s (commands.Fill name c v on) = record {
-  tried = no_grid s name ∷ other_form (has_form (kind_at s name) v) ∷ out_of_range (are_places c && has_value (kind_at s name) v) ∷ no_box c
-      ∷ root_limit s name (fill (box_between c) (cell_at s name v on)) ∷ [];
-  after = changed s name (fill (box_between c) (cell_at s name v on));
-  Answers = only Done;
+  tried = no_grid s name ∷ other_form (has_form (kind_at s name) v) ∷ out_of_range (name_coords c && has_value (kind_at s name) v) ∷ no_box c
+      ∷ root_limit s name (fill (box_between c) (cell_of_line s name v on)) ∷ [];
+  after = changed s name (fill (box_between c) (cell_of_line s name v on));
+  IsReply = only Done;
   takes_memory = true;
 }
 -- each voxel outside the box gets the background, inactive
 meaning s (commands.Clip name c) = record {
-  tried = no_grid s name ∷ out_of_range (are_places c) ∷ no_box c ∷ [];
+  tried = no_grid s name ∷ out_of_range (name_coords c) ∷ no_box c ∷ [];
   after = changed s name (clip (box_between c));
-  Answers = only Done;
+  IsReply = only Done;
   takes_memory = true;
 }
 -- no cell changes; of the tree it is said in Doing
 meaning s (commands.Prune name) = record {
   tried = no_grid s name ∷ [];
   after = s;
-  Answers = only Done;
+  IsReply = only Done;
   takes_memory = false;
 }
 -- no cell changes; of the tree it is said in Doing
 meaning s (commands.Voxelise name c) = record {
-  tried = no_grid s name ∷ out_of_range (are_places c) ∷ no_box c ∷ too_large 2097152 (box_between c) ∷ [];
+  tried = no_grid s name ∷ out_of_range (name_coords c) ∷ no_box c ∷ too_large 2097152 (box_between c) ∷ [];
   after = s;
-  Answers = only Done;
+  IsReply = only Done;
   takes_memory = true;
 }
 -- the first active voxels of the box in block order, and whether there are more
 meaning s (commands.List name c limit) = record {
-  tried = no_grid s name ∷ out_of_range (is_limit limit && are_places c) ∷ no_box c ∷ [];
+  tried = no_grid s name ∷ out_of_range (is_limit limit && name_coords c) ∷ no_box c ∷ [];
   after = s;
-  Answers = only (listing (count_of limit) (active vdb (field_at s name) (box_between c)));
+  IsReply = only (listing (count_of limit) (active vdb (field_at s name) (box_between c)));
   takes_memory = false;
 }
 -- the cells of a part of a plane, row by row
 meaning s (commands.Slice name z a) = record {
-  tried = no_grid s name ∷ out_of_range (are_places (flat z a)) ∷ no_box (flat z a) ∷ too_wide 64 (box_between (flat z a)) ∷ [];
+  tried = no_grid s name ∷ out_of_range (name_coords (flat z a)) ∷ no_box (flat z a) ∷ too_wide 64 (box_between (flat z a)) ∷ [];
   after = s;
-  Answers = only (Slice (rows (field_at s name) (box_between (flat z a))));
+  IsReply = only (Slice (rows (field_at s name) (box_between (flat z a))));
   takes_memory = false;
 }
 -- how many voxels of the box, or of all, are active
 meaning s (commands.Count name c) = record {
   tried = no_grid s name ∷ tried_region c;
   after = s;
-  Answers = only (Count (count (field_at s name) (region c)));
+  IsReply = only (Count (count (field_at s name) (region c)));
   takes_memory = false;
 }
 -- the least box around the active voxels, if there are any
 meaning s (commands.Bounds name) = record {
   tried = no_grid s name ∷ [];
   after = s;
-  Answers = λ reply. (box : Option Box) × (reply ≡ Bounds box) × IsActiveBounds (field_at s name) box;
+  IsReply = λ reply. (box : Option Box) × (reply ≡ Bounds box) × IsActiveBounds (field_at s name) box;
   takes_memory = false;
 }
 -- how large the smallest tree of the field is
 meaning s (commands.Census name) = record {
   tried = no_grid s name ∷ [];
   after = s;
-  Answers = only (Census (census scalar_eq vdb (field_at s name)));
+  IsReply = only (Census (census scalar_eq vdb (field_at s name)));
   takes_memory = false;
 }
 
@@ -206,8 +206,8 @@ abbrev pub after : Scene → Command → Scene
 after s c = (meaning s c).after
 
 -- the answer to a command that isn't refused
-abbrev pub Answers : Scene → Command → Reply → Type 0
-Answers s c reply = (meaning s c).Answers reply
+abbrev pub IsReply : Scene → Command → Reply → Type 0
+IsReply s c reply = (meaning s c).IsReply reply
 
 -- whether a command may take memory
 abbrev pub takes_memory : Scene → Command → Bool
@@ -220,16 +220,16 @@ takes_memory s c = (meaning s c).takes_memory
 abbrev pub Step : Scene → Command → Reply → Scene → Type 0
 Step s c reply next =
     ((r : Refusal) × (refusal s c ≡ Some r) × (reply ≡ Refused r) × (next ≡ s))
-    ⊎ ((refusal s c ≡ None) × Answers s c reply × (next ≡ after s c))
+    ⊎ ((refusal s c ≡ None) × IsReply s c reply × (next ≡ after s c))
     ⊎ ((refusal s c ≡ None) × IsTrue (takes_memory s c) × (reply ≡ Refused refusals.Memory) × (next ≡ s))
 
 -- ---- a grid that is handed in
 
 -- why a grid can't be put under a name, if it can't
 abbrev pub insertion_refusal : Scene → List ℕ → Option Refusal
-insertion_refusal s name = first_of_all (name_taken s name ∷ grid_limit s ∷ [])
+insertion_refusal s name = first_of_all (name_taken s name ∷ too_many_grids s ∷ [])
 
--- the grid stands under its name, or the first refusal; want of memory comes where nothing else applies
+-- the grid is there under its name, or the first refusal; `Memory` comes where nothing else applies
 abbrev pub Inserts : Scene → List ℕ → Grid → Result (Unit {0}) Refusal → Scene → Type 0
 Inserts s name g (Ok _) next = (insertion_refusal s name ≡ None) × (next ≡ with_grid s name g)
 Inserts s name g (Err refusals.Memory) next = (insertion_refusal s name ≡ None) × (next ≡ s)

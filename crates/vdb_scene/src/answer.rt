@@ -37,13 +37,13 @@ pub enum Refusal {
     NoSum,
     /// A sum lies outside the type.
     SumRange,
-    /// The grid would have too many root blocks that aren't plain.
+    /// The grid would have too many root blocks that hold anything but the background.
     RootLimit,
     /// There is too little memory.
     Memory,
 }
 
-/// What a command answers. It lends the scene until it is dropped.
+/// What a command answers. It borrows the scene until it is dropped.
 #[derive(Drop)]
 pub enum Answer<'a> {
     /// The command is carried out.

@@ -5,7 +5,7 @@ ghost use Rattle.vdb_coord.specs.Blocks.{vdb};
 ghost use Rattle.vdb_coord.specs.Space.{everywhere};
 ghost use Rattle.vdb_tree.specs.Field.{clip as clipped, fill as filled, new, write};
 ghost use Rattle.vdb_tree.specs.Outcome.{IsOutcome};
-ghost use Rattle.vdb_tree.specs.Plain.{count as active_count};
+ghost use Rattle.vdb_tree.specs.ConstantBlocks.{count as active_count};
 ghost use Rattle.vdb_tree.specs.declared.refusal.TreeRefusal.TheVariants.{Memory};
 ghost use Rattle.vdb_walk.specs.Reports.{IsActiveBounds, census as census_of};
 ghost use Rattle.vdb_scene.specs.Scalars.{is_of, kind_of, scalar_eq};
@@ -141,8 +141,8 @@ impl AnyGrid {
         }
     }
 
-    /// How many root blocks aren't plain, and how many blocks of each level aren't constant, whatever nodes stand. It takes no
-    /// memory.
+    /// How many root blocks hold anything but the background, and how many blocks of each level aren't constant, whatever nodes
+    /// there are. It takes no memory.
     pub fn census(&self, steps: &mut Steps) -> Census
         ensures { result ≡ census_of scalar_eq vdb (grid_field self.now) }
     {

@@ -7,7 +7,7 @@ ghost use Rattle.vdb_coord.specs.Space.{everywhere};
 ghost use Rattle.vdb_tree.specs.Field.{as_cell_of, as_field_of, as_write_of, clip as clipped, fill as filled, write};
 ghost use Rattle.vdb_tree.specs.Layout.{field_of};
 ghost use Rattle.vdb_tree.specs.Outcome.{IsOutcome};
-ghost use Rattle.vdb_tree.specs.Plain.{count as active_count};
+ghost use Rattle.vdb_tree.specs.ConstantBlocks.{count as active_count};
 ghost use Rattle.vdb_tree.specs.declared.refusal.TreeRefusal.TheVariants.{Memory};
 ghost use Rattle.vdb_scene.specs.Scalars.{is_of, scalar_eq};
 ghost use Rattle.vdb_scene.specs.Step.{passes, write_takes_memory};

@@ -3,12 +3,12 @@
 
 mod answer;
 mod any_grid;
-mod applying;
+mod carry_out;
 mod command;
 mod grid_tree;
 mod name;
 mod reader;
-mod reporting;
+mod grid_reports;
 mod scalar;
 mod scene;
 mod slice;

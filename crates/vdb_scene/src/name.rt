@@ -108,18 +108,18 @@ fn begins_name(byte: u8) -> bool
     byte.is_ascii_lowercase()
 }
 
-/// Whether a byte may stand in a name.
-fn stands_in_name(byte: u8) -> bool
+/// Whether a name may have this byte.
+fn fits_name(byte: u8) -> bool
     ensures { result ≡ is_name_byte byte }
 {
     begins_name(byte) || byte.is_ascii_digit() || byte == b'_'
 }
 
-/// Whether each of these bytes may stand in a name.
-fn all_stand_in_name(bytes: &[u8]) -> bool
+/// Whether a name may have each of these bytes.
+fn all_fit_name(bytes: &[u8]) -> bool
     ensures { result ≡ list_all is_name_byte bytes.now }
 {
-    bytes.iter().all(|byte| stands_in_name(*byte))
+    bytes.iter().all(|byte| fits_name(*byte))
 }
 
 /// Whether these bytes have the form of a name.
@@ -129,7 +129,7 @@ fn is_name_text(bytes: &[u8]) -> bool
     match bytes {
         [] => false,
         [first, rest @ ..] => {
-            begins_name(*first) && all_stand_in_name(rest) && rest.len() < NAME_LIMIT
+            begins_name(*first) && all_fit_name(rest) && rest.len() < NAME_LIMIT
         }
     }
 }

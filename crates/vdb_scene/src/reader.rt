@@ -16,7 +16,7 @@ use vdb_tree::{Path, PathOf, Tree};
 use vdb_value::Cell;
 
 /// Reads cells of a tree. Each descent begins at the lowest node of the path to the last cell that contains the next one, so a
-/// cell of the same leaf takes one visit (OpenVDB's `ValueAccessor`). It lends the tree.
+/// cell of the same leaf takes one visit (OpenVDB's `ValueAccessor`). It borrows the tree.
 #[derive(Drop)]
 pub struct CellReader<'a, V: GridValue> {
     tree: &'a Tree<V>,
@@ -37,7 +37,7 @@ impl<'a, V: GridValue> Model for CellReader<'a, V> {
     ghost invariant = { λ r. Lives vdb r.tree.now r.path r.near };
 }
 
-/// Reads cells of a grid of any kind, as a `CellReader` does those of a tree. It lends the grid.
+/// Reads cells of a grid of any kind, as a `CellReader` does those of a tree. It borrows the grid.
 #[derive(Drop)]
 pub enum AnyReader<'a> {
     Bool(CellReader<'a, bool>),

@@ -44,7 +44,7 @@ impl Scene {
         self.grids.get(name)
     }
 
-    /// The names of the grids. They rise by their bytes, and each stands once.
+    /// The names of the grids. They rise by their bytes, and each is there once.
     pub fn names(&self) -> Keys<'_, Name, AnyGrid>
         ensures names { result ≡ map (λ e. e.0) (scene_of self.now) }
         ensures rising { IsStrictlySortedBy (slice_cmp nat_cmp) result }
@@ -52,8 +52,8 @@ impl Scene {
         self.grids.keys()
     }
 
-    /// Puts a grid under a name. It is refused, dropped, and the scene stays as it was, where the name is taken, where
-    /// there are `GRID_LIMIT` grids, or for want of memory, in this order.
+    /// Puts a grid under a name. It is refused, dropped, and the scene stays as it was, where the name is taken, where there
+    /// are `GRID_LIMIT` grids, or for lack of memory, in this order.
     pub fn insert(&mut self, name: Name, grid: AnyGrid) -> Result<(), Refusal>
         ensures { Inserts (scene_of self.old) name (grid_of grid) result (scene_of self.new) }
     {
@@ -80,7 +80,7 @@ impl Scene {
         self.grids.len() >= GRID_LIMIT
     }
 
-    /// Puts a grid under a name that isn't taken; only want of memory refuses it.
+    /// Puts a grid under a name that isn't taken; only lack of memory refuses it.
     pub(crate) fn put(&mut self, name: Name, grid: AnyGrid) -> Result<(), Refusal>
         ensures ok { OnOk result (scene_of self.new ≡ with_grid (scene_of self.old) name (grid_of grid)) }
         ensures err { OnErr result (scene_of self.new ≡ scene_of self.old) }

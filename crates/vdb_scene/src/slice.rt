@@ -2,7 +2,7 @@
 ghost use Rattle.std.specs.Prelude.{◌≡◌, length};
 ghost use Rattle.vdb_coord.specs.Space.{extent};
 ghost use Rattle.vdb_scene.specs.Grids.{grid_field};
-ghost use Rattle.vdb_scene.specs.Slices.{HandsCell, HandsNumber, HandsRow, cell_at, rows_left};
+ghost use Rattle.vdb_scene.specs.Slices.{YieldsCell, YieldsNumber, YieldsRow, row_cell, rows_left};
 ghost use Rattle.vdb_scene.specs.Replies.{rows};
 
 use crate::reader::AnyReader;
@@ -11,7 +11,7 @@ use vdb_coord::{Bounds, Coord};
 use vdb_pool::Steps;
 use vdb_value::Cell;
 
-/// The rows of a part of a plane, by rising y. It lends the grid.
+/// The rows of a part of a plane, by rising y. It borrows the grid.
 #[derive(Drop)]
 pub struct Slice<'a> {
     grid: &'a AnyGrid,
@@ -21,7 +21,7 @@ pub struct Slice<'a> {
     y: Option<i32>,
 }
 
-/// The cells of a row, by rising x. It lends the grid.
+/// The cells of a row, by rising x. It borrows the grid.
 #[derive(Drop)]
 pub struct SliceRow<'a> {
     cells: AnyReader<'a>,
@@ -58,7 +58,7 @@ impl<'a> Slice<'a> {
 
     /// The next row, or `None` behind the last one.
     pub fn next(&mut self) -> Option<SliceRow<'a>>
-        ensures { HandsRow self.old result self.new }
+        ensures { YieldsRow self.old result self.new }
     {
         match advance(&mut self.y, self.max.y) {
             Some(y) => Some(SliceRow {
@@ -83,7 +83,7 @@ impl<'a> SliceRow<'a> {
 
     /// The next cell, or `None` behind the last one.
     pub fn next(&mut self, steps: &mut Steps) -> Option<Cell<Scalar>>
-        ensures { HandsCell self.old result self.new }
+        ensures { YieldsCell self.old result self.new }
     {
         match advance(&mut self.x, self.last) {
             Some(x) => Some(self.cell(x, steps)),
@@ -93,7 +93,7 @@ impl<'a> SliceRow<'a> {
 
     /// The cell at an x.
     fn cell(&mut self, x: i32, steps: &mut Steps) -> Cell<Scalar>
-        ensures cell { result ≡ cell_at self.old x }
+        ensures cell { result ≡ row_cell self.old x }
         ensures same { self.new ≡ self.old }
     {
         let (y, z) = (self.y, self.z);
@@ -113,7 +113,7 @@ pub(crate) fn numbers(low: i32, high: i32) -> u64
 
 /// The next number up to the last one, if there is one, and then `next` is the one behind it.
 fn advance(next: &mut Option<i32>, last: i32) -> Option<i32>
-    ensures { HandsNumber next.old last result next.new }
+    ensures { YieldsNumber next.old last result next.new }
 {
     match *next {
         Some(number) => {

@@ -4,7 +4,7 @@ ghost use Rattle.std.specs.Option.{option_map};
 ghost use Rattle.vdb_scene.specs.Listings.{box_across, listed_of, voxels_of};
 ghost use Rattle.vdb_coord.specs.Blocks.{vdb};
 ghost use Rattle.vdb_scene.specs.Grids.{grid_field};
-ghost use Rattle.vdb_walk.specs.Reports.{HandsOut, active};
+ghost use Rattle.vdb_walk.specs.Reports.{Yields, active};
 
 use crate::scalar::GridValue;
 use crate::{AnyGrid, Scalar};
@@ -12,7 +12,7 @@ use vdb_coord::{Bounds, Coord};
 use vdb_pool::Steps;
 use vdb_walk::{Listing, list};
 
-/// The active voxels of a box, of which a listing hands out so many at most. It lends the grid.
+/// The active voxels of a box, of which a listing yields so many at most. It borrows the grid.
 #[derive(Drop)]
 pub struct Voxels<'a> {
     grid: &'a AnyGrid,
@@ -22,7 +22,7 @@ pub struct Voxels<'a> {
     limit: u32,
 }
 
-/// Voxels of a grid of any kind, one after another in block order, with their values. It lends the grid.
+/// Voxels of a grid of any kind, one after another in block order, with their values. It borrows the grid.
 #[derive(Drop)]
 pub enum AnyListing<'a> {
     Bool(Listing<'a, bool, 5, 4, 3, 512, 64, 8>),
@@ -31,7 +31,7 @@ pub enum AnyListing<'a> {
 }
 
 impl<'a> Voxels<'a> {
-    /// The active voxels of a box, to be handed out up to a limit.
+    /// The active voxels of a box, to be yielded up to a limit.
     pub(crate) fn new(grid: &'a AnyGrid, bounds: Bounds, limit: u32) -> Voxels<'a>
         ensures voxels { voxels_of result ≡ active vdb (grid_field grid.now) bounds }
         ensures limit { result.limit ≡ limit }
@@ -44,7 +44,7 @@ impl<'a> Voxels<'a> {
         }
     }
 
-    /// How many a listing hands out at most.
+    /// How many a listing yields at most.
     pub fn limit(&self) -> u32
         ensures { result ≡ self.now.limit }
     {
@@ -67,7 +67,7 @@ impl<'a> Voxels<'a> {
 impl<'a> AnyListing<'a> {
     /// The next voxel with its value; `None` where no more are left, or the limit is reached.
     pub fn next(&mut self, steps: &mut Steps) -> Option<(Coord, Scalar)>
-        ensures { HandsOut (listed_of self.old) result (listed_of self.new) }
+        ensures { Yields (listed_of self.old) result (listed_of self.new) }
     {
         match self {
             AnyListing::Bool(listing) => of_any_kind(listing.next(steps)),
@@ -76,7 +76,7 @@ impl<'a> AnyListing<'a> {
         }
     }
 
-    /// Whether an active voxel of the box follows the last one that was handed out, or there is one at all before the first.
+    /// Whether an active voxel of the box follows the last one that was yielded, or there is one at all before the first.
     pub fn more(&self, steps: &mut Steps) -> bool
         ensures { IsTrue result ↔ ((listed_of self.now).rest ≢ []) }
     {

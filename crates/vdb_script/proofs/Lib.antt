@@ -1,7 +1,7 @@
 -- Lemmas on the lines that are read, their tokens and forms, and the answers that are written.
 mod Checks
 pub mod Forms
-pub mod Handing
+pub mod Yielding
 pub mod Pages
 pub mod Reading
 pub mod RowLines

@@ -3,7 +3,7 @@ use Rattle.std.proofs.Common.{◌≡◌, ◌≢◌, ℕ, ◌+◌, ◌<◌, ◌�
 use Rattle.std.specs.Io.KnownBytes.{Consumes, Keeps, IsAtEnd}
 use Rattle.std.proofs.KnownBytes.{Consumes-kept, Consumes-trans}
 use Rattle.std.proofs.lemmas.List.Elements.{All-append, All-nil, All-cons}
-use Rattle.vdb_script.specs.Reading.{Stock, budget, NoNewline, KeepsText, HandsUpTo, HandsTooMuch, HandsPart}
+use Rattle.vdb_script.specs.Reading.{Stock, budget, NoNewline, KeepsText, YieldsUpTo, YieldsTooMuch, YieldsPart}
 
 -- These bytes of a line came, and no newline yet.
 pub record Takes (old new : Option (List ℕ)) (before after : Stock) (line : List ℕ) : Type 0 where
@@ -20,7 +20,7 @@ Takes-byte a b c before mid after line x t next fewer other = record {
 }
 
 -- the newline comes
-pub Takes-newline : (a b c : Option (List ℕ)) (before mid after : Stock) (line : List ℕ) → Takes a b before mid line → Consumes b c (10 ∷ []) → budget after + 1 ≡ budget mid → HandsUpTo a c before after false line
+pub Takes-newline : (a b c : Option (List ℕ)) (before mid after : Stock) (line : List ℕ) → Takes a b before mid line → Consumes b c (10 ∷ []) → budget after + 1 ≡ budget mid → YieldsUpTo a c before after false line
 Takes-newline a b c before mid after line t next fewer = record {
   bytes = Consumes-trans a b c line (10 ∷ []) t.bytes next;
   budget = omega (arith, length-append line (10 ∷ []), t.budget);
@@ -29,7 +29,7 @@ Takes-newline a b c before mid after line t next fewer = record {
 }
 
 -- the script's end comes
-pub Takes-end : (a b c : Option (List ℕ)) (before mid after : Stock) (line : List ℕ) → Takes a b before mid line → Keeps b c → IsAtEnd c → after.ended ≡ true → budget after ≡ budget mid → HandsUpTo a c before after true line
+pub Takes-end : (a b c : Option (List ℕ)) (before mid after : Stock) (line : List ℕ) → Takes a b before mid line → Keeps b c → IsAtEnd c → after.ended ≡ true → budget after ≡ budget mid → YieldsUpTo a c before after true line
 Takes-end a b c before mid after line t kept end ended same = record {
   bytes = rw (append-nil line) (Consumes-kept a b c line t.bytes kept);
   budget = rw (append-nil line) (omega (arith, t.budget));
@@ -38,7 +38,7 @@ Takes-end a b c before mid after line t kept end ended same = record {
 }
 
 -- a byte past the script's limit comes
-pub Takes-further : (a b c : Option (List ℕ)) (before mid : Stock) (line : List ℕ) → Takes a b before mid line → budget mid ≡ 0 → (further : ℕ) × Consumes b c (further ∷ []) → HandsTooMuch a c before
+pub Takes-further : (a b c : Option (List ℕ)) (before mid : Stock) (line : List ℕ) → Takes a b before mid line → budget mid ≡ 0 → (further : ℕ) × Consumes b c (further ∷ []) → YieldsTooMuch a c before
 Takes-further a b c before mid line t none next = record {
   part = line;
   further = next.0;
@@ -48,7 +48,7 @@ Takes-further a b c before mid line t none next = record {
 }
 
 -- the reader fails
-pub Takes-fault : (a b c : Option (List ℕ)) (before mid : Stock) (line : List ℕ) → Takes a b before mid line → Keeps b c → HandsPart a c before
+pub Takes-fault : (a b c : Option (List ℕ)) (before mid : Stock) (line : List ℕ) → Takes a b before mid line → Keeps b c → YieldsPart a c before
 Takes-fault a b c before mid line t kept = record {
   part = line;
   bytes = Consumes-kept a b c line t.bytes kept;

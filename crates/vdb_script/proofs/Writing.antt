@@ -48,7 +48,7 @@ module _ {A : Type 0} (f : A → List ℕ) (parts : List A) (i : ℕ) (d : A) (c
 
 -- ---- bytes that are taken in several calls
 
--- a front of the bytes was taken
+-- a prefix of the bytes was taken
 pub Writes-front : (a b : Option (List ℕ)) (bytes : List ℕ) (at : ℕ) → Appends a b (take at bytes) → (front rest : List ℕ) × (bytes ≡ front ++ rest) × Appends a b front
 Writes-front a b bytes at p = (take at bytes, drop at bytes, sym (take-append-drop at bytes), p)
 

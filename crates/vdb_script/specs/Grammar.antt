@@ -46,13 +46,13 @@ number_of (b ∷ bytes) =
     else if b == 45 then option_map (λ n. num (neg_ℤ (pos n))) (positive_of bytes)
     else option_map (λ n. num (pos n)) (positive_of (b ∷ bytes))
 
--- what stands behind the token's word in a list of words
+-- what comes behind the token's word in a list of words
 abbrev pub word_of : {A : Type 0} → List (List ℕ × A) → List ℕ → Option A
 word_of words token = lookup (bytes_eq token) words
 
 -- a kind
-abbrev pub kind_of : List ℕ → Option Kind
-kind_of token = word_of ((codes "bool", kinds.Bool) ∷ (codes "i32", kinds.I32) ∷ (codes "i64", kinds.I64) ∷ []) token
+abbrev pub kind_named : List ℕ → Option Kind
+kind_named token = word_of ((codes "bool", kinds.Bool) ∷ (codes "i32", kinds.I32) ∷ (codes "i64", kinds.I64) ∷ []) token
 
 -- a state
 abbrev pub state_of : List ℕ → Option Bool
@@ -110,7 +110,7 @@ corners = do
 abbrev pub grid : Form Command
 grid = do
   name ← one name_of
-  kind ← one kind_of
+  kind ← one kind_named
   background ← one literal_of
   give (commands.Grid name kind background)
 
@@ -247,7 +247,7 @@ census = do
 
 -- ---- the commands
 
--- each command's word, and the form of what stands behind it
+-- each command's word, and the form of what comes behind it
 abbrev pub command_forms : List (List ℕ × Form Command)
 command_forms =
     (codes "grid", grid) ∷ (codes "drop", drop) ∷ (codes "copy", copy) ∷ (codes "get", get) ∷ (codes "set", set) ∷ (codes "unset", unset) ∷ (codes "only", only) ∷ (codes "state", state)

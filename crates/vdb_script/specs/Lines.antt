@@ -1,7 +1,7 @@
 -- The lines of a script, and the tokens of a line.
 use Rattle.std.specs.Prelude.{ℕ, Bool, false, not, ◌||◌, ◌==◌, if◌then◌else◌, List, [], ◌∷◌, length, take, nat_le, ◌^◌}
 
--- the byte at the front of the first piece, which may be new
+-- the first byte of the first piece, which may be new
 abbrev pub onto_first : ℕ → List (List ℕ) → List (List ℕ)
 onto_first b [] = (b ∷ []) ∷ []
 onto_first b (piece ∷ pieces) = (b ∷ piece) ∷ pieces
@@ -11,7 +11,7 @@ abbrev pub lines : List ℕ → List (List ℕ)
 lines [] = []
 lines (b ∷ bytes) = if b == 10 then [] ∷ lines bytes else onto_first b (lines bytes)
 
--- the byte at the front of the first piece, if there is one
+-- the first byte of the first piece, if there is one
 abbrev pub into_first : ℕ → List (List ℕ) → List (List ℕ)
 into_first b [] = []
 into_first b (piece ∷ pieces) = (b ∷ piece) ∷ pieces

@@ -6,29 +6,29 @@ use Rattle.vdb_script.specs.declared.source.ScriptFault.TheVariants.{Read, TooLo
 use Rattle.vdb_script.specs.declared.lines.Line.{Line}
 use Rattle.vdb_script.specs.declared.lines.Line.TheVariants as found
 
--- What stands between a reader and the lines that are handed out.
+-- What is kept between a reader and the lines that are yielded.
 pub record Stock : Type 0 where
-  -- the bytes that the reader gave and that weren't handed out
+  -- the bytes that the reader gave and that weren't yielded
   pub unread : List ℕ
   -- how many more it may give
   pub left : ℕ
   -- whether it has said that it has no more
   pub ended : Bool
 
--- Where the reading of a script's lines stands.
+-- How far the reading of a script's lines has come.
 pub record Position : Type 0 where
-  -- what stands between the reader and the lines
+  -- what is kept between the reader and the lines
   pub source : Stock
   -- the line that was read last: nothing if that was no line or one that is too long
   pub text : List ℕ
   -- what is answered from now on, once that is settled
   pub ending : Option (Result Line ScriptFault)
 
--- how many bytes may still be handed out
+-- how many bytes may still be yielded
 abbrev pub budget : Stock → ℕ
 budget s = length s.unread + s.left
 
--- the bytes that aren't handed out yet, where those that the reader has left are known
+-- the bytes that aren't yielded yet, where those that the reader has left are known
 abbrev pub ahead : Stock → Option (List ℕ) → Option (List ℕ)
 ahead s known = prepend_known s.unread known
 
@@ -46,7 +46,7 @@ line_end false = 10 ∷ []
 line_end true = []
 
 -- These bytes of a line came, and then its newline or, where none came, the script's end.
-pub record HandsUpTo (old new : Option (List ℕ)) (before after : Stock) (at_end : Bool) (line : List ℕ) : Type 0 where
+pub record YieldsUpTo (old new : Option (List ℕ)) (before after : Stock) (at_end : Bool) (line : List ℕ) : Type 0 where
   pub bytes : Consumes old new (line ++ line_end at_end)
   pub budget : length (line ++ line_end at_end) + budget after ≡ budget before
   pub inside : NoNewline line
@@ -57,8 +57,8 @@ abbrev pub KeepsText : Bool → List ℕ → List ℕ → Type 0
 KeepsText true text line = (text ≡ line) × (length line ≤ 256)
 KeepsText false text line = 256 < length line
 
--- This line was handed out, with its newline or, where it is the last and not empty, at the script's end.
-pub record HandsLine (old new : Option (List ℕ)) (before after : Stock) (line : List ℕ) : Type 0 where
+-- This line was yielded, with its newline or, where it is the last and not empty, at the script's end.
+pub record YieldsLine (old new : Option (List ℕ)) (before after : Stock) (line : List ℕ) : Type 0 where
   pub at_end : Bool
   pub bytes : Consumes old new (line ++ line_end at_end)
   pub budget : length (line ++ line_end at_end) + budget after ≡ budget before
@@ -66,13 +66,13 @@ pub record HandsLine (old new : Option (List ℕ)) (before after : Stock) (line 
   pub last : at_end ≡ true → (0 < length line) × (after.ended ≡ true) × IsAtEnd new
 
 -- Nothing is left, and the reader has said so.
-pub record HandsEnd (old new : Option (List ℕ)) (after : Stock) : Type 0 where
+pub record YieldsEnd (old new : Option (List ℕ)) (after : Stock) : Type 0 where
   pub bytes : Consumes old new []
   pub at_end : IsAtEnd new
   pub ended : after.ended ≡ true
 
 -- The reader gave one byte past the script's limit, within a line of which these bytes had come.
-pub record HandsTooMuch (old new : Option (List ℕ)) (before : Stock) : Type 0 where
+pub record YieldsTooMuch (old new : Option (List ℕ)) (before : Stock) : Type 0 where
   pub part : List ℕ
   pub further : ℕ
   pub bytes : Consumes old new (part ++ further ∷ [])
@@ -80,7 +80,7 @@ pub record HandsTooMuch (old new : Option (List ℕ)) (before : Stock) : Type 0 
   pub inside : NoNewline part
 
 -- The reader failed within a line of which these bytes had come.
-pub record HandsPart (old new : Option (List ℕ)) (before : Stock) : Type 0 where
+pub record YieldsPart (old new : Option (List ℕ)) (before : Stock) : Type 0 where
   pub part : List ℕ
   pub bytes : Consumes old new part
   pub budget : length part ≤ budget before

@@ -62,9 +62,9 @@ abbrev pub more_word : Bool → List ℕ
 more_word more = if more then codes "more" else codes "end"
 
 -- the corners of a box, if there is one
-abbrev pub corners : Option Box → List (List ℕ)
-corners None = codes "none" ∷ []
-corners (Some box) = components box.min ++ components box.max
+abbrev pub bounds_words : Option Box → List (List ℕ)
+bounds_words None = codes "none" ∷ []
+bounds_words (Some box) = components box.min ++ components box.max
 
 -- the text of an answer
 abbrev pub text : Reply → List ℕ
@@ -74,7 +74,7 @@ text (Value c) = line (codes "value" ∷ scalar_text c.value ∷ state_text c.on
 text (Listing voxels more) = flat_map voxel_line voxels ++ last_line (more_word more) (length voxels)
 text (Slice rows) = flat_map row_line rows ++ last_line (codes "end") (length rows)
 text (Count active) = line (codes "count" ∷ decimal active ∷ [])
-text (Bounds box) = line (codes "bounds" ∷ corners box)
+text (Bounds box) = line (codes "bounds" ∷ bounds_words box)
 text (Census c) = line (codes "census" ∷ decimal c.roots ∷ decimal c.upper ∷ decimal c.lower ∷ decimal c.leaf ∷ [])
 
 -- the texts of answers, one after another

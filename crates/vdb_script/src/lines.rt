@@ -2,7 +2,7 @@
 
 ghost use Rattle.std.specs.Prelude.{◌≡◌, ◌≢◌, ℕ, ◌<◌, ◌≤◌, ◌||◌, true, false, List, [], length, IfOk, IfSome, None, Ok, Err};
 ghost use Rattle.vdb_scene.specs.Watched.{has_failed, source};
-ghost use Rattle.vdb_script.specs.Reading.{EndsWith, HandsEnd, HandsLine, HandsPart, HandsTooMuch, HandsUpTo, KeepsText, ahead, budget, ending_of, is_read_fault};
+ghost use Rattle.vdb_script.specs.Reading.{EndsWith, YieldsEnd, YieldsLine, YieldsPart, YieldsTooMuch, YieldsUpTo, KeepsText, ahead, budget, ending_of, is_read_fault};
 
 use crate::line_text::LineText;
 use crate::source::{ScriptFault, Source};
@@ -13,7 +13,7 @@ use vdb_scene::Watched;
 /// What was read of a script.
 #[derive(Clone, Copy, Debug, PartialEq, Eq)]
 pub enum Line {
-    /// A line, which `Lines::text` lends.
+    /// A line, which `Lines::text` gives.
     Text,
     /// A line of more than `LINE_LIMIT` bytes.
     TooLong,
@@ -82,15 +82,15 @@ fn read_text<R: Read>(
     ensures quiet { stock.old.ended ≡ true → reader.new ≡ reader.old }
     ensures stays { stock.old.ended ≡ true → stock.new.ended ≡ true }
     ensures found { IfOk result (λ found. (line : List ℕ)
-        × HandsUpTo (ahead stock.old (R.remaining (source reader.old)))
+        × YieldsUpTo (ahead stock.old (R.remaining (source reader.old)))
         (ahead stock.new (R.remaining (source reader.new)))
         stock.old stock.new found.at_end line
         × KeepsText found.fits text.new line) }
     ensures overflow { result ≡ Err ScriptFault.TooLong →
-        HandsTooMuch (ahead stock.old (R.remaining (source reader.old)))
+        YieldsTooMuch (ahead stock.old (R.remaining (source reader.old)))
         (R.remaining (source reader.new)) stock.old }
     ensures read { result ≡ Err ScriptFault.Read →
-        HandsPart (ahead stock.old (R.remaining (source reader.old)))
+        YieldsPart (ahead stock.old (R.remaining (source reader.old)))
         (R.remaining (source reader.new)) stock.old }
     ensures failed { has_failed reader.new ≡ (has_failed reader.old || is_read_fault result) }
 {
@@ -121,23 +121,23 @@ fn next_line<R: Read>(
     ensures quiet { stock.old.ended ≡ true → reader.new ≡ reader.old }
     ensures stays { stock.old.ended ≡ true → stock.new.ended ≡ true }
     ensures text { result ≡ Ok Line.Text →
-        HandsLine (ahead stock.old (R.remaining (source reader.old)))
+        YieldsLine (ahead stock.old (R.remaining (source reader.old)))
         (ahead stock.new (R.remaining (source reader.new)))
         stock.old stock.new text.new
         × (length text.new ≤ 256) }
     ensures too_long { result ≡ Ok Line.TooLong → (line : List ℕ)
-        × HandsLine (ahead stock.old (R.remaining (source reader.old)))
+        × YieldsLine (ahead stock.old (R.remaining (source reader.old)))
         (ahead stock.new (R.remaining (source reader.new)))
         stock.old stock.new line
         × (256 < length line) }
     ensures end { result ≡ Ok Line.End →
-        HandsEnd (ahead stock.old (R.remaining (source reader.old)))
+        YieldsEnd (ahead stock.old (R.remaining (source reader.old)))
         (ahead stock.new (R.remaining (source reader.new))) stock.new }
     ensures overflow { result ≡ Err ScriptFault.TooLong →
-        HandsTooMuch (ahead stock.old (R.remaining (source reader.old)))
+        YieldsTooMuch (ahead stock.old (R.remaining (source reader.old)))
         (R.remaining (source reader.new)) stock.old }
     ensures read { result ≡ Err ScriptFault.Read →
-        HandsPart (ahead stock.old (R.remaining (source reader.old)))
+        YieldsPart (ahead stock.old (R.remaining (source reader.old)))
         (R.remaining (source reader.new)) stock.old }
     ensures failed { has_failed reader.new ≡ (has_failed reader.old || is_read_fault result) }
     ensures no_text { result ≢ Ok Line.Text → text.new ≡ [] }
@@ -171,23 +171,23 @@ pub fn read_line<R: Read>(lines: &mut Lines, reader: &mut Watched<R>) -> Result<
     requires ends { EndsWith lines.old.source (R.remaining (source reader.old)) }
     ensures ends { EndsWith lines.new.source (R.remaining (source reader.new)) }
     ensures text { lines.old.ending ≡ None → result ≡ Ok Line.Text →
-        HandsLine (ahead lines.old.source (R.remaining (source reader.old)))
+        YieldsLine (ahead lines.old.source (R.remaining (source reader.old)))
         (ahead lines.new.source (R.remaining (source reader.new)))
         lines.old.source lines.new.source lines.new.text
         × (length lines.new.text ≤ 256) }
     ensures too_long { lines.old.ending ≡ None → result ≡ Ok Line.TooLong → (line : List ℕ)
-        × HandsLine (ahead lines.old.source (R.remaining (source reader.old)))
+        × YieldsLine (ahead lines.old.source (R.remaining (source reader.old)))
         (ahead lines.new.source (R.remaining (source reader.new)))
         lines.old.source lines.new.source line
         × (256 < length line) }
     ensures end { lines.old.ending ≡ None → result ≡ Ok Line.End →
-        HandsEnd (ahead lines.old.source (R.remaining (source reader.old)))
+        YieldsEnd (ahead lines.old.source (R.remaining (source reader.old)))
         (ahead lines.new.source (R.remaining (source reader.new))) lines.new.source }
     ensures overflow { lines.old.ending ≡ None → result ≡ Err ScriptFault.TooLong →
-        HandsTooMuch (ahead lines.old.source (R.remaining (source reader.old)))
+        YieldsTooMuch (ahead lines.old.source (R.remaining (source reader.old)))
         (R.remaining (source reader.new)) lines.old.source }
     ensures read { lines.old.ending ≡ None → result ≡ Err ScriptFault.Read →
-        HandsPart (ahead lines.old.source (R.remaining (source reader.old)))
+        YieldsPart (ahead lines.old.source (R.remaining (source reader.old)))
         (R.remaining (source reader.new)) lines.old.source }
     ensures failed { lines.old.ending ≡ None →
         has_failed reader.new ≡ (has_failed reader.old || is_read_fault result) }

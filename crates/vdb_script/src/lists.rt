@@ -29,7 +29,7 @@ pub(crate) fn print_list<W: Write>(
     let mut page = Page::new();
     let count = add_voxels(&mut listing, voxels.limit(), &mut page, writer, steps)?;
     let more = listing.more(steps);
-    add(&mut page, count_line(more, count).as_slice(), writer)?;
+    add(&mut page, list_end_line(more, count).as_slice(), writer)?;
     write_bytes(writer, page.as_slice())
 }
 
@@ -71,7 +71,7 @@ fn voxel_text(at: Coord, value: Scalar) -> ArrayVec<u8, ANSWER_LIMIT>
 }
 
 /// The line behind the voxels: whether there are more, and how many they are.
-fn count_line(more: bool, count: u32) -> ArrayVec<u8, ANSWER_LIMIT>
+fn list_end_line(more: bool, count: u32) -> ArrayVec<u8, ANSWER_LIMIT>
     ensures { result.items ≡ last_line (more_word more) count }
 {
     let mut buffer = Buffer::new();

@@ -5,7 +5,7 @@ ghost use Rattle.vdb_scene.specs.declared.command.Command.{Command};
 ghost use Rattle.vdb_scene.specs.declared.command.Literal.{Literal};
 ghost use Rattle.vdb_scene.specs.declared.command.Num.{Num};
 ghost use Rattle.vdb_scene.specs.declared.command.Point.{Point};
-ghost use Rattle.vdb_script.specs.Grammar.{name_of, kind_of, state_of, literal_of, accessor_of, point, corners, grid, drop, copy, get, voxel_value, set, unset, only, state, fill, clip, prune, voxelise, all_of, count, bounds, census, list, slice, whole, command_of, is_comment, parse};
+ghost use Rattle.vdb_script.specs.Grammar.{name_of, kind_named, state_of, literal_of, accessor_of, point, corners, grid, drop, copy, get, voxel_value, set, unset, only, state, fill, clip, prune, voxelise, all_of, count, bounds, census, list, slice, whole, command_of, is_comment, parse};
 
 use crate::numbers::number_of;
 use crate::tokens::{first_token, split_tokens};
@@ -21,8 +21,8 @@ fn name_of(token: &[u8]) -> Option<Name>
 }
 
 /// The kind that a token names.
-fn kind_of(token: &[u8]) -> Option<Kind>
-    ensures { result ≡ kind_of token.now }
+fn kind_named(token: &[u8]) -> Option<Kind>
+    ensures { result ≡ kind_named token.now }
 {
     match token {
         b"bool" => Some(Kind::Bool),
@@ -92,7 +92,7 @@ fn grid_command(tokens: &[&[u8]]) -> Option<Command>
     match tokens {
         [name, kind, background] => Some(Command::Grid {
             name: name_of(name)?,
-            kind: kind_of(kind)?,
+            kind: kind_named(kind)?,
             background: literal_of(background)?,
         }),
         _ => None,

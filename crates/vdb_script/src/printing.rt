@@ -120,7 +120,7 @@ fn value_line(value: Scalar, on: bool) -> ArrayVec<u8, ANSWER_LIMIT>
 ///
 /// It is composed first, up to 4,096 bytes at once, and written in one call; only a writer that takes a part of them is called
 /// again, with the rest. An answer of several lines is read from the scene as it is written. `WriteFault` says that a call of
-/// the writer failed, or took no byte of some; a front of the text may have been written then, and nothing is tried again.
+/// the writer failed, or took no byte of some; a prefix of the text may have been written then, and nothing is tried again.
 pub fn print<W: Write>(
     answer: Answer,
     writer: &mut Watched<W>,

@@ -31,7 +31,7 @@ pub(crate) fn print_slice<W: Write>(
     let count = slice.len();
     let mut page = Page::new();
     add_rows(slice, &mut page, writer, steps)?;
-    add(&mut page, count_line(count).as_slice(), writer)?;
+    add(&mut page, slice_end_line(count).as_slice(), writer)?;
     write_bytes(writer, page.as_slice())
 }
 
@@ -117,7 +117,7 @@ fn spaced_cell(cell: Cell<Scalar>) -> ArrayVec<u8, CELL_LIMIT>
 }
 
 /// The line behind the rows: how many they are.
-fn count_line(count: u64) -> ArrayVec<u8, ANSWER_LIMIT>
+fn slice_end_line(count: u64) -> ArrayVec<u8, ANSWER_LIMIT>
     ensures { result.items ≡ last_line (codes "end") count }
 {
     let mut buffer = Buffer::new();

@@ -27,8 +27,8 @@ pub enum ScriptFault {
     TooLong,
 }
 
-/// What stands between a reader and the lines: the piece that came last, how many more bytes the reader may give, and
-/// whether it has said that it has no more.
+/// What is kept between a reader and the lines: the piece that came last, how many more bytes the reader may give, and whether
+/// it has said that it has no more.
 #[derive(Drop)]
 pub struct Source {
     piece: [u8; PIECE],
@@ -120,8 +120,8 @@ impl Source {
 
     /// Takes the next byte of the script: `None` at its end.
     ///
-    /// The reader is asked only where nothing is unread. A fault hands out nothing: `Read` where the reader failed,
-    /// `TooLong` where it gave a byte past the script's limit.
+    /// The reader is asked only where nothing is unread. A fault yields nothing: `Read` where the reader failed, `TooLong`
+    /// where it gave a byte past the script's limit.
     pub fn next_byte<R: Read>(&mut self, reader: &mut Watched<R>) -> Result<Option<u8>, ScriptFault>
         requires ends { EndsWith self.old (R.remaining (source reader.old)) }
         ensures ends { EndsWith self.new (R.remaining (source reader.new)) }

@@ -281,7 +281,7 @@ fn a_line_is_one_write(rt: HostRuntime) {
 }
 
 #[test]
-fn a_write_fault_leaves_a_front(rt: HostRuntime) {
+fn a_write_fault_leaves_a_prefix(rt: HostRuntime) {
     for fails in [false, true] {
         for stops_at in 1..=180usize {
             let mut narrow = Narrow {

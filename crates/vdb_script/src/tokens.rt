@@ -6,20 +6,20 @@ ghost use Rattle.vdb_script.specs.Lines.{is_separator, tokens};
 use smallvec::SmallVec;
 use std::alloc::Global;
 
-/// The most tokens that stand behind the word of a command.
+/// The most tokens that come behind the word of a command.
 pub const ARGUMENT_LIMIT: usize = 9;
 
 /// Tokens of a line, kept in place, so that they need no memory.
 pub type Tokens<'a> = SmallVec<&'a [u8], 12>;
 
-/// Whether a byte stands between tokens: a space, a tab or a carriage return.
+/// Whether a byte separates tokens: a space, a tab or a carriage return.
 fn is_separator_byte(byte: u8) -> bool
     ensures { result ≡ is_separator byte }
 {
     byte == b' ' || byte == b'\t' || byte == b'\r'
 }
 
-/// How many separators stand before anything else.
+/// How many separators come before anything else.
 fn separators_before(line: &[u8]) -> usize
     ensures { result ≡ length (take_while is_separator line.now) }
 {
@@ -28,7 +28,7 @@ fn separators_before(line: &[u8]) -> usize
         .count()
 }
 
-/// How many bytes stand before the first separator, or the end.
+/// How many bytes come before the first separator, or before the end.
 fn bytes_before_separator(text: &[u8]) -> usize
     ensures { result ≡ length (take_while (λ b. not (is_separator b)) text.now) }
 {

@@ -1,6 +1,6 @@
 -- Lemmas on scripts that are played, and worked examples.
 mod Checks
-pub mod Fronts
+pub mod Prefixes
 pub mod LineSteps
 pub mod Told
 pub mod Turns

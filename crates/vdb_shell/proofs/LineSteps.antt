@@ -33,7 +33,7 @@ or_false : (b : Bool) → b ≡ (b || false)
 or_false true = refl
 or_false false = refl
 
--- one answer that went out, or a front of it
+-- one answer that went out, or a prefix of it
 goes_out : (old new : Option (List ℕ)) (written : Result (Unit {0}) WriteFault) (reply : Reply) → Writes old new written (text reply) → GoesOut old new written (reply ∷ [])
 goes_out old new (Ok a) reply h = subst (Appends old new) (sym (append-nil (text reply))) h
 goes_out old new (Err e) reply h = (reply, refl, h)

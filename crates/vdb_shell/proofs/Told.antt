@@ -1,4 +1,4 @@
--- A script that is played line by line: what was handed out so far, and what it comes to at each end.
+-- A script that is played line by line: what was yielded so far, and what it comes to at each end.
 use Rattle.std.proofs.Common.{◌≡◌, refl, sym, ap, ◌∙◌, subst, ℕ, ◌+◌, ◌^◌, ◌<◌, ◌≤◌, Bool, true, false, ◌||◌, List, [], ◌∷◌, ◌++◌, length, take, Option, Some, None, arith, append_assoc, append-nil, length-append}
 use Rattle.std.specs.List.{list_any}
 use Rattle.std.specs.Io.KnownBytes.{Consumes, IsAtEnd, prepend_known}
@@ -7,13 +7,13 @@ use Rattle.std.proofs.Math.Seq.{take-append_seam}
 use Rattle.vdb_scene.specs.Scene.{Scene}
 use Rattle.vdb_scene.specs.Replies.{Reply}
 use Rattle.vdb_script.specs.Lines.{lines, script_lines, whole_lines}
-use Rattle.vdb_script.specs.Reading.{HandsLine, HandsPart, HandsTooMuch, Stock, budget, line_end}
+use Rattle.vdb_script.specs.Reading.{YieldsLine, YieldsPart, YieldsTooMuch, Stock, budget, line_end}
 use Rattle.vdb_script.specs.Run.{Run, TakesLine, read}
 use Rattle.vdb_script.specs.Text.{answers_text, text}
 use Rattle.vdb_script.specs.declared.source.ScriptFault.TheVariants as script_faults
 use Rattle.vdb_shell.specs.Session.{IsPrefixOf, PlaysFrom, is_refused}
 use Rattle.vdb_shell.specs.declared.fault.Fault.TheVariants.{Script, Answers}
-use Rattle.vdb_shell.proofs.Fronts.{HasLines, begins_with, has_all, has_at_least, has_more, has_none, has_whole}
+use Rattle.vdb_shell.proofs.Prefixes.{HasLines, begins_with, has_all, has_at_least, has_more, has_none, has_whole}
 
 -- ---- runs
 
@@ -33,10 +33,10 @@ any_append test (x ∷ xs) ys = ap (λ b. test x || b) (any_append test xs ys) �
     regrouped true b c = refl
     regrouped false b c = refl
 
--- ---- what was handed out so far
+-- ---- what was yielded so far
 
--- From the scene s on: the front of the script that was handed out, its lines, their answers and the scene after them.
--- `done` says that the last of these lines ended with the script.
+-- From the scene s on: the prefix of the script that was yielded, its lines, their answers and the scene after them. `done`
+-- says that the last of these lines ended with the script.
 pub record Handed (s : Scene) (bytes : List ℕ) (known : Option (List ℕ)) (stock : Stock) (now : Scene) (any_refused : Bool) : Type 0 where
   pub front : List ℕ
   pub handed : List (List ℕ)
@@ -71,7 +71,7 @@ handed_none s bytes known stock is limit = (
     false_true : false ≡ true → ⊥
     false_true h = cc
 
--- nothing more can be handed out at the end
+-- nothing more can be yielded at the end
 nothing_left : (bytes front : List ℕ) (known new : Option (List ℕ)) (more : List ℕ) → Consumes (Some bytes) known front → IsAtEnd known → Consumes known new more → more ≡ []
 nothing_left bytes front None new more c end next = absurd c
 nothing_left bytes front (Some ys) None more c end next = absurd next
@@ -87,7 +87,7 @@ not_nothing false (b ∷ bs) last h = cc
 not_nothing true [] last h = let some : 0 < 0 = last refl in omega (arith, some)
 not_nothing true (b ∷ bs) last h = cc
 
--- the bytes that the reader gave are the front and the unread ones
+-- the bytes that the reader gave are the prefix and the unread ones
 given_all : (bytes front unread : List ℕ) (new left : Option (List ℕ)) → Consumes (Some bytes) new front → new ≡ prepend_known unread left → Consumes (Some bytes) left (front ++ unread)
 given_all bytes front unread new None c is = absurd (subst (λ k. Consumes (Some bytes) k front) is c)
 given_all bytes front unread new (Some ys) c is =
@@ -102,12 +102,12 @@ none_unread bytes front (u ∷ us) new (Some ys) c is end = absurd (some_bytes (
     some_bytes : (u ∷ us) ++ ys ≡ [] → ⊥
     some_bytes h = cc
 
--- and the front is all
+-- and the prefix is all
 front_all : (bytes front : List ℕ) (new : Option (List ℕ)) → Consumes (Some bytes) new front → IsAtEnd new → bytes ≡ front
 front_all bytes front None c end = absurd c
 front_all bytes front (Some ys) c end = c ∙ ap (λ l. front ++ l) end ∙ append-nil front
 
--- what is behind the front
+-- what is behind the prefix
 rest_of : (bytes front : List ℕ) (new : Option (List ℕ)) → Consumes (Some bytes) new front → (rest : List ℕ) × (bytes ≡ front ++ rest) × (IsAtEnd new → rest ≡ [])
 rest_of bytes front None c = absurd c
 rest_of bytes front (Some ys) c = (ys, c, λ end. end)
@@ -117,19 +117,19 @@ take_front : (n : ℕ) (xs ys : List ℕ) → length xs ≡ n → take n (xs ++ 
 take_front n xs ys e = ap (λ k. take k (xs ++ ys)) (sym e) ∙ take-append_seam xs ys
 
 module _ (s : Scene) (bytes : List ℕ) (known : Option (List ℕ)) (stock : Stock) (now : Scene) (any_refused : Bool) (t : Handed s bytes known stock now any_refused) where
-  -- of a front that isn't all
+  -- of a prefix that isn't all
   not_all : {P : Type 0} (done : Bool) → t.done ≡ done → (done ≡ true → ⊥) → (HasLines false t.front t.handed → P) → P
   not_all true is never f = absurd (never refl)
   not_all false is never f = f (subst (λ d. HasLines d t.front t.handed) is t.lines)
 
-  -- where more is handed out the front isn't all
+  -- where more is yielded the prefix isn't all
   lines_before : (more : List ℕ) (new : Option (List ℕ)) → Consumes known new more → (more ≡ [] → ⊥) → HasLines false t.front t.handed
   lines_before more new next some =
       let open_front : t.done ≡ true → ⊥ = λ h. some (nothing_left bytes t.front known new more t.consumed (t.at_end h).1 next) in not_all t.done refl open_front (λ h. h)
 
   -- a line more, with what it does
   pub handed_line : (new : Option (List ℕ)) (after : Stock) (later : Scene) (line : List ℕ) (first : List Reply) (refused : Bool)
-      → HandsLine known new stock after line → TakesLine now (read line) first later → refused ≡ (any_refused || list_any is_refused first)
+      → YieldsLine known new stock after line → TakesLine now (read line) first later → refused ≡ (any_refused || list_any is_refused first)
       → (h : Handed s bytes new after later refused) × (h.replies ≡ t.replies ++ first)
   handed_line new after later line first refused h step is =
       let more = line ++ line_end h.at_end in
@@ -172,7 +172,7 @@ module _ (s : Scene) (bytes : List ℕ) (known : Option (List ℕ)) (stock : Sto
       )
 
   -- the reader gave a byte past the limit
-  pub played_too_long : (left : Option (List ℕ)) → HandsTooMuch known left stock
+  pub played_too_long : (left : Option (List ℕ)) → YieldsTooMuch known left stock
       → (given : List ℕ) × Consumes (Some bytes) left given × PlaysFrom s bytes (Some (Script script_faults.TooLong)) any_refused given (answers_text t.replies) now
   played_too_long left h =
       let more = h.part ++ h.further ∷ [] in
@@ -202,7 +202,7 @@ module _ (s : Scene) (bytes : List ℕ) (known : Option (List ℕ)) (stock : Sto
       some_further (p ∷ ps) b h = cc
 
   -- the reader failed before it said that it has no more
-  pub played_part : (left : Option (List ℕ)) → HandsPart known left stock → (stock.ended ≡ true → ⊥)
+  pub played_part : (left : Option (List ℕ)) → YieldsPart known left stock → (stock.ended ≡ true → ⊥)
       → (given : List ℕ) × Consumes (Some bytes) left given × PlaysFrom s bytes (Some (Script script_faults.Read)) any_refused given (answers_text t.replies) now
   played_part left h open_reader =
       let given = t.front ++ h.part in

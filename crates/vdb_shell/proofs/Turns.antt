@@ -6,7 +6,7 @@ use Rattle.std.proofs.KnownBytes.{Appends-nil, Appends-trans}
 use Rattle.std.proofs.lemmas.Grind.{flat_map-append}
 use Rattle.vdb_scene.specs.Scene.{Scene}
 use Rattle.vdb_scene.specs.Replies.{Reply}
-use Rattle.vdb_script.specs.Reading.{HandsEnd, HandsLine, HandsPart, HandsTooMuch, Stock, budget}
+use Rattle.vdb_script.specs.Reading.{YieldsEnd, YieldsLine, YieldsPart, YieldsTooMuch, Stock, budget}
 use Rattle.vdb_script.specs.Run.{TakesLine, read}
 use Rattle.vdb_script.specs.Text.{answers_text, text}
 use Rattle.vdb_script.specs.Writing.{HasCut}
@@ -28,7 +28,7 @@ went_out a b replies (Err e) ok h = absurd (true_false ok)
     true_false : true ≡ false → ⊥
     true_false h = cc
 
--- and at a fault a front of one answer
+-- and at a fault a prefix of one answer
 was_cut : (a b : Option (List ℕ)) (replies : List Reply) (written : Result (Unit {0}) WriteFault) → is_err written ≡ true → GoesOut a b written replies
     → (reply : Reply) × (replies ≡ reply ∷ []) × HasCut a b (text reply)
 was_cut a b replies (Ok x) failed h = absurd (false_true failed)
@@ -52,7 +52,7 @@ told_none s bytes known stock w is limit =
     let h = handed_none s bytes known stock is limit in (h.0, subst (λ l. Appends w w (answers_text l)) (sym h.1) (Appends-nil w))
 
 module _ (s : Scene) (bytes : List ℕ) (known : Option (List ℕ)) (stock : Stock) (now : Scene) (any_refused : Bool) (w₀ w : Option (List ℕ)) (t : Told s bytes known stock now any_refused w₀ w) where
-  module _ (new : Option (List ℕ)) (after : Stock) (later : Scene) (line : List ℕ) (turn : Turn) (w₂ : Option (List ℕ)) (hands : HandsLine known new stock after line) (taken : TakesTurn now line turn w w₂ later) where
+  module _ (new : Option (List ℕ)) (after : Stock) (later : Scene) (line : List ℕ) (turn : Turn) (w₂ : Option (List ℕ)) (hands : YieldsLine known new stock after line) (taken : TakesTurn now line turn w w₂ later) where
     line_handed : (h : Handed s bytes new after later (any_refused || turn.refused)) × (h.replies ≡ t.0.replies ++ taken.replies)
     line_handed = handed_line s bytes known stock now any_refused t.0 new after later line taken.replies (any_refused || turn.refused) hands taken.takes (ap (λ b. any_refused || b) taken.refused)
 
@@ -73,12 +73,12 @@ module _ (s : Scene) (bytes : List ℕ) (known : Option (List ℕ)) (stock : Sto
         (played.0, answers_text t.0.replies ++ cut.2.0, played.1, Appends-trans w₀ w w₂ (answers_text t.0.replies) cut.2.0 t.1 cut.2.3, played.2)
 
   -- a script that was read to its end
-  pub told_end : (new : Option (List ℕ)) (after : Stock) (left : Option (List ℕ)) → HandsEnd known new after → new ≡ prepend_known after.unread left → Ended s bytes left now any_refused w₀ w None
+  pub told_end : (new : Option (List ℕ)) (after : Stock) (left : Option (List ℕ)) → YieldsEnd known new after → new ≡ prepend_known after.unread left → Ended s bytes left now any_refused w₀ w None
   told_end new after left h is =
       let played = played_whole s bytes known stock now any_refused t.0 new left after.unread h.bytes h.at_end is in (played.0, answers_text t.0.replies, played.1, t.1, played.2)
 
   -- a script that can't be read on
-  pub told_fault : (fault : ScriptFault) (left : Option (List ℕ)) → (fault ≡ TooLong → HandsTooMuch known left stock) → (fault ≡ Read → HandsPart known left stock) → (fault ≡ Read → stock.ended ≡ true → ⊥)
+  pub told_fault : (fault : ScriptFault) (left : Option (List ℕ)) → (fault ≡ TooLong → YieldsTooMuch known left stock) → (fault ≡ Read → YieldsPart known left stock) → (fault ≡ Read → stock.ended ≡ true → ⊥)
       → Ended s bytes left now any_refused w₀ w (Some (Script fault))
   told_fault TooLong left much part unended =
       let played = played_too_long s bytes known stock now any_refused t.0 left (much refl) in (played.0, answers_text t.0.replies, played.1, t.1, played.2)

@@ -12,7 +12,7 @@ use Rattle.vdb_script.specs.declared.source.ScriptFault.TheVariants.{Read, TooLo
 use Rattle.vdb_shell.specs.Session.{is_refused}
 use Rattle.vdb_shell.specs.declared.playing.Turn.{Turn}
 
--- the answers of a line went out, or at a fault a front of the only one
+-- the answers of a line went out, or at a fault a prefix of the only one
 abbrev pub GoesOut : {A E : Type 0} → Option (List ℕ) → Option (List ℕ) → Result A E → List Reply → Type 0
 GoesOut old new (Ok a) replies = Appends old new (answers_text replies)
 GoesOut old new (Err e) replies = (reply : Reply) × (replies ≡ reply ∷ []) × HasCut old new (text reply)

@@ -26,9 +26,9 @@ abbrev pub status : Bool → Option Fault → ℕ
 status refused (Some fault) = 4
 status refused None = if refused then 1 else 0
 
--- the front of the bytes, as far as it goes
+-- the prefix is the first bytes of the whole
 abbrev pub IsPrefixOf : List ℕ → List ℕ → Type 0
-IsPrefixOf front whole = (rest : List ℕ) × (whole ≡ front ++ rest)
+IsPrefixOf prefix whole = (rest : List ℕ) × (whole ≡ prefix ++ rest)
 
 -- What is carried out of a script and written, by the fault that ends it: from the scene s, with the bytes that the
 -- reader gave and those that were written, these answers and this last scene.

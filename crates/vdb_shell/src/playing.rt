@@ -5,7 +5,7 @@ ghost use Rattle.vdb_scene.specs.Grids.{scene_of};
 ghost use Rattle.vdb_scene.specs.Shown.{Shows};
 ghost use Rattle.vdb_scene.specs.Replies.{Reply};
 ghost use Rattle.vdb_scene.specs.Watched.{has_failed, source};
-ghost use Rattle.vdb_script.specs.Reading.{EndsWith, HandsEnd, HandsLine, HandsPart, HandsTooMuch, ahead, budget};
+ghost use Rattle.vdb_script.specs.Reading.{EndsWith, YieldsEnd, YieldsLine, YieldsPart, YieldsTooMuch, ahead, budget};
 ghost use Rattle.vdb_script.specs.Text.{text};
 ghost use Rattle.vdb_script.specs.Writing.{Writes};
 ghost use Rattle.vdb_shell.specs.Answering.{TakesTurn, is_read_ending};
@@ -36,10 +36,10 @@ struct Turn {
     written: Result<(), WriteFault>,
 }
 
-/// Plays a script on a scene: reads a line, carries it out and writes its answer before the next line is read. It ends
-/// where the script does, or at the first fault: at a script of more than 16,777,216 bytes, of which each whole line
-/// within that limit is carried out; at a call of the reader that fails, and then the line that it was to end isn't
-/// carried out; or at a call of the writer that fails or takes no byte, and then what went out is a front of the answers.
+/// Plays a script on a scene: reads a line, carries it out and writes its answer before the next line is read. It ends where
+/// the script does, or at the first fault: at a script of more than 16,777,216 bytes, of which each whole line within that
+/// limit is carried out; at a call of the reader that fails, and then the line that it was to end isn't carried out; or at a
+/// call of the writer that fails or takes no byte, and then what went out is a prefix of the answers.
 pub fn play<R: Read, W: Write>(
     alloc: Global,
     scene: &mut Scene,
@@ -102,11 +102,11 @@ fn play_line<R: Read, W: Write>(
     requires ends { EndsWith lines.old.source (R.remaining (source script.old)) }
     ensures ends { EndsWith lines.new.source (R.remaining (source script.new)) }
     ensures line { IfOk result (λ turn. (line : List ℕ)
-        × HandsLine (ahead lines.old.source (R.remaining (source script.old))) (ahead lines.new.source (R.remaining (source script.new))) lines.old.source lines.new.source line
+        × YieldsLine (ahead lines.old.source (R.remaining (source script.old))) (ahead lines.new.source (R.remaining (source script.new))) lines.old.source lines.new.source line
         × TakesTurn (scene_of scene.old) line turn (W.contents (source answers.old)) (W.contents (source answers.new)) (scene_of scene.new)) }
-    ensures end { result ≡ Err None → HandsEnd (ahead lines.old.source (R.remaining (source script.old))) (ahead lines.new.source (R.remaining (source script.new))) lines.new.source }
-    ensures overflow { result ≡ Err (Some ScriptFault.TooLong) → HandsTooMuch (ahead lines.old.source (R.remaining (source script.old))) (R.remaining (source script.new)) lines.old.source }
-    ensures read { result ≡ Err (Some ScriptFault.Read) → HandsPart (ahead lines.old.source (R.remaining (source script.old))) (R.remaining (source script.new)) lines.old.source }
+    ensures end { result ≡ Err None → YieldsEnd (ahead lines.old.source (R.remaining (source script.old))) (ahead lines.new.source (R.remaining (source script.new))) lines.new.source }
+    ensures overflow { result ≡ Err (Some ScriptFault.TooLong) → YieldsTooMuch (ahead lines.old.source (R.remaining (source script.old))) (R.remaining (source script.new)) lines.old.source }
+    ensures read { result ≡ Err (Some ScriptFault.Read) → YieldsPart (ahead lines.old.source (R.remaining (source script.old))) (R.remaining (source script.new)) lines.old.source }
     ensures failed { has_failed script.new ≡ (has_failed script.old || is_read_ending result) }
     ensures answers_failed { IfOk result (λ turn. has_failed answers.new ≡ (has_failed answers.old || is_err turn.written)) }
     ensures quiet { lines.old.source.ended ≡ true → script.new ≡ script.old }

@@ -32,7 +32,7 @@ use Rattle.vdb_tree.specs.Active.{IsInactiveFrom, IsNextActive}
 use Rattle.vdb_tree.specs.Changes.{IsConstantBlock}
 use Rattle.vdb_tree.specs.Field.{Field}
 use Rattle.vdb_tree.specs.Layout.{Layout, cell_at, field_of}
-use Rattle.vdb_tree.specs.Plain.{count}
+use Rattle.vdb_tree.specs.ConstantBlocks.{count}
 use Rattle.vdb_tree.proofs.Fields.{cell_inside}
 
 -- ---- any test
@@ -136,7 +136,7 @@ module _ {V : Type 0} (f : Field V) (bits : Bits) (level : Level) (p : Coord) wh
       sym (count_listed block (λ q. on q && ltb (offset bits level q) 0) [] nothing_apart
       (λ q. none_on (is_inside block q) (on q && ltb (offset bits level q) 0) (λ i. ap (λ b. on q && b) (not_below (offset bits level q) 0 (omega arith)) ∙ never_and (on q))))
 
-  module _ (from index : ℕ) (order : from ≤ index) (small : index < entries bits level) (idle : IsInactiveFrom bits f level p from index) where
+  module _ (from index : ℕ) (order : from ≤ index) (small : index < entries bits level) (inactive : IsInactiveFrom bits f level p from index) where
     abbrev part : Box
     part = sub_block bits level block index
 
@@ -159,7 +159,7 @@ module _ {V : Type 0} (f : Field V) (bits : Bits) (level : Level) (p : Coord) wh
     passed q i next gone out =
         let less = ltb-true (offset bits level q) (index + 1) next in
         elim (from_or_below (offset bits level q) index) [
-          | inl k ↦ idle q (in_block q i) (from_test (offset bits level q) from gone) k
+          | inl k ↦ inactive q (in_block q i) (from_test (offset bits level q) from gone) k
           | inr k ↦ absurd (false_true out (entry_holds bits level p q index small (in_block q i) (omega (arith, less, k))))
         ]
 
@@ -180,8 +180,8 @@ module _ {V : Type 0} (f : Field V) (bits : Bits) (level : Level) (p : Coord) wh
 
   -- where the rest is inactive all are counted
   pub below_all : (from total : ℕ) → IsInactiveFrom bits f level p from (entries bits level) → total ≡ active_below from → total ≡ count f block
-  below_all from total idle h = h ∙ count_listed block (λ q. on q && ltb (offset bits level q) from) (filter on (coordinates block)) (distinct_filter coord_eq on (coordinates block) (distinct_coordinates block))
-      (λ q. member_passing block on q ∙ step (is_inside block q) (on q) (ltb (offset bits level q) from) (λ i gone. idle q (in_block q i) (from_test (offset bits level q) from gone) (offset_below bits level q)))
+  below_all from total inactive h = h ∙ count_listed block (λ q. on q && ltb (offset bits level q) from) (filter on (coordinates block)) (distinct_filter coord_eq on (coordinates block) (distinct_coordinates block))
+      (λ q. member_passing block on q ∙ step (is_inside block q) (on q) (ltb (offset bits level q) from) (λ i gone. inactive q (in_block q i) (from_test (offset bits level q) from gone) (offset_below bits level q)))
       ∙ length-filter on (coordinates block)
     where
       step : (i o l : Bool) → (i ≡ true → l ≡ false → o ≡ false) → (i && o) ≡ (i && (o && l))
@@ -243,16 +243,16 @@ module _ {V : Type 0} (bits : Bits) (configured : AreBits bits) (t : Layout V) (
 
   module _ (entry : Coord → Entry V) (tiled : (c : Cell V) (q : Coord) → entry q ≡ Tile c → cell_at bits t q ≡ c) (node : List (Entry V)) (x : Cell V)
       (by : (q : Coord) → block_number bits level q ≡ block_number bits level p → entry q ≡ slice_index_or node (offset bits level q) (Tile x)) where
-    idle_at : (q : Coord) → block_number bits level q ≡ block_number bits level p → IsInactiveTile node (offset bits level q) → (f.cell q).on ≡ false
-    idle_at q b h = ap (λ (c : Cell V). c.on) (cell_is q b ∙ tiled (record { value = h.0; on = false }) q (by q b ∙ h.1 (Tile x)))
+    inactive_at : (q : Coord) → block_number bits level q ≡ block_number bits level p → IsInactiveTile node (offset bits level q) → (f.cell q).on ≡ false
+    inactive_at q b h = ap (λ (c : Cell V). c.on) (cell_is q b ∙ tiled (record { value = h.0; on = false }) q (by q b ∙ h.1 (Tile x)))
 
     pub next_active : (from : ℕ) (o : Option ℕ) → IsFirstWithout (IsInactiveTile node) (entry_count (node_bits bits level)) from o → IsNextActive bits f level p from o
     next_active from (Some index) next = record {
       within = rw (entries_is bits level) next.within;
       from_on = next.from_on;
-      before = λ q b more less. idle_at q b (next.before (offset bits level q) more less);
+      before = λ q b more less. inactive_at q b (next.before (offset bits level q) more less);
     }
-    next_active from None none = λ q b more less. idle_at q b (none (offset bits level q) more (rw (← entries_is bits level) less))
+    next_active from None none = λ q b more less. inactive_at q b (none (offset bits level q) more (rw (← entries_is bits level) less))
 
 -- the block of an entry, by its corner
 pub leaf_part : (bits : Bits) (p c : Coord) (i : ℕ) → block_number bits Lower c ≡ block_number bits Lower p → offset bits Lower c ≡ i → sub_block bits Lower (block_around bits Lower p) i ≡ block_around bits Leaf c

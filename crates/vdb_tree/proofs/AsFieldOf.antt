@@ -15,7 +15,7 @@ use Rattle.vdb_tree.specs.declared.refusal.TreeRefusal.{TreeRefusal}
 use Rattle.vdb_tree.specs.declared.refusal.TreeRefusal.TheVariants.{Memory, RootLimit}
 use Rattle.vdb_tree.specs.Field.{Field, as_cell_of, as_field_of, as_write_of, clip, combine, field, fill, new, off, write, written}
 use Rattle.vdb_tree.specs.Outcome.{IsOutcome}
-use Rattle.vdb_tree.specs.Plain.{cell_eq, is_constant, is_uniform, roots}
+use Rattle.vdb_tree.specs.ConstantBlocks.{cell_eq, is_constant, is_uniform, roots}
 use Rattle.vdb_tree.proofs.Fields.{same_cells}
 
 made_cond : {V U : Type 0} (make : V → U) (b : Bool) (x y : Cell V) → as_cell_of make (cond b x y) ≡ cond b (as_cell_of make x) (as_cell_of make y)
@@ -80,7 +80,7 @@ module _ {V U : Type 0} (make : V → U) (background : V) (cells : Coord → Cel
     as_field_of_constant box =
         ap (λ c. is_uniform made_eq (as_field_of make (field background cells)) box c) (as_field_of_cell box.min) ∙ as_field_of_uniform box ((field background cells).cell box.min)
 
-    -- how many root blocks aren't plain
+    -- how many root blocks hold anything but the background
     pub as_field_of_roots : (bits : Bits) → roots made_eq bits (as_field_of make (field background cells)) ≡ roots eq bits (field background cells)
     as_field_of_roots bits =
         ap (λ (test : Coord → Bool). length (filter test (coordinates (block_numbers bits Upper)))) (fun_ext (λ n. ap not (as_field_of_uniform (block bits Upper n) (off background))))

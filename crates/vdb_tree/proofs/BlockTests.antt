@@ -12,7 +12,7 @@ use Rattle.vdb_node.specs.declared.Entry.TheVariants.{Child, Tile}
 use Rattle.vdb_value.specs.declared.Cell.{Cell}
 use Rattle.vdb_tree.specs.Changes.{IsConstantAt, IsConstantBlock}
 use Rattle.vdb_tree.specs.Layout.{Layout, cell_at, entry_over, root_entry, upper_entry}
-use Rattle.vdb_tree.specs.Plain.{cell_eq}
+use Rattle.vdb_tree.specs.ConstantBlocks.{cell_eq}
 use Rattle.vdb_tree.proofs.Descents.{root_by_block, upper_by_block}
 use Rattle.vdb_tree.proofs.Needed.{tile_block}
 use Rattle.vdb_tree.proofs.Uniform.{cell_exact, cell_itself}

@@ -10,10 +10,10 @@ use Rattle.vdb_coord.proofs.Boxes.{not_true}
 use Rattle.vdb_coord.proofs.InRange.{block_in_range, number_of_corner}
 use Rattle.vdb_coord.proofs.Nesting.{inside_numbered, number_in_block}
 use Rattle.vdb_value.specs.declared.Cell.{Cell}
-use Rattle.vdb_tree.specs.Changes.{IsConstantBlock, IsMixedBlock}
+use Rattle.vdb_tree.specs.Changes.{IsConstantBlock, IsNonConstantBlock}
 use Rattle.vdb_tree.specs.Field.{Field}
-use Rattle.vdb_tree.specs.Layout.{Layout, cell_at, field_of, plain}
-use Rattle.vdb_tree.specs.Plain.{is_constant, is_plain, is_uniform}
+use Rattle.vdb_tree.specs.Layout.{Layout, cell_at, field_of, background_cell}
+use Rattle.vdb_tree.specs.ConstantBlocks.{is_constant, is_background, is_uniform}
 use Rattle.vdb_tree.proofs.Fields.{cell_inside}
 use Rattle.vdb_tree.proofs.Uniform.{uniform_cells, uniform_from}
 
@@ -60,25 +60,25 @@ module _ {V : Type 0} (eq : V → V → Bool) (exact : (x y : V) → eq x y ≡ 
         subst (λ (d : Cell V). is_uniform eq (field_of bits t) (block_around bits level p) d ≡ true) (sym first) (uniform_cell_from c h)
 
     -- a block with different cells isn't constant
-    pub mixed_from : IsMixedBlock bits level t p → is_constant eq (field_of bits t) (block_around bits level p) ≡ false
-    mixed_from mixed = not_true _ (λ h. mixed (cell_at bits t p) (constant_block h))
+    pub non_constant_from : IsNonConstantBlock bits level t p → is_constant eq (field_of bits t) (block_around bits level p) ≡ false
+    non_constant_from non_constant = not_true _ (λ h. non_constant (cell_at bits t p) (constant_block h))
 
     -- and the other way round
-    pub mixed_block : is_constant eq (field_of bits t) (block_around bits level p) ≡ false → IsMixedBlock bits level t p
-    mixed_block h c k = never h (constant_from c k)
+    pub non_constant_block : is_constant eq (field_of bits t) (block_around bits level p) ≡ false → IsNonConstantBlock bits level t p
+    non_constant_block h c k = never h (constant_from c k)
 
-    -- the cells of a plain block are the background, inactive
-    pub plain_block : is_plain eq (field_of bits t) (block_around bits level p) ≡ true → IsConstantBlock bits level t p (plain t)
-    plain_block h = uniform_cell (plain t) h
+    -- the cells of a background block are the background, inactive
+    pub background_block : is_background eq (field_of bits t) (block_around bits level p) ≡ true → IsConstantBlock bits level t p (background_cell t)
+    background_block h = uniform_cell (background_cell t) h
 
-    -- a block whose cells are that is plain
-    pub plain_from : IsConstantBlock bits level t p (plain t) → is_plain eq (field_of bits t) (block_around bits level p) ≡ true
-    plain_from h = uniform_cell_from (plain t) h
+    -- a block whose cells are that is a background block
+    pub background_from : IsConstantBlock bits level t p (background_cell t) → is_background eq (field_of bits t) (block_around bits level p) ≡ true
+    background_from h = uniform_cell_from (background_cell t) h
 
-    -- a block with another cell isn't plain
-    pub unplain_from : (IsConstantBlock bits level t p (plain t) → ⊥) → is_plain eq (field_of bits t) (block_around bits level p) ≡ false
-    unplain_from other = not_true _ (λ h. other (plain_block h))
+    -- a block with another cell isn't all background
+    pub non_background_from : (IsConstantBlock bits level t p (background_cell t) → ⊥) → is_background eq (field_of bits t) (block_around bits level p) ≡ false
+    non_background_from other = not_true _ (λ h. other (background_block h))
 
     -- and the other way round
-    pub unplain_block : is_plain eq (field_of bits t) (block_around bits level p) ≡ false → IsConstantBlock bits level t p (plain t) → ⊥
-    unplain_block h k = never h (plain_from k)
+    pub non_background_block : is_background eq (field_of bits t) (block_around bits level p) ≡ false → IsConstantBlock bits level t p (background_cell t) → ⊥
+    non_background_block h k = never h (background_from k)

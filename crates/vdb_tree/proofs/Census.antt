@@ -21,7 +21,7 @@ use Rattle.vdb_node.specs.declared.Entry.TheVariants.{Child}
 use Rattle.vdb_pool.specs.Contents.{Contents, count_of, node_at}
 use Rattle.vdb_tree.specs.Layout.{Layout, entry_over, field_of, lower_entry, root_at, root_entry, upper_entry}
 use Rattle.vdb_tree.specs.Paths.{is_child}
-use Rattle.vdb_tree.specs.Plain.{is_constant, is_plain, mixed, roots}
+use Rattle.vdb_tree.specs.ConstantBlocks.{is_constant, is_background, non_constant, roots}
 use Rattle.vdb_tree.specs.Smallest.{IsAtMost, IsLeast, least_counts, counts_of}
 use Rattle.vdb_tree.specs.Sound.{IsOwned, IsSound}
 use Rattle.vdb_tree.proofs.Descents.{lower_by_block, root_by_block, tile_lower, tile_upper, upper_by_block}
@@ -185,16 +185,16 @@ module _ {V : Type 0} (bits : Bits) (configured : AreBits bits) (t : Layout V) (
 
 module _ {V : Type 0} (eq : V → V → Bool) (exact : (x y : V) → eq x y ≡ true → x ≡ y) (itself : (x : V) → eq x x ≡ true) (bits : Bits) (configured : AreBits bits) (t : Layout V) (sound : IsSound bits t) where
   -- each block that isn't constant has a node of its own
-  mixed_at_most : {N : Type 0} (level : Level) (pool : Contents N) → IsByBlock bits level (entry_over bits level t) → IsOwned bits level (entry_over bits level t) pool
-      → mixed eq bits level (field_of bits t) ≤ count_of pool
-  mixed_at_most level pool by owned =
+  non_constant_at_most : {N : Type 0} (level : Level) (pool : Contents N) → IsByBlock bits level (entry_over bits level t) → IsOwned bits level (entry_over bits level t) pool
+      → non_constant eq bits level (field_of bits t) ≤ count_of pool
+  non_constant_at_most level pool by owned =
       nodes_at_least bits level (entry_over bits level t) pool by owned (λ n. not (is_constant eq (field_of bits t) (block bits level n)))
       (λ p within test. (has_needed eq exact itself bits configured t).nodes level p (numbered_in_range bits level configured p within) (was_false _ test))
 
   -- and in a least tree there are no others
-  mixed_at_least : {N : Type 0} (level : Level) (pool : Contents N) → IsByBlock bits level (entry_over bits level t) → IsOwned bits level (entry_over bits level t) pool
-      → IsLeast eq bits t → count_of pool ≤ mixed eq bits level (field_of bits t)
-  mixed_at_least level pool by owned least =
+  non_constant_at_least : {N : Type 0} (level : Level) (pool : Contents N) → IsByBlock bits level (entry_over bits level t) → IsOwned bits level (entry_over bits level t) pool
+      → IsLeast eq bits t → count_of pool ≤ non_constant eq bits level (field_of bits t)
+  non_constant_at_least level pool by owned least =
       nodes_at_most bits level (entry_over bits level t) pool by owned (λ n. not (is_constant eq (field_of bits t) (block bits level n)))
       (λ p slot child.
       let inside = child_in_range bits configured t sound level p slot child in
@@ -204,12 +204,12 @@ module _ {V : Type 0} (eq : V → V → Bool) (exact : (x y : V) → eq x y ≡ 
   pub counts_at_least : IsAtMost (least_counts eq bits (field_of bits t)) (counts_of t)
   counts_at_least = record {
     entries = roots_within eq exact itself bits configured t;
-    upper = mixed_at_most Upper t.uppers (root_by_block bits t) sound.uppers;
-    lower = mixed_at_most Lower t.lowers (upper_by_block bits t) sound.lowers;
-    leaf = mixed_at_most Leaf t.leaves (lower_by_block bits t) sound.leaves;
+    upper = non_constant_at_most Upper t.uppers (root_by_block bits t) sound.uppers;
+    lower = non_constant_at_most Lower t.lowers (upper_by_block bits t) sound.lowers;
+    leaf = non_constant_at_most Leaf t.leaves (lower_by_block bits t) sound.leaves;
   }
 
-  -- each entry of a least tree is for a root block that isn't plain
+  -- each entry of a least tree is for a root block that holds anything but the background
   entries_at_most : IsLeast eq bits t → length t.root ≤ roots eq bits (field_of bits t)
   entries_at_most least =
       subst (λ n. n ≤ roots eq bits (field_of bits t)) (length-keys_of t.root)
@@ -219,7 +219,7 @@ module _ {V : Type 0} (eq : V → V → Bool) (exact : (x y : V) → eq x y ≡ 
       let corner = (block bits Upper k).min in
       let number : key bits corner ≡ k = number_of_corner bits Upper k in (
         within,
-        subst (λ (n : Coord). is_plain eq (field_of bits t) (block bits Upper n) ≡ false) number
+        subst (λ (n : Coord). is_background eq (field_of bits t) (block bits Upper n) ≡ false) number
             (least.entries corner (corner_in_range bits Upper configured k within) (subst (λ (n : Coord). IsSome (root_at t.root n)) (sym number) held)),
       )))
 
@@ -228,9 +228,9 @@ module _ {V : Type 0} (eq : V → V → Bool) (exact : (x y : V) → eq x y ≡ 
   counts_least least =
       let few = counts_at_least in
       let e : length t.root ≡ roots eq bits (field_of bits t) = same few.entries (entries_at_most least) in
-      let u : count_of t.uppers ≡ mixed eq bits Upper (field_of bits t) = same few.upper (mixed_at_least Upper t.uppers (root_by_block bits t) sound.uppers least) in
-      let l : count_of t.lowers ≡ mixed eq bits Lower (field_of bits t) = same few.lower (mixed_at_least Lower t.lowers (upper_by_block bits t) sound.lowers least) in
-      let f : count_of t.leaves ≡ mixed eq bits Leaf (field_of bits t) = same few.leaf (mixed_at_least Leaf t.leaves (lower_by_block bits t) sound.leaves least) in
+      let u : count_of t.uppers ≡ non_constant eq bits Upper (field_of bits t) = same few.upper (non_constant_at_least Upper t.uppers (root_by_block bits t) sound.uppers least) in
+      let l : count_of t.lowers ≡ non_constant eq bits Lower (field_of bits t) = same few.lower (non_constant_at_least Lower t.lowers (upper_by_block bits t) sound.lowers least) in
+      let f : count_of t.leaves ≡ non_constant eq bits Leaf (field_of bits t) = same few.leaf (non_constant_at_least Leaf t.leaves (lower_by_block bits t) sound.leaves least) in
       λ i. record { entries = e i; upper = u i; lower = l i; leaf = f i }
     where
       same : {a b : ℕ} → a ≤ b → b ≤ a → b ≡ a

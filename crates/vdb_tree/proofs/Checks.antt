@@ -8,7 +8,7 @@ use Rattle.vdb_value.specs.declared.Kind.TheVariants.{I32}
 use Rattle.vdb_value.specs.Values.{sum_in}
 use Rattle.vdb_tree.specs.declared.Write.TheVariants.{On, Off}
 use Rattle.vdb_tree.specs.Field.{Field, new, write, fill, clip, unite, combine, sum, replace, dilate, erode, turns}
-use Rattle.vdb_tree.specs.Plain.{count, is_plain}
+use Rattle.vdb_tree.specs.ConstantBlocks.{count, is_background}
 
 abbrev box : ℕ → ℕ → Box
 box low high = record { min = coord (pos low) (pos low) (pos low); max = coord (pos high) (pos high) (pos high) }
@@ -59,6 +59,6 @@ clipped : count (clip (box 5 20) (fill (box 0 9) (record { value = pos 4; on = t
 unfolding coordinates
 clipped = refl
 
-plain_after_unset : is_plain int_eq (write (coord (pos 0) (pos 0) (pos 0)) (Off (pos 5)) a) (box 0 3) ≡ true
+background_after_unset : is_background int_eq (write (coord (pos 0) (pos 0) (pos 0)) (Off (pos 5)) a) (box 0 3) ≡ true
 unfolding coordinates
-plain_after_unset = refl
+background_after_unset = refl

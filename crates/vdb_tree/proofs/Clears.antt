@@ -15,7 +15,7 @@ use Rattle.vdb_tree.specs.Changes.{Fills, KeepsBeyond, SameDescent}
 use Rattle.vdb_tree.specs.Corners.{IsChildless, IsNextCornerAt}
 use Rattle.vdb_tree.specs.Layout.{Layout}
 use Rattle.vdb_tree.specs.Paints.{KeepsOutside}
-use Rattle.vdb_tree.specs.Ready.{IsCovered}
+use Rattle.vdb_tree.specs.SplitBox.{IsCovered}
 use Rattle.vdb_tree.proofs.Covered.{covered_inside}
 use Rattle.vdb_tree.proofs.Levels.{coord_cases, tile_no_child}
 use Rattle.vdb_tree.proofs.Passes.{descent_trans, head_same, head_trans}

@@ -21,7 +21,7 @@ use Rattle.vdb_pool.specs.Contents.{node_at}
 use Rattle.vdb_value.specs.declared.Cell.{Cell}
 use Rattle.vdb_tree.specs.Changes.{IsConstantBlock}
 use Rattle.vdb_tree.specs.Corners.{IsChildless, IsNextCornerAt, IsTiled}
-use Rattle.vdb_tree.specs.Layout.{Layout, cell_at, lower_entry, plain}
+use Rattle.vdb_tree.specs.Layout.{Layout, cell_at, lower_entry, background_cell}
 use Rattle.vdb_tree.proofs.Descents.{leaf_cell}
 use Rattle.vdb_tree.proofs.Levels.{tile_no_child}
 use Rattle.vdb_tree.proofs.Pools.{below_or}
@@ -76,8 +76,8 @@ pub leaf_iff : {V : Type 0} (bits : Bits) (t : Layout V) (p : Coord) (s : ℕ) (
     → ((o ≡ Some c) ↔ IsConstantLeaf leaf (entry_count (node_bits bits Leaf)) c) → (o ≡ Some c) ↔ IsConstantBlock bits Leaf t p c
 leaf_iff bits t p s leaf child was last end e reads c o given =
     let by = leaf_cell bits t p s leaf child was in (
-      (λ h. block_from_node bits Leaf p (cell_at bits t) (λ d i. cell_in d leaf i) (plain t) c by (given.0 h)),
-      (λ h. given.1 (node_from_block bits Leaf p (cell_at bits t) (λ d i. cell_in d leaf i) (plain t) c by last end (one_cell leaf last e reads) h)),
+      (λ h. block_from_node bits Leaf p (cell_at bits t) (λ d i. cell_in d leaf i) (background_cell t) c by (given.0 h)),
+      (λ h. given.1 (node_from_block bits Leaf p (cell_at bits t) (λ d i. cell_in d leaf i) (background_cell t) c by last end (one_cell leaf last e reads) h)),
     )
 
 module _ {V : Type 0} (bits : Bits) (level : Level) (p : Coord) (entry : Coord → Entry V) (node : List (Entry V)) (x : Cell V)

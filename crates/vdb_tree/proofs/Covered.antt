@@ -10,7 +10,7 @@ use Rattle.vdb_coord.proofs.Boxes.{and_true}
 use Rattle.vdb_coord.proofs.InRange.{number_of_corner}
 use Rattle.vdb_coord.proofs.Meeting.{number_of_last, within_each}
 use Rattle.vdb_coord.proofs.Nesting.{inside_numbered, lower_from_leaf, upper_from_lower}
-use Rattle.vdb_tree.specs.Ready.{IsCovered}
+use Rattle.vdb_tree.specs.SplitBox.{IsCovered}
 
 -- the last coordinate of a block has its number
 number_of_end : (bits : Bits) (level : Level) (n : Coord) → block_number bits level (block bits level n).max ≡ n

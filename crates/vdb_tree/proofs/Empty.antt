@@ -13,7 +13,7 @@ use Rattle.vdb_node.specs.declared.Entry.TheVariants.{Tile}
 use Rattle.vdb_pool.specs.Contents.{Contents, node_at}
 use Rattle.vdb_value.specs.declared.Cell.{Cell}
 use Rattle.vdb_tree.specs.Field.{new}
-use Rattle.vdb_tree.specs.Layout.{Layout, cell_at, field_of, lower_entry, plain, root_at, root_entry, upper_entry}
+use Rattle.vdb_tree.specs.Layout.{Layout, cell_at, field_of, lower_entry, background_cell, root_at, root_entry, upper_entry}
 use Rattle.vdb_tree.specs.Sound.{IsOwned, IsSound}
 use Rattle.vdb_tree.proofs.Fields.{same_cells}
 use Rattle.vdb_tree.proofs.Levels.{some_held, tile_no_child}
@@ -27,16 +27,16 @@ tiles_owned bits level entry pool c tiles none = record {
 }
 
 module _ {V : Type 0} (bits : Bits) (t : Layout V) (none : (k : Coord) → root_at t.root k ≡ None) where
-  empty_root : (p : Coord) → root_entry bits t p ≡ Tile (plain t)
+  empty_root : (p : Coord) → root_entry bits t p ≡ Tile (background_cell t)
   empty_root p = let e = none (key bits p) in rw e refl
 
-  empty_upper : (p : Coord) → upper_entry bits t p ≡ Tile (plain t)
+  empty_upper : (p : Coord) → upper_entry bits t p ≡ Tile (background_cell t)
   empty_upper p = let e = empty_root p in rw e refl
 
-  empty_lower : (p : Coord) → lower_entry bits t p ≡ Tile (plain t)
+  empty_lower : (p : Coord) → lower_entry bits t p ≡ Tile (background_cell t)
   empty_lower p = let e = empty_upper p in rw e refl
 
-  empty_cell : (p : Coord) → cell_at bits t p ≡ plain t
+  empty_cell : (p : Coord) → cell_at bits t p ≡ background_cell t
   unfolding cell_at
   empty_cell p = let e = empty_lower p in rw e refl
 

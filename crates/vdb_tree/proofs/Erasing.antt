@@ -1,4 +1,4 @@
--- Entries of plain root blocks are taken away, in the order of keys.
+-- Entries of background root blocks are taken away, in the order of keys.
 use Rattle.std.proofs.Common.{◌≡◌, IsTrue, inl, inr, refl, subst, sym, ◌∙◌}
 use Rattle.std.specs.Prelude.{Option, Some, None}
 use Rattle.vdb_coord.specs.Blocks.{key}
@@ -9,12 +9,12 @@ use Rattle.vdb_coord.specs.declared.Level.{Level}
 use Rattle.vdb_coord.specs.declared.Level.TheVariants.{Leaf, Lower, Upper}
 use Rattle.vdb_coord.proofs.Nesting.{lower_from_leaf, upper_from_lower}
 use Rattle.vdb_value.specs.declared.Cell.{Cell}
-use Rattle.vdb_tree.specs.Changes.{IsConstantBlock, IsNeededTo, IsNoPlainRoot, Keeps, PrunesRoot, SameDescent}
-use Rattle.vdb_tree.specs.Layout.{Layout, cell_at, entry_over, lower_entry, plain, root_at, root_entry, upper_entry}
+use Rattle.vdb_tree.specs.Changes.{IsConstantBlock, IsNeededTo, IsNoBackgroundRoot, Keeps, PrunesRoot, SameDescent}
+use Rattle.vdb_tree.specs.Layout.{Layout, cell_at, entry_over, lower_entry, background_cell, root_at, root_entry, upper_entry}
 use Rattle.vdb_tree.specs.Nodes.{MakesNoKey}
 use Rattle.vdb_tree.specs.Paths.{is_child}
-use Rattle.vdb_tree.specs.Ready.{IsReady}
-use Rattle.vdb_tree.specs.Erase.{AddsPlainTiles, ErasesRoot}
+use Rattle.vdb_tree.specs.SplitBox.{IsSplit}
+use Rattle.vdb_tree.specs.Erase.{AddsBackgroundTiles, ErasesRoot}
 use Rattle.vdb_tree.specs.Table.{IsNextKey, IsPast}
 use Rattle.vdb_tree.proofs.KeysPast.{past_on}
 use Rattle.vdb_tree.proofs.Levels.{coord_cases}
@@ -25,37 +25,37 @@ use Rattle.vdb_tree.proofs.Sweeps.{apart, equal_left, past_or_not, same_keys}
 
 module _ {V : Type 0} (bits : Bits) where
   -- the background stays
-  pub plain_stays : (old new : Layout V) → Keeps bits old new → plain new ≡ plain old
-  plain_stays old new keeps = let b = keeps.head.background in rw b refl
+  pub background_stays : (old new : Layout V) → Keeps bits old new → background_cell new ≡ background_cell old
+  background_stays old new keeps = let b = keeps.head.background in rw b refl
 
-  pub adds_plain_itself : (t : Layout V) → AddsPlainTiles bits t t
-  adds_plain_itself t = record { keeps = keeps_same bits t; nodes = λ level q h. h; tiles = λ level q tile e. inl e }
+  pub adds_background_itself : (t : Layout V) → AddsBackgroundTiles bits t t
+  adds_background_itself t = record { keeps = keeps_same bits t; nodes = λ level q h. h; tiles = λ level q tile e. inl e }
 
-  -- the same entries stand
-  pub adds_plain_none : (old new : Layout V) → Keeps bits old new → ((q : Coord) → SameDescent bits old new q) → AddsPlainTiles bits old new
-  adds_plain_none old new keeps same = record { keeps = keeps; nodes = same_no_node bits old new same; tiles = λ level q tile e. inl (sym (same q level) ∙ e) }
+  -- the entries are the same
+  pub adds_background_none : (old new : Layout V) → Keeps bits old new → ((q : Coord) → SameDescent bits old new q) → AddsBackgroundTiles bits old new
+  adds_background_none old new keeps same = record { keeps = keeps; nodes = same_no_node bits old new same; tiles = λ level q tile e. inl (sym (same q level) ∙ e) }
 
-  pub adds_plain_twice : (old mid new : Layout V) → AddsPlainTiles bits old mid → AddsPlainTiles bits mid new → AddsPlainTiles bits old new
-  adds_plain_twice old mid new a b = record {
+  pub adds_background_twice : (old mid new : Layout V) → AddsBackgroundTiles bits old mid → AddsBackgroundTiles bits mid new → AddsBackgroundTiles bits old new
+  adds_background_twice old mid new a b = record {
     keeps = keeps_trans bits old mid new a.keeps b.keeps;
     nodes = no_node_twice bits old mid new a.nodes b.nodes;
-    tiles = λ level q tile e. elim (b.tiles level q tile e) [ inl f ↦ a.tiles level q tile f | inr p ↦ inr (p ∙ plain_stays old mid a.keeps) ];
+    tiles = λ level q tile e. elim (b.tiles level q tile e) [ inl f ↦ a.tiles level q tile f | inr p ↦ inr (p ∙ background_stays old mid a.keeps) ];
   }
 
-  -- what is ready to be painted with the plain cell stays so
-  pub ready_plain : (old new : Layout V) → AddsPlainTiles bits old new → (box : Box) → IsReady bits box (plain old) old → IsReady bits box (plain old) new
-  ready_plain old new adds box ready = record {
-    tiles = λ level p inside tile e. elim (adds.tiles level p tile e) [ inl f ↦ ready.tiles level p inside tile f | inr same ↦ inr same ];
-    entered = λ p inside. inl (sym (plain_stays old new adds.keeps));
+  -- what is split for the background cell stays so
+  pub ready_background : (old new : Layout V) → AddsBackgroundTiles bits old new → (box : Box) → IsSplit bits box (background_cell old) old → IsSplit bits box (background_cell old) new
+  ready_background old new adds box edges = record {
+    tiles = λ level p inside tile e. elim (adds.tiles level p tile e) [ inl f ↦ edges.tiles level p inside tile f | inr same ↦ inr same ];
+    entered = λ p inside. inl (sym (background_stays old new adds.keeps));
   }
 
   -- ---- one root block
 
   module _ (t : Layout V) (p k : Coord) (number : key bits p ≡ k) where
-    -- a block that isn't plain keeps its entry
-    pub erases_none : (IsConstantBlock bits Upper t p (plain t) → ⊥) → ErasesRoot bits t t k
+    -- a block that holds anything but the background keeps its entry
+    pub erases_none : (IsConstantBlock bits Upper t p (background_cell t) → ⊥) → ErasesRoot bits t t k
     erases_none other = record {
-      adds = adds_plain_itself t;
+      adds = adds_background_itself t;
       table = λ j d. refl;
       here = λ q e entry some const. other (λ r same. const r (same ∙ number ∙ sym e));
     }
@@ -68,14 +68,14 @@ module _ {V : Type 0} (bits : Bits) where
         let e = child_of (lower_entry bits n q) child in
         needed.0 e.0 e.1 cell (λ r same. const r (upper_from_lower bits r q (lower_from_leaf bits r q same)))
 
-    -- a plain block is pruned: a tile of its is plain
-    pub erases_pruned : (n : Layout V) → IsConstantBlock bits Upper t p (plain t) → PrunesRoot bits t n k → ErasesRoot bits t n k
+    -- a background block is pruned: a tile of its is the background
+    pub erases_pruned : (n : Layout V) → IsConstantBlock bits Upper t p (background_cell t) → PrunesRoot bits t n k → ErasesRoot bits t n k
     erases_pruned n const prunes = record {
       adds = record {
         keeps = prunes.keeps;
         nodes = λ level q child.
             elim (coord_cases (key bits q) k) [
-              | inl at ↦ absurd (none_needed n level q (plain t) (λ r same. prunes.keeps.cells r ∙ const r (same ∙ at ∙ sym number)) (prunes.here q at).0 child)
+              | inl at ↦ absurd (none_needed n level q (background_cell t) (λ r same. prunes.keeps.cells r ∙ const r (same ∙ at ∙ sym number)) (prunes.here q at).0 child)
               | inr d ↦ subst (λ e. IsTrue (is_child e)) (prunes.others q d level) child
             ];
         tiles = λ level q tile e.
@@ -90,23 +90,23 @@ module _ {V : Type 0} (bits : Bits) where
 
   -- ---- one after another
 
-  -- no root block up to this key has the entry of a plain one, and the table past it stands
+  -- no root block up to this key has the entry of a background one, and the table past it stays
   pub record ErasesTo (old new : Layout V) (passed : Option Coord) : Type 0 where
-    pub adds : AddsPlainTiles bits old new
+    pub adds : AddsBackgroundTiles bits old new
     pub keys : MakesNoKey old new
     pub ahead : (k : Coord) → IsPast passed k → root_at new.root k ≡ root_at old.root k
-    pub done : (q : Coord) → (IsPast passed (key bits q) → ⊥) → IsNoPlainRoot bits new q
+    pub done : (q : Coord) → (IsPast passed (key bits q) → ⊥) → IsNoBackgroundRoot bits new q
 
   pub erased_none : (t : Layout V) → ErasesTo t t None
-  erased_none t = record { adds = adds_plain_itself t; keys = λ k h. h; ahead = λ k h. refl; done = λ q h. absurd (h tt) }
+  erased_none t = record { adds = adds_background_itself t; keys = λ k h. h; ahead = λ k h. refl; done = λ q h. absurd (h tt) }
 
   -- the next key of the table, as the table was at first
   pub next_of_old : (old mid : Layout V) (passed : Option Coord) (k : Coord) → ErasesTo old mid passed → IsNextKey mid.root passed (Some k) → IsNextKey old.root passed (Some k)
   next_of_old old mid passed k erases next =
       (rw (← erases.ahead k next.1) next.0, next.1, λ j past some. next.2 j past (rw (erases.ahead j past) some))
 
-  -- a root block without an entry hasn't that of a plain one
-  absent_erased : (t : Layout V) (q : Coord) → root_at t.root (key bits q) ≡ None → IsNoPlainRoot bits t q
+  -- a root block without an entry hasn't that of a background one
+  absent_erased : (t : Layout V) (q : Coord) → root_at t.root (key bits q) ≡ None → IsNoBackgroundRoot bits t q
   absent_erased t q none = λ entry some const. none_some entry (sym none ∙ some)
     where
       none_some : {A : Type 0} (x : A) → ◌≡◌ {A = Option A} None (Some x) → ⊥
@@ -114,7 +114,7 @@ module _ {V : Type 0} (bits : Bits) where
 
   pub erased_next : (old mid new : Layout V) (passed : Option Coord) (k : Coord) → ErasesTo old mid passed → IsNextKey mid.root passed (Some k) → ErasesRoot bits mid new k → ErasesTo old new (Some k)
   erased_next old mid new passed k so_far next erases = record {
-    adds = adds_plain_twice old mid new so_far.adds erases.adds;
+    adds = adds_background_twice old mid new so_far.adds erases.adds;
     keys = keys_twice old mid new so_far.keys (keys_but mid new k next.0 erases.table);
     ahead = λ j later. erases.table j (apart k j later) ∙ so_far.ahead j (past_on passed k j next.1 later);
     done = λ q not_past.
@@ -123,7 +123,7 @@ module _ {V : Type 0} (bits : Bits) where
           | inr d ↦ elim (past_or_not passed (key bits q)) [
             | inr before ↦ λ entry some const.
                 so_far.done q before entry (sym (erases.table (key bits q) d) ∙ some)
-                (λ r b. sym (erases.adds.keeps.cells r) ∙ const r b ∙ plain_stays mid new erases.adds.keeps)
+                (λ r b. sym (erases.adds.keeps.cells r) ∙ const r b ∙ background_stays mid new erases.adds.keeps)
             | inl past ↦
                 elim (some_or_none (root_at mid.root (key bits q))) [
                   | inl x ↦ absurd (d (sym (same_keys k (key bits q) (equal_left (coord_cmp k (key bits q)) (next.2 (key bits q) past (is_some_from _ x.0 x.1)) not_past))))
@@ -134,7 +134,7 @@ module _ {V : Type 0} (bits : Bits) where
   }
 
   -- where no key is left, the table is swept
-  pub erased_end : (old new : Layout V) (passed : Option Coord) → ErasesTo old new passed → IsNextKey new.root passed None → (q : Coord) → IsNoPlainRoot bits new q
+  pub erased_end : (old new : Layout V) (passed : Option Coord) → ErasesTo old new passed → IsNextKey new.root passed None → (q : Coord) → IsNoBackgroundRoot bits new q
   erased_end old new passed so_far next q =
       elim (past_or_not passed (key bits q)) [
         | inr before ↦ so_far.done q before

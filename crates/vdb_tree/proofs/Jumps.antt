@@ -20,7 +20,7 @@ use Rattle.vdb_node.specs.declared.Entry.TheVariants.{Child, Tile}
 use Rattle.vdb_pool.specs.Contents.{node_at}
 use Rattle.vdb_value.specs.declared.Cell.{Cell}
 use Rattle.vdb_tree.specs.Jumps.{ArePassed, IsJump, IsJumpAt, IsLast, IsNextEntryAt, IsNextPartAt}
-use Rattle.vdb_tree.specs.Layout.{Layout, plain, root_entry, upper_entry}
+use Rattle.vdb_tree.specs.Layout.{Layout, background_cell, root_entry, upper_entry}
 use Rattle.vdb_tree.specs.Parts.{IsNextAbove, IsSkipped}
 use Rattle.vdb_tree.specs.declared.reading.parts.Skip.{Skip}
 use Rattle.vdb_tree.specs.declared.reading.parts.Skip.TheVariants.{Background, Inactive}
@@ -181,23 +181,23 @@ module _ {V : Type 0} (bits : Bits) (t : Layout V) (skip : Skip) (outer : Level)
 module _ {V : Type 0} (bits : Bits) (t : Layout V) (p : Coord) (s : ℕ) (node : List (Entry V)) (from : ℕ) (found : Option ℕ) where
   -- of a lower node
   module _ (child : upper_entry bits t p ≡ Child s) (was : node_at t.lowers s ≡ Some node) (is : from ≡ offset bits Lower p + 1) where
-    pub lower_unlike : (cell : Cell V) → cell ≡ plain t → IsFirstWithout (IsTileOf cell node) (entry_count bits.lower) from found → IsNextEntry bits t Background Lower p found
+    pub lower_unlike : (cell : Cell V) → cell ≡ background_cell t → IsFirstWithout (IsTileOf cell node) (entry_count bits.lower) from found → IsNextEntry bits t Background Lower p found
     lower_unlike cell same h = next_entry bits t Background Lower p (IsTileOf cell node)
-        (λ q b tile. background_skipped bits t Leaf q cell (lower_node_entry bits t p s node child was q b ∙ tile (Tile (plain t))) same q refl) from is found h
+        (λ q b tile. background_skipped bits t Leaf q cell (lower_node_entry bits t p s node child was q b ∙ tile (Tile (background_cell t))) same q refl) from is found h
 
     pub lower_active : IsFirstWithout (IsInactiveTile node) (entry_count bits.lower) from found → IsNextEntry bits t Inactive Lower p found
     lower_active h = next_entry bits t Inactive Lower p (IsInactiveTile node)
-        (λ q b tile. inactive_skipped bits t Leaf q (record { value = tile.0; on = false }) (lower_node_entry bits t p s node child was q b ∙ tile.1 (Tile (plain t))) refl q refl) from is found h
+        (λ q b tile. inactive_skipped bits t Leaf q (record { value = tile.0; on = false }) (lower_node_entry bits t p s node child was q b ∙ tile.1 (Tile (background_cell t))) refl q refl) from is found h
 
   -- of an upper node
   module _ (child : root_entry bits t p ≡ Child s) (was : node_at t.uppers s ≡ Some node) (is : from ≡ offset bits Upper p + 1) where
-    pub upper_unlike : (cell : Cell V) → cell ≡ plain t → IsFirstWithout (IsTileOf cell node) (entry_count bits.upper) from found → IsNextEntry bits t Background Upper p found
+    pub upper_unlike : (cell : Cell V) → cell ≡ background_cell t → IsFirstWithout (IsTileOf cell node) (entry_count bits.upper) from found → IsNextEntry bits t Background Upper p found
     upper_unlike cell same h = next_entry bits t Background Upper p (IsTileOf cell node)
-        (λ q b tile. background_skipped bits t Lower q cell (upper_node_entry bits t p s node child was q b ∙ tile (Tile (plain t))) same q refl) from is found h
+        (λ q b tile. background_skipped bits t Lower q cell (upper_node_entry bits t p s node child was q b ∙ tile (Tile (background_cell t))) same q refl) from is found h
 
     pub upper_active : IsFirstWithout (IsInactiveTile node) (entry_count bits.upper) from found → IsNextEntry bits t Inactive Upper p found
     upper_active h = next_entry bits t Inactive Upper p (IsInactiveTile node)
-        (λ q b tile. inactive_skipped bits t Lower q (record { value = tile.0; on = false }) (upper_node_entry bits t p s node child was q b ∙ tile.1 (Tile (plain t))) refl q refl) from is found h
+        (λ q b tile. inactive_skipped bits t Lower q (record { value = tile.0; on = false }) (upper_node_entry bits t p s node child was q b ∙ tile.1 (Tile (background_cell t))) refl q refl) from is found h
 
 -- the block of an entry, with the tree's bits
 pub part_at : {V : Type 0} (bits : Bits) (t : Layout V) (skip : Skip) (outer : Level) (p : Coord) (index : ℕ) → IsNextEntryAt bits t skip outer p index → (same_bits : Bits) → same_bits ≡ bits

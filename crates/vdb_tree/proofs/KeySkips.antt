@@ -17,7 +17,7 @@ use Rattle.vdb_coord.proofs.Members.{coord_equiv, coord_total}
 use Rattle.vdb_coord.proofs.Walk.{inside_from, inside_parts, up_to_x}
 use Rattle.vdb_node.specs.declared.Entry.{Entry}
 use Rattle.vdb_tree.specs.Layout.{root_at}
-use Rattle.vdb_tree.specs.Room.{IsNextMet, MeetsRoot, SkipsTo}
+use Rattle.vdb_tree.specs.Capacity.{IsNextMet, MeetsRootBlock, SkipsTo}
 use Rattle.vdb_tree.specs.Table.{IsNextKey}
 use Rattle.vdb_tree.proofs.Blocks.{never}
 use Rattle.vdb_tree.proofs.KeysMet.{not_greater}
@@ -141,7 +141,7 @@ module _ (keys : Box) (t : Coord) where
 
 module _ {V : Type 0} (bits : Bits) (box : Box) (root : List (Coord × Entry V)) (after : Coord) where
   -- the keys of the box come within those of its corners
-  met_inside : (k : Coord) → MeetsRoot bits box k → is_inside (numbers_over bits Upper box) k ≡ true
+  met_inside : (k : Coord) → MeetsRootBlock bits box k → is_inside (numbers_over bits Upper box) k ≡ true
   met_inside k met =
       let at = inside_parts box met.0 met.1 in
       let b = block_bits bits Upper in
@@ -153,7 +153,7 @@ module _ {V : Type 0} (bits : Bits) (box : Box) (root : List (Coord × Entry V))
   -- no key of the table from past one up to another meets the box
   pub record IsMetPast (passed : Coord) : Type 0 where
     pub on : (k : Coord) → coord_cmp passed k ≡ Less → coord_cmp after k ≡ Less
-    pub none : (k : Coord) → coord_cmp after k ≡ Less → MeetsRoot bits box k → IsSome (root_at root k) → coord_cmp passed k ≡ Less
+    pub none : (k : Coord) → coord_cmp after k ≡ Less → MeetsRootBlock bits box k → IsSome (root_at root k) → coord_cmp passed k ≡ Less
 
   pub met_start : IsMetPast after
   met_start = record { on = λ k h. h; none = λ k h met held. h }
@@ -174,7 +174,7 @@ module _ {V : Type 0} (bits : Bits) (box : Box) (root : List (Coord × Entry V))
 
       -- where it doesn't meet the box, those that do come past it
       module _ (not : is_inside (numbers_over bits Upper box) n ≡ false) where
-        beyond_it : (k : Coord) → coord_cmp after k ≡ Less → MeetsRoot bits box k → IsSome (root_at root k) → coord_cmp n k ≡ Less
+        beyond_it : (k : Coord) → coord_cmp after k ≡ Less → MeetsRootBlock bits box k → IsSome (root_at root k) → coord_cmp n k ≡ Less
         beyond_it k past met held = elim (at_least n k (next.2 k (so_far.none k past met held) held)) [
           | inl same ↦ absurd (never not (subst (λ (j : Coord). is_inside (numbers_over bits Upper box) j ≡ true) same (met_inside k met)))
           | inr later ↦ later

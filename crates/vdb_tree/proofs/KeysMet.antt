@@ -14,7 +14,7 @@ use Rattle.vdb_coord.proofs.Members.{coord_equiv}
 use Rattle.vdb_coord.proofs.Walk.{none_before}
 use Rattle.vdb_node.specs.declared.Entry.{Entry}
 use Rattle.vdb_tree.specs.Layout.{root_at}
-use Rattle.vdb_tree.specs.Room.{IsNextMet}
+use Rattle.vdb_tree.specs.Capacity.{IsNextMet}
 use Rattle.vdb_tree.proofs.Levels.{some_held}
 
 pub not_greater : (o : Ordering) → is_eq o ≡ true → is_gt o ≡ false

@@ -19,7 +19,7 @@ use Rattle.vdb_mask.specs.Mask.{is_on, on_count}
 use Rattle.vdb_node.specs.Leaf.{Leaf as LeafOf}
 use Rattle.vdb_tree.specs.Field.{Field, off}
 use Rattle.vdb_tree.specs.Leaves.{IsLeafAround}
-use Rattle.vdb_tree.specs.Plain.{count}
+use Rattle.vdb_tree.specs.ConstantBlocks.{count}
 use Rattle.vdb_tree.proofs.Rooted.{one_more, or_cases, or_first, or_second}
 use Rattle.vdb_value.specs.declared.Cell.{Cell}
 

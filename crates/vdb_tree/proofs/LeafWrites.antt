@@ -19,7 +19,7 @@ use Rattle.vdb_tree.specs.declared.Write.{Write}
 use Rattle.vdb_tree.specs.declared.path.PathOf.TheVariants.{Empty, ToUpper, ToLower, ToLeaf}
 use Rattle.vdb_tree.specs.Changes.{Changes, Turns}
 use Rattle.vdb_tree.specs.Field.{written}
-use Rattle.vdb_tree.specs.Layout.{Layout, cell_at, field_of, lower_entry, plain}
+use Rattle.vdb_tree.specs.Layout.{Layout, cell_at, field_of, lower_entry, background_cell}
 use Rattle.vdb_tree.specs.Leaves.{IsVoxelWritten, with_states_of}
 use Rattle.vdb_tree.specs.Nodes.{AreStatesSet}
 use Rattle.vdb_tree.specs.Paints.{KeepsOutside, PaintsVoxels}
@@ -67,8 +67,8 @@ module _ {V : Type 0} (bits : Bits) (t : Layout V) (u : ℕ) (n m : LeafOf V) (w
     voxel_turns : IsSound bits t → Turns (entry_number bits Leaf) p (cell_at bits t) (cell_at bits (with_leaf t u m)) cell
     unfolding cell_at
     voxel_turns sound =
-        node_turns (cell_in (plain t)) (λ c. c) (plain t) bits Leaf (lower_entry bits t) t.leaves (with_node t.leaves u m) p u n m cell
-        (lower_by_block bits t) sound.leaves child was (node_puts t.leaves u n m was) (sets.changed (plain t)) (sets.others (plain t))
+        node_turns (cell_in (background_cell t)) (λ c. c) (background_cell t) bits Leaf (lower_entry bits t) t.leaves (with_node t.leaves u m) p u n m cell
+        (lower_by_block bits t) sound.leaves child was (node_puts t.leaves u n m was) (sets.changed (background_cell t)) (sets.others (background_cell t))
 
     voxel_changes : IsSound bits t → Changes bits t (with_leaf t u m) p cell
     voxel_changes sound =
@@ -91,7 +91,7 @@ module _ {V : Type 0} (bits : Bits) (t : Layout V) (u : ℕ) (n m : LeafOf V) (w
   module _ (p : Coord) (child : lower_entry bits t p ≡ Child u) (i : ℕ) (index : i ≡ offset bits Leaf p) (change : Write V) (old cell : Cell V)
       (entry : (d : Cell V) → cell_in d n i ≡ old) (applied : cell ≡ written change old) (sets : SetsVoxel n m i cell) where
     new_cell : cell ≡ written change (cell_at bits t p)
-    new_cell = applied ∙ ap (written change) (sym (leaf_cell bits t p u n child was p refl ∙ ap (cell_in (plain t) n) (sym index) ∙ entry (plain t)))
+    new_cell = applied ∙ ap (written change) (sym (leaf_cell bits t p u n child was p refl ∙ ap (cell_in (background_cell t) n) (sym index) ∙ entry (background_cell t)))
 
     at_offset : SetsVoxel n m (offset bits Leaf p) (written change (cell_at bits t p))
     at_offset = subst (λ c. SetsVoxel n m (offset bits Leaf p) c) new_cell (subst (λ j. SetsVoxel n m j cell) index sets)
@@ -116,7 +116,7 @@ module _ {V : Type 0} (bits : Bits) (t : Layout V) (u : ℕ) (n m : LeafOf V) (w
     states_there : IsSound bits t → (q : Coord) → block_number bits Leaf q ≢ block_number bits Leaf p → cell_at bits (with_leaf t u m) q ≡ cell_at bits t q
     unfolding cell_at
     states_there sound q d =
-        within_same (cell_in (plain t)) (λ c. c) (plain t) t.leaves (with_node t.leaves u m) (lower_entry bits t q) (offset bits Leaf q)
+        within_same (cell_in (background_cell t)) (λ c. c) (background_cell t) t.leaves (with_node t.leaves u m) (lower_entry bits t q) (offset bits Leaf q)
         (λ r e. (node_puts t.leaves u n m was).others r (λ s. d (sound.leaves.own q p u (e ∙ ap Child s) child)))
 
     pub states_field : IsSound bits t → field_of bits (with_leaf t u m) ≡ with_states_of bits p mask (field_of bits t)
@@ -142,12 +142,12 @@ module _ {V : Type 0} (bits : Bits) (t : Layout V) (u : ℕ) (n m : LeafOf V) (w
       (within : (q : Coord) → IsTrue (is_inside part q) → IsTrue (is_inside box q) × (block_number bits Leaf q ≡ block_number bits Leaf p))
       (all : (q : Coord) → IsTrue (is_inside box q) → block_number bits Leaf q ≡ block_number bits Leaf p → IsTrue (is_inside part q)) where
     pub painted_here : (q : Coord) → IsTrue (is_inside box q) → block_number bits Leaf q ≡ block_number bits Leaf p → cell_at bits (with_leaf t u m) q ≡ cell
-    painted_here q inside e = leaf_cell bits (with_leaf t u m) p u m child (node_puts t.leaves u n m was).here q e ∙ paints.painted q (all q inside e) (plain t)
+    painted_here q inside e = leaf_cell bits (with_leaf t u m) p u m child (node_puts t.leaves u n m was).here q e ∙ paints.painted q (all q inside e) (background_cell t)
 
     other_leaf : (q : Coord) → block_number bits Leaf q ≢ block_number bits Leaf p → cell_at bits (with_leaf t u m) q ≡ cell_at bits t q
     unfolding cell_at
     other_leaf q d =
-        within_same (cell_in (plain t)) (λ c. c) (plain t) t.leaves (with_node t.leaves u m) (lower_entry bits t q) (offset bits Leaf q)
+        within_same (cell_in (background_cell t)) (λ c. c) (background_cell t) t.leaves (with_node t.leaves u m) (lower_entry bits t q) (offset bits Leaf q)
         (λ r e. (node_puts t.leaves u n m was).others r (λ s. d (sound.leaves.own q p u (e ∙ ap Child s) child)))
 
     same_leaf : (q : Coord) → (IsTrue (is_inside box q) → ⊥) → block_number bits Leaf q ≡ block_number bits Leaf p → cell_at bits (with_leaf t u m) q ≡ cell_at bits t q
@@ -157,7 +157,7 @@ module _ {V : Type 0} (bits : Bits) (t : Layout V) (u : ℕ) (n m : LeafOf V) (w
         let none : (r : Coord) → IsTrue (is_inside part r) → offset bits Leaf r ≡ offset bits Leaf q → ⊥ = λ r inside same.
         let h = within r inside in
         out (subst (λ (c : Coord). IsTrue (is_inside box c)) (voxel_from_leaf bits r q (h.1 ∙ sym e) same) h.0) in
-        after ∙ paints.others (offset bits Leaf q) none (plain t) ∙ sym before
+        after ∙ paints.others (offset bits Leaf q) none (background_cell t) ∙ sym before
 
     pub painted_outside : KeepsOutside bits box Leaf t (with_leaf t u m) (block_number bits Leaf p)
     painted_outside = record {

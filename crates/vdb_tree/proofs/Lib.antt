@@ -30,7 +30,7 @@ pub mod KeysPast
 pub mod Covered
 pub mod KeysMet
 pub mod KeySkips
-pub mod Readiness
+pub mod SplitTiles
 pub mod EntryCounts
 pub mod NextChild
 pub mod NextLeaf
@@ -40,8 +40,8 @@ pub mod RootCounts
 pub mod CopiedTables
 pub mod Voxels
 pub mod Erasing
-pub mod Rooms
-pub mod RoomWalks
+pub mod Capacities
+pub mod CapacityWalks
 pub mod VoxelRuns
 pub mod PaintedVoxels
 pub mod Paints

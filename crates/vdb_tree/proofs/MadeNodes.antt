@@ -13,7 +13,7 @@ use Rattle.vdb_tree.specs.Changes.{Keeps, SameDescent}
 use Rattle.vdb_tree.specs.Layout.{Layout, cell_at, entry_over, root_at}
 use Rattle.vdb_tree.specs.Nodes.{IsActiveIn, IsCut, KeepsAllBut, KeepsElsewhere, MakesKeysIn, MakesNoKey, MakesNoNode, MakesOnly}
 use Rattle.vdb_tree.specs.Paths.{is_child}
-use Rattle.vdb_tree.specs.Ready.{IsCovered}
+use Rattle.vdb_tree.specs.SplitBox.{IsCovered}
 use Rattle.vdb_tree.proofs.Blocks.{never}
 use Rattle.vdb_tree.proofs.Covered.{covered_by_block}
 use Rattle.vdb_tree.proofs.Levels.{coord_cases, tile_or_child}
@@ -31,7 +31,7 @@ level_cases Upper Lower = inr (λ e. cc)
 level_cases Upper Upper = inl refl
 
 module _ {V : Type 0} (bits : Bits) where
-  -- ---- what stands elsewhere
+  -- ---- what is elsewhere
 
   pub elsewhere_itself : (t : Layout V) (p : Coord) → KeepsElsewhere bits t t p
   elsewhere_itself t p level q d = refl

@@ -11,10 +11,10 @@ use Rattle.vdb_node.specs.declared.Entry.{Entry}
 use Rattle.vdb_node.specs.declared.Entry.TheVariants.{Child, Tile}
 use Rattle.vdb_value.specs.declared.Cell.{Cell}
 use Rattle.vdb_tree.specs.Changes.{IsConstantBlock, IsNeeded}
-use Rattle.vdb_tree.specs.Layout.{Layout, entry_over, plain, root_at, root_entry}
+use Rattle.vdb_tree.specs.Layout.{Layout, entry_over, background_cell, root_at, root_entry}
 use Rattle.vdb_tree.specs.Paths.{is_child}
 use Rattle.vdb_tree.specs.Smallest.{HasNeeded, IsLeast}
-use Rattle.vdb_tree.proofs.Blocks.{mixed_block, mixed_from, never, unplain_block, unplain_from}
+use Rattle.vdb_tree.proofs.Blocks.{non_constant_block, non_constant_from, never, non_background_block, non_background_from}
 use Rattle.vdb_tree.proofs.Descents.{lower_by_block, root_by_block, tile_cell, tile_lower, tile_upper, upper_by_block}
 use Rattle.vdb_tree.proofs.Levels.{tile_or_child}
 
@@ -36,7 +36,7 @@ is_some_from o x h = rw h refl
 
 module _ {V : Type 0} (bits : Bits) (t : Layout V) where
   -- over a block without an entry stands a tile
-  pub absent_entry : (p : Coord) → root_at t.root (key bits p) ≡ None → root_entry bits t p ≡ Tile (plain t)
+  pub absent_entry : (p : Coord) → root_at t.root (key bits p) ≡ None → root_entry bits t p ≡ Tile (background_cell t)
   absent_entry p none = rw none refl
 
   -- a tile over a block means that it is constant
@@ -45,9 +45,9 @@ module _ {V : Type 0} (bits : Bits) (t : Layout V) where
   tile_block Lower p c h q e = tile_cell bits t c q (tile_lower bits t c q (upper_by_block bits t q p e ∙ h))
   tile_block Leaf p c h q e = tile_cell bits t c q (lower_by_block bits t q p e ∙ h)
 
-  -- an absent key, that it is plain
-  pub absent_block : (p : Coord) → root_at t.root (key bits p) ≡ None → IsConstantBlock bits Upper t p (plain t)
-  absent_block p none = tile_block Upper p (plain t) (absent_entry p none)
+  -- an absent key, that it is the background
+  pub absent_block : (p : Coord) → root_at t.root (key bits p) ≡ None → IsConstantBlock bits Upper t p (background_cell t)
+  absent_block p none = tile_block Upper p (background_cell t) (absent_entry p none)
 
 module _ {V : Type 0} (eq : V → V → Bool) (exact : (x y : V) → eq x y ≡ true → x ≡ y) (itself : (x : V) → eq x x ≡ true) (bits : Bits) (configured : AreBits bits) (t : Layout V) where
   -- each tree has the entries and the nodes that its field needs
@@ -56,24 +56,24 @@ module _ {V : Type 0} (eq : V → V → Bool) (exact : (x y : V) → eq x y ≡ 
     entries = λ p inside h.
         elim (some_or_none (root_at t.root (key bits p))) [
           | inl e ↦ is_some_from (root_at t.root (key bits p)) e.0 e.1
-          | inr none ↦ absurd (unplain_block eq exact itself bits configured Upper t p inside h (absent_block bits t p none))
+          | inr none ↦ absurd (non_background_block eq exact itself bits configured Upper t p inside h (absent_block bits t p none))
         ];
     nodes = λ level p inside h.
         elim (tile_or_child (entry_over bits level t p)) [
-          | inl tile ↦ absurd (mixed_block eq exact itself bits configured level t p inside h tile.0 (tile_block bits t level p tile.0 tile.1))
+          | inl tile ↦ absurd (non_constant_block eq exact itself bits configured level t p inside h tile.0 (tile_block bits t level p tile.0 tile.1))
           | inr child ↦ is_child_from (entry_over bits level t p) child.0 child.1
         ];
   }
 
-  -- a tree without entries for plain blocks, and without nodes over constant ones, is least
-  pub least_from : ((p : Coord) (entry : Entry V) → root_at t.root (key bits p) ≡ Some entry → IsConstantBlock bits Upper t p (plain t) → ⊥)
+  -- a tree without entries for background blocks, and without nodes over constant ones, is least
+  pub least_from : ((p : Coord) (entry : Entry V) → root_at t.root (key bits p) ≡ Some entry → IsConstantBlock bits Upper t p (background_cell t) → ⊥)
       → ((p : Coord) → IsNeeded bits Upper t p) → ((p : Coord) → IsNeeded bits Lower t p) → ((p : Coord) → IsNeeded bits Leaf t p) → IsLeast eq bits t
   least_from entries uppers lowers leaves = record {
     entries = λ p inside h.
-        unplain_from eq exact itself bits configured Upper t p inside (entry_given (root_at t.root (key bits p)) h (entries p));
+        non_background_from eq exact itself bits configured Upper t p inside (entry_given (root_at t.root (key bits p)) h (entries p));
     nodes = λ level p inside h.
         let child = child_of (entry_over bits level t p) h in
-        mixed_from eq exact itself bits configured level t p inside (needed level p child.0 child.1);
+        non_constant_from eq exact itself bits configured level t p inside (needed level p child.0 child.1);
   }
     where
       entry_given : {X : Type 0} (o : Option (Entry V)) → IsSome o → ((entry : Entry V) → o ≡ Some entry → X) → X

@@ -22,7 +22,7 @@ use Rattle.vdb_node.specs.declared.Entry.{Entry}
 use Rattle.vdb_node.specs.declared.Entry.TheVariants.{Child, Tile}
 use Rattle.vdb_pool.specs.Contents.{node_at}
 use Rattle.vdb_value.specs.declared.Cell.{Cell}
-use Rattle.vdb_tree.specs.Layout.{Layout, lower_entry, plain, root_entry, upper_entry}
+use Rattle.vdb_tree.specs.Layout.{Layout, lower_entry, background_cell, root_entry, upper_entry}
 use Rattle.vdb_tree.specs.Paths.{in_leaf, is_child}
 use Rattle.vdb_tree.specs.Seeks.{IsFirstLeaf, IsFrom, IsNextLower}
 use Rattle.vdb_coord.proofs.BlockOrder.{later_in_lower}
@@ -146,18 +146,18 @@ module _ {V : Type 0} (bits : Bits) (t : Layout V) where
   pub next_lower_some : (p : Coord) (s from index : ℕ) (node : List (Entry V)) → root_entry bits t p ≡ Child s → node_at t.uppers s ≡ Some node
       → IsNextChildAt node (entry_count bits.upper) from index → (c : Coord) → IsTrue (is_inside everywhere c) → c ≡ corner bits Upper p index → IsNextLower bits t p from (Some c)
   next_lower_some p s from index node child was next c inside e =
-      let found = next_found bits Upper (upper_entry bits t) p node (plain t) (upper_node_entry bits t p s node child was) from index next c e in
+      let found = next_found bits Upper (upper_entry bits t) p node (background_cell t) (upper_node_entry bits t p s node child was) from index next c e in
       (inside, found.0, found.2)
 
   pub next_lower_none : (p : Coord) (s from : ℕ) (node : List (Entry V)) → root_entry bits t p ≡ Child s → node_at t.uppers s ≡ Some node
       → IsNextChild node (entry_count bits.upper) from None → IsNextLower bits t p from None
-  next_lower_none p s from node child was next = none_found bits Upper (upper_entry bits t) p node (plain t) (upper_node_entry bits t p s node child was) from next
+  next_lower_none p s from node child was next = none_found bits Upper (upper_entry bits t) p node (background_cell t) (upper_node_entry bits t p s node child was) from next
 
   -- the next leaf of a lower node
   pub next_leaf_some : (p : Coord) (s from index : ℕ) (node : List (Entry V)) → upper_entry bits t p ≡ Child s → node_at t.lowers s ≡ Some node
       → IsNextChildAt node (entry_count bits.lower) from index → (c : Coord) → IsTrue (is_inside everywhere c) → c ≡ corner bits Lower p index → IsFirstLeaf bits t (IsFrom bits Lower p from) (Some c)
   next_leaf_some p s from index node child was next c inside e =
-      let found = next_found bits Lower (lower_entry bits t) p node (plain t) (lower_node_entry bits t p s node child was) from index next c e in
+      let found = next_found bits Lower (lower_entry bits t) p node (background_cell t) (lower_node_entry bits t p s node child was) from index next c e in
       let small : index < entries bits Lower = subst (λ (n : ℕ). index < n) (sym (entries_is bits Lower)) next.within in
       let first : offset bits Leaf c ≡ 0 = ap (offset bits Leaf) e ∙ corner_first bits p index small in (
         record { inside = inside; first = first; leaf = found.1 },
@@ -168,7 +168,7 @@ module _ {V : Type 0} (bits : Bits) (t : Layout V) where
   pub next_leaf_none : (p : Coord) (s from : ℕ) (node : List (Entry V)) → upper_entry bits t p ≡ Child s → node_at t.lowers s ≡ Some node
       → IsNextChild node (entry_count bits.lower) from None → IsFirstLeaf bits t (IsFrom bits Lower p from) None
   next_leaf_none p s from node child was next =
-      λ q corner h. none_found bits Lower (lower_entry bits t) p node (plain t) (lower_node_entry bits t p s node child was) from next q h corner.leaf
+      λ q corner h. none_found bits Lower (lower_entry bits t) p node (background_cell t) (lower_node_entry bits t p s node child was) from next q h corner.leaf
 
   -- and none in a tile
   pub no_leaf_root : (p : Coord) (from : ℕ) (c : Cell V) → root_entry bits t p ≡ Tile c → IsFirstLeaf bits t (IsFrom bits Lower p from) None

@@ -13,10 +13,10 @@ use Rattle.vdb_node.specs.declared.Entry.TheVariants.{Tile}
 use Rattle.vdb_value.specs.declared.Cell.{Cell}
 use Rattle.vdb_tree.specs.Changes.{KeepsHead, SameDescent}
 use Rattle.vdb_tree.specs.Field.{fill}
-use Rattle.vdb_tree.specs.Layout.{Layout, cell_at, entry_over, field_of, plain, root_at}
-use Rattle.vdb_tree.specs.Paints.{ArePainted, AreReady, IsPainted, KeepsOutside}
-use Rattle.vdb_tree.specs.Ready.{IsCovered, IsReady}
-use Rattle.vdb_tree.specs.Room.{IsNextMet}
+use Rattle.vdb_tree.specs.Layout.{Layout, cell_at, entry_over, field_of, background_cell, root_at}
+use Rattle.vdb_tree.specs.Paints.{ArePainted, AreSplit, IsPainted, KeepsOutside}
+use Rattle.vdb_tree.specs.SplitBox.{IsCovered, IsSplit}
+use Rattle.vdb_tree.specs.Capacity.{IsNextMet}
 use Rattle.vdb_tree.specs.Table.{IsPast}
 use Rattle.vdb_tree.proofs.Blocks.{never}
 use Rattle.vdb_tree.proofs.Equations.{same_field}
@@ -30,7 +30,7 @@ use Rattle.vdb_tree.proofs.Passes.{descent_trans, head_same, head_trans}
 use Rattle.vdb_tree.proofs.Sweeps.{apart, equal_left, past_or_not, same_keys}
 
 module _ {V : Type 0} (bits : Bits) (box : Box) (cell : Cell V) where
-  -- the box is painted up to this key, and the table past it stands
+  -- the box is painted up to this key, and the table past it stays
   pub record PaintsRootsTo (old new : Layout V) (passed : Option Coord) : Type 0 where
     pub head : KeepsHead old new
     pub keys : (k : Coord) → IsSome (root_at old.root k) → IsSome (root_at new.root k)
@@ -54,13 +54,13 @@ module _ {V : Type 0} (bits : Bits) (box : Box) (cell : Cell V) where
   next_at_first old mid passed k paints next =
       (rw (← paints.ahead k next.1) next.0, next.1, λ j past met some. next.2 j past met (rw (paints.ahead j past) some))
 
-  module _ (old : Layout V) (entered : (q : Coord) → IsTrue (is_inside box q) → (cell ≡ plain old) ⊎ IsSome (root_at old.root (key bits q))) where
-    -- a root block without an entry is painted, since the cell is plain
+  module _ (old : Layout V) (entered : (q : Coord) → IsTrue (is_inside box q) → (cell ≡ background_cell old) ⊎ IsSome (root_at old.root (key bits q))) where
+    -- a root block without an entry is painted, since the cell is the background
     absent_painted : (t : Layout V) → KeepsHead old t → ((k : Coord) → IsSome (root_at old.root k) → IsSome (root_at t.root k)) → (q : Coord) → IsTrue (is_inside box q)
         → root_at t.root (key bits q) ≡ None → IsPainted bits box cell Upper t q
     absent_painted t head keys q inside none = elim (entered q inside) [
       | inl is ↦
-          let same : plain t ≡ plain old = let b = head.background in rw b refl in
+          let same : background_cell t ≡ background_cell old = let b = head.background in rw b refl in
           tile_painted bits box cell Upper t q (absent_entry bits t q none ∙ ap Tile (same ∙ sym is))
       | inr some ↦ absurd (some_held (root_at t.root (key bits q)) (keys (key bits q) some) none)
     ]
@@ -97,7 +97,7 @@ module _ {V : Type 0} (bits : Bits) (box : Box) (cell : Cell V) where
             ];
       }
 
-      pub roots_ready : AreReady bits box cell mid → AreReady bits box cell new
+      pub roots_ready : AreSplit bits box cell mid → AreSplit bits box cell new
       roots_ready = ready_after bits box cell Upper Upper mid new k outside painted
 
     -- ---- where no key is left
@@ -122,29 +122,29 @@ module _ {V : Type 0} (bits : Bits) (box : Box) (cell : Cell V) where
       painted_tiles Lower p covered = (all_painted p (covered_inside bits box Lower p p covered refl)).1.1 covered
       painted_tiles Upper p covered = (all_painted p (covered_inside bits box Upper p p covered refl)).1.2 covered
 
-      -- a box that is ready for the same cell stays so
-      pub painted_again : AreReady bits box cell new → (other : Box) → IsReady bits other cell old → IsReady bits other cell new
-      painted_again are other ready = record {
+      -- a tree split for a box and the same cell stays so
+      pub painted_again : AreSplit bits box cell new → (other : Box) → IsSplit bits other cell old → IsSplit bits other cell new
+      painted_again are other edges = record {
         tiles = λ level p inside tile e. elim (bool_cases (is_inside box p)) [
           | inl within ↦ elim (are level p within tile e) [
             | inl covered ↦ inr (same_tile tile cell (sym e ∙ painted_tiles level p covered))
             | inr is ↦ inr is
           ]
-          | inr beyond ↦ ready.tiles level p inside tile (sym (paints.entries p (never beyond) level) ∙ e)
+          | inr beyond ↦ edges.tiles level p inside tile (sym (paints.entries p (never beyond) level) ∙ e)
         ];
         entered = λ p inside.
-            elim (ready.entered p inside) [
+            elim (edges.entered p inside) [
               | inl is ↦ inl (is ∙ (let b = paints.head.background in rw b refl))
               | inr some ↦ inr (paints.keys (key bits p) some)
             ];
       }
 
-      -- a box apart from this one stays ready
-      pub painted_apart : (other : Box) (c : Cell V) → meets box other ≡ false → IsReady bits other c old → IsReady bits other c new
-      painted_apart other c not ready = record {
-        tiles = λ level p inside tile e. ready.tiles level p inside tile (sym (paints.entries p (outside p inside) level) ∙ e);
+      -- the tree stays split for a box apart from this one
+      pub painted_apart : (other : Box) (c : Cell V) → meets box other ≡ false → IsSplit bits other c old → IsSplit bits other c new
+      painted_apart other c not edges = record {
+        tiles = λ level p inside tile e. edges.tiles level p inside tile (sym (paints.entries p (outside p inside) level) ∙ e);
         entered = λ p inside.
-            elim (ready.entered p inside) [
+            elim (edges.entered p inside) [
               | inl is ↦ inl (is ∙ (let b = paints.head.background in rw b refl))
               | inr some ↦ inr (paints.keys (key bits p) some)
             ];

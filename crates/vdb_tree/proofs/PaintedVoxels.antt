@@ -71,8 +71,8 @@ side from to i = elim (below_or i from) [
 ]
 
 -- where each coordinate is a block of its own, blocks come one before another as coordinates do
-plain_before : (a b : Coord) → IsBlockBefore voxels Leaf a b → IsBefore a b
-plain_before a b h = let e = entry_number_leaf voxels a in let f = entry_number_leaf voxels b in subst (λ (t : Coord). IsBefore t b) e (subst (λ (t : Coord). IsBefore (block_number voxels Leaf a) t) f h)
+background_before : (a b : Coord) → IsBlockBefore voxels Leaf a b → IsBefore a b
+background_before a b h = let e = entry_number_leaf voxels a in let f = entry_number_leaf voxels b in subst (λ (t : Coord). IsBefore t b) e (subst (λ (t : Coord). IsBefore (block_number voxels Leaf a) t) f h)
 
 block_before : (a b : Coord) → IsBefore a b → IsBlockBefore voxels Leaf a b
 block_before a b h = let e = entry_number_leaf voxels a in let f = entry_number_leaf voxels b in subst (λ (t : Coord). IsBefore t (block_number voxels Leaf b)) (sym e) (subst (λ (t : Coord). IsBefore a t) (sym f) h)
@@ -80,7 +80,7 @@ block_before a b h = let e = entry_number_leaf voxels a in let f = entry_number_
 -- what is passed by the last of a run doesn't come after it
 not_after : (last q : Coord) → IsBlockBefore voxels Leaf q last ⊎ (block_number voxels Leaf q ≡ block_number voxels Leaf last) → IsBefore last q → ⊥
 not_after last q h past = elim h [
-  | inl before ↦ before_not_past q last (plain_before q last before) past
+  | inl before ↦ before_not_past q last (background_before q last before) past
   | inr same ↦ before_not_same last q past (sym (own_block q last same))
 ]
 

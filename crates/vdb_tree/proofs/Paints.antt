@@ -12,8 +12,8 @@ use Rattle.vdb_node.specs.declared.Entry.TheVariants.{Child, Tile}
 use Rattle.vdb_value.specs.declared.Cell.{Cell}
 use Rattle.vdb_tree.specs.Changes.{Fills, SameDescent}
 use Rattle.vdb_tree.specs.Layout.{Layout, cell_at, entry_over}
-use Rattle.vdb_tree.specs.Paints.{ArePainted, AreReady, IsPainted, KeepsOutside}
-use Rattle.vdb_tree.specs.Ready.{IsCovered, IsTiledTo}
+use Rattle.vdb_tree.specs.Paints.{ArePainted, AreSplit, IsPainted, KeepsOutside}
+use Rattle.vdb_tree.specs.SplitBox.{IsCovered, IsTiledTo}
 use Rattle.vdb_tree.proofs.Covered.{covered_by_block, covered_inside, leaf_covered, lower_covered}
 use Rattle.vdb_tree.proofs.Descents.{tile_lower, tile_upper}
 use Rattle.vdb_tree.proofs.Levels.{coord_cases, tile_no_child}
@@ -65,9 +65,9 @@ module _ {V : Type 0} (bits : Bits) (box : Box) where
     tiles_painted level t p e q inside same = tile_painted level t q (entry_by_block bits level t q p same ∙ e)
 
     -- a tile that isn't covered is one of the cell
-    pub uncovered_tile : (level : Level) (t : Layout V) (p : Coord) (tile : Cell V) → AreReady bits box cell t → IsTrue (is_inside box p) → (IsCovered bits box level p → ⊥)
+    pub uncovered_tile : (level : Level) (t : Layout V) (p : Coord) (tile : Cell V) → AreSplit bits box cell t → IsTrue (is_inside box p) → (IsCovered bits box level p → ⊥)
         → entry_over bits level t p ≡ Tile tile → entry_over bits level t p ≡ Tile cell
-    uncovered_tile level t p tile ready inside not e = elim (ready level p inside tile e) [
+    uncovered_tile level t p tile edges inside not e = elim (edges level p inside tile e) [
       | inl covered ↦ absurd (not covered)
       | inr same ↦ e ∙ ap Tile same
     ]
@@ -100,28 +100,28 @@ module _ {V : Type 0} (bits : Bits) (box : Box) where
         let h = painted q (covered_inside bits box Upper p q covered same) same in
         tile_no_child cell slot (sym (h.1.1 (lower_covered bits box q (covered_by_block bits box Upper p q same covered))) ∙ e)
 
-    -- the box stays ready while parts of it are painted
-    pub ready_after : (outer inner : Level) (old new : Layout V) (n : Coord) → KeepsOutside bits box outer old new n → ArePainted bits box cell outer inner new n → AreReady bits box cell old → AreReady bits box cell new
-    ready_after outer inner old new n keeps painted ready level q inside tile e = elim (coord_cases (block_number bits outer q) n) [
+    -- the tree stays split for the box while parts of it are painted
+    pub ready_after : (outer inner : Level) (old new : Layout V) (n : Coord) → KeepsOutside bits box outer old new n → ArePainted bits box cell outer inner new n → AreSplit bits box cell old → AreSplit bits box cell new
+    ready_after outer inner old new n keeps painted edges level q inside tile e = elim (coord_cases (block_number bits outer q) n) [
       | inl same ↦ inr (sym (tile_gives bits level new q tile e) ∙ (painted q inside same).0)
-      | inr other ↦ ready level q inside tile (sym (keeps.entries q (λ _ same. other same) level) ∙ e)
+      | inr other ↦ edges level q inside tile (sym (keeps.entries q (λ _ same. other same) level) ∙ e)
     ]
 
     -- ---- a walk over the inner blocks of the outer one that meet the box
 
     pub record PaintsTo (outer inner : Level) (part : Box) (old new : Layout V) (n p : Coord) : Type 0 where
       pub outside : KeepsOutside bits box outer old new n
-      pub ready : AreReady bits box cell new
+      pub edges : AreSplit bits box cell new
       pub inside : IsTrue (is_inside part p)
       pub done : (q : Coord) → IsTrue (is_inside part q) → IsBlockBefore bits inner q p → IsPainted bits box cell inner new q
 
     module _ (outer inner : Level) (part : Box) (n : Coord) (up : (q r : Coord) → block_number bits inner q ≡ block_number bits inner r → block_number bits outer q ≡ block_number bits outer r)
         (within : (q : Coord) → IsTrue (is_inside part q) → IsTrue (is_inside box q) × (block_number bits outer q ≡ n))
         (all : (q : Coord) → IsTrue (is_inside box q) → block_number bits outer q ≡ n → IsTrue (is_inside part q)) where
-      pub paint_none : (t : Layout V) → AreReady bits box cell t → is_box part ≡ true → PaintsTo outer inner part t t n part.min
-      paint_none t ready is = record {
+      pub paint_none : (t : Layout V) → AreSplit bits box cell t → is_box part ≡ true → PaintsTo outer inner part t t n part.min
+      paint_none t edges is = record {
         outside = outside_itself outer t n;
-        ready = ready;
+        edges = edges;
         inside = min_inside part is;
         done = λ q inside before. absurd (none_before bits inner part q inside before);
       }
@@ -143,7 +143,7 @@ module _ {V : Type 0} (bits : Bits) (box : Box) where
         pub paint_next : (next : Coord) → IsNextBlock bits inner part p (Some next) → PaintsTo outer inner part old new n next
         paint_next next h = record {
           outside = paint_outside;
-          ready = ready_after inner inner t new (block_number bits inner p) keeps painted so_far.ready;
+          edges = ready_after inner inner t new (block_number bits inner p) keeps painted so_far.edges;
           inside = h.0;
           done = λ q inside before. up_to q inside (h.2 q inside before);
         }

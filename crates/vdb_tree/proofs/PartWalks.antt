@@ -17,7 +17,7 @@ use Rattle.vdb_coord.proofs.Nesting.{inside_numbered, lower_from_leaf, number_in
 use Rattle.vdb_node.specs.declared.Entry.{Entry}
 use Rattle.vdb_node.specs.declared.Entry.TheVariants.{Child, Tile}
 use Rattle.vdb_tree.specs.Jumps.{IsJumpAt, IsLast}
-use Rattle.vdb_tree.specs.Layout.{Layout, cell_at, entry_over, field_of, plain, root_at, root_entry, upper_entry}
+use Rattle.vdb_tree.specs.Layout.{Layout, cell_at, entry_over, field_of, background_cell, root_at, root_entry, upper_entry}
 use Rattle.vdb_tree.specs.Parts.{IsPartAround, IsPlace, IsPlaceAfter, IsSkipped, IsWalk, Passes, TreeWalk, YieldsBox, end_level, if_tile, is_left, left_count}
 use Rattle.vdb_tree.specs.declared.reading.parts.Skip.{Skip}
 use Rattle.vdb_tree.specs.declared.reading.parts.Skip.TheVariants.{Absent, Background, Inactive}
@@ -192,17 +192,17 @@ module _ {V : Type 0} (bits : Bits) (t : Layout V) where
   -- ---- under later keys
 
   -- an absent root block is the background, inactive
-  absent_cell : (q : Coord) → root_at t.root (key bits q) ≡ None → cell_at bits t q ≡ plain t
+  absent_cell : (q : Coord) → root_at t.root (key bits q) ≡ None → cell_at bits t q ≡ background_cell t
   absent_cell q none =
-      let tile : root_entry bits t q ≡ Tile (plain t) = rw none refl in
-      tile_cell bits t (plain t) q (tile_lower bits t (plain t) q (tile_upper bits t (plain t) q tile))
+      let tile : root_entry bits t q ≡ Tile (background_cell t) = rw none refl in
+      tile_cell bits t (background_cell t) q (tile_lower bits t (background_cell t) q (tile_upper bits t (background_cell t) q tile))
 
   either_way : {A : Type 0} (b : Bool) (x y : A) → x ≡ y → (if b then x else y) ≡ y
   either_way true x y e = e
   either_way false x y e = refl
 
-  absent_field : (q : Coord) → root_at t.root (key bits q) ≡ None → (field_of bits t).cell q ≡ plain t
-  absent_field q none = either_way (is_inside everywhere q) (cell_at bits t q) (plain t) (absent_cell q none)
+  absent_field : (q : Coord) → root_at t.root (key bits q) ≡ None → (field_of bits t).cell q ≡ background_cell t
+  absent_field q none = either_way (is_inside everywhere q) (cell_at bits t q) (background_cell t) (absent_cell q none)
 
   pub absent_skipped : (skip : Skip) (q : Coord) → root_at t.root (key bits q) ≡ None → IsSkipped bits skip t q
   absent_skipped Absent q none = none
@@ -303,9 +303,9 @@ module _ {V : Type 0} (bits : Bits) (t : Layout V) where
   -- ---- the part around a place
 
   -- a tile of the background, inactive, may be passed over
-  pub background_skipped : (level : Level) (p : Coord) (cell : Cell V) → entry_over bits level t p ≡ Tile cell → cell ≡ plain t
+  pub background_skipped : (level : Level) (p : Coord) (cell : Cell V) → entry_over bits level t p ≡ Tile cell → cell ≡ background_cell t
       → (q : Coord) → block_number bits level q ≡ block_number bits level p → IsSkipped bits Background t q
-  background_skipped level p cell tile same q e = either_way (is_inside everywhere q) (cell_at bits t q) (plain t) (tile_block bits t level p q cell tile e ∙ same)
+  background_skipped level p cell tile same q e = either_way (is_inside everywhere q) (cell_at bits t q) (background_cell t) (tile_block bits t level p q cell tile e ∙ same)
 
   on_either : (b : Bool) (x y : Cell V) → x.on ≡ false → y.on ≡ false → (if b then x else y).on ≡ false
   on_either true x y h k = h
@@ -314,8 +314,8 @@ module _ {V : Type 0} (bits : Bits) (t : Layout V) where
   -- and so may an inactive one
   pub inactive_skipped : (level : Level) (p : Coord) (cell : Cell V) → entry_over bits level t p ≡ Tile cell → cell.on ≡ false
       → (q : Coord) → block_number bits level q ≡ block_number bits level p → IsSkipped bits Inactive t q
-  inactive_skipped level p cell tile idle q e =
-      on_either (is_inside everywhere q) (cell_at bits t q) (plain t) (ap (λ (c : Cell V). c.on) (tile_block bits t level p q cell tile e) ∙ idle) refl
+  inactive_skipped level p cell tile inactive q e =
+      on_either (is_inside everywhere q) (cell_at bits t q) (background_cell t) (ap (λ (c : Cell V). c.on) (tile_block bits t level p q cell tile e) ∙ inactive) refl
 
   -- and so may a root block without an entry
   pub none_skipped : (level : Level) (p : Coord) → level ≡ Upper → root_at t.root (key bits p) ≡ None

@@ -11,7 +11,7 @@ use Rattle.vdb_coord.proofs.Nesting.{block_from_entry, corner_of_entry, entry_fr
 use Rattle.vdb_node.specs.declared.Entry.{Entry}
 use Rattle.vdb_node.specs.declared.Entry.TheVariants.{Child, Tile}
 use Rattle.vdb_value.specs.declared.Cell.{Cell}
-use Rattle.vdb_tree.specs.Changes.{AreNeeded, Fills, IsConstantBlock, IsMixedBlock, IsNeeded, IsNeededTo, Keeps, KeepsHead, KeepsUppers, PassesTo, SameDescent}
+use Rattle.vdb_tree.specs.Changes.{AreNeeded, Fills, IsConstantBlock, IsNonConstantBlock, IsNeeded, IsNeededTo, Keeps, KeepsHead, KeepsUppers, PassesTo, SameDescent}
 use Rattle.vdb_tree.specs.Corners.{IsChildless, IsNextCornerAt, IsTiled}
 use Rattle.vdb_tree.specs.Layout.{Layout, cell_at, entry_over, lower_entry, root_entry, upper_entry}
 use Rattle.vdb_tree.proofs.Descents.{lower_by_block, root_by_block, tile_cell, tile_lower, tile_upper, upper_by_block}
@@ -103,12 +103,12 @@ module _ {V : Type 0} (bits : Bits) where
   pub block_of_tile_needed : (level : Level) (t : Layout V) (p : Coord) (c : Cell V) → entry_over bits level t p ≡ Tile c → AreNeeded bits level t p
   block_of_tile_needed level t p c e q b = below_tile_needed level t q c (entry_by_block level t q p b ∙ e)
 
-  -- a mixed block needs its node
-  pub mixed_needed : (level : Level) (t : Layout V) (p : Coord) → IsMixedBlock bits level t p → (q : Coord) → block_number bits level q ≡ block_number bits level p → IsNeeded bits level t q
-  mixed_needed level t p mixed q b slot e cell const = mixed cell (λ x k. const x (k ∙ sym b))
+  -- a block that isn't constant needs its node
+  pub non_constant_needed : (level : Level) (t : Layout V) (p : Coord) → IsNonConstantBlock bits level t p → (q : Coord) → block_number bits level q ≡ block_number bits level p → IsNeeded bits level t q
+  non_constant_needed level t p non_constant q b slot e cell const = non_constant cell (λ x k. const x (k ∙ sym b))
 
-  pub none_mixed : (level : Level) (t : Layout V) (p : Coord) (o : Option (Cell V)) → o ≡ None → ((c : Cell V) → IsConstantBlock bits level t p c → o ≡ Some c) → IsMixedBlock bits level t p
-  none_mixed level t p o none some c const = none_some c (sym none ∙ some c const)
+  pub none_non_constant : (level : Level) (t : Layout V) (p : Coord) (o : Option (Cell V)) → o ≡ None → ((c : Cell V) → IsConstantBlock bits level t p c → o ≡ Some c) → IsNonConstantBlock bits level t p
+  none_non_constant level t p o none some c const = none_some c (sym none ∙ some c const)
     where
       none_some : (x : Cell V) → ◌≡◌ {A = Option (Cell V)} None (Some x) → ⊥
       none_some x e = cc

@@ -1,4 +1,4 @@
--- A walk over the keys of the table that counts the root blocks that aren't plain.
+-- A walk over the keys of the table that counts the root blocks that hold anything but the background.
 use Rattle.std.proofs.Common.{◌≡◌, ◌⊎◌, inl, inr, ℕ, ◌+◌, ◌≤◌, Bool, true, false, List, [], ◌∷◌, length, arith, refl, sym, ap, subst, IsTrue}
 use Rattle.std.specs.Prelude.{◌↔◌, Option, Some, None, IsSome}
 use Rattle.std.specs.List.{IsDistinct}
@@ -16,12 +16,12 @@ use Rattle.vdb_coord.proofs.Boxes.{not_true}
 use Rattle.vdb_coord.proofs.Members.{coord_exact, coord_equiv}
 use Rattle.vdb_node.specs.declared.Entry.{Entry}
 use Rattle.vdb_tree.specs.Changes.{IsConstantBlock}
-use Rattle.vdb_tree.specs.Layout.{Layout, field_of, plain, root_at}
-use Rattle.vdb_tree.specs.Plain.{is_plain, roots}
+use Rattle.vdb_tree.specs.Layout.{Layout, field_of, background_cell, root_at}
+use Rattle.vdb_tree.specs.ConstantBlocks.{is_background, roots}
 use Rattle.vdb_tree.specs.Sound.{IsSound}
 use Rattle.vdb_tree.specs.Table.{IsNextKey, IsPast}
 use Rattle.vdb_coord.proofs.BlockOrder.{key_equal, less_apart}
-use Rattle.vdb_tree.proofs.Blocks.{never, plain_from, unplain_from}
+use Rattle.vdb_tree.proofs.Blocks.{never, background_from, non_background_from}
 use Rattle.vdb_tree.proofs.KeysPast.{fewer_past, keys_past, past_on}
 use Rattle.vdb_tree.proofs.Rooted.{one_more, or_cases, or_first, or_second, rooted, roots_at_least, roots_at_most}
 
@@ -48,18 +48,19 @@ all_past [] = refl
 all_past (e ∷ es) = omega (arith, all_past es)
 
 module _ {V : Type 0} (eq : V → V → Bool) (bits : Bits) (t : Layout V) where
-  -- a root block of the field isn't plain
-  abbrev pub IsUnplain : Coord → Type 0
-  IsUnplain k = is_plain eq (field_of bits t) (block bits Upper k) ≡ false
+  -- a root block of the field isn't all background
+  abbrev pub IsNonBackground : Coord → Type 0
+  IsNonBackground k = is_background eq (field_of bits t) (block bits Upper k) ≡ false
 
-  -- the keys counted so far: those of root blocks that aren't plain, of the table's keys up to the last one passed
+  -- the keys counted so far: those of root blocks that hold anything but the background, of the table's keys up to the last one
+  -- passed
   pub record IsCounted (passed : Option Coord) (count : ℕ) : Type 0 where
     pub keys : List Coord
     pub apart : IsDistinct coord_eq keys
     pub size : length keys ≡ count
-    pub each : (k : Coord) → is_member coord_eq keys k ≡ true → IsTrue (is_inside (block_numbers bits Upper) k) × IsUnplain k
+    pub each : (k : Coord) → is_member coord_eq keys k ≡ true → IsTrue (is_inside (block_numbers bits Upper) k) × IsNonBackground k
     pub behind : (k : Coord) → is_member coord_eq keys k ≡ true → IsPast passed k → ⊥
-    pub all : (k : Coord) → IsSome (root_at t.root k) → IsUnplain k → IsPast passed k ⊎ (is_member coord_eq keys k ≡ true)
+    pub all : (k : Coord) → IsSome (root_at t.root k) → IsNonBackground k → IsPast passed k ⊎ (is_member coord_eq keys k ≡ true)
     pub few : count + keys_past passed t.root ≤ length t.root
 
 module _ {V : Type 0} (eq : V → V → Bool) (exact : (x y : V) → eq x y ≡ true → x ≡ y) (itself : (x : V) → eq x x ≡ true) (bits : Bits) (configured : AreBits bits) (t : Layout V) where
@@ -80,16 +81,16 @@ module _ {V : Type 0} (eq : V → V → Bool) (exact : (x y : V) → eq x y ≡ 
     not_later j m later = done.behind j m (past_on passed k j next.1 later)
 
     -- a key of the table that is left, is a member, or is the next
-    left_or_here : (j : Coord) → IsSome (root_at t.root j) → IsUnplain eq bits t j → (coord_cmp k j ≡ Less) ⊎ ((j ≡ k) ⊎ (is_member coord_eq done.keys j ≡ true))
+    left_or_here : (j : Coord) → IsSome (root_at t.root j) → IsNonBackground eq bits t j → (coord_cmp k j ≡ Less) ⊎ ((j ≡ k) ⊎ (is_member coord_eq done.keys j ≡ true))
     left_or_here j held h =
         elim (done.all j held h) [
           | inl past ↦ elim (at_least k j (next.2 j past held)) [ inl e ↦ inr (inl e) | inr l ↦ inl l ]
           | inr m ↦ inr (inr m)
         ]
 
-    -- a plain block isn't counted
-    pub counted_plain : (is_plain eq (field_of bits t) (block bits Upper k) ≡ true) → IsCounted eq bits t (Some k) count
-    counted_plain flat = record {
+    -- a background block isn't counted
+    pub counted_background : (is_background eq (field_of bits t) (block bits Upper k) ≡ true) → IsCounted eq bits t (Some k) count
+    counted_background flat = record {
       keys = done.keys;
       apart = done.apart;
       size = done.size;
@@ -99,7 +100,7 @@ module _ {V : Type 0} (eq : V → V → Bool) (exact : (x y : V) → eq x y ≡ 
           elim (left_or_here j held h) [
             | inl l ↦ inl l
             | inr a ↦ elim a [
-              | inl e ↦ absurd (never (subst (IsUnplain eq bits t) e h) flat)
+              | inl e ↦ absurd (never (subst (IsNonBackground eq bits t) e h) flat)
               | inr m ↦ inr m
             ]
           ];
@@ -107,14 +108,14 @@ module _ {V : Type 0} (eq : V → V → Bool) (exact : (x y : V) → eq x y ≡ 
     }
 
     -- another block is
-    pub counted_more : IsTrue (is_inside (block_numbers bits Upper) k) → IsUnplain eq bits t k → IsCounted eq bits t (Some k) (count + 1)
+    pub counted_more : IsTrue (is_inside (block_numbers bits Upper) k) → IsNonBackground eq bits t k → IsCounted eq bits t (Some k) (count + 1)
     counted_more inside other = record {
       keys = k ∷ done.keys;
       apart = one_more k done.keys done.apart (not_true (is_member coord_eq done.keys k) (λ m. done.behind k m next.1));
       size = let e = done.size in omega (arith, e);
       each = λ j m.
           elim (or_cases (coord_eq j k) (is_member coord_eq done.keys j) m) [
-            | inl s ↦ let e = sym (coord_exact j k s) in (subst (λ (n : Coord). IsTrue (is_inside (block_numbers bits Upper) n)) e inside, subst (IsUnplain eq bits t) e other)
+            | inl s ↦ let e = sym (coord_exact j k s) in (subst (λ (n : Coord). IsTrue (is_inside (block_numbers bits Upper) n)) e inside, subst (IsNonBackground eq bits t) e other)
             | inr s ↦ done.each j s
           ];
       behind = λ j m later.
@@ -133,14 +134,14 @@ module _ {V : Type 0} (eq : V → V → Bool) (exact : (x y : V) → eq x y ≡ 
       few = let a = fewer_past t.root passed k next in let b = done.few in omega (arith, a, b);
     }
 
-    module _ (c : Coord) (at : block_number bits Upper c ≡ k) (inside : IsTrue (is_inside everywhere c)) (same : Bool) (test : IsTrue same ↔ IsConstantBlock bits Upper t c (plain t)) where
+    module _ (c : Coord) (at : block_number bits Upper c ≡ k) (inside : IsTrue (is_inside everywhere c)) (same : Bool) (test : IsTrue same ↔ IsConstantBlock bits Upper t c (background_cell t)) where
       -- the test of the block around its first coordinate
-      pub next_plain : same ≡ true → IsCounted eq bits t (Some k) count
-      next_plain h = counted_plain (subst (λ (n : Coord). is_plain eq (field_of bits t) (block bits Upper n) ≡ true) at (plain_from eq exact itself bits configured Upper t c inside (test.0 h)))
+      pub next_background : same ≡ true → IsCounted eq bits t (Some k) count
+      next_background h = counted_background (subst (λ (n : Coord). is_background eq (field_of bits t) (block bits Upper n) ≡ true) at (background_from eq exact itself bits configured Upper t c inside (test.0 h)))
 
-      pub next_unplain : IsTrue (is_inside (block_numbers bits Upper) k) → same ≡ false → IsCounted eq bits t (Some k) (count + 1)
-      next_unplain within h =
-          counted_more within (subst (IsUnplain eq bits t) at (unplain_from eq exact itself bits configured Upper t c inside (λ one. never h (test.1 one))))
+      pub next_non_background : IsTrue (is_inside (block_numbers bits Upper) k) → same ≡ false → IsCounted eq bits t (Some k) (count + 1)
+      next_non_background within h =
+          counted_more within (subst (IsNonBackground eq bits t) at (non_background_from eq exact itself bits configured Upper t c inside (λ one. never h (test.1 one))))
 
   -- past the last key all are counted
   pub counted_end : (passed : Option Coord) (count : ℕ) → IsCounted eq bits t passed count → IsNextKey t.root passed None → count ≡ roots eq bits (field_of bits t)
@@ -150,7 +151,7 @@ module _ {V : Type 0} (eq : V → V → Bool) (exact : (x y : V) → eq x y ≡ 
       let size = done.size in
       omega (arith, few, many, size)
     where
-      held : (k : Coord) → IsTrue (is_inside (block_numbers bits Upper) k) → IsUnplain eq bits t k → IsSome (root_at t.root k)
+      held : (k : Coord) → IsTrue (is_inside (block_numbers bits Upper) k) → IsNonBackground eq bits t k → IsSome (root_at t.root k)
       held k inside h = rooted eq exact itself bits configured t k inside h
 
   -- the count keeps to the limit

@@ -1,4 +1,4 @@
--- The root blocks that aren't plain, counted against the keys of the root table.
+-- The root blocks that hold anything but the background, counted against the keys of the root table.
 use Rattle.std.proofs.Common.{◌≡◌, ◌≢◌, ◌⊎◌, inl, inr, ◌<◌, ◌≤◌, Bool, true, false, not, ◌||◌, List, [], ◌∷◌, length, refl, sym, ap, subst, ◌∙◌, arith, IsTrue}
 use Rattle.std.specs.Prelude.{Some, None, is_some, IsSome}
 use Rattle.std.specs.List.{AllByRecursion, IsDistinct}
@@ -21,10 +21,10 @@ use Rattle.vdb_node.specs.declared.Entry.{Entry}
 use Rattle.vdb_value.specs.declared.Cell.{Cell}
 use Rattle.vdb_tree.specs.Changes.{IsConstantBlock}
 use Rattle.vdb_tree.specs.Field.{Field, write, written}
-use Rattle.vdb_tree.specs.Layout.{Layout, cell_at, field_of, plain, root_at}
-use Rattle.vdb_tree.specs.Plain.{is_plain, is_uniform, roots}
+use Rattle.vdb_tree.specs.Layout.{Layout, cell_at, field_of, background_cell, root_at}
+use Rattle.vdb_tree.specs.ConstantBlocks.{is_background, is_uniform, roots}
 use Rattle.vdb_tree.specs.Sound.{IsSound}
-use Rattle.vdb_tree.specs.Table.{HasRoom}
+use Rattle.vdb_tree.specs.Table.{HasCapacity}
 use Rattle.vdb_tree.specs.declared.Write.{Write}
 use Rattle.vdb_tree.proofs.Blocks.{never, uniform_block, uniform_block_from}
 use Rattle.vdb_tree.proofs.Fields.{cell_inside}
@@ -62,16 +62,16 @@ unfolding IsDistinct
 one_more k keys distinct h = (all_apart k keys h, distinct)
 
 module _ {V : Type 0} (eq : V → V → Bool) (bits : Bits) (f : Field V) where
-  -- the root blocks that aren't plain are at most as many as keys among which they all are
-  pub roots_at_most : (keys : List Coord) → ((k : Coord) → IsTrue (is_inside (block_numbers bits Upper) k) → is_plain eq f (block bits Upper k) ≡ false → is_member coord_eq keys k ≡ true)
+  -- the root blocks that hold anything but the background are at most as many as keys among which they all are
+  pub roots_at_most : (keys : List Coord) → ((k : Coord) → IsTrue (is_inside (block_numbers bits Upper) k) → is_background eq f (block bits Upper k) ≡ false → is_member coord_eq keys k ≡ true)
       → roots eq bits f ≤ length keys
-  roots_at_most keys h = count_at_most (block_numbers bits Upper) (λ n. not (is_plain eq f (block bits Upper n))) keys (λ k i n. h k i (was_false _ n))
+  roots_at_most keys h = count_at_most (block_numbers bits Upper) (λ n. not (is_background eq f (block bits Upper n))) keys (λ k i n. h k i (was_false _ n))
 
   -- and at least as many as distinct keys of such blocks
   pub roots_at_least : (keys : List Coord) → IsDistinct coord_eq keys
-      → ((k : Coord) → is_member coord_eq keys k ≡ true → IsTrue (is_inside (block_numbers bits Upper) k) × (is_plain eq f (block bits Upper k) ≡ false)) → length keys ≤ roots eq bits f
+      → ((k : Coord) → is_member coord_eq keys k ≡ true → IsTrue (is_inside (block_numbers bits Upper) k) × (is_background eq f (block bits Upper k) ≡ false)) → length keys ≤ roots eq bits f
   roots_at_least keys distinct h =
-      count_at_least (block_numbers bits Upper) (λ n. not (is_plain eq f (block bits Upper n))) keys distinct (λ k m. let hs = h k m in (hs.0, not_from _ hs.1))
+      count_at_least (block_numbers bits Upper) (λ n. not (is_background eq f (block bits Upper n))) keys distinct (λ k m. let hs = h k m in (hs.0, not_from _ hs.1))
 
 -- ---- a write to one voxel
 
@@ -95,7 +95,7 @@ module _ {V : Type 0} (t : Layout V) where
   pub absent_key : (k : Coord) → root_at t.root k ≡ None → is_member coord_eq (keys_of t.root) k ≡ false
   absent_key k h = sym (is_some-lookup (coord_eq k) t.root) ∙ rw h refl
 
--- tables with the same entries, in which no key stands twice, are of one size
+-- tables with the same entries, in which no key is there twice, are of one size
 pub same_size : {V : Type 0} (old new : List (Coord × Entry V)) → IsDistinct coord_eq (keys_of old) → ((k : Coord) → root_at new k ≡ root_at old k) → length new ≤ length old → length new ≡ length old
 same_size old new apart same size =
     let each : (k : Coord) → is_member coord_eq (keys_of old) k ≡ true → is_member coord_eq (keys_of new) k ≡ true = λ k h. sym (is_some-lookup (coord_eq k) new) ∙ ap is_some (same k) ∙ is_some-lookup (coord_eq k) old ∙ h in
@@ -116,15 +116,15 @@ module _ {V : Type 0} (eq : V → V → Bool) (exact : (x y : V) → eq x y ≡ 
       (λ s. d (sym e ∙ ap (key bits) s))
 
   module _ (t : Layout V) where
-    -- a root block that isn't plain has an entry
-    pub rooted : (k : Coord) → IsTrue (is_inside (block_numbers bits Upper) k) → is_plain eq (field_of bits t) (block bits Upper k) ≡ false → IsSome (root_at t.root k)
+    -- a root block that holds anything but the background has an entry
+    pub rooted : (k : Coord) → IsTrue (is_inside (block_numbers bits Upper) k) → is_background eq (field_of bits t) (block bits Upper k) ≡ false → IsSome (root_at t.root k)
     rooted k inside h =
         let corner = (block bits Upper k).min in
         let number = number_of_corner bits Upper k in
-        subst (λ (n : Coord). is_plain eq (field_of bits t) (block bits Upper n) ≡ false → IsSome (root_at t.root n)) number
+        subst (λ (n : Coord). is_background eq (field_of bits t) (block bits Upper n) ≡ false → IsSome (root_at t.root n)) number
         ((has_needed eq exact itself bits configured t).entries corner (corner_in_range bits Upper configured k inside)) h
 
-    -- a table has at least as many entries as there are root blocks that aren't plain
+    -- a table has at least as many entries as there are root blocks that hold anything but the background
     pub roots_within : roots eq bits (field_of bits t) ≤ length t.root
     roots_within =
         subst (λ n. roots eq bits (field_of bits t) ≤ n) (length-keys_of t.root)
@@ -135,15 +135,15 @@ module _ {V : Type 0} (eq : V → V → Bool) (exact : (x y : V) → eq x y ≡ 
     roots_limit sound = let a = roots_within in let b = sound.limit in omega (arith, a, b)
 
     module _ (p : Coord) (w : Write V) (inside : IsTrue (is_inside everywhere p)) where
-      -- after a write, a root block that isn't plain has an entry or is the one around the voxel
-      write_rooted : (k : Coord) → IsTrue (is_inside (block_numbers bits Upper) k) → is_plain eq (write p w (field_of bits t)) (block bits Upper k) ≡ false → k ≢ key bits p → IsSome (root_at t.root k)
+      -- after a write, a root block that holds anything but the background has an entry or is the one around the voxel
+      write_rooted : (k : Coord) → IsTrue (is_inside (block_numbers bits Upper) k) → is_background eq (write p w (field_of bits t)) (block bits Upper k) ≡ false → k ≢ key bits p → IsSome (root_at t.root k)
       write_rooted k within h d =
           let f = field_of bits t in
           let elsewhere = write_elsewhere p w f k within d in
-          rooted k within (not_true _ (λ u. never h (uniform_as Upper f (write p w f) k (plain t) elsewhere u)))
+          rooted k within (not_true _ (λ u. never h (uniform_as Upper f (write p w f) k (background_cell t) elsewhere u)))
 
-      -- a write that has room keeps to the limit
-      pub write_within : IsSound bits t → HasRoom t (key bits p) → roots eq bits (write p w (field_of bits t)) ≤ t.limit
+      -- a write that has capacity keeps to the limit
+      pub write_within : IsSound bits t → HasCapacity t (key bits p) → roots eq bits (write p w (field_of bits t)) ≤ t.limit
       write_within sound room =
           elim room [
             | inl held ↦
@@ -162,25 +162,25 @@ module _ {V : Type 0} (eq : V → V → Bool) (exact : (x y : V) → eq x y ≡ 
                 omega (arith, a, length-keys_of t.root, more)
           ]
 
-      -- one that hasn't would exceed it, where no entry is for a plain block
+      -- one that hasn't would exceed it, where no entry is for a background block
       pub write_exceeds : IsSound bits t
-          → ((q : Coord) (entry : Entry V) → root_at t.root (key bits q) ≡ Some entry → IsConstantBlock bits Upper t q (plain t) → ⊥)
+          → ((q : Coord) (entry : Entry V) → root_at t.root (key bits q) ≡ Some entry → IsConstantBlock bits Upper t q (background_cell t) → ⊥)
           → root_at t.root (key bits p) ≡ None → length t.root ≡ t.limit → (written w (cell_at bits t p) ≡ cell_at bits t p → ⊥)
           → t.limit < roots eq bits (write p w (field_of bits t))
       write_exceeds sound entries none full changed =
           let a = roots_at_least eq bits (write p w (field_of bits t)) (key bits p ∷ keys_of t.root) (one_more (key bits p) (keys_of t.root) sound.apart (absent_key t (key bits p) none)) each in
           omega (arith, a, length-keys_of t.root, full)
         where
-          -- the block of the voxel was plain, and isn't now
-          here : is_plain eq (write p w (field_of bits t)) (block bits Upper (key bits p)) ≡ false
+          -- the block of the voxel was all background, and isn't now
+          here : is_background eq (write p w (field_of bits t)) (block bits Upper (key bits p)) ≡ false
           here = not_true _ (λ u.
-              let was : cell_at bits t p ≡ plain t = absent_block bits t p none p refl in
-              let now : (write p w (field_of bits t)).cell p ≡ plain t = uniform_block eq exact itself bits Upper (write p w (field_of bits t)) (key bits p) (plain t) u p refl in
+              let was : cell_at bits t p ≡ background_cell t = absent_block bits t p none p refl in
+              let now : (write p w (field_of bits t)).cell p ≡ background_cell t = uniform_block eq exact itself bits Upper (write p w (field_of bits t)) (key bits p) (background_cell t) u p refl in
               let cell : (write p w (field_of bits t)).cell p ≡ written w (cell_at bits t p) = write_here p w (field_of bits t) inside ∙ ap (written w) (cell_inside t.background (cell_at bits t) p inside) in
               changed (sym cell ∙ now ∙ sym was))
 
-          -- the block of another key isn't plain, as before
-          there : (k : Coord) → IsTrue (is_inside (block_numbers bits Upper) k) → k ≢ key bits p → IsSome (root_at t.root k) → is_plain eq (write p w (field_of bits t)) (block bits Upper k) ≡ false
+          -- the block of another key isn't all background, as before
+          there : (k : Coord) → IsTrue (is_inside (block_numbers bits Upper) k) → k ≢ key bits p → IsSome (root_at t.root k) → is_background eq (write p w (field_of bits t)) (block bits Upper k) ≡ false
           there k within d held = not_true _ (λ u.
               let corner = (block bits Upper k).min in
               let number : key bits corner ≡ k = number_of_corner bits Upper k in
@@ -189,16 +189,16 @@ module _ {V : Type 0} (eq : V → V → Bool) (exact : (x y : V) → eq x y ≡ 
                     let at : key bits q ≡ k = e ∙ number in
                     let range : IsTrue (is_inside everywhere q) = numbered_in_range bits Upper configured q (subst (λ (n : Coord). is_inside (block_numbers bits Upper) n ≡ true) (sym at) within) in
                     sym (cell_inside t.background (cell_at bits t) q range) ∙ sym (write_elsewhere p w (field_of bits t) k within d q at)
-                    ∙ uniform_block eq exact itself bits Upper (write p w (field_of bits t)) k (plain t) u q at)
+                    ∙ uniform_block eq exact itself bits Upper (write p w (field_of bits t)) k (background_cell t) u q at)
                 | inr empty ↦ never (rw (← number, empty) refl) held
               ])
 
-          each : (k : Coord) → is_member coord_eq (key bits p ∷ keys_of t.root) k ≡ true → IsTrue (is_inside (block_numbers bits Upper) k) × (is_plain eq (write p w (field_of bits t)) (block bits Upper k) ≡ false)
+          each : (k : Coord) → is_member coord_eq (key bits p ∷ keys_of t.root) k ≡ true → IsTrue (is_inside (block_numbers bits Upper) k) × (is_background eq (write p w (field_of bits t)) (block bits Upper k) ≡ false)
           each k m =
               elim (coord_cases k (key bits p)) [
                 | inl e ↦ (
                   subst (λ (n : Coord). is_inside (block_numbers bits Upper) n ≡ true) (sym e) (number_in_range bits Upper p inside),
-                  subst (λ (n : Coord). is_plain eq (write p w (field_of bits t)) (block bits Upper n) ≡ false) (sym e) here,
+                  subst (λ (n : Coord). is_background eq (write p w (field_of bits t)) (block bits Upper n) ≡ false) (sym e) here,
                 )
                 | inr d ↦ elim (or_cases (coord_eq k (key bits p)) (is_member coord_eq (keys_of t.root) k) m) [
                   | inl s ↦ absurd (d (coord_exact k (key bits p) s))

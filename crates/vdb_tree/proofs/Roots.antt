@@ -1,4 +1,4 @@
--- How many root blocks aren't plain, by a list of their keys.
+-- How many root blocks hold anything but the background, by a list of their keys.
 use Rattle.std.proofs.Common.{◌≡◌, not, ◌&&◌, Bool, List, length}
 use Rattle.std.specs.List.{IsDistinct}
 use Rattle.std.specs.Set.{is_member}
@@ -9,9 +9,9 @@ use Rattle.vdb_coord.specs.declared.Coord.{Coord}
 use Rattle.vdb_coord.specs.declared.Level.TheVariants.{Upper}
 use Rattle.vdb_coord.proofs.Counts.{count_by_members}
 use Rattle.vdb_tree.specs.Field.{Field}
-use Rattle.vdb_tree.specs.Plain.{is_plain, roots}
+use Rattle.vdb_tree.specs.ConstantBlocks.{is_background, roots}
 
--- keys that are distinct, and are those of just the root blocks that aren't plain
+-- keys that are distinct, and are those of just the root blocks that hold anything but the background
 pub roots_by_keys : {V : Type 0} (eq : V → V → Bool) (bits : Bits) (f : Field V) (keys : List Coord) → IsDistinct coord_eq keys
-    → ((n : Coord) → is_member coord_eq keys n ≡ (is_inside (block_numbers bits Upper) n && not (is_plain eq f (block bits Upper n)))) → roots eq bits f ≡ length keys
-roots_by_keys eq bits f keys distinct members = count_by_members (block_numbers bits Upper) (λ n. not (is_plain eq f (block bits Upper n))) keys distinct members
+    → ((n : Coord) → is_member coord_eq keys n ≡ (is_inside (block_numbers bits Upper) n && not (is_background eq f (block bits Upper n)))) → roots eq bits f ≡ length keys
+roots_by_keys eq bits f keys distinct members = count_by_members (block_numbers bits Upper) (λ n. not (is_background eq f (block bits Upper n))) keys distinct members

@@ -19,7 +19,7 @@ use Rattle.vdb_node.specs.declared.Entry.TheVariants.{Child, Tile}
 use Rattle.vdb_pool.specs.Contents.{Contents, node_at}
 use Rattle.vdb_value.specs.declared.Cell.{Cell}
 use Rattle.vdb_tree.specs.Changes.{AddsNodes, Keeps, SameDescent, Turns}
-use Rattle.vdb_tree.specs.Layout.{Layout, cell_at, entry_over, lower_entry, plain, root_at, root_entry, upper_entry}
+use Rattle.vdb_tree.specs.Layout.{Layout, cell_at, entry_over, lower_entry, background_cell, root_at, root_entry, upper_entry}
 use Rattle.vdb_tree.specs.Nodes.{IsSameTree, KeepsAllBut}
 use Rattle.vdb_tree.specs.Paths.{in_leaf, is_child}
 use Rattle.vdb_tree.specs.Sound.{IsSound}
@@ -133,7 +133,7 @@ module _ {V : Type 0} (bits : Bits) where
 
     upper_stays : (q : Coord) → upper_entry bits with_upper q ≡ upper_entry bits t q
     upper_stays =
-        split_below (λ node i. slice_index_or node i (Tile (plain t))) Tile (Tile (plain t)) bits Upper (root_entry bits t) (root_entry bits with_upper) t.uppers uppers p s k c sound.uppers free
+        split_below (λ node i. slice_index_or node i (Tile (background_cell t))) Tile (Tile (background_cell t)) bits Upper (root_entry bits t) (root_entry bits with_upper) t.uppers uppers p s k c sound.uppers free
         (λ r e. root_by_block bits t r p e ∙ tiled) upper_turns put (λ q. const _ _ (index_below bits Upper q))
 
     lower_stays : (q : Coord) → lower_entry bits with_upper q ≡ lower_entry bits t q
@@ -173,12 +173,12 @@ module _ {V : Type 0} (bits : Bits) where
 
     lower_turns : Turns (block_number bits Lower) p (upper_entry bits t) (upper_entry bits with_lower) (Child s)
     lower_turns =
-        node_turns (λ node i. slice_index_or node i (Tile (plain t))) Tile (Tile (plain t)) bits Upper (root_entry bits t) t.uppers uppers p u n m (Child s) (root_by_block bits t) sound.uppers at_root was changed
+        node_turns (λ node i. slice_index_or node i (Tile (background_cell t))) Tile (Tile (background_cell t)) bits Upper (root_entry bits t) t.uppers uppers p u n m (Child s) (root_by_block bits t) sound.uppers at_root was changed
         (sets.changed _) (sets.others _)
 
     lowers_stay : (q : Coord) → lower_entry bits with_lower q ≡ lower_entry bits t q
     lowers_stay =
-        split_below (λ node i. slice_index_or node i (Tile (plain t))) Tile (Tile (plain t)) bits Lower (upper_entry bits t) (upper_entry bits with_lower) t.lowers lowers p s k c sound.lowers free
+        split_below (λ node i. slice_index_or node i (Tile (background_cell t))) Tile (Tile (background_cell t)) bits Lower (upper_entry bits t) (upper_entry bits with_lower) t.lowers lowers p s k c sound.lowers free
         (λ r e. upper_by_block bits t r p e ∙ tiled) lower_turns put (λ q. const _ _ (index_below bits Lower q))
 
     pub with_lower_keeps : Keeps bits t with_lower
@@ -215,14 +215,14 @@ module _ {V : Type 0} (bits : Bits) where
 
     leaf_turns : Turns (block_number bits Leaf) p (lower_entry bits t) (lower_entry bits with_leaf) (Child s)
     leaf_turns =
-        node_turns (λ node i. slice_index_or node i (Tile (plain t))) Tile (Tile (plain t)) bits Lower (upper_entry bits t) t.lowers lowers p u n m (Child s) (upper_by_block bits t) sound.lowers at_upper was changed
+        node_turns (λ node i. slice_index_or node i (Tile (background_cell t))) Tile (Tile (background_cell t)) bits Lower (upper_entry bits t) t.lowers lowers p u n m (Child s) (upper_by_block bits t) sound.lowers at_upper was changed
         (sets.changed _) (sets.others _)
 
     cells_stay : (q : Coord) → cell_at bits with_leaf q ≡ cell_at bits t q
     unfolding cell_at
     cells_stay =
-        split_below (cell_in (plain t)) (λ cell. cell) (plain t) bits Leaf (lower_entry bits t) (lower_entry bits with_leaf) t.leaves leaves p s k c sound.leaves free
-        (λ r e. lower_by_block bits t r p e ∙ tiled) leaf_turns put (λ q. const (plain t) _ (index_below bits Leaf q))
+        split_below (cell_in (background_cell t)) (λ cell. cell) (background_cell t) bits Leaf (lower_entry bits t) (lower_entry bits with_leaf) t.leaves leaves p s k c sound.leaves free
+        (λ r e. lower_by_block bits t r p e ∙ tiled) leaf_turns put (λ q. const (background_cell t) _ (index_below bits Leaf q))
 
     pub with_leaf_keeps : Keeps bits t with_leaf
     with_leaf_keeps = record { head = record { background = refl; limit = refl }; cells = cells_stay }
@@ -326,7 +326,7 @@ module _ {V : Type 0} (bits : Bits) where
       leaves = owned_as bits Leaf _ _ _ same_lowers (owned_nodes bits Leaf _ t.leaves n.leaves f sound.leaves);
     }
 
-    -- the same entries stand
+    -- the entries are the same
     pub alike_descent : (q : Coord) → SameDescent bits t n q
     alike_descent q Upper = same_root q
     alike_descent q Lower = same_uppers q

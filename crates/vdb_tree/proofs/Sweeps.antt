@@ -16,9 +16,9 @@ use Rattle.vdb_coord.proofs.Members.{coord_exact}
 use Rattle.vdb_node.specs.declared.Entry.{Entry}
 use Rattle.vdb_node.specs.declared.Entry.TheVariants.{Child, Tile}
 use Rattle.vdb_value.specs.declared.Cell.{Cell}
-use Rattle.vdb_tree.specs.Changes.{IsConstantBlock, IsNeededTo, IsNoPlainRoot, Keeps, PrunesRoot, SameDescent}
-use Rattle.vdb_tree.specs.Layout.{Layout, lower_entry, plain, root_at, root_entry, upper_entry}
-use Rattle.vdb_tree.specs.Plain.{cell_eq}
+use Rattle.vdb_tree.specs.Changes.{IsConstantBlock, IsNeededTo, IsNoBackgroundRoot, Keeps, PrunesRoot, SameDescent}
+use Rattle.vdb_tree.specs.Layout.{Layout, lower_entry, background_cell, root_at, root_entry, upper_entry}
+use Rattle.vdb_tree.specs.ConstantBlocks.{cell_eq}
 use Rattle.vdb_tree.specs.Sound.{IsSound}
 use Rattle.vdb_tree.specs.Table.{IsNextKey, IsPast}
 use Rattle.vdb_coord.proofs.BlockOrder.{less_apart}
@@ -52,16 +52,16 @@ apart p q less e = less_apart p q less (sym e)
 module _ {V : Type 0} (bits : Bits) where
   -- the root block around q is pruned
   abbrev pub IsPruned : Layout V → Coord → Type 0
-  IsPruned t q = IsNeededTo bits Upper t q × IsNoPlainRoot bits t q
+  IsPruned t q = IsNeededTo bits Upper t q × IsNoBackgroundRoot bits t q
 
   -- a root block without an entry is
   absent_pruned : (t : Layout V) (q : Coord) → root_at t.root (key bits q) ≡ None → IsPruned t q
-  absent_pruned t q none = (below_tile_needed bits Upper t q (plain t) (absent_entry bits t q none), λ entry some. absurd (none_some entry (sym none ∙ some)))
+  absent_pruned t q none = (below_tile_needed bits Upper t q (background_cell t) (absent_entry bits t q none), λ entry some. absurd (none_some entry (sym none ∙ some)))
     where
       none_some : {A : Type 0} (x : A) → ◌≡◌ {A = Option A} None (Some x) → ⊥
       none_some x e = cc
 
-  -- every root block up to this key is pruned, and the table past it stands
+  -- every root block up to this key is pruned, and the table past it stays
   pub record SweepsTo (old new : Layout V) (passed : Option Coord) : Type 0 where
     pub keeps : Keeps bits old new
     pub ahead : (k : Coord) → IsPast passed k → root_at new.root k ≡ root_at old.root k
@@ -85,7 +85,7 @@ module _ {V : Type 0} (bits : Bits) where
           | inr d ↦ elim (past_or_not passed (key bits q)) [
             | inr before ↦
                 let was = sweeps.done q before in
-                let same : plain new ≡ plain mid = let b = prunes.keeps.head.background in rw b refl in (
+                let same : background_cell new ≡ background_cell mid = let b = prunes.keeps.head.background in rw b refl in (
                   needed_to_moved bits Upper mid new q prunes.keeps (prunes.others q d) was.0,
                   λ entry some const. was.1 entry (sym (prunes.table (key bits q) d) ∙ some) (λ r b. sym (prunes.keeps.cells r) ∙ const r b ∙ same),
                 )
@@ -114,17 +114,17 @@ other_key old new at k o changed d = let e = unlike_coords at k (λ s. d (sym s)
 pub that_key : {V : Type 0} (old new : List (Coord × Entry V)) (at : Coord) (o : Option (Entry V)) → ((j : Coord) → root_at new j ≡ (if coord_eq at j then o else root_at old j)) → root_at new at ≡ o
 that_key old new at o changed = let e = like_coords at at refl in changed at ∙ rw e refl
 
--- the plain entry over p is taken away
+-- the background entry over p is taken away
 module _ {V : Type 0} (bits : Bits) (t : Layout V) (p : Coord) (root : List (Coord × Entry V))
     (removed : (k : Coord) → root_at root k ≡ (if coord_eq (key bits p) k then None else root_at t.root k)) where
   abbrev pub without_entry : Layout V
   without_entry = record t { root = root }
 
-  plain_gone : root_at root (key bits p) ≡ None
-  plain_gone = that_key t.root root (key bits p) None removed
+  background_gone : root_at root (key bits p) ≡ None
+  background_gone = that_key t.root root (key bits p) None removed
 
-  unplain_table : (k : Coord) → k ≢ key bits p → root_at root k ≡ root_at t.root k
-  unplain_table k d = other_key t.root root (key bits p) k None removed d
+  non_background_table : (k : Coord) → k ≢ key bits p → root_at root k ≡ root_at t.root k
+  non_background_table k d = other_key t.root root (key bits p) k None removed d
 
   gone_held : (o : Option (Entry V)) → IsSome o → o ≡ None → ⊥
   gone_held None h e = let f : false ≡ true = h in cc
@@ -133,16 +133,16 @@ module _ {V : Type 0} (bits : Bits) (t : Layout V) (p : Coord) (root : List (Coo
   still_there : (k : Coord) → IsSome (root_at root k) → IsSome (root_at t.root k)
   still_there k h =
       elim (coord_cases k (key bits p)) [
-        | inl e ↦ absurd (gone_held (root_at root k) h (ap (root_at root) e ∙ plain_gone))
-        | inr d ↦ let same = unplain_table k d in rw same at h
+        | inl e ↦ absurd (gone_held (root_at root k) h (ap (root_at root) e ∙ background_gone))
+        | inr d ↦ let same = non_background_table k d in rw same at h
       ]
 
-  module _ (was : root_at t.root (key bits p) ≡ Some (Tile (plain t))) where
+  module _ (was : root_at t.root (key bits p) ≡ Some (Tile (background_cell t))) where
     entries_stay : (q : Coord) → root_entry bits without_entry q ≡ root_entry bits t q
     entries_stay q =
         elim (coord_cases (key bits q) (key bits p)) [
-          | inl e ↦ let n = plain_gone in rw (e, n, was) refl
-          | inr d ↦ let same = unplain_table (key bits q) d in rw same refl
+          | inl e ↦ let n = background_gone in rw (e, n, was) refl
+          | inr d ↦ let same = non_background_table (key bits q) d in rw same refl
         ]
 
     uppers_stay : (q : Coord) → upper_entry bits without_entry q ≡ upper_entry bits t q
@@ -151,14 +151,14 @@ module _ {V : Type 0} (bits : Bits) (t : Layout V) (p : Coord) (root : List (Coo
     lowers_stay : (q : Coord) → lower_entry bits without_entry q ≡ lower_entry bits t q
     lowers_stay = lowers_from bits t without_entry refl refl uppers_stay
 
-    pub unplain_same : (q : Coord) → SameDescent bits t without_entry q
-    unplain_same q = descent_by bits t without_entry q (entries_stay q) (uppers_stay q) (lowers_stay q)
+    pub non_background_same : (q : Coord) → SameDescent bits t without_entry q
+    non_background_same q = descent_by bits t without_entry q (entries_stay q) (uppers_stay q) (lowers_stay q)
 
-    pub unplain_keeps : Keeps bits t without_entry
-    unplain_keeps = record { head = record { background = refl; limit = refl }; cells = cells_from bits t without_entry refl refl lowers_stay }
+    pub non_background_keeps : Keeps bits t without_entry
+    non_background_keeps = record { head = record { background = refl; limit = refl }; cells = cells_from bits t without_entry refl refl lowers_stay }
 
-    pub unplain_sound : IsSound bits t → length root ≤ length t.root → IsDistinct coord_eq (keys_of root) → IsSound bits without_entry
-    unplain_sound sound size apart = record {
+    pub non_background_sound : IsSound bits t → length root ≤ length t.root → IsDistinct coord_eq (keys_of root) → IsSound bits without_entry
+    non_background_sound sound size apart = record {
       limit = omega (arith, size, sound.limit);
       apart = apart;
       keys = λ k h. sound.keys k (still_there k h);
@@ -168,29 +168,30 @@ module _ {V : Type 0} (bits : Bits) (t : Layout V) (p : Coord) (root : List (Coo
     }
 
 module _ {V : Type 0} (bits : Bits) where
-  -- a root block is pruned when its nodes are needed and it has no plain tile: a plain block that isn't constant by a node has one
+  -- a root block is pruned when its nodes are needed and it has no background tile: a background block that isn't constant by a
+  -- node has one
   pub prunes_root : (old mid new : Layout V) (p : Coord) → Keeps bits old mid → ((q : Coord) → key bits q ≢ key bits p → SameDescent bits old mid q)
       → ((k : Coord) → k ≢ key bits p → root_at mid.root k ≡ root_at old.root k) → ((q : Coord) → key bits q ≡ key bits p → IsNeededTo bits Upper mid q)
       → Keeps bits mid new → ((q : Coord) → SameDescent bits mid new q) → ((k : Coord) → k ≢ key bits p → root_at new.root k ≡ root_at mid.root k)
-      → (root_at new.root (key bits p) ≡ Some (Tile (plain new)) → ⊥) → PrunesRoot bits old new (key bits p)
+      → (root_at new.root (key bits p) ≡ Some (Tile (background_cell new)) → ⊥) → PrunesRoot bits old new (key bits p)
   prunes_root old mid new p keeps others table needed keeps2 same table2 gone = record {
     keeps = keeps_trans bits old mid new keeps keeps2;
     others = λ q d. descent_trans bits old mid new q (others q d) (same q);
     table = λ k d. table2 k d ∙ table k d;
     here = λ q e.
         let all = needed_to_moved bits Upper mid new q keeps2 (same q) (needed q e) in
-        (all, λ entry some const. unplain q e all entry some const (tile_or_child entry));
+        (all, λ entry some const. non_background q e all entry some const (tile_or_child entry));
   }
     where
-      unplain : (q : Coord) → key bits q ≡ key bits p → IsNeededTo bits Upper new q → (entry : Entry V) → root_at new.root (key bits q) ≡ Some entry → IsConstantBlock bits Upper new q (plain new)
+      non_background : (q : Coord) → key bits q ≡ key bits p → IsNeededTo bits Upper new q → (entry : Entry V) → root_at new.root (key bits q) ≡ Some entry → IsConstantBlock bits Upper new q (background_cell new)
           → (((c : Cell V) × (entry ≡ Tile c)) ⊎ ((r : ℕ) × (entry ≡ Child r))) → ⊥
-      unplain q e all entry some const (inl c) =
+      non_background q e all entry some const (inl c) =
           let at : root_entry bits new q ≡ Tile c.0 = rw some c.1 in
-          let cell : c.0 ≡ plain new = sym (tile_gives bits Upper new q c.0 at) ∙ const q refl in
+          let cell : c.0 ≡ background_cell new = sym (tile_gives bits Upper new q c.0 at) ∙ const q refl in
           gone (ap (root_at new.root) (sym e) ∙ some ∙ ap Some (c.1 ∙ ap Tile cell))
-      unplain q e all entry some const (inr r) =
+      non_background q e all entry some const (inr r) =
           let at : root_entry bits new q ≡ Child r.0 = rw some r.1 in
-          all.2 r.0 at (plain new) const
+          all.2 r.0 at (background_cell new) const
 
 -- an entry that is found equal to a tile is that tile
 pub equal_tile : {V : Type 0} (eq : V → V → Bool) (exact : (x y : V) → eq x y ≡ true → x ≡ y) (itself : (x : V) → eq x x ≡ true) (same : Entry V → Entry V → Bool)

@@ -18,7 +18,7 @@ use Rattle.vdb_node.specs.declared.Entry.TheVariants.{Child, Tile}
 use Rattle.vdb_pool.specs.Contents.{Contents, node_at}
 use Rattle.vdb_value.specs.declared.Cell.{Cell}
 use Rattle.vdb_tree.specs.Changes.{Fills, Turns}
-use Rattle.vdb_tree.specs.Layout.{Layout, cell_at, lower_entry, plain, root_at, root_entry, upper_entry, within}
+use Rattle.vdb_tree.specs.Layout.{Layout, cell_at, lower_entry, background_cell, root_at, root_entry, upper_entry, within}
 use Rattle.vdb_tree.specs.Sound.{IsOwned, IsSound}
 use Rattle.vdb_tree.proofs.Descents.{lower_by_block, root_by_block, upper_by_block, tile_lower, tile_upper}
 use Rattle.vdb_tree.proofs.Levels.{IsByBlock, Puts, child_slot, coord_cases, like_coords, node_turns, owned_after, some_held, tile_no_child, tile_or_child, unlike_coords, within_same}
@@ -90,13 +90,13 @@ module _ {V : Type 0} (bits : Bits) (t : Layout V) (sound : IsSound bits t) (p :
 
   pub leaf_entries : Turns (block_number bits Leaf) p (lower_entry bits t) (lower_entry bits leaf_dropped) (Tile c)
   leaf_entries =
-      node_turns (λ node i. slice_index_or node i (Tile (plain t))) Tile (Tile (plain t)) bits Lower (upper_entry bits t) t.lowers lowers p u n m (Tile c) (upper_by_block bits t) sound.lowers at was put
+      node_turns (λ node i. slice_index_or node i (Tile (background_cell t))) Tile (Tile (background_cell t)) bits Lower (upper_entry bits t) t.lowers lowers p u n m (Tile c) (upper_by_block bits t) sound.lowers at was put
       (sets.changed _) (sets.others _)
 
   leaf_cells : Turns (block_number bits Leaf) p (cell_at bits t) (cell_at bits leaf_dropped) c
   unfolding cell_at
   leaf_cells =
-      below_turns (cell_in (plain t)) (λ cell. cell) (plain t) (block_number bits Leaf) (offset bits Leaf) (lower_entry bits t) (lower_entry bits leaf_dropped) t.leaves leaves p c leaf_entries
+      below_turns (cell_in (background_cell t)) (λ cell. cell) (background_cell t) (block_number bits Leaf) (offset bits Leaf) (lower_entry bits t) (lower_entry bits leaf_dropped) t.leaves leaves p c leaf_entries
       (other_stays bits Leaf (lower_entry bits t) (lower_entry bits leaf_dropped) p c t.leaves leaves s sound.leaves child taken)
 
   pub leaf_fills : Fills bits Leaf t leaf_dropped p c
@@ -122,13 +122,13 @@ module _ {V : Type 0} (bits : Bits) (t : Layout V) (sound : IsSound bits t) (p :
 
   pub lower_tile_entries : Turns (block_number bits Leaf) p (lower_entry bits t) (lower_entry bits lower_tile) (Tile c)
   lower_tile_entries =
-      node_turns (λ node i. slice_index_or node i (Tile (plain t))) Tile (Tile (plain t)) bits Lower (upper_entry bits t) t.lowers lowers p u n m (Tile c) (upper_by_block bits t) sound.lowers at was put
+      node_turns (λ node i. slice_index_or node i (Tile (background_cell t))) Tile (Tile (background_cell t)) bits Lower (upper_entry bits t) t.lowers lowers p u n m (Tile c) (upper_by_block bits t) sound.lowers at was put
       (sets.changed _) (sets.others _)
 
   lower_tile_cells : Turns (block_number bits Leaf) p (cell_at bits t) (cell_at bits lower_tile) c
   unfolding cell_at
   lower_tile_cells =
-      below_turns (cell_in (plain t)) (λ cell. cell) (plain t) (block_number bits Leaf) (offset bits Leaf) (lower_entry bits t) (lower_entry bits lower_tile) t.leaves t.leaves p c lower_tile_entries (λ q r d e. refl)
+      below_turns (cell_in (background_cell t)) (λ cell. cell) (background_cell t) (block_number bits Leaf) (offset bits Leaf) (lower_entry bits t) (lower_entry bits lower_tile) t.leaves t.leaves p c lower_tile_entries (λ q r d e. refl)
 
   pub lower_tile_fills : Fills bits Leaf t lower_tile p c
   lower_tile_fills = record { head = record { background = refl; limit = refl }; cells = lower_tile_cells }
@@ -158,18 +158,18 @@ module _ {V : Type 0} (bits : Bits) (t : Layout V) (sound : IsSound bits t) (p :
 
   pub upper_tile_uppers : Turns (block_number bits Lower) p (upper_entry bits t) (upper_entry bits upper_tile) (Tile c)
   upper_tile_uppers =
-      node_turns (λ node i. slice_index_or node i (Tile (plain t))) Tile (Tile (plain t)) bits Upper (root_entry bits t) t.uppers uppers p u n m (Tile c) (root_by_block bits t) sound.uppers at was put
+      node_turns (λ node i. slice_index_or node i (Tile (background_cell t))) Tile (Tile (background_cell t)) bits Upper (root_entry bits t) t.uppers uppers p u n m (Tile c) (root_by_block bits t) sound.uppers at was put
       (sets.changed _) (sets.others _)
 
   pub upper_tile_lowers : Turns (block_number bits Lower) p (lower_entry bits t) (lower_entry bits upper_tile) (Tile c)
   upper_tile_lowers =
-      below_turns (λ node i. slice_index_or node i (Tile (plain t))) Tile (Tile (plain t)) (block_number bits Lower) (offset bits Lower) (upper_entry bits t) (upper_entry bits upper_tile) t.lowers t.lowers p c upper_tile_uppers
+      below_turns (λ node i. slice_index_or node i (Tile (background_cell t))) Tile (Tile (background_cell t)) (block_number bits Lower) (offset bits Lower) (upper_entry bits t) (upper_entry bits upper_tile) t.lowers t.lowers p c upper_tile_uppers
       (λ q r d e. refl)
 
   upper_tile_cells : Turns (block_number bits Lower) p (cell_at bits t) (cell_at bits upper_tile) c
   unfolding cell_at
   upper_tile_cells =
-      below_turns (cell_in (plain t)) (λ cell. cell) (plain t) (block_number bits Lower) (offset bits Leaf) (lower_entry bits t) (lower_entry bits upper_tile) t.leaves t.leaves p c upper_tile_lowers (λ q r d e. refl)
+      below_turns (cell_in (background_cell t)) (λ cell. cell) (background_cell t) (block_number bits Lower) (offset bits Leaf) (lower_entry bits t) (lower_entry bits upper_tile) t.leaves t.leaves p c upper_tile_lowers (λ q r d e. refl)
 
   pub upper_tile_fills : Fills bits Lower t upper_tile p c
   upper_tile_fills = record { head = record { background = refl; limit = refl }; cells = upper_tile_cells }
@@ -197,17 +197,17 @@ module _ {V : Type 0} (bits : Bits) (t : Layout V) (sound : IsSound bits t) (p :
 
   pub lower_uppers : Turns (block_number bits Lower) p (upper_entry bits t) (upper_entry bits lower_dropped) (Tile c)
   lower_uppers =
-      node_turns (λ node i. slice_index_or node i (Tile (plain t))) Tile (Tile (plain t)) bits Upper (root_entry bits t) t.uppers uppers p u n m (Tile c) (root_by_block bits t) sound.uppers at was put
+      node_turns (λ node i. slice_index_or node i (Tile (background_cell t))) Tile (Tile (background_cell t)) bits Upper (root_entry bits t) t.uppers uppers p u n m (Tile c) (root_by_block bits t) sound.uppers at was put
       (sets.changed _) (sets.others _)
 
   pub lower_lowers : Turns (block_number bits Lower) p (lower_entry bits t) (lower_entry bits lower_dropped) (Tile c)
   lower_lowers =
-      below_turns (λ node i. slice_index_or node i (Tile (plain t))) Tile (Tile (plain t)) (block_number bits Lower) (offset bits Lower) (upper_entry bits t) (upper_entry bits lower_dropped) t.lowers lowers p c lower_uppers
+      below_turns (λ node i. slice_index_or node i (Tile (background_cell t))) Tile (Tile (background_cell t)) (block_number bits Lower) (offset bits Lower) (upper_entry bits t) (upper_entry bits lower_dropped) t.lowers lowers p c lower_uppers
       (other_stays bits Lower (upper_entry bits t) (upper_entry bits lower_dropped) p c t.lowers lowers s sound.lowers child taken)
 
   lower_cells : Turns (block_number bits Lower) p (cell_at bits t) (cell_at bits lower_dropped) c
   unfolding cell_at
-  lower_cells = below_turns (cell_in (plain t)) (λ cell. cell) (plain t) (block_number bits Lower) (offset bits Leaf) (lower_entry bits t) (lower_entry bits lower_dropped) t.leaves t.leaves p c lower_lowers (λ q r d e. refl)
+  lower_cells = below_turns (cell_in (background_cell t)) (λ cell. cell) (background_cell t) (block_number bits Lower) (offset bits Leaf) (lower_entry bits t) (lower_entry bits lower_dropped) t.leaves t.leaves p c lower_lowers (λ q r d e. refl)
 
   pub lower_fills : Fills bits Lower t lower_dropped p c
   lower_fills = record { head = record { background = refl; limit = refl }; cells = lower_cells }
@@ -235,10 +235,10 @@ module _ {V : Type 0} (bits : Bits) (t : Layout V) (p : Coord) (o : Option (Entr
   pub root_here : root_at root (key bits p) ≡ o
   root_here = let e = like_coords (key bits p) (key bits p) refl in let u = updates (key bits p) in rw e at u
 
-  pub root_turns : Turns (block_number bits Upper) p (root_entry bits t) (root_entry bits rooted) (option_map_or (λ entry. entry) o (Tile (plain t)))
+  pub root_turns : Turns (block_number bits Upper) p (root_entry bits t) (root_entry bits rooted) (option_map_or (λ entry. entry) o (Tile (background_cell t)))
   root_turns = record {
-    here = λ q e. ap (λ k. option_map_or (λ entry. entry) (root_at root k) (Tile (plain t))) e ∙ ap (λ x. option_map_or (λ entry. entry) x (Tile (plain t))) root_here;
-    there = λ q d. ap (λ x. option_map_or (λ entry. entry) x (Tile (plain t))) (root_elsewhere (key bits q) d);
+    here = λ q e. ap (λ k. option_map_or (λ entry. entry) (root_at root k) (Tile (background_cell t))) e ∙ ap (λ x. option_map_or (λ entry. entry) x (Tile (background_cell t))) root_here;
+    there = λ q d. ap (λ x. option_map_or (λ entry. entry) x (Tile (background_cell t))) (root_elsewhere (key bits q) d);
   }
 
   -- no other key has an entry than before
@@ -251,7 +251,7 @@ module _ {V : Type 0} (bits : Bits) (t : Layout V) (p : Coord) (o : Option (Entr
 
 -- a child in the table is no absent entry
 pub root_present : {V : Type 0} (bits : Bits) (t : Layout V) (p : Coord) (s : ℕ) → root_entry bits t p ≡ Child s → IsSome (root_at t.root (key bits p))
-root_present bits t p s e = present (root_at t.root (key bits p)) (plain t) e
+root_present bits t p s e = present (root_at t.root (key bits p)) (background_cell t) e
   where
     present : {V : Type 0} (o : Option (Entry V)) (c : Cell V) → option_map_or (λ entry. entry) o (Tile c) ≡ Child s → IsSome o
     present None c h = absurd (tile_no_child c s h)
@@ -271,16 +271,16 @@ module _ {V : Type 0} (bits : Bits) (t : Layout V) (sound : IsSound bits t) (p :
 
   pub upper_uppers : Turns (block_number bits Upper) p (upper_entry bits t) (upper_entry bits upper_dropped) (Tile c)
   upper_uppers =
-      below_turns (λ node i. slice_index_or node i (Tile (plain t))) Tile (Tile (plain t)) (block_number bits Upper) (offset bits Upper) (root_entry bits t) (root_entry bits upper_dropped) t.uppers uppers p c upper_roots
+      below_turns (λ node i. slice_index_or node i (Tile (background_cell t))) Tile (Tile (background_cell t)) (block_number bits Upper) (offset bits Upper) (root_entry bits t) (root_entry bits upper_dropped) t.uppers uppers p c upper_roots
       (other_stays bits Upper (root_entry bits t) (root_entry bits upper_dropped) p c t.uppers uppers s sound.uppers child taken)
 
   pub upper_lowers : Turns (block_number bits Upper) p (lower_entry bits t) (lower_entry bits upper_dropped) (Tile c)
   upper_lowers =
-      below_turns (λ node i. slice_index_or node i (Tile (plain t))) Tile (Tile (plain t)) (block_number bits Upper) (offset bits Lower) (upper_entry bits t) (upper_entry bits upper_dropped) t.lowers t.lowers p c upper_uppers (λ q r d e. refl)
+      below_turns (λ node i. slice_index_or node i (Tile (background_cell t))) Tile (Tile (background_cell t)) (block_number bits Upper) (offset bits Lower) (upper_entry bits t) (upper_entry bits upper_dropped) t.lowers t.lowers p c upper_uppers (λ q r d e. refl)
 
   upper_cells : Turns (block_number bits Upper) p (cell_at bits t) (cell_at bits upper_dropped) c
   unfolding cell_at
-  upper_cells = below_turns (cell_in (plain t)) (λ cell. cell) (plain t) (block_number bits Upper) (offset bits Leaf) (lower_entry bits t) (lower_entry bits upper_dropped) t.leaves t.leaves p c upper_lowers (λ q r d e. refl)
+  upper_cells = below_turns (cell_in (background_cell t)) (λ cell. cell) (background_cell t) (block_number bits Upper) (offset bits Leaf) (lower_entry bits t) (lower_entry bits upper_dropped) t.leaves t.leaves p c upper_lowers (λ q r d e. refl)
 
   pub upper_fills : Fills bits Upper t upper_dropped p c
   upper_fills = record { head = record { background = refl; limit = refl }; cells = upper_cells }
@@ -317,18 +317,18 @@ module _ {V : Type 0} (bits : Bits) (t : Layout V) (sound : IsSound bits t) (p :
 
   pub root_tile_uppers : Turns (block_number bits Upper) p (upper_entry bits t) (upper_entry bits root_tile) (Tile c)
   root_tile_uppers =
-      below_turns (λ node i. slice_index_or node i (Tile (plain t))) Tile (Tile (plain t)) (block_number bits Upper) (offset bits Upper) (root_entry bits t) (root_entry bits root_tile) t.uppers t.uppers p c root_tile_roots
+      below_turns (λ node i. slice_index_or node i (Tile (background_cell t))) Tile (Tile (background_cell t)) (block_number bits Upper) (offset bits Upper) (root_entry bits t) (root_entry bits root_tile) t.uppers t.uppers p c root_tile_roots
       (λ q r d e. refl)
 
   pub root_tile_lowers : Turns (block_number bits Upper) p (lower_entry bits t) (lower_entry bits root_tile) (Tile c)
   root_tile_lowers =
-      below_turns (λ node i. slice_index_or node i (Tile (plain t))) Tile (Tile (plain t)) (block_number bits Upper) (offset bits Lower) (upper_entry bits t) (upper_entry bits root_tile) t.lowers t.lowers p c root_tile_uppers
+      below_turns (λ node i. slice_index_or node i (Tile (background_cell t))) Tile (Tile (background_cell t)) (block_number bits Upper) (offset bits Lower) (upper_entry bits t) (upper_entry bits root_tile) t.lowers t.lowers p c root_tile_uppers
       (λ q r d e. refl)
 
   root_tile_cells : Turns (block_number bits Upper) p (cell_at bits t) (cell_at bits root_tile) c
   unfolding cell_at
   root_tile_cells =
-      below_turns (cell_in (plain t)) (λ cell. cell) (plain t) (block_number bits Upper) (offset bits Leaf) (lower_entry bits t) (lower_entry bits root_tile) t.leaves t.leaves p c root_tile_lowers (λ q r d e. refl)
+      below_turns (cell_in (background_cell t)) (λ cell. cell) (background_cell t) (block_number bits Upper) (offset bits Leaf) (lower_entry bits t) (lower_entry bits root_tile) t.leaves t.leaves p c root_tile_lowers (λ q r d e. refl)
 
   pub root_tile_fills : Fills bits Upper t root_tile p c
   root_tile_fills = record { head = record { background = refl; limit = refl }; cells = root_tile_cells }

@@ -18,10 +18,10 @@ use Rattle.vdb_node.specs.declared.Entry.TheVariants.{Tile}
 use Rattle.vdb_value.specs.declared.Cell.{Cell}
 use Rattle.vdb_tree.specs.Changes.{IsConstantAt, IsConstantBlock}
 use Rattle.vdb_tree.specs.Layout.{Layout, cell_at, field_of}
-use Rattle.vdb_tree.specs.Plain.{is_constant}
+use Rattle.vdb_tree.specs.ConstantBlocks.{is_constant}
 use Rattle.vdb_tree.specs.Unlike.{IsCellFrom, IsNextUnlike, IsNextUnlikeAt, IsOneCell}
 use Rattle.vdb_tree.proofs.BlockTests.{IsConstantBelow}
-use Rattle.vdb_tree.proofs.Blocks.{constant_from, mixed_from, never}
+use Rattle.vdb_tree.proofs.Blocks.{constant_from, non_constant_from, never}
 use Rattle.vdb_tree.proofs.Fields.{cell_inside}
 
 same_some : {A : Type 0} (x y : A) → ◌≡◌ {A = Option A} (Some x) (Some y) → x ≡ y
@@ -128,6 +128,6 @@ module _ {V : Type 0} (bits : Bits) (configured : AreBits bits) (level : Level) 
       pub one_constant : same ≡ true → true ≡ is_constant eq (field_of bits t) (block_around bits level p)
       one_constant h = sym (constant_from eq exact itself bits configured level t p inside c (test.0 h))
 
-      pub one_mixed : same ≡ false → false ≡ is_constant eq (field_of bits t) (block_around bits level p)
-      one_mixed h = sym (mixed_from eq exact itself bits configured level t p inside (λ d k.
+      pub one_non_constant : same ≡ false → false ≡ is_constant eq (field_of bits t) (block_around bits level p)
+      one_non_constant h = sym (non_constant_from eq exact itself bits configured level t p inside (λ d k.
           never h (test.1 (subst (IsConstantBlock bits level t p) (sym (sym at ∙ k p refl)) k))))

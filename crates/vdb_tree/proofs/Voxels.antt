@@ -13,10 +13,10 @@ use Rattle.vdb_node.specs.declared.Entry.TheVariants.{Tile}
 use Rattle.vdb_value.specs.declared.Cell.{Cell}
 use Rattle.vdb_tree.specs.Changes.{AddsNodes, Keeps}
 use Rattle.vdb_tree.specs.Field.{Field}
-use Rattle.vdb_tree.specs.Layout.{Layout, cell_at, entry_over, field_of, lower_entry, plain, root_at}
+use Rattle.vdb_tree.specs.Layout.{Layout, cell_at, entry_over, field_of, lower_entry, background_cell, root_at}
 use Rattle.vdb_tree.specs.Parts.{IsEnd, end_level, left_count}
 use Rattle.vdb_tree.specs.Paths.{in_leaf}
-use Rattle.vdb_tree.specs.Table.{HasRoom}
+use Rattle.vdb_tree.specs.Table.{HasCapacity}
 use Rattle.vdb_tree.specs.Voxelised.{IsVoxelisedAround, IsVoxelisedFrom, IsVoxelisedTo}
 use Rattle.vdb_tree.specs.declared.reading.ends.End.TheVariants.{Leaf as EndLeaf, Tile as EndTile}
 use Rattle.vdb_tree.proofs.Blocks.{never}
@@ -44,12 +44,12 @@ module _ {V : Type 0} (bits : Bits) where
   tile_below t p Leaf cell tiled = tiled
 
   -- an active tile lies under an entry of the table
-  pub active_has_room : (t : Layout V) (p : Coord) (level : Level) (cell : Cell V) → entry_over bits level t p ≡ Tile cell → cell.on ≡ true → HasRoom t (key bits p)
+  pub active_has_room : (t : Layout V) (p : Coord) (level : Level) (cell : Cell V) → entry_over bits level t p ≡ Tile cell → cell.on ≡ true → HasCapacity t (key bits p)
   active_has_room t p level cell tiled on = elim (some_or_none (root_at t.root (key bits p))) [
     | inl e ↦ inl (is_some_from (root_at t.root (key bits p)) e.0 e.1)
     | inr none ↦
-        let background = tile_lower bits t (plain t) p (tile_upper bits t (plain t) p (absent_entry bits t p none)) in
-        absurd (never (ap (λ (c : Cell V). c.on) (sym (same_tile (plain t) cell (sym background ∙ tile_below t p level cell tiled)))) on)
+        let background = tile_lower bits t (background_cell t) p (tile_upper bits t (background_cell t) p (absent_entry bits t p none)) in
+        absurd (never (ap (λ (c : Cell V). c.on) (sym (same_tile (background_cell t) cell (sym background ∙ tile_below t p level cell tiled)))) on)
   ]
 
   -- what is active around p lies in a leaf, where p lies in one
@@ -61,17 +61,17 @@ module _ {V : Type 0} (bits : Bits) where
     leaf_done : IsTrue (in_leaf bits t p) → IsVoxelisedAround bits t Leaf p
     leaf_done leaf q same on = in_same_leaf t p q leaf same
 
-    idle_done : (level : Level) (cell : Cell V) → entry_over bits level t p ≡ Tile cell → cell.on ≡ false → IsVoxelisedAround bits t level p
-    idle_done level cell tiled off q same on = absurd (never (inactive_skipped bits t level p cell tiled off q same) on)
+    inactive_done : (level : Level) (cell : Cell V) → entry_over bits level t p ≡ Tile cell → cell.on ≡ false → IsVoxelisedAround bits t level p
+    inactive_done level cell tiled off q same on = absurd (never (inactive_skipped bits t level p cell tiled off q same) on)
 
     -- where the descent to p ends in a leaf, and in an inactive tile
-    pub leaf_idle : (slot : ℕ) → IsEnd bits t p (EndLeaf slot) → IsVoxelisedAround bits t (end_level bits t p) p
-    leaf_idle slot end = subst (λ (l : Level). IsVoxelisedAround bits t l p) (sym end.0) (leaf_done (is_child_from _ _ end.1))
+    pub leaf_inactive : (slot : ℕ) → IsEnd bits t p (EndLeaf slot) → IsVoxelisedAround bits t (end_level bits t p) p
+    leaf_inactive slot end = subst (λ (l : Level). IsVoxelisedAround bits t l p) (sym end.0) (leaf_done (is_child_from _ _ end.1))
 
-    pub tile_idle : (level : Level) (cell : Cell V) → IsEnd bits t p (EndTile level cell) → cell.on ≡ false → IsVoxelisedAround bits t (end_level bits t p) p
-    tile_idle level cell end off = subst (λ (l : Level). IsVoxelisedAround bits t l p) (sym end.0) (idle_done level cell end.1 off)
+    pub tile_inactive : (level : Level) (cell : Cell V) → IsEnd bits t p (EndTile level cell) → cell.on ≡ false → IsVoxelisedAround bits t (end_level bits t p) p
+    tile_inactive level cell end off = subst (λ (l : Level). IsVoxelisedAround bits t l p) (sym end.0) (inactive_done level cell end.1 off)
 
-    pub active_room : (level : Level) (cell : Cell V) → IsEnd bits t p (EndTile level cell) → not cell.on ≡ false → HasRoom t (key bits p)
+    pub active_room : (level : Level) (cell : Cell V) → IsEnd bits t p (EndTile level cell) → not cell.on ≡ false → HasCapacity t (key bits p)
     active_room level cell end on = active_has_room t p level cell end.1 (not_off cell.on on)
 
     pub active_cell : (level : Level) (cell : Cell V) → IsEnd bits t p (EndTile level cell) → not cell.on ≡ false → (cell_at bits t p).on ≡ true

@@ -13,11 +13,11 @@ use Rattle.vdb_tree.specs.Changes.{Changes, IsSwept, Keeps}
 use Rattle.vdb_tree.specs.Field.{write, written}
 use Rattle.vdb_node.specs.declared.Entry.TheVariants.{Child, Tile}
 use Rattle.vdb_value.specs.declared.Cell.{Cell}
-use Rattle.vdb_tree.specs.Layout.{Layout, cell_at, field_of, lower_entry, plain, root_at, root_entry, upper_entry}
+use Rattle.vdb_tree.specs.Layout.{Layout, cell_at, field_of, lower_entry, background_cell, root_at, root_entry, upper_entry}
 use Rattle.vdb_tree.specs.Outcome.{IsOutcome}
-use Rattle.vdb_tree.specs.Plain.{roots}
+use Rattle.vdb_tree.specs.ConstantBlocks.{roots}
 use Rattle.vdb_tree.specs.Sound.{IsSound}
-use Rattle.vdb_tree.specs.Table.{HasRoom}
+use Rattle.vdb_tree.specs.Table.{HasCapacity}
 use Rattle.vdb_tree.proofs.Descents.{tile_cell, tile_lower, tile_upper}
 use Rattle.vdb_tree.proofs.Equations.{changes_field, keeps_field, same_field}
 use Rattle.vdb_tree.proofs.Fields.{cell_inside}
@@ -32,8 +32,8 @@ not_less a b h never = elim (less_or a b h) [ inl k ↦ absurd (never k) | inr e
     less_or a b h = grind arith
 
 module _ {V : Type 0} (eq : V → V → Bool) (exact : (x y : V) → eq x y ≡ true → x ≡ y) (itself : (x : V) → eq x x ≡ true) (bits : Bits) (configured : AreBits bits) where
-  -- a swept table without room is full of roots, and a cell that changes elsewhere makes one more
-  pub exceeds : (t : Layout V) (p : Coord) → IsTrue (is_inside everywhere p) → IsSound bits t → (HasRoom t (key bits p) → ⊥) → IsSwept bits t → (change : Write V)
+  -- a swept table without capacity is full of roots, and a cell that changes elsewhere makes one more
+  pub exceeds : (t : Layout V) (p : Coord) → IsTrue (is_inside everywhere p) → IsSound bits t → (HasCapacity t (key bits p) → ⊥) → IsSwept bits t → (change : Write V)
       → written change ((field_of bits t).cell p) ≢ (field_of bits t).cell p → t.limit < roots eq bits (write p change (field_of bits t))
   exceeds t p inside sound no_room swept change differs =
       let at = cell_inside t.background (cell_at bits t) p inside in
@@ -45,7 +45,7 @@ module _ {V : Type 0} (eq : V → V → Bool) (exact : (x y : V) → eq x y ≡ 
       absent = elim (some_or_none (root_at t.root (key bits p))) [ inl x ↦ absurd (no_room (inl (is_some_from _ x.0 x.1))) | inr n ↦ n ]
 
 module _ {V : Type 0} (bits : Bits) where
-  -- a write of the cell that stands changes nothing
+  -- a write of the cell that is there changes nothing
   pub standing_field : (t : Layout V) (p : Coord) (change : Write V) → written change ((field_of bits t).cell p) ≡ (field_of bits t).cell p → field_of bits t ≡ write p change (field_of bits t)
   standing_field t p change stands = same_field bits t t.background _ refl (λ q inside.
       let at = cell_inside t.background (cell_at bits t) q inside in
@@ -65,7 +65,7 @@ module _ {V : Type 0} (bits : Bits) where
   written_field old mid new p change keeps changes =
       changes_field bits mid new p change changes ∙ ap (write p change) (keeps_field bits old mid keeps)
 
-  -- want of memory after steps that kept every cell, where the write would be within the limit
+  -- `Memory` after steps that kept every cell, where the write would be within the limit
   pub kept_outcome : (eq : V → V → Bool) (old new : Layout V) (p : Coord) (change : Write V) (result : Result (Unit {0}) TreeRefusal) → result ≡ Err Memory → Keeps bits old new
       → roots eq bits (write p change (field_of bits old)) ≤ old.limit → IsOutcome eq bits old.limit (field_of bits old) (write p change (field_of bits old)) (field_of bits new) result
   kept_outcome eq old new p change result memory keeps within = rw memory (keeps_field bits old new keeps, within)
@@ -75,22 +75,22 @@ module _ {V : Type 0} (bits : Bits) where
   tile_field_cell t p cell inside tile = cell_inside t.background (cell_at bits t) p inside ∙ tile_cell bits t cell p tile
 
   -- an upper node over p has an entry above it
-  pub upper_has_room : (t : Layout V) (p : Coord) (slot : ℕ) → root_entry bits t p ≡ Child slot → HasRoom t (key bits p)
+  pub upper_has_room : (t : Layout V) (p : Coord) (slot : ℕ) → root_entry bits t p ≡ Child slot → HasCapacity t (key bits p)
   upper_has_room t p slot child = elim (some_or_none (root_at t.root (key bits p))) [
     | inl x ↦ inl (is_some_from _ x.0 x.1)
-    | inr n ↦ absurd (tile_no_child (plain t) slot (sym (absent_entry bits t p n) ∙ child))
+    | inr n ↦ absurd (tile_no_child (background_cell t) slot (sym (absent_entry bits t p n) ∙ child))
   ]
 
   -- so has a lower node
-  pub lower_has_room : (t : Layout V) (p : Coord) (slot : ℕ) → upper_entry bits t p ≡ Child slot → HasRoom t (key bits p)
+  pub lower_has_room : (t : Layout V) (p : Coord) (slot : ℕ) → upper_entry bits t p ≡ Child slot → HasCapacity t (key bits p)
   lower_has_room t p slot child = elim (some_or_none (root_at t.root (key bits p))) [
     | inl x ↦ inl (is_some_from _ x.0 x.1)
-    | inr n ↦ absurd (tile_no_child (plain t) slot (sym (tile_upper bits t (plain t) p (absent_entry bits t p n)) ∙ child))
+    | inr n ↦ absurd (tile_no_child (background_cell t) slot (sym (tile_upper bits t (background_cell t) p (absent_entry bits t p n)) ∙ child))
   ]
 
   -- a child over p's leaf block has an entry above it
-  pub leaf_has_room : (t : Layout V) (p : Coord) (slot : ℕ) → lower_entry bits t p ≡ Child slot → HasRoom t (key bits p)
+  pub leaf_has_room : (t : Layout V) (p : Coord) (slot : ℕ) → lower_entry bits t p ≡ Child slot → HasCapacity t (key bits p)
   leaf_has_room t p slot child = elim (some_or_none (root_at t.root (key bits p))) [
     | inl x ↦ inl (is_some_from _ x.0 x.1)
-    | inr n ↦ absurd (tile_no_child (plain t) slot (sym (tile_lower bits t (plain t) p (tile_upper bits t (plain t) p (absent_entry bits t p n))) ∙ child))
+    | inr n ↦ absurd (tile_no_child (background_cell t) slot (sym (tile_lower bits t (background_cell t) p (tile_upper bits t (background_cell t) p (absent_entry bits t p n))) ∙ child))
   ]

@@ -17,7 +17,7 @@ module _ {V : Type 0} (bits : Bits) (f : Field V) (level : Level) (p : Coord) wh
     pub from_on : from ≤ index
     pub before : IsInactiveFrom from index
 
-  -- the same up to the index that is answered, or up to the end
+  -- no voxel is active at the entries from one on and before the index that is answered, or up to the end where none is
   abbrev pub IsNextActive : ℕ → Option ℕ → Type 0
   IsNextActive from (Some index) = IsNextActiveAt from index
   IsNextActive from None = IsInactiveFrom from (entries bits level)

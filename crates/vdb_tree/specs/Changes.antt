@@ -7,7 +7,7 @@ use Rattle.vdb_coord.specs.declared.Level.{Level}
 use Rattle.vdb_coord.specs.declared.Level.TheVariants.{Leaf, Lower, Upper}
 use Rattle.vdb_node.specs.declared.Entry.{Entry}
 use Rattle.vdb_value.specs.declared.Cell.{Cell}
-use Rattle.vdb_tree.specs.Layout.{Layout, cell_at, entry_over, plain, root_at}
+use Rattle.vdb_tree.specs.Layout.{Layout, cell_at, entry_over, background_cell, root_at}
 use Rattle.vdb_node.specs.declared.Entry.TheVariants.{Child, Tile}
 
 -- g has e wherever the number is p's, and elsewhere what f has
@@ -32,7 +32,7 @@ module _ {V : Type 0} (bits : Bits) where
     pub head : KeepsHead old new
     pub cells : (q : Coord) → cell_at bits new q ≡ cell_at bits old q
 
-  -- nodes came in place of tiles, or keys of tiles that stood already: no other tile came, and no key went
+  -- nodes came in place of tiles, or keys of tiles that were there already: no other tile came, and no key went
   pub record AddsNodes (old new : Layout V) : Type 0 where
     pub tiles : (level : Level) (q : Coord) (cell : Cell V) → entry_over bits level new q ≡ Tile cell → entry_over bits level old q ≡ Tile cell
     pub keys : (k : Coord) → IsSome (root_at old.root k) → IsSome (root_at new.root k)
@@ -55,25 +55,25 @@ module _ {V : Type 0} (bits : Bits) where
   abbrev pub IsConstantAt : Level → Layout V → Coord → ℕ → Cell V → Type 0
   IsConstantAt level t p index cell = (q : Coord) → block_number bits level q ≡ block_number bits level p → offset bits level q ≡ index → cell_at bits t q ≡ cell
 
-  -- no one cell stands all over p's block of the level
-  abbrev pub IsMixedBlock : Level → Layout V → Coord → Type 0
-  IsMixedBlock level t p = (cell : Cell V) → IsConstantBlock level t p cell → ⊥
+  -- the cells of p's block of the level aren't all equal
+  abbrev pub IsNonConstantBlock : Level → Layout V → Coord → Type 0
+  IsNonConstantBlock level t p = (cell : Cell V) → IsConstantBlock level t p cell → ⊥
 
-  -- if a node of the level stands over p, its block isn't constant
+  -- if there is a node of the level over p, its block isn't constant
   abbrev pub IsNeeded : Level → Layout V → Coord → Type 0
-  IsNeeded level t p = (slot : ℕ) → entry_over bits level t p ≡ Child slot → IsMixedBlock level t p
+  IsNeeded level t p = (slot : ℕ) → entry_over bits level t p ≡ Child slot → IsNonConstantBlock level t p
 
-  -- the same entries stand over q
+  -- the entries over q are the same
   abbrev pub SameDescent : Layout V → Layout V → Coord → Type 0
   SameDescent old new q = (level : Level) → entry_over bits level new q ≡ entry_over bits level old q
 
-  -- each coordinate beyond p's block of the level keeps its cell and what stands over it
+  -- each coordinate beyond p's block of the level keeps its cell and the entries over it
   pub record KeepsBeyond (level : Level) (old new : Layout V) (p : Coord) : Type 0 where
     pub head : KeepsHead old new
     pub cells : (q : Coord) → block_number bits level q ≢ block_number bits level p → cell_at bits new q ≡ cell_at bits old q
     pub entries : (q : Coord) → block_number bits level q ≢ block_number bits level p → SameDescent old new q
 
-  -- a node that stands is needed: the same of the level and each one below
+  -- each node over q of the level or of one below is needed
   abbrev pub IsNeededTo : Level → Layout V → Coord → Type 0
   IsNeededTo Leaf t q = IsNeeded Leaf t q
   IsNeededTo Lower t q = IsNeeded Leaf t q × IsNeeded Lower t q
@@ -83,15 +83,15 @@ module _ {V : Type 0} (bits : Bits) where
   abbrev pub AreNeeded : Level → Layout V → Coord → Type 0
   AreNeeded level t p = (q : Coord) → block_number bits level q ≡ block_number bits level p → IsNeededTo level t q
 
-  -- if p's root block has an entry, it isn't all plain
-  abbrev pub IsNoPlainRoot : Layout V → Coord → Type 0
-  IsNoPlainRoot t p = (entry : Entry V) → root_at t.root (key bits p) ≡ Some entry → IsConstantBlock Upper t p (plain t) → ⊥
+  -- if p's root block has an entry, it isn't all background
+  abbrev pub IsNoBackgroundRoot : Layout V → Coord → Type 0
+  IsNoBackgroundRoot t p = (entry : Entry V) → root_at t.root (key bits p) ≡ Some entry → IsConstantBlock Upper t p (background_cell t) → ⊥
 
-  -- no entry of the table is that of a plain block
+  -- no entry of the table is that of a background block
   abbrev pub IsSwept : Layout V → Type 0
-  IsSwept t = (p : Coord) → IsNoPlainRoot t p
+  IsSwept t = (p : Coord) → IsNoBackgroundRoot t p
 
-  -- In the level's node around p, each child of the level below is needed, or was made a tile, where its entry stands from one
+  -- In the level's node around p, each child of the level below is needed, or was made a tile, where its entry is from one
   -- offset on and before another. Nothing else changes, and every cell stays.
   pub record PassesTo (level inner : Level) (old new : Layout V) (p : Coord) (from to : ℕ) : Type 0 where
     pub keeps : Keeps old new
@@ -99,15 +99,15 @@ module _ {V : Type 0} (bits : Bits) where
     pub before : (q : Coord) → block_number bits level q ≡ block_number bits level p → offset bits level q < from → SameDescent old new q
     pub done : (q : Coord) → block_number bits level q ≡ block_number bits level p → from ≤ offset bits level q → offset bits level q < to → IsNeededTo inner new q
 
-  -- the same up to the offset that is answered, or up to the end
+  -- a pass over the children of p's node from one offset on, up to the offset that is answered or up to the end
   abbrev pub PassesFrom : Level → Level → Layout V → Layout V → Coord → ℕ → Option ℕ → Type 0
   PassesFrom level inner old new p from (Some next) = PassesTo level inner old new p from next
   PassesFrom level inner old new p from None = PassesTo level inner old new p from (entries bits level)
 
-  -- The root block of this key is pruned: each node over it is needed, and it has no entry if it is plain. Nothing else changes,
-  -- and every cell stays.
+  -- The root block of this key is pruned: each node over it is needed, and it has no entry if it is all background. Nothing
+  -- else changes, and every cell stays.
   pub record PrunesRoot (old new : Layout V) (k : Coord) : Type 0 where
     pub keeps : Keeps old new
     pub others : (q : Coord) → key bits q ≢ k → SameDescent old new q
     pub table : (j : Coord) → j ≢ k → root_at new.root j ≡ root_at old.root j
-    pub here : (q : Coord) → key bits q ≡ k → IsNeededTo Upper new q × IsNoPlainRoot new q
+    pub here : (q : Coord) → key bits q ≡ k → IsNeededTo Upper new q × IsNoBackgroundRoot new q

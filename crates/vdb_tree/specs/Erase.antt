@@ -1,4 +1,4 @@
--- Root blocks that are plain, without their entries.
+-- Background root blocks, without their entries.
 use Rattle.std.specs.Prelude.{◌≡◌, ◌≢◌, ◌⊎◌}
 use Rattle.vdb_coord.specs.Blocks.{key}
 use Rattle.vdb_coord.specs.declared.Bits.{Bits}
@@ -6,19 +6,19 @@ use Rattle.vdb_coord.specs.declared.Coord.{Coord}
 use Rattle.vdb_coord.specs.declared.Level.{Level}
 use Rattle.vdb_node.specs.declared.Entry.TheVariants.{Tile}
 use Rattle.vdb_value.specs.declared.Cell.{Cell}
-use Rattle.vdb_tree.specs.Changes.{IsNoPlainRoot, Keeps}
-use Rattle.vdb_tree.specs.Layout.{Layout, entry_over, plain, root_at}
+use Rattle.vdb_tree.specs.Changes.{IsNoBackgroundRoot, Keeps}
+use Rattle.vdb_tree.specs.Layout.{Layout, entry_over, background_cell, root_at}
 use Rattle.vdb_tree.specs.Nodes.{MakesNoNode}
 
 module _ {V : Type 0} (bits : Bits) where
-  -- every cell stays, no node comes, and each tile stood already or is plain
-  pub record AddsPlainTiles (old new : Layout V) : Type 0 where
+  -- every cell stays, no node comes, and each tile was there already or is the background
+  pub record AddsBackgroundTiles (old new : Layout V) : Type 0 where
     pub keeps : Keeps bits old new
     pub nodes : MakesNoNode bits old new
-    pub tiles : (level : Level) (q : Coord) (tile : Cell V) → entry_over bits level new q ≡ Tile tile → (entry_over bits level old q ≡ Tile tile) ⊎ (tile ≡ plain old)
+    pub tiles : (level : Level) (q : Coord) (tile : Cell V) → entry_over bits level new q ≡ Tile tile → (entry_over bits level old q ≡ Tile tile) ⊎ (tile ≡ background_cell old)
 
-  -- the root block of this key has no entry if it is plain, and the table stays under each other key
+  -- the root block of this key has no entry if it is all background, and the table stays under each other key
   pub record ErasesRoot (old new : Layout V) (k : Coord) : Type 0 where
-    pub adds : AddsPlainTiles old new
+    pub adds : AddsBackgroundTiles old new
     pub table : (j : Coord) → j ≢ k → root_at new.root j ≡ root_at old.root j
-    pub here : (q : Coord) → key bits q ≡ k → IsNoPlainRoot bits new q
+    pub here : (q : Coord) → key bits q ≡ k → IsNoBackgroundRoot bits new q

@@ -14,7 +14,7 @@ nodes_to Root = 0
 nodes_to (Upper slot) = 1
 nodes_to (Lower slot) = 2
 
--- over p stands this holder, and in it this entry
+-- this holder is over p, and in it this entry
 abbrev pub IsHeldIn : {V : Type 0} → Bits → Layout V → Coord → Holder → Entry V → Type 0
 IsHeldIn bits t p Root entry = root_entry bits t p ≡ entry
 IsHeldIn bits t p (Upper slot) entry = (root_entry bits t p ≡ Child slot) × (upper_entry bits t p ≡ entry)

@@ -36,8 +36,8 @@ within read tile missing pool (Child slot) i = option_map_or (λ node. read node
 
 module _ {V : Type 0} where
   -- the background, inactive
-  abbrev pub plain : Layout V → Cell V
-  plain t = off t.background
+  abbrev pub background_cell : Layout V → Cell V
+  background_cell t = off t.background
 
   -- the entry under a key, if there is one
   abbrev pub root_at : List (Coord × Entry V) → Coord → Option (Entry V)
@@ -45,7 +45,7 @@ module _ {V : Type 0} where
 
   -- the entry under a key, or the tile that an absent one stands for
   abbrev pub entry_of_key : Layout V → Coord → Entry V
-  entry_of_key t k = option_map_or (λ entry. entry) (root_at t.root k) (Tile (plain t))
+  entry_of_key t k = option_map_or (λ entry. entry) (root_at t.root k) (Tile (background_cell t))
 
   -- what an entry has at an index if its nodes are internal, and if they are leaves
   abbrev pub within_internal : Cell V → Contents (List (Entry V)) → Entry V → ℕ → Entry V
@@ -61,14 +61,14 @@ module _ {V : Type 0} where
     root_entry t p = entry_of_key t (key bits p)
 
     abbrev pub upper_entry : Layout V → Coord → Entry V
-    upper_entry t p = within_internal (plain t) t.uppers (root_entry t p) (offset bits Upper p)
+    upper_entry t p = within_internal (background_cell t) t.uppers (root_entry t p) (offset bits Upper p)
 
     abbrev pub lower_entry : Layout V → Coord → Entry V
-    lower_entry t p = within_internal (plain t) t.lowers (upper_entry t p) (offset bits Lower p)
+    lower_entry t p = within_internal (background_cell t) t.lowers (upper_entry t p) (offset bits Lower p)
 
     -- the cell where it ends; opaque, since goals have no need of the rest
     unfoldable pub cell_at : Layout V → Coord → Cell V
-    cell_at t p = within_leaf (plain t) t.leaves (lower_entry t p) (offset bits Leaf p)
+    cell_at t p = within_leaf (background_cell t) t.leaves (lower_entry t p) (offset bits Leaf p)
 
     -- what stands for p's block of the level: a node of the level or a tile
     abbrev pub entry_over : Level → Layout V → Coord → Entry V

@@ -1,6 +1,6 @@
 -- Fields, which grids are in the abstract, and the trees that stand for them.
 pub mod Field
-pub mod Plain
+pub mod ConstantBlocks
 pub mod Layout
 pub mod Sound
 pub mod Table
@@ -11,9 +11,9 @@ pub mod Parts
 pub mod Jumps
 pub mod Leaves
 pub mod Outcome
-pub mod Ready
+pub mod SplitBox
 pub mod Erase
-pub mod Room
+pub mod Capacity
 pub mod Smallest
 pub mod Changes
 pub mod Nodes

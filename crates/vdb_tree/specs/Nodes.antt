@@ -14,8 +14,8 @@ use Rattle.vdb_value.specs.declared.Cell.{Cell}
 use Rattle.vdb_tree.specs.Changes.{SameDescent}
 use Rattle.vdb_tree.specs.Layout.{Layout, entry_over, lower_entry, root_at}
 use Rattle.vdb_tree.specs.Paths.{is_child}
-use Rattle.vdb_tree.specs.Ready.{IsCovered}
-use Rattle.vdb_tree.specs.Room.{MeetsRoot}
+use Rattle.vdb_tree.specs.SplitBox.{IsCovered}
+use Rattle.vdb_tree.specs.Capacity.{MeetsRootBlock}
 use Rattle.vdb_tree.specs.Smallest.{counts_of}
 
 -- a coordinate of the box lies in p's block of the level
@@ -34,13 +34,13 @@ module _ {V : Type 0} (bits : Bits) where
       → (m : LeafOf V) × (new ≡ record old { leaves = with_node old.leaves slot m }) × (m.values ≡ n.values)
       × ((i : ℕ) → i < entry_count bits.leaf → is_on m.states i ≡ is_on mask i)
 
-  -- the same entry stands under each key, the same entries over each coordinate, and there are as many entries and nodes
+  -- each key has the same entry, each coordinate the same entries over it, and there are as many entries and nodes
   pub record IsSameTree (old new : Layout V) : Type 0 where
     pub table : (k : Coord) → root_at new.root k ≡ root_at old.root k
     pub entries : (q : Coord) → SameDescent bits old new q
     pub counts : counts_of new ≡ counts_of old
 
-  -- where a node stands and a tile stood before, this holds of the level, the coordinate and the tile
+  -- where there is a node and there was a tile, this holds of the level, the coordinate and the tile
   abbrev pub MakesOnly : (Level → Coord → Cell V → Type 0) → Layout V → Layout V → Type 0
   MakesOnly Holds old new =
       (level : Level) (p : Coord) (tile : Cell V) → entry_over bits level old p ≡ Tile tile → IsTrue (is_child (entry_over bits level new p)) → Holds level p tile
@@ -51,7 +51,7 @@ module _ {V : Type 0} (bits : Bits) where
 
   -- each key that came is that of a root block that the box meets
   abbrev pub MakesKeysIn : Box → Layout V → Layout V → Type 0
-  MakesKeysIn box old new = (k : Coord) → IsSome (root_at new.root k) → IsSome (root_at old.root k) ⊎ MeetsRoot bits box k
+  MakesKeysIn box old new = (k : Coord) → IsSome (root_at new.root k) → IsSome (root_at old.root k) ⊎ MeetsRootBlock bits box k
 
   -- an active tile over a block that the box meets
   abbrev pub IsActiveIn : Box → Level → Coord → Cell V → Type 0
@@ -61,10 +61,10 @@ module _ {V : Type 0} (bits : Bits) where
   abbrev pub IsCut : Box → Cell V → Level → Coord → Cell V → Type 0
   IsCut box cell level p tile = MeetsBlock bits box level p × (IsCovered bits box level p → ⊥) × (tile ≢ cell)
 
-  -- over each block that doesn't hold p stands what stood there
+  -- each block of the level that doesn't hold p keeps the entry over it
   abbrev pub KeepsElsewhere : Layout V → Layout V → Coord → Type 0
   KeepsElsewhere old new p = (level : Level) (q : Coord) → block_number bits level q ≢ block_number bits level p → entry_over bits level new q ≡ entry_over bits level old q
 
-  -- so does what stands over each block of another level
+  -- each block of another level, and each of this one that doesn't hold p, keeps the entry over it
   abbrev pub KeepsAllBut : Level → Layout V → Layout V → Coord → Type 0
   KeepsAllBut level old new p = (l : Level) (q : Coord) → (l ≢ level) ⊎ (block_number bits l q ≢ block_number bits l p) → entry_over bits l new q ≡ entry_over bits l old q

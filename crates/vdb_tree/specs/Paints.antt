@@ -11,7 +11,7 @@ use Rattle.vdb_node.specs.Leaf.{cell_in, Leaf as LeafOf}
 use Rattle.vdb_value.specs.declared.Cell.{Cell}
 use Rattle.vdb_tree.specs.Changes.{KeepsHead, SameDescent}
 use Rattle.vdb_tree.specs.Layout.{Layout, cell_at}
-use Rattle.vdb_tree.specs.Ready.{IsReadyAt, IsTiledTo}
+use Rattle.vdb_tree.specs.SplitBox.{IsSplitAt, IsTiledTo}
 
 -- bits by which each coordinate is a block of its own
 abbrev pub voxels : Bits
@@ -31,7 +31,7 @@ pub record IsRun (bits : Bits) (part : Box) (p last : Coord) : Type 0 where
   pub only : (q : Coord) → block_number bits Leaf q ≡ block_number bits Leaf p → (IsBefore q p → ⊥) → (IsBefore last q → ⊥) → IsTrue (is_inside part q)
 
 module _ {V : Type 0} (bits : Bits) (box : Box) where
-  -- each coordinate that isn't one of the box in the level's block with this number keeps its cell and what stands over it
+  -- each coordinate that isn't one of the box in the level's block with this number keeps its cell and the entries over it
   pub record KeepsOutside (level : Level) (old new : Layout V) (number : Coord) : Type 0 where
     pub head : KeepsHead old new
     pub cells : (q : Coord) → (IsTrue (is_inside box q) → block_number bits level q ≡ number → ⊥) → cell_at bits new q ≡ cell_at bits old q
@@ -39,8 +39,8 @@ module _ {V : Type 0} (bits : Bits) (box : Box) where
 
   module _ (cell : Cell V) where
     -- no tile over a coordinate of the box has to be split
-    abbrev pub AreReady : Layout V → Type 0
-    AreReady t = (level : Level) (q : Coord) → IsTrue (is_inside box q) → IsReadyAt bits box cell level t q
+    abbrev pub AreSplit : Layout V → Type 0
+    AreSplit t = (level : Level) (q : Coord) → IsTrue (is_inside box q) → IsSplitAt bits box cell level t q
 
     -- q has the cell, and each block around it, from the level down, that lies within the box is a tile
     abbrev pub IsPainted : Level → Layout V → Coord → Type 0

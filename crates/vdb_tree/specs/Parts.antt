@@ -23,7 +23,7 @@ use Rattle.vdb_tree.specs.declared.reading.parts.Skip.TheVariants.{Absent, Backg
 use Rattle.vdb_tree.specs.declared.reading.ends.End.{End}
 use Rattle.vdb_tree.specs.declared.reading.ends.End.TheVariants.{Leaf as EndLeaf, Tile as EndTile}
 
--- Where a walk over the parts of a tree stands.
+-- How far a walk over the parts of a tree has come.
 pub record WalkOf (A B C : Type 0) : Type 0 where
   -- the coordinates to which the parts are cut
   pub box : Box
@@ -108,7 +108,7 @@ module _ {V : Type 0} (bits : Bits) (t : Layout V) where
     pub inside : IsTrue (is_inside box p)
     pub first : (q : Coord) → IsTrue (is_inside box q) → ComesBefore bits q p → block_number bits (end_level p) q ≡ block_number bits (end_level p) p → ⊥
 
-  -- the walk stands at a place of its box, if any is left, and its path lives
+  -- the walk is at a place of its box, if any is left, and its path lives
   pub record IsWalk (w : TreeWalk V) : Type 0 where
     pub place : IfSome w.at (IsPlace w.box)
     pub lives : Lives bits t w.path w.near

@@ -68,7 +68,7 @@ module _ {V : Type 0} (bits : Bits) (t : Layout V) where
   abbrev pub down_count : Coord → ℕ
   down_count p = one_if_child (root_entry bits t p) + one_if_child (upper_entry bits t p) + one_if_child (lower_entry bits t p)
 
-  -- whether p's cell stands in a leaf
+  -- whether p's cell is in a leaf
   abbrev pub in_leaf : Coord → Bool
   in_leaf p = is_child (lower_entry bits t p)
 

@@ -10,26 +10,28 @@ use Rattle.vdb_pool.specs.Contents.{count_of}
 use Rattle.vdb_tree.specs.Field.{Field}
 use Rattle.vdb_tree.specs.Layout.{Layout, entry_over, field_of, root_at}
 use Rattle.vdb_tree.specs.Paths.{is_child}
-use Rattle.vdb_tree.specs.Plain.{is_constant, is_plain, mixed, roots}
-use Rattle.vdb_tree.specs.declared.counts.NodeCounts.{NodeCounts}
+use Rattle.vdb_tree.specs.ConstantBlocks.{is_constant, is_background, non_constant, roots}
+use Rattle.vdb_tree.specs.declared.node_counts.NodeCounts.{NodeCounts}
 
 -- the counts of a tree's table and pools
 abbrev pub counts_of : {V : Type 0} → Layout V → NodeCounts
 counts_of t = record { entries = length t.root; upper = count_of t.uppers; lower = count_of t.lowers; leaf = count_of t.leaves }
 
 module _ {V : Type 0} (eq : V → V → Bool) (bits : Bits) where
-  -- how many entries and nodes the field needs: its root blocks that aren't plain, and its blocks of each level that aren't constant
+  -- how many entries and nodes the field needs: its root blocks that hold anything but the background, and its blocks of each
+  -- level that aren't constant
   abbrev pub least_counts : Field V → NodeCounts
-  least_counts f = record { entries = roots eq bits f; upper = mixed eq bits Upper f; lower = mixed eq bits Lower f; leaf = mixed eq bits Leaf f }
+  least_counts f = record { entries = roots eq bits f; upper = non_constant eq bits Upper f; lower = non_constant eq bits Lower f; leaf = non_constant eq bits Leaf f }
 
-  -- each root block that isn't plain has an entry, and over each block that isn't constant stands a node
+  -- each root block that holds anything but the background has an entry, and there is a node over each block that isn't
+  -- constant
   pub record HasNeeded (t : Layout V) : Type 0 where
-    pub entries : (p : Coord) → IsTrue (is_inside everywhere p) → is_plain eq (field_of bits t) (block_around bits Upper p) ≡ false → IsSome (root_at t.root (key bits p))
+    pub entries : (p : Coord) → IsTrue (is_inside everywhere p) → is_background eq (field_of bits t) (block_around bits Upper p) ≡ false → IsSome (root_at t.root (key bits p))
     pub nodes : (level : Level) (p : Coord) → IsTrue (is_inside everywhere p) → is_constant eq (field_of bits t) (block_around bits level p) ≡ false → IsTrue (is_child (entry_over bits level t p))
 
-  -- no plain root block has an entry, and over no constant block stands a node
+  -- no background root block has an entry, and there is no node over a constant block
   pub record IsLeast (t : Layout V) : Type 0 where
-    pub entries : (p : Coord) → IsTrue (is_inside everywhere p) → IsSome (root_at t.root (key bits p)) → is_plain eq (field_of bits t) (block_around bits Upper p) ≡ false
+    pub entries : (p : Coord) → IsTrue (is_inside everywhere p) → IsSome (root_at t.root (key bits p)) → is_background eq (field_of bits t) (block_around bits Upper p) ≡ false
     pub nodes : (level : Level) (p : Coord) → IsTrue (is_inside everywhere p) → IsTrue (is_child (entry_over bits level t p)) → is_constant eq (field_of bits t) (block_around bits level p) ≡ false
 
 -- none of the counts is greater

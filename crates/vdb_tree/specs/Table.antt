@@ -20,6 +20,6 @@ module _ {V : Type 0} where
       IsSome (root_at root next) × IsPast after next
       × ((k : Coord) → IsPast after k → IsSome (root_at root k) → is_gt (coord_cmp next k) ≡ false)
 
-  -- the key has an entry, or the table has room for one more
-  abbrev pub HasRoom : Layout V → Coord → Type 0
-  HasRoom t key = IsSome (root_at t.root key) ⊎ (length t.root < t.limit)
+  -- the key has an entry, or the table has capacity for one more
+  abbrev pub HasCapacity : Layout V → Coord → Type 0
+  HasCapacity t key = IsSome (root_at t.root key) ⊎ (length t.root < t.limit)

@@ -26,7 +26,7 @@ module _ {V : Type 0} (bits : Bits) (t : Layout V) (level : Level) (p : Coord) (
     pub from_on : from ≤ index
     pub before : IsCellFrom from index
 
-  -- the same up to the index that is answered, or up to the end
+  -- each entry from one on and before the index that is answered is of the cell, or each up to the end where none is
   abbrev pub IsNextUnlike : ℕ → Option ℕ → Type 0
   IsNextUnlike from (Some index) = IsNextUnlikeAt from index
   IsNextUnlike from None = IsCellFrom from (entries bits level)

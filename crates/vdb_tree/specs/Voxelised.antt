@@ -20,7 +20,7 @@ module _ {V : Type 0} (bits : Bits) (t : Layout V) (box : Box) where
   abbrev pub IsVoxelisedTo : Option Coord → Type 0
   IsVoxelisedTo next = (q : Coord) → IsTrue (is_inside box q) → is_left bits next q ≡ false → ((field_of bits t).cell q).on ≡ true → IsTrue (in_leaf bits t q)
 
-  -- so does each of them that doesn't come before p
+  -- each active voxel of the box that isn't left and doesn't come before p lies in a leaf
   abbrev pub IsVoxelisedFrom : Coord → Option Coord → Type 0
   IsVoxelisedFrom p next =
       (q : Coord) → IsTrue (is_inside box q) → is_left bits next q ≡ false → ((field_of bits t).cell q).on ≡ true

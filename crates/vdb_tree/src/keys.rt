@@ -8,7 +8,7 @@ ghost use Rattle.vdb_coord.specs.Space.{coord_cmp, everywhere, is_inside};
 ghost use Rattle.vdb_coord.specs.declared.Coord.{Coord};
 ghost use Rattle.vdb_coord.specs.declared.Level.TheVariants.{Upper};
 ghost use Rattle.vdb_tree.specs.Layout.{bits_of, root_at};
-ghost use Rattle.vdb_tree.specs.Room.{IsNextMet, SkipsTo};
+ghost use Rattle.vdb_tree.specs.Capacity.{IsNextMet, SkipsTo};
 ghost use Rattle.vdb_tree.specs.Table.{IsNextKey};
 
 use crate::TreeOf;
@@ -119,7 +119,7 @@ impl<
     }
 }
 
-/// Where the next key of a box of keys may stand past this one, which isn't in it; `None` where there is none.
+/// Where the next key of a box of keys may be past this one, which isn't in it; `None` where there is none.
 fn skip_to(keys: Bounds, key: Coord) -> Option<Coord>
     requires { is_inside keys key ≡ false }
     ensures { SkipsTo keys key result }
@@ -153,7 +153,7 @@ fn skip_to(keys: Bounds, key: Coord) -> Option<Coord>
     skip_slab(keys, key)
 }
 
-/// Where the next key of a box of keys may stand past this one, if it has none of the same x past it.
+/// Where the next key of a box of keys may be past this one, if it has none of the same x past it.
 fn skip_slab(keys: Bounds, key: Coord) -> Option<Coord>
     requires { (k : Coord) → IsTrue (is_inside keys k) → k.x ≡ key.x → coord_cmp key k ≡ Less → ⊥ }
     ensures { SkipsTo keys key result }

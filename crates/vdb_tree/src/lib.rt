@@ -4,11 +4,11 @@
 //! matters: for paths of nodes, for the number of visits and for the size of the tree.
 //!
 //! The modules, from below:
-//! - `refusal`, `path`, `counts`: what calls give back.
-//! - `root`, `tree`, `nodes`, `keys`, `copying`: the root table, the type with its pools of nodes, and whole copies.
+//! - `refusal`, `path`, `node_counts`: what calls give back.
+//! - `root`, `tree`, `nodes`, `keys`, `whole_copy`: the root table, the type with its pools of nodes, and whole copies.
 //! - `reading`: descents, leaves, paths, the parts of a tree in turn, the one cell of a block.
 //! - `writing`: nodes in place of tiles, a voxel, leaves in place of active tiles.
-//! - `boxes`: a tree made ready for one cell all over a box, and painted with it.
+//! - `boxes`: a tree split along the edge of a box, and the box painted with one cell.
 //! - `pruning`: tiles in place of nodes whose blocks have one cell, and a table without the background's entries.
 #![tactic(auto)]
 
@@ -16,8 +16,8 @@ ghost use Rattle.std.specs.Prelude.{◌≡◌};
 ghost use Rattle.vdb_tree.specs.Field.{written};
 
 mod boxes;
-mod copying;
-mod counts;
+mod whole_copy;
+mod node_counts;
 mod keys;
 mod nodes;
 mod path;
@@ -28,7 +28,7 @@ mod root;
 mod tree;
 mod writing;
 
-pub use counts::NodeCounts;
+pub use node_counts::NodeCounts;
 pub use path::{Path, PathOf};
 pub use reading::parts::{Content, Part, Skip, Walk};
 pub use reading::pieces::Piece;

@@ -8,7 +8,7 @@ use std::alloc::AllocError;
 /// Why a call on a tree is refused. No cell changes then.
 #[derive(Clone, Copy, Debug, PartialEq, Eq, thiserror::Error)]
 pub enum TreeRefusal {
-    /// More root blocks than the limit would have a cell that isn't plain.
+    /// More root blocks than the limit would have a cell that isn't the background.
     #[error("too many root blocks")]
     RootLimit,
     /// The allocator gave no memory, or a pool has no slot left.

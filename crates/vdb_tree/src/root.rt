@@ -104,7 +104,7 @@ impl<V: Copy> RootTable<V> {
         Ok(())
     }
 
-    /// The same entries again, in a table of its own.
+    /// A table of its own with the same entries.
     pub(crate) fn try_copy(&self, alloc: Global) -> Result<RootTable<V>, AllocError>
         ensures entries { IfOk result (λ copy. (k : Coord) → root_at copy k ≡ root_at self.now k) }
         ensures size { IfOk result (λ copy. length copy ≤ length self.now) }

@@ -10,8 +10,8 @@ ghost use Rattle.vdb_coord.specs.declared.Level.TheVariants.{Upper};
 ghost use Rattle.vdb_node.specs.Nodes.{entry_count};
 ghost use Rattle.vdb_tree.specs.Field.{new};
 ghost use Rattle.vdb_tree.specs.Layout.{bits_of, field_of};
-ghost use Rattle.vdb_tree.specs.Plain.{roots};
-ghost use Rattle.vdb_tree.specs.Ready.{IsCovered};
+ghost use Rattle.vdb_tree.specs.ConstantBlocks.{roots};
+ghost use Rattle.vdb_tree.specs.SplitBox.{IsCovered};
 ghost use Rattle.vdb_tree.specs.Sound.{IsConfigured};
 
 use crate::root::RootTable;
@@ -119,8 +119,7 @@ impl<
         self.background
     }
 
-    /// How many entries the root table may have. So many root blocks at most have a cell that isn't plain, which is the
-    /// background, inactive.
+    /// How many entries the root table may have. So many root blocks at most have a cell that isn't the background, inactive.
     pub fn limit(&self) -> u32
         ensures value { result ≡ self.now.limit }
         ensures kept { roots V.eq (bits_of U L F) (field_of (bits_of U L F) self.now) ≤ result }

@@ -50,8 +50,8 @@ pub trait Voxel: Copy + Ord + Drop {
     fn plus(self, other: Self) -> Option<Self>
         ensures { result ≡ sum_of self other };
 
-    /// Puts the value's bytes at the front of `bytes`, most significant first and in two's complement, and answers how
-    /// many they are: 1 for a truth value, which is 0 or 1, and 4 or 8 for a number. The bytes behind them stay.
+    /// Puts the value's bytes at the start of `bytes`, most significant first and in two's complement, and answers how many
+    /// they are: 1 for a truth value, which is 0 or 1, and 4 or 8 for a number. The bytes behind them stay.
     fn to_bytes(self, bytes: &mut [u8; 8]) -> usize
         ensures count { result ≡ byte_count KIND }
         ensures few { result ≤ 8 }

@@ -21,13 +21,13 @@ use Rattle.vdb_coord.proofs.Nesting.{inside_numbered, number_in_block}
 use Rattle.vdb_coord.proofs.Walk.{min_inside}
 use Rattle.vdb_tree.specs.Layout.{Layout, field_of}
 use Rattle.vdb_tree.specs.Parts.{IsSkipped, TreeWalk, is_left}
-use Rattle.vdb_tree.specs.Plain.{count}
+use Rattle.vdb_tree.specs.ConstantBlocks.{count}
 use Rattle.vdb_tree.specs.declared.reading.parts.Skip.{Skip}
 use Rattle.vdb_tree.specs.declared.reading.parts.Skip.TheVariants.{Inactive}
 use Rattle.vdb_tree.proofs.PartStarts.{before_place}
-use Rattle.vdb_walk.specs.BlocksFrom.{IsBoxStart, IsIdleTo, IsPartStart, active_around, active_from}
+use Rattle.vdb_walk.specs.BlocksFrom.{IsBoxStart, IsInactiveTo, IsPartStart, active_around, active_from}
 use Rattle.vdb_walk.proofs.Counts.{count_few, none_on, nothing_apart, volume_few}
-use Rattle.vdb_walk.proofs.MixedBlocks.{from_on, left_from, past_both}
+use Rattle.vdb_walk.proofs.NonConstantBlocks.{from_on, left_from, past_both}
 use Rattle.vdb_walk.proofs.PartCounts.{count_listed, count_split, left_first}
 
 -- ---- truth values: inside the box, active, left before, left now, inside the block
@@ -115,11 +115,11 @@ module _ {V : Type 0} (bits : Bits) (t : Layout V) (box : Box) where
 
   module _ (p : Coord) where
     -- where none is active from the place on
-    pub idle_end : IsIdleTo bits t box p None → 0 + active_from bits t box None ≡ active_from bits t box (Some p)
-    idle_end idle =
+    pub inactive_end : IsInactiveTo bits t box p None → 0 + active_from bits t box None ≡ active_from bits t box (Some p)
+    inactive_end inactive =
         let none = from_none in
         let all = count_listed box (λ r. on r && is_left bits (Some p) r) [] nothing_apart
-        (λ r. none_on (is_inside box r) (on r && is_left bits (Some p) r) (λ i. step (on r) (is_left bits (Some p) r) (idle r i))) in
+        (λ r. none_on (is_inside box r) (on r && is_left bits (Some p) r) (λ i. step (on r) (is_left bits (Some p) r) (inactive r i))) in
         omega (arith, none, all)
       where
         step : (o l : Bool) → (l ≡ true → o ≡ false) → (o && l) ≡ false
@@ -127,9 +127,9 @@ module _ {V : Type 0} (bits : Bits) (t : Layout V) (box : Box) where
         step true false h = refl
         step false l h = refl
 
-    module _ (level : Level) (starts : IsBoxStart bits level box p) (q : Coord) (idle : IsIdleTo bits t box p (Some q)) (next : Option Coord) (place : IsNextPlace bits level box q next) where
+    module _ (level : Level) (starts : IsBoxStart bits level box p) (q : Coord) (inactive : IsInactiveTo bits t box p (Some q)) (next : Option Coord) (place : IsNextPlace bits level box q next) where
       q_from : ComesBefore bits q p → ⊥
-      q_from = from_on bits p q idle.1
+      q_from = from_on bits p q inactive.1
 
       numbered : (r : Coord) → is_inside (block_around bits level q) r ≡ true → block_number bits level r ≡ block_number bits level q
       numbered r c = number_in_block bits level (block_number bits level q) r c
@@ -153,7 +153,7 @@ module _ {V : Type 0} (bits : Bits) (t : Layout V) (box : Box) where
         where
           by : (o : Option Coord) → IsNextPlace bits level box q o → is_left bits o r ≡ true → is_left bits (Some p) r ≡ true
           by None h l = absurd (false_true refl l)
-          by (Some m) h l = left_from bits p r (λ k. from_on bits m r l (comes_on bits r p m k (past_both bits p q m q_from (h.past q idle.0 refl))))
+          by (Some m) h l = left_from bits p r (λ k. from_on bits m r l (comes_on bits r p m k (past_both bits p q m q_from (h.past q inactive.0 refl))))
 
       up_to : (r : Coord) → is_inside box r ≡ true → is_left bits next r ≡ false → IsUpToBlock bits level q r
       up_to r i gone = by next place gone
@@ -165,7 +165,7 @@ module _ {V : Type 0} (bits : Bits) (t : Layout V) (box : Box) where
       passed : (r : Coord) → is_inside box r ≡ true → is_left bits (Some p) r ≡ true → is_left bits next r ≡ false → is_inside (block_around bits level q) r ≡ false → on r ≡ false
       passed r i left gone out =
           elim (up_to r i gone) [
-            | inl before ↦ idle.2 r i left before
+            | inl before ↦ inactive.2 r i left before
             | inr same ↦ absurd (false_true out (inside_numbered bits level (block_number bits level q) r same))
           ]
 
@@ -192,7 +192,7 @@ module _ {V : Type 0} (bits : Bits) (t : Layout V) (box : Box) where
             first = λ r i before same.
                 elim (h.between r i before) [
                   | inl a ↦
-                      let past = h.past q idle.0 refl in
+                      let past = h.past q inactive.0 refl in
                       let one = contiguous bits level r q m (not_both bits r q a) (not_both bits q m past) same in
                       not_itself bits m (h.past m h.inside (sym same ∙ sym one))
                   | inr e ↦ not_itself bits m (h.past m h.inside (sym same ∙ e))
@@ -204,7 +204,7 @@ module _ {V : Type 0} (bits : Bits) (t : Layout V) (box : Box) where
         where
           by : (o : Option Coord) → IsNextPlace bits level box q o → IfSome o (λ m. coordinates_past bits m < coordinates_past bits p)
           by None h = tt
-          by (Some m) h = fewer_past bits p m (within_each box everywhere m (both (is_box box) (is_within box everywhere) bounds).1 h.inside) (past_both bits p q m q_from (h.past q idle.0 refl))
+          by (Some m) h = fewer_past bits p m (within_each box everywhere m (both (is_box box) (is_within box everywhere) bounds).1 h.inside) (past_both bits p q m q_from (h.past q inactive.0 refl))
 
   -- ---- where a place is found
 
@@ -215,21 +215,21 @@ module _ {V : Type 0} (bits : Bits) (t : Layout V) (box : Box) where
     in_box : (r : Coord) → is_inside box r ≡ true → is_inside walk.box r ≡ true
     in_box r i = ap (λ (b : Box). is_inside b r) same ∙ i
 
-    idle_at : (r : Coord) → IsSkipped bits walk.skip t r → on r ≡ false
-    idle_at r h = subst (λ (s : Skip). IsSkipped bits s t r) skip h
+    inactive_at : (r : Coord) → IsSkipped bits walk.skip t r → on r ≡ false
+    inactive_at r h = subst (λ (s : Skip). IsSkipped bits s t r) skip h
 
-    pub idle_there : (q : Coord) → IsPartStart bits t walk (Some q) → is_lt (block_cmp bits q p) ≡ false → IsIdleTo bits t box p (Some q)
-    idle_there q h from = (
+    pub inactive_there : (q : Coord) → IsPartStart bits t walk (Some q) → is_lt (block_cmp bits q p) ≡ false → IsInactiveTo bits t box p (Some q)
+    inactive_there q h from = (
       sym (ap (λ (b : Box). is_inside b q) same) ∙ h.0,
       ap not from,
-      λ r i left before. idle_at r (h.1 r (in_box r i) (still_left r i left) before),
+      λ r i left before. inactive_at r (h.1 r (in_box r i) (still_left r i left) before),
     )
 
-    pub idle_all : IsPartStart bits t walk None → IsIdleTo bits t box p None
-    idle_all h r i left = idle_at r (h r (in_box r i) (still_left r i left))
+    pub inactive_all : IsPartStart bits t walk None → IsInactiveTo bits t box p None
+    inactive_all h r i left = inactive_at r (h r (in_box r i) (still_left r i left))
 
-  pub idle_here : (p : Coord) → is_inside box p ≡ true → IsIdleTo bits t box p (Some p)
-  idle_here p i = (i, left_from bits p p (not_itself bits p), λ r j left before. absurd (from_on bits p r left before))
+  pub inactive_here : (p : Coord) → is_inside box p ≡ true → IsInactiveTo bits t box p (Some p)
+  inactive_here p i = (i, left_from bits p p (not_itself bits p), λ r j left before. absurd (from_on bits p r left before))
 
   -- ---- sums
 

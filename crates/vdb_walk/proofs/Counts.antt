@@ -15,7 +15,7 @@ use Rattle.vdb_coord.proofs.Meeting.{within_each}
 use Rattle.vdb_coord.proofs.Members.{coord_equiv, coord_exact, member_coordinates}
 use Rattle.vdb_coord.proofs.Volume.{length_coordinates}
 use Rattle.vdb_tree.specs.Field.{Field}
-use Rattle.vdb_tree.specs.Plain.{count}
+use Rattle.vdb_tree.specs.ConstantBlocks.{count}
 use Rattle.vdb_walk.specs.Halves.{IsHalved}
 
 -- ---- truth values

@@ -106,32 +106,32 @@ module _ (bits : Bits) (b : Box) (q : Coord) (inside : is_inside b q ≡ true) w
 
 module _ {V : Type 0} (bits : Bits) (t : Layout V) where
   -- each voxel under an absent key is the background, inactive
-  absent_plain : (q : Coord) → root_at t.root (key bits q) ≡ None → (field_of bits t).cell q ≡ off t.background
-  absent_plain q none = either (is_inside everywhere q) (cell_at bits t q) (absent_block bits t q none q refl)
+  absent_background : (q : Coord) → root_at t.root (key bits q) ≡ None → (field_of bits t).cell q ≡ off t.background
+  absent_background q none = either (is_inside everywhere q) (cell_at bits t q) (absent_block bits t q none q refl)
     where
       either : (i : Bool) (c : Cell V) → c ≡ off t.background → (if i then c else off t.background) ≡ off t.background
       either true c e = e
       either false c e = refl
 
   -- so none is active
-  pub off_from_plain : (b : Box) → ((q : Coord) → is_inside b q ≡ true → (field_of bits t).cell q ≡ off t.background) → (q : Coord) → is_inside b q ≡ true → ((field_of bits t).cell q).on ≡ false
-  off_from_plain b h q inside = ap (λ (d : Cell V). d.on) (h q inside)
+  pub off_from_background : (b : Box) → ((q : Coord) → is_inside b q ≡ true → (field_of bits t).cell q ≡ off t.background) → (q : Coord) → is_inside b q ≡ true → ((field_of bits t).cell q).on ≡ false
+  off_from_background b h q inside = ap (λ (d : Cell V). d.on) (h q inside)
 
   module _ (b : Box) where
     abbrev pub before : Coord
     before = let k = key bits b.min in coord k.x k.y (k.z -ℤ pos 1)
 
     -- no key comes past those before the box
-    pub none_plain : IsNextKey t.root (Some before) None → (q : Coord) → is_inside b q ≡ true → (field_of bits t).cell q ≡ off t.background
-    none_plain next q inside = absent_plain q (next (key bits q) (before_less (key bits b.min) (key bits q) (from_first bits b q inside)))
+    pub none_background : IsNextKey t.root (Some before) None → (q : Coord) → is_inside b q ≡ true → (field_of bits t).cell q ≡ off t.background
+    none_background next q inside = absent_background q (next (key bits q) (before_less (key bits b.min) (key bits q) (from_first bits b q inside)))
 
     -- or the first that does comes past those of the box
-    pub past_plain : (k : Coord) → IsNextKey t.root (Some before) (Some k) → is_le (coord_cmp k (key bits b.max)) ≡ false → (q : Coord) → is_inside b q ≡ true → (field_of bits t).cell q ≡ off t.background
-    past_plain k next past q inside =
+    pub past_background : (k : Coord) → IsNextKey t.root (Some before) (Some k) → is_le (coord_cmp k (key bits b.max)) ≡ false → (q : Coord) → is_inside b q ≡ true → (field_of bits t).cell q ≡ off t.background
+    past_background k next past q inside =
         elim (some_or_none (root_at t.root (key bits q))) [
           | inl e ↦
               let least = next.2 (key bits q) (before_less (key bits b.min) (key bits q) (from_first bits b q inside)) (is_some_from (root_at t.root (key bits q)) e.0 e.1) in
               let later = past_greater k (key bits b.max) (key bits q) (to_last bits b q inside) (was_greater _ past) in
               absurd (never least (ap is_gt later))
-          | inr none ↦ absent_plain q none
+          | inr none ↦ absent_background q none
         ]

@@ -14,7 +14,7 @@ use Rattle.vdb_node.specs.Nodes.{entry_count}
 use Rattle.vdb_tree.specs.Field.{Field, off}
 use Rattle.vdb_tree.specs.Layout.{Layout, field_of}
 use Rattle.vdb_tree.specs.Leaves.{IsLeafAround}
-use Rattle.vdb_tree.specs.Plain.{is_constant}
+use Rattle.vdb_tree.specs.ConstantBlocks.{is_constant}
 use Rattle.vdb_tree.proofs.Constants.{block_from_node, node_from_block, one_cell}
 use Rattle.vdb_tree.proofs.Uniform.{uniform_cells, uniform_from}
 use Rattle.vdb_value.specs.declared.Cell.{Cell}

@@ -2,8 +2,8 @@
 pub mod Counts
 pub mod Cuts
 pub mod Keys
-pub mod MixedBlocks
-pub mod MixedLeaves
+pub mod NonConstantBlocks
+pub mod NonConstantLeaves
 pub mod LeafTests
 pub mod Surrounds
 pub mod BoxOrder
@@ -18,6 +18,6 @@ pub mod VoxelCounts
 pub mod PartCells
 pub mod PartSeeks
 pub mod NextVoxels
-pub mod HandedOut
+pub mod Yielded
 pub mod ListingSizes
 pub mod BlockCounts

@@ -17,7 +17,7 @@ use Rattle.vdb_coord.proofs.Distinct.{distinct_coordinates}
 use Rattle.vdb_coord.proofs.Members.{coord_equiv, coord_exact}
 use Rattle.vdb_tree.specs.Layout.{Layout, field_of}
 use Rattle.vdb_tree.specs.Parts.{Passes, TreeWalk, YieldsBox, IsSkipped, is_left}
-use Rattle.vdb_tree.specs.Plain.{count}
+use Rattle.vdb_tree.specs.ConstantBlocks.{count}
 use Rattle.vdb_tree.specs.declared.reading.parts.Skip.{Skip}
 use Rattle.vdb_tree.specs.declared.reading.parts.Skip.TheVariants.{Inactive}
 use Rattle.vdb_walk.proofs.Counts.{count_few, none_on, nothing_apart, volume_few}
@@ -124,12 +124,12 @@ module _ {V : Type 0} (bits : Bits) (t : Layout V) where
     pub left_last : Passes bits t old new (λ p. false) → new.at ≡ None → active_left old.at old.box ≡ 0
     left_last passes none =
         count_listed old.box (λ p. on p && is_left bits old.at p) [] nothing_apart
-        (λ p. none_on (is_inside old.box p) (on p && is_left bits old.at p) (λ i. idle (on p) (is_left bits old.at p) (λ l. was_off (λ q. false) passes p i l (ap (λ (o : Option Coord). is_left bits o p) none) refl)))
+        (λ p. none_on (is_inside old.box p) (on p && is_left bits old.at p) (λ i. inactive (on p) (is_left bits old.at p) (λ l. was_off (λ q. false) passes p i l (ap (λ (o : Option Coord). is_left bits o p) none) refl)))
       where
-        idle : (o l : Bool) → (l ≡ true → o ≡ false) → (o && l) ≡ false
-        idle true true h = h refl
-        idle true false h = refl
-        idle false l h = refl
+        inactive : (o l : Bool) → (l ≡ true → o ≡ false) → (o && l) ≡ false
+        inactive true true h = h refl
+        inactive true false h = refl
+        inactive false l h = refl
 
     -- ---- a sum of what the parts have
 

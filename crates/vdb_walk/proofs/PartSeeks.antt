@@ -80,8 +80,8 @@ module _ {V : Type 0} (bits : Bits) (t : Layout V) (after : Option Coord) where
 
   not_skipped : (skip : Skip) (q : Coord) → skip ≡ Inactive → IsSkipped bits skip t q → Kind q → ⊥
   not_skipped skip q e s k =
-      let idle : ((field_of bits t).cell q).on ≡ false = subst (λ (x : Skip). IsSkipped bits x t q) e s in
-      false_true (sym idle ∙ k.1)
+      let inactive : ((field_of bits t).cell q).on ≡ false = subst (λ (x : Skip). IsSkipped bits x t q) e s in
+      false_true (sym inactive ∙ k.1)
 
   -- at the start
   pub listing_start : (walk : TreeWalk V) → IsWalk bits t walk → walk.skip ≡ Inactive → ((q : Coord) → IsTrue (is_inside walk.box q) → IsPastLast bits after q → IsTrue (is_left bits walk.at q)) → IsListing bits t after walk None

@@ -19,7 +19,7 @@ use Rattle.vdb_mask.specs.Mask.{is_on, on_count}
 use Rattle.vdb_node.specs.Leaf.{Leaf as LeafOf}
 use Rattle.vdb_tree.specs.Field.{Field}
 use Rattle.vdb_tree.specs.Parts.{IsPartOfLeaf}
-use Rattle.vdb_tree.specs.Plain.{count}
+use Rattle.vdb_tree.specs.ConstantBlocks.{count}
 use Rattle.vdb_tree.proofs.LeafCounts.{leaf_counted}
 use Rattle.vdb_value.specs.declared.Cell.{Cell}
 use Rattle.vdb_walk.specs.Voxels.{is_set, IsInFirstBlock, IsNextSet, IsNextSetAt, set_count}
@@ -33,10 +33,10 @@ one_apart : (p : Coord) → IsDistinct coord_eq (p ∷ [])
 unfolding IsDistinct
 one_apart p = (tt, tt)
 
-idle : (o l : Bool) → (l ≡ true → o ≡ false) → (o && l) ≡ false
-idle true true h = h refl
-idle true false h = refl
-idle false l h = refl
+inactive : (o l : Bool) → (l ≡ true → o ≡ false) → (o && l) ≡ false
+inactive true true h = h refl
+inactive true false h = refl
+inactive false l h = refl
 
 alone : (c o : Bool) → (c ≡ true → o ≡ true) → (c || false) ≡ (c && o)
 alone true o h = sym (h refl)
@@ -69,7 +69,7 @@ module _ (bits : Bits) (states : List Bool) (part : Box) where
   pub set_end : (from : ℕ) → IsNextSet bits states part from None → set_from from ≡ 0
   set_end from none =
       count_listed part (λ q. is_set bits states q && is_from from q) [] nothing_apart
-      (λ q. none_on (is_inside part q) (is_set bits states q && is_from from q) (λ i. idle (is_set bits states q) (is_from from q) (λ l. none q i (from_le from (at q) l))))
+      (λ q. none_on (is_inside part q) (is_set bits states q && is_from from q) (λ i. inactive (is_set bits states q) (is_from from q) (λ l. none q i (from_le from (at q) l))))
 
   module _ (block : IsInFirstBlock bits part) (from entry : ℕ) (p : Coord) (next : IsNextSetAt bits states part from entry p) where
     here : (q : Coord) → coord_eq q p ≡ true → p ≡ q

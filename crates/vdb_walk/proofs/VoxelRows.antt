@@ -1,4 +1,4 @@
--- Where a leaf's voxels stand: their coordinates by entry, and the entries of voxels that follow one another along z.
+-- Where a leaf's voxels are: their coordinates by entry, and the entries of voxels that follow one another along z.
 use Rattle.std.proofs.Common.{◌≡◌, ◌∙◌, sym, ap, subst, ℕ, ℤ, pos, ◌+◌, ◌-◌, ◌*◌, ◌/◌, ◌%◌, ◌<◌, ◌≤◌, ◌^◌, ◌+ℤ◌, ◌-ℤ◌, ◌≤ℤ◌, unsigned_abs, SFits, w32, true, arith}
 use Rattle.std.specs.Int.{int_min}
 use Rattle.std.proofs.Math.Nat.{div-div-eq-div-mul}
@@ -88,7 +88,7 @@ module _ (bits : Bits) (part other : Box) (block : IsInFirstBlock bits part) (p 
         inside_from other (coord p.x p.y (p.z +ℤ pos k)) b.0.0 b.0.1 b.1.0 b.1.1 (on_from other.min.z p.z k b.2.0) ends.1,
       )
 
-  -- it stands in the block of the part
+  -- it is in the block of the part
   further_in_block : (k : ℕ) → is_inside part (coord p.x p.y (p.z +ℤ pos k)) ≡ true → (p.z +ℤ pos k) ≤ℤ last_of bits.leaf (number_at bits.leaf p.z)
   further_in_block k i =
       let z = p.z +ℤ pos k in

@@ -26,14 +26,14 @@ same_entry bits part block p q i j e = voxel_from_leaf bits p q (block p i ∙ s
 
 module _ (bits : Bits) (states : List Bool) (part : Box) (from : ℕ) where
   -- before this entry, each state of the part's voxels is off
-  pub record IsIdleTo (at : ℕ) : Type 0 where
+  pub record IsInactiveTo (at : ℕ) : Type 0 where
     pub from_on : from ≤ at
-    pub idle : (q : Coord) → is_inside part q ≡ true → from ≤ offset bits Leaf q → offset bits Leaf q < at → is_set bits states q ≡ false
+    pub inactive : (q : Coord) → is_inside part q ≡ true → from ≤ offset bits Leaf q → offset bits Leaf q < at → is_set bits states q ≡ false
 
-  module _ (at n : ℕ) (done : IsIdleTo at) where
+  module _ (at n : ℕ) (done : IsInactiveTo at) where
     module _ (index : ℕ) (next : IsNextAt true states n at index) where
       before : (q : Coord) → is_inside part q ≡ true → from ≤ offset bits Leaf q → offset bits Leaf q < index → is_set bits states q ≡ false
-      before q i f h = elim (below_or_from (offset bits Leaf q) at) [ inl b ↦ done.idle q i f b | inr b ↦ next.before (offset bits Leaf q) b h ]
+      before q i f h = elim (below_or_from (offset bits Leaf q) at) [ inl b ↦ done.inactive q i f b | inr b ↦ next.before (offset bits Leaf q) b h ]
 
       module _ (past_end : IsOffFrom states (entries bits Leaf)) where
         -- it is an entry of the leaf
@@ -58,10 +58,10 @@ module _ (bits : Bits) (states : List Bool) (part : Box) (from : ℕ) where
           }
 
           -- and elsewhere it is passed
-          pub set_passed : IsInFirstBlock bits part → is_inside part p ≡ false → IsIdleTo (index + 1)
+          pub set_passed : IsInFirstBlock bits part → is_inside part p ≡ false → IsInactiveTo (index + 1)
           set_passed block beside = record {
             from_on = let first = done.from_on in let on = next.from_on in omega (arith, first, on);
-            idle = λ q i f h. elim (before_or_at (offset bits Leaf q) index h) [
+            inactive = λ q i f h. elim (before_or_at (offset bits Leaf q) index h) [
               | inl b ↦ before q i f b
               | inr e ↦ absurd (false_true (sym beside ∙ ap (is_inside part) (voxel_from_leaf bits p q (in_block ∙ sym (block q i)) (at_index ∙ sym e)) ∙ i))
             ];

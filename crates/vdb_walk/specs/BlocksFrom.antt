@@ -9,7 +9,7 @@ use Rattle.vdb_coord.specs.declared.Level.{Level}
 use Rattle.vdb_tree.specs.Field.{Field, off}
 use Rattle.vdb_tree.specs.Layout.{Layout, field_of}
 use Rattle.vdb_tree.specs.Parts.{IsSkipped, TreeWalk, is_left}
-use Rattle.vdb_tree.specs.Plain.{is_constant}
+use Rattle.vdb_tree.specs.ConstantBlocks.{is_constant}
 
 -- p is the first coordinate, in block order, of the level's block around it
 pub record IsBlockStart (bits : Bits) (level : Level) (p : Coord) : Type 0 where
@@ -17,9 +17,9 @@ pub record IsBlockStart (bits : Bits) (level : Level) (p : Coord) : Type 0 where
   pub first : (q : Coord) → IsTrue (is_inside everywhere q) → ComesBefore bits q p → block_number bits level q ≡ block_number bits level p → ⊥
 
 -- q is p or comes after it, and each coordinate from p on and before q is the background, inactive; all are where there is no q
-abbrev pub IsPlainTo : {V : Type 0} → Bits → Layout V → Coord → Option Coord → Type 0
-IsPlainTo bits t p None = (r : Coord) → IsTrue (is_inside everywhere r) → IsTrue (is_left bits (Some p) r) → (field_of bits t).cell r ≡ off t.background
-IsPlainTo bits t p (Some q) =
+abbrev pub IsBackgroundTo : {V : Type 0} → Bits → Layout V → Coord → Option Coord → Type 0
+IsBackgroundTo bits t p None = (r : Coord) → IsTrue (is_inside everywhere r) → IsTrue (is_left bits (Some p) r) → (field_of bits t).cell r ≡ off t.background
+IsBackgroundTo bits t p (Some q) =
     IsTrue (is_inside everywhere q) × IsTrue (is_left bits (Some p) q)
     × ((r : Coord) → IsTrue (is_inside everywhere r) → IsTrue (is_left bits (Some p) r) → ComesBefore bits r q → (field_of bits t).cell r ≡ off t.background)
 
@@ -33,8 +33,8 @@ IsPartStart bits t walk (Some q) =
 
 module _ {V : Type 0} (eq : V → V → Bool) (bits : Bits) (level : Level) (f : Field V) where
   -- how many of the level's blocks that begin at the place or past it aren't constant; none where there is no place
-  abbrev pub mixed_from : Option Coord → ℕ
-  mixed_from at = count_by (λ n. not (is_constant eq f (block bits level n)) && is_left bits at (block bits level n).min) (coordinates (block_numbers bits level))
+  abbrev pub non_constant_from : Option Coord → ℕ
+  non_constant_from at = count_by (λ n. not (is_constant eq f (block bits level n)) && is_left bits at (block bits level n).min) (coordinates (block_numbers bits level))
 
   -- the outer block around q holds the level's, and the test tells whether its cells differ, which is so of no other level
   pub record IsBlockAt (q : Coord) (outer : Level) (differs : Bool) : Type 0 where
@@ -51,9 +51,9 @@ pub record IsBoxStart (bits : Bits) (level : Level) (box : Box) (p : Coord) : Ty
 
 module _ {V : Type 0} (bits : Bits) (t : Layout V) (box : Box) where
   -- q is p or comes after it, and no voxel of the box from p on and before q is active; none from p on is where there is no q
-  abbrev pub IsIdleTo : Coord → Option Coord → Type 0
-  IsIdleTo p None = (r : Coord) → IsTrue (is_inside box r) → IsTrue (is_left bits (Some p) r) → ((field_of bits t).cell r).on ≡ false
-  IsIdleTo p (Some q) =
+  abbrev pub IsInactiveTo : Coord → Option Coord → Type 0
+  IsInactiveTo p None = (r : Coord) → IsTrue (is_inside box r) → IsTrue (is_left bits (Some p) r) → ((field_of bits t).cell r).on ≡ false
+  IsInactiveTo p (Some q) =
       IsTrue (is_inside box q) × IsTrue (is_left bits (Some p) q)
       × ((r : Coord) → IsTrue (is_inside box r) → IsTrue (is_left bits (Some p) r) → ComesBefore bits r q → ((field_of bits t).cell r).on ≡ false)
 

@@ -35,7 +35,7 @@ IsActivePast bits after f q = IsPastLast bits after q × ((f.cell q).on ≡ true
 abbrev pub IsOnPast : Bits → Option Coord → List Bool → Coord → Type 0
 IsOnPast bits after states q = IsPastLast bits after q × (is_on states (offset bits Leaf q) ≡ true)
 
--- of the box, what comes past the last coordinate stands in the leaf from this entry on
+-- of the box, what comes past the last coordinate is in the leaf from this entry on
 abbrev pub IsEntryPast : Bits → Option Coord → Box → ℕ → Type 0
 IsEntryPast bits after box from = (q : Coord) → IsTrue (is_inside box q) → IsPastLast bits after q ↔ (from ≤ offset bits Leaf q)
 

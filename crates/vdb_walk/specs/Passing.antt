@@ -9,14 +9,14 @@ use Rattle.vdb_tree.specs.Layout.{Layout, field_of, root_at}
 use Rattle.vdb_tree.specs.Pieces.{piece_around}
 use Rattle.vdb_tree.specs.declared.reading.pieces.Piece.{Piece}
 
--- Where a passage through a tree's pieces stands.
+-- How far a passage through a tree's pieces has come.
 pub record Passage (V : Type 0) : Type 0 where
   pub tree : Layout V
-  -- the last coordinate, in block order, of the piece that was handed out last
+  -- the last coordinate, in block order, of the piece that was yielded last
   pub last : Option Coord
 
 module _ {V : Type 0} (bits : Bits) where
-  -- p lies in a root block that has an entry, past all pieces that were handed out
+  -- p lies in a root block that has an entry, past all pieces that were yielded
   pub record IsAhead (passage : Passage V) (p : Coord) : Type 0 where
     pub inside : IsTrue (is_inside everywhere p)
     pub entry : IsSome (root_at passage.tree.root (key bits p))

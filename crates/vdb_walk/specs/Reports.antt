@@ -7,7 +7,7 @@ use Rattle.vdb_coord.specs.declared.Bits.{Bits}
 use Rattle.vdb_coord.specs.declared.Coord.{Coord}
 use Rattle.vdb_coord.specs.declared.Level.TheVariants.{Leaf, Lower, Upper}
 use Rattle.vdb_tree.specs.Field.{Field}
-use Rattle.vdb_tree.specs.Plain.{mixed, roots}
+use Rattle.vdb_tree.specs.ConstantBlocks.{non_constant, roots}
 use Rattle.vdb_walk.specs.declared.smallest.Census.{Census}
 
 -- each of the coordinates once, in block order
@@ -32,18 +32,18 @@ module _ {V : Type 0} where
   IsActiveBounds f None = (p : Coord) → (f.cell p).on ≡ false
   IsActiveBounds f (Some box) = HoldsActive f box × ((other : Box) → HoldsActive f other → IsTrue (is_within box other))
 
--- how many root blocks aren't plain, and how many blocks of each level aren't constant
+-- how many root blocks hold anything but the background, and how many blocks of each level aren't constant
 abbrev pub census : {V : Type 0} → (V → V → Bool) → Bits → Field V → Census
-census eq bits f = record { roots = roots eq bits f; upper = mixed eq bits Upper f; lower = mixed eq bits Lower f; leaf = mixed eq bits Leaf f }
+census eq bits f = record { roots = roots eq bits f; upper = non_constant eq bits Upper f; lower = non_constant eq bits Lower f; leaf = non_constant eq bits Leaf f }
 
 -- What a listing has before it.
 pub record Listed (V : Type 0) : Type 0 where
-  -- the active voxels of its box past the one that was handed out last
+  -- the active voxels of its box past the one that was yielded last
   pub rest : List (Coord × V)
-  -- how many of them it may still hand out
+  -- how many of them it may still yield
   pub left : ℕ
 
--- it hands out the next one, or none where no more are left or none may be handed out
-abbrev pub HandsOut : {V : Type 0} → Listed V → Option (Coord × V) → Listed V → Type 0
-HandsOut old (Some item) new = (old.rest ≡ item ∷ new.rest) × (old.left ≡ suc new.left)
-HandsOut old None new = ((old.rest ≡ []) ⊎ (old.left ≡ 0)) × (new ≡ old)
+-- it yields the next one, or none where no more are left or none may be yielded
+abbrev pub Yields : {V : Type 0} → Listed V → Option (Coord × V) → Listed V → Type 0
+Yields old (Some item) new = (old.rest ≡ item ∷ new.rest) × (old.left ≡ suc new.left)
+Yields old None new = ((old.rest ≡ []) ⊎ (old.left ≡ 0)) × (new ≡ old)

@@ -1,26 +1,26 @@
 //! What a tree holds, told piece by piece: a tile at once, a leaf by the words of its states.
 #![tactic(auto)]
 
-mod counting;
+mod active_count;
 mod halves;
 mod held;
 mod listing;
-mod mixed;
+mod node_census;
 mod order;
-mod passing;
-mod seeking;
+mod piece_iter;
+mod first_active;
 mod smallest;
-mod surround;
+mod bounding_box;
 #[cfg(test)]
 mod tests;
-mod uniformity;
+mod uniform_box;
 mod voxels;
 
-pub use counting::count;
+pub use active_count::count;
 pub use listing::{Listing, list};
-pub use mixed::census;
-pub use passing::Pieces;
-pub use seeking::next_active;
+pub use node_census::census;
+pub use piece_iter::Pieces;
+pub use first_active::next_active;
 pub use smallest::Census;
-pub use surround::active_bounds;
-pub use uniformity::uniform;
+pub use bounding_box::active_bounds;
+pub use uniform_box::uniform;

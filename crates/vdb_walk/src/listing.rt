@@ -5,17 +5,17 @@ ghost use Rattle.vdb_tree.specs.Layout.{bits_of, field_of};
 ghost use Rattle.vdb_coord.specs.Blocks.{is_past};
 ghost use Rattle.std.specs.List.{find};
 ghost use Rattle.vdb_walk.specs.Listings.{IsListing};
-ghost use Rattle.vdb_walk.specs.Reports.{active, past, HandsOut, Listed};
+ghost use Rattle.vdb_walk.specs.Reports.{active, past, Yields, Listed};
 
 use crate::held::Held;
-use crate::seeking::{begun, first_held, next_active, next_found};
+use crate::first_active::{begun, first_held, next_active, next_found};
 use std::marker::Model;
 use vdb_coord::{Bounds, Coord};
 use vdb_node::{Internal, Leaf, Stored};
 use vdb_pool::Steps;
 use vdb_tree::{Skip, TreeOf, Walk};
 
-/// The active voxels of a box in block order, each with its value, up to a limit on how many are handed out (what OpenVDB's
+/// The active voxels of a box in block order, each with its value, up to a limit on how many are yielded (what OpenVDB's
 /// `Tree::cbeginValueOn` walks, a tile voxel by voxel). It reads the tree as it goes and takes no memory.
 #[derive(Drop)]
 pub struct Listing<
@@ -59,7 +59,7 @@ impl<
     ghost invariant = { λ l. IsListing (bits_of U L F) l.tree.now l.last l.walk l.part };
 }
 
-/// The active voxels of the box in block order: at most `limit` of them are handed out.
+/// The active voxels of the box in block order: at most `limit` of them are yielded.
 pub fn list<
     'a,
     V: Stored<WU> + Stored<WL> + Stored<WF>,
@@ -86,7 +86,7 @@ pub fn list<
     }
 }
 
-/// The active voxels of the box past the last one in block order: at most `limit` of them are handed out.
+/// The active voxels of the box past the last one in block order: at most `limit` of them are yielded.
 pub(crate) fn list_past<
     'a,
     V: Stored<WU> + Stored<WL> + Stored<WF>,
@@ -127,13 +127,13 @@ impl<
 > Listing<'a, V, U, L, F, WU, WL, WF> {
     /// The next voxel with its value; `None` where no more are left, or the limit is reached.
     pub fn next(&mut self, steps: &mut Steps) -> Option<(Coord, V)>
-        ensures { HandsOut self.old result self.new }
+        ensures { Yields self.old result self.new }
     {
         if self.left == 0 {
             return None;
         }
         let _ = self.tree.mask_words();
-        match hand_out(self.tree, self.last, &mut self.walk, &mut self.part, steps) {
+        match yield_next(self.tree, self.last, &mut self.walk, &mut self.part, steps) {
             Some(item) => {
                 self.last = Some(item.0);
                 self.left -= 1;
@@ -143,8 +143,8 @@ impl<
         }
     }
 
-    /// Whether an active voxel of the box follows the last one that was handed out, or there is one at all before the first.
-    /// The limit does not count.
+    /// Whether an active voxel of the box follows the last one that was yielded, or there is one at all before the first. The
+    /// limit does not count.
     pub fn more(&self, steps: &mut Steps) -> bool
         ensures { IsTrue result ↔ (self.now.rest ≢ []) }
     {
@@ -154,7 +154,7 @@ impl<
 
 /// The first active voxel past the last one: in the part that the walk yielded last, or else in what is left of it. The part
 /// becomes the one that it is in.
-fn hand_out<
+fn yield_next<
     V: Stored<WU> + Stored<WL> + Stored<WF>,
     const U: u32,
     const L: u32,

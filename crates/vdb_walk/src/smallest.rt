@@ -1,7 +1,7 @@
 //! How large the smallest tree of a field is.
 
-/// How many root blocks aren't plain, and how many blocks of each level aren't constant: the entries and nodes of the smallest
-/// tree with these cells, whatever nodes stand.
+/// How many root blocks hold anything but the background, and how many blocks of each level aren't constant: the entries and
+/// nodes of the smallest tree with these cells, whatever nodes there are.
 #[derive(Clone, Copy, Debug, PartialEq, Eq)]
 pub struct Census {
     /// Root blocks with a cell that isn't the background, inactive.

@@ -55,7 +55,7 @@ impl Draws {
         Bounds::new(at(x.0, y.0, z.0), at(x.1, y.1, z.1))
     }
 
-    // Often the background, so that blocks become plain again.
+    // Often the background, so that blocks are all background again.
     fn cell(&mut self) -> Cell<i32> {
         let value = self.below(2) as i32;
         let on = self.below(2) == 0;

@@ -36,7 +36,8 @@ fn is_bounds(answer: &Answer, corners: Option<(Coord, Coord)>) -> bool {
     }
 }
 
-/// Whether an answer is this census: root blocks that aren't plain, and blocks of each level that aren't constant.
+/// Whether an answer is this census: root blocks that hold anything but the background, and blocks of each level that aren't
+/// constant.
 fn is_census(answer: &Answer, counts: [u64; 4]) -> bool {
     let wanted = Census {
         roots: counts[0],
@@ -150,7 +151,7 @@ fn reports_are_refused_in_order(rt: HostRuntime) {
     }
 }
 
-// Nodes that stand without need make no difference, and neither does the order of the commands.
+// Nodes that aren't needed make no difference, and neither does the order of the commands.
 #[test]
 fn blocks_that_are_no_single_tile_are_counted(rt: HostRuntime) {
     let mut steps = Steps::new(&rt);

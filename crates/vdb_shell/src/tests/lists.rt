@@ -49,7 +49,7 @@ fn lists_are_answered(rt: HostRuntime) {
             b"ok\nok\nerror root-limit\nerror root-limit\ncount 0\n".as_slice(),
             1,
         ),
-        // the census is of the cells, not of the nodes that stand
+        // the census is of the cells, not of the nodes that there are
         (
             b"grid a i32 0\nfill a 0 0 0 127 127 127 3 on\nvoxelise a 0 0 0 127 127 127\ncensus a\nbounds a\ncount a all\nprune a\ncensus a".as_slice(),
             b"ok\nok\nok\ncensus 1 1 0 0\nbounds 0 0 0 127 127 127\ncount 2097152\nok\ncensus 1 1 0 0\n".as_slice(),

@@ -1,4 +1,4 @@
-//! Random scripts on a few blocks, beside a plain map of voxels.
+//! Random scripts on a few blocks, beside a map of voxels.
 
 ghost use Rattle.std.specs.Prelude.{◌<◌};
 

@@ -1,4 +1,4 @@
-//! One cell all over a box. It takes no memory, since a tree is made ready for it before.
+//! One cell all over a box. It takes no memory, since the tree is split for it before.
 
 ghost use Rattle.std.specs.Prelude.{◌≡◌, ◌≢◌, ℕ, false, IfNone, IfSome, IsNone, IsSome, IsTrue};
 ghost use Rattle.vdb_coord.specs.Blocks.{block_number, key};
@@ -11,9 +11,9 @@ ghost use Rattle.vdb_node.specs.declared.Entry.TheVariants.{Child, Tile};
 ghost use Rattle.vdb_tree.specs.Changes.{KeepsUppers};
 ghost use Rattle.vdb_tree.specs.Field.{fill};
 ghost use Rattle.vdb_tree.specs.Layout.{bits_of, cell_at, entry_over, field_of, lower_entry, root_at, root_entry, upper_entry};
-ghost use Rattle.vdb_tree.specs.Paints.{ArePainted, AreReady, KeepsOutside};
-ghost use Rattle.vdb_tree.specs.Ready.{IsCovered, IsReady};
-ghost use Rattle.vdb_tree.specs.Room.{IsNextMet};
+ghost use Rattle.vdb_tree.specs.Paints.{ArePainted, AreSplit, KeepsOutside};
+ghost use Rattle.vdb_tree.specs.SplitBox.{IsCovered, IsSplit};
+ghost use Rattle.vdb_tree.specs.Capacity.{IsNextMet};
 
 use crate::TreeOf;
 use crate::boxes::paint_voxels::paint_voxels;
@@ -33,15 +33,15 @@ impl<
     const WF: usize,
 > TreeOf<V, U, L, F, WU, WL, WF> {
     /// Gives each coordinate of the box this cell, and every other keeps its own (OpenVDB's `Tree::fill`). It takes no memory:
-    /// a tree that `split` made ready has a node wherever the edge of the box crosses a tile of another cell. Each block that
-    /// lies within the box becomes a tile, and its nodes are given back to their pools.
+    /// after `split` the tree has a node wherever the edge of the box would cross a tile of another cell. Each block that lies
+    /// within the box becomes a tile, and its nodes are given back to their pools.
     pub fn paint(&mut self, bounds: Bounds, cell: Cell<V>, steps: &mut Steps)
-        requires ready { IsReady (bits_of U L F) bounds cell self.old }
+        requires edges { IsSplit (bits_of U L F) bounds cell self.old }
         ensures field { field_of (bits_of U L F) self.new ≡ fill bounds cell (field_of (bits_of U L F) self.old) }
         ensures limit { self.new.limit ≡ self.old.limit }
         ensures tiles { (level : Level) (p : Coord) → IsCovered (bits_of U L F) bounds level p → entry_over (bits_of U L F) level self.new p ≡ Tile cell }
-        ensures again { (box : Box) → IsReady (bits_of U L F) box cell self.old → IsReady (bits_of U L F) box cell self.new }
-        ensures apart { (box : Box) (other : Cell V) → meets bounds box ≡ false → IsReady (bits_of U L F) box other self.old → IsReady (bits_of U L F) box other self.new }
+        ensures again { (box : Box) → IsSplit (bits_of U L F) box cell self.old → IsSplit (bits_of U L F) box cell self.new }
+        ensures apart { (box : Box) (other : Cell V) → meets bounds box ≡ false → IsSplit (bits_of U L F) box other self.old → IsSplit (bits_of U L F) box other self.new }
     {
         let mut passed = None;
         while let Some(key) = self.paint_next_root(bounds, cell, passed, steps) {
@@ -57,7 +57,7 @@ impl<
         after: Option<Coord>,
         steps: &mut Steps,
     ) -> Option<Coord>
-        requires { AreReady (bits_of U L F) bounds cell self.old }
+        requires { AreSplit (bits_of U L F) bounds cell self.old }
         ensures next { IsNextMet (bits_of U L F) bounds self.old.root after result }
         ensures none { IsNone result → self.new ≡ self.old }
         ensures outside { IfSome result (λ k. KeepsOutside (bits_of U L F) bounds Upper self.old self.new k) }
@@ -76,7 +76,7 @@ impl<
     fn paint_root_block(&mut self, bounds: Bounds, p: Coord, cell: Cell<V>, steps: &mut Steps)
         requires inside { IsTrue (is_inside bounds p) }
         requires entered { IsSome (root_at self.old.root (key (bits_of U L F) p)) }
-        requires ready { AreReady (bits_of U L F) bounds cell self.old }
+        requires edges { AreSplit (bits_of U L F) bounds cell self.old }
         ensures outside { KeepsOutside (bits_of U L F) bounds Upper self.old self.new (block_number (bits_of U L F) Upper p) }
         ensures painted { ArePainted (bits_of U L F) bounds cell Upper Upper self.new (block_number (bits_of U L F) Upper p) }
         ensures table { (k : Coord) → k ≢ key (bits_of U L F) p → root_at self.new.root k ≡ root_at self.old.root k }
@@ -111,7 +111,7 @@ impl<
     )
         requires inside { IsTrue (is_inside bounds p) }
         requires upper { root_entry (bits_of U L F) self.old p ≡ Child upper }
-        requires ready { AreReady (bits_of U L F) bounds cell self.old }
+        requires edges { AreSplit (bits_of U L F) bounds cell self.old }
         ensures root { self.new.root ≡ self.old.root }
         ensures outside { KeepsOutside (bits_of U L F) bounds Upper self.old self.new (block_number (bits_of U L F) Upper p) }
         ensures painted { ArePainted (bits_of U L F) bounds cell Upper Lower self.new (block_number (bits_of U L F) Upper p) }
@@ -139,7 +139,7 @@ impl<
     )
         requires inside { IsTrue (is_inside bounds p) }
         requires upper { root_entry (bits_of U L F) self.old p ≡ Child upper }
-        requires ready { AreReady (bits_of U L F) bounds cell self.old }
+        requires edges { AreSplit (bits_of U L F) bounds cell self.old }
         ensures root { self.new.root ≡ self.old.root }
         ensures outside { KeepsOutside (bits_of U L F) bounds Lower self.old self.new (block_number (bits_of U L F) Lower p) }
         ensures painted { ArePainted (bits_of U L F) bounds cell Lower Lower self.new (block_number (bits_of U L F) Lower p) }
@@ -173,7 +173,7 @@ impl<
     )
         requires inside { IsTrue (is_inside bounds p) }
         requires lower { upper_entry (bits_of U L F) self.old p ≡ Child lower }
-        requires ready { AreReady (bits_of U L F) bounds cell self.old }
+        requires edges { AreSplit (bits_of U L F) bounds cell self.old }
         ensures above { KeepsUppers self.old self.new }
         ensures outside { KeepsOutside (bits_of U L F) bounds Lower self.old self.new (block_number (bits_of U L F) Lower p) }
         ensures painted { ArePainted (bits_of U L F) bounds cell Lower Leaf self.new (block_number (bits_of U L F) Lower p) }
@@ -202,7 +202,7 @@ impl<
     )
         requires inside { IsTrue (is_inside bounds p) }
         requires lower { upper_entry (bits_of U L F) self.old p ≡ Child lower }
-        requires ready { AreReady (bits_of U L F) bounds cell self.old }
+        requires edges { AreSplit (bits_of U L F) bounds cell self.old }
         ensures above { KeepsUppers self.old self.new }
         ensures outside { KeepsOutside (bits_of U L F) bounds Leaf self.old self.new (block_number (bits_of U L F) Leaf p) }
         ensures painted { ArePainted (bits_of U L F) bounds cell Leaf Leaf self.new (block_number (bits_of U L F) Leaf p) }

@@ -1,5 +1,5 @@
-//! Tiles in place of nodes, and of other tiles. Each node is given back to its pool once its block has tiles alone, so that what
-//! stands in between is a sound tree.
+//! Tiles in place of nodes, and of other tiles. Each node is given back to its pool once its block has tiles alone, so that the
+//! tree is sound at each step.
 
 ghost use Rattle.std.specs.Prelude.{◌≡◌, ◌<◌, ◌≤◌, ℕ, IfSome, IsSome, Some, if◌then◌else◌};
 ghost use Rattle.vdb_coord.specs.Blocks.{block_number, key};

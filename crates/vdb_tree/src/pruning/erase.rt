@@ -1,9 +1,9 @@
-//! Root blocks that are plain: their entries are taken away.
+//! Background root blocks: their entries are taken away.
 
 ghost use Rattle.std.specs.Prelude.{◌≡◌, IfSome, IsNone};
 ghost use Rattle.vdb_tree.specs.Changes.{IsSwept, Keeps};
 ghost use Rattle.vdb_tree.specs.Layout.{bits_of};
-ghost use Rattle.vdb_tree.specs.Erase.{AddsPlainTiles, ErasesRoot};
+ghost use Rattle.vdb_tree.specs.Erase.{AddsBackgroundTiles, ErasesRoot};
 ghost use Rattle.vdb_tree.specs.Nodes.{MakesNoKey};
 ghost use Rattle.vdb_tree.specs.Table.{IsNextKey};
 
@@ -24,33 +24,34 @@ impl<
 > TreeOf<V, U, L, F, WU, WL, WF> {
     /// Takes the entry of each root block away whose cells are all the background, inactive, with the nodes below it. Other
     /// nodes and tiles stay (OpenVDB's `RootNode::eraseBackgroundTiles`, where such blocks were pruned before).
-    pub(crate) fn erase_plain(&mut self, steps: &mut Steps)
+    pub(crate) fn erase_background(&mut self, steps: &mut Steps)
         ensures keeps { Keeps (bits_of U L F) self.old self.new }
-        ensures adds { AddsPlainTiles (bits_of U L F) self.old self.new }
+        ensures adds { AddsBackgroundTiles (bits_of U L F) self.old self.new }
         ensures keys { MakesNoKey self.old self.new }
         ensures swept { IsSwept (bits_of U L F) self.new }
     {
         let mut passed = None;
-        while let Some(key) = self.erase_next_plain(passed, steps) {
+        while let Some(key) = self.erase_next_background(passed, steps) {
             passed = Some(key);
         }
     }
 
-    /// Does so for the first root block past a key, or the first of all, and gives the key.
-    fn erase_next_plain(&mut self, after: Option<Coord>, steps: &mut Steps) -> Option<Coord>
+    /// Takes the entry of the first root block past a key, or of the first of all, away if the block is all background. It
+    /// gives the key.
+    fn erase_next_background(&mut self, after: Option<Coord>, steps: &mut Steps) -> Option<Coord>
         ensures next { IsNextKey self.old.root after result }
         ensures none { IsNone result → self.new ≡ self.old }
         ensures erased { IfSome result (λ k. ErasesRoot (bits_of U L F) self.old self.new k) }
     {
-        let plain = Cell {
+        let background_cell = Cell {
             value: self.background,
             on: false,
         };
         let key = self.next_key(after)?;
         let corner = self.key_corner(key);
-        if self.root_block_is(corner, plain, steps) {
+        if self.root_block_is(corner, background_cell, steps) {
             self.prune_upper(corner, steps);
-            self.drop_plain(corner);
+            self.drop_background(corner);
         }
         Some(key)
     }

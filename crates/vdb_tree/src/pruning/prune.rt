@@ -9,7 +9,7 @@ ghost use Rattle.vdb_node.specs.Nodes.{entry_count};
 ghost use Rattle.vdb_node.specs.declared.Entry.TheVariants.{Child, Tile};
 ghost use Rattle.vdb_tree.specs.Changes.{AreNeeded, IsConstantBlock, IsNeededTo, IsSwept, Keeps, KeepsUppers, PassesFrom, PassesTo, PrunesRoot, SameDescent};
 ghost use Rattle.vdb_tree.specs.Corners.{IsNextCorner, IsTiled};
-ghost use Rattle.vdb_tree.specs.Layout.{bits_of, field_of, lower_entry, plain, root_at, root_entry, upper_entry};
+ghost use Rattle.vdb_tree.specs.Layout.{bits_of, field_of, lower_entry, background_cell, root_at, root_entry, upper_entry};
 ghost use Rattle.vdb_tree.specs.Smallest.{IsLeast};
 ghost use Rattle.vdb_tree.specs.Table.{IsNextKey};
 
@@ -128,7 +128,7 @@ impl<
         }
     }
 
-    /// Does so for the first leaf of the lower node around p from this offset on, and answers the offset behind it.
+    /// Prunes the first leaf of the lower node around p from this offset on, and answers the offset behind it.
     fn prune_next_leaf(&mut self, lower: u32, p: Coord, from: u32, steps: &mut Steps) -> Option<u32>
         requires lower { upper_entry (bits_of U L F) self.old p ≡ Child lower }
         requires within { from ≤ entry_count L }
@@ -145,7 +145,7 @@ impl<
         }
     }
 
-    /// Does so for each leaf of the lower node around p.
+    /// Prunes each leaf of the lower node around p.
     fn prune_leaves(&mut self, lower: u32, p: Coord, steps: &mut Steps)
         requires { upper_entry (bits_of U L F) self.old p ≡ Child lower }
         ensures above { KeepsUppers self.old self.new }
@@ -177,7 +177,7 @@ impl<
         }
     }
 
-    /// Does so for the first lower node of the upper node around p from this offset on, and answers the offset behind it.
+    /// Prunes the first lower node of the upper node around p from this offset on, and answers the offset behind it.
     fn prune_next_lower(
         &mut self,
         upper: u32,
@@ -200,7 +200,7 @@ impl<
         }
     }
 
-    /// Does so for each lower node of the upper node around p.
+    /// Prunes each lower node of the upper node around p.
     fn prune_lowers(&mut self, upper: u32, p: Coord, steps: &mut Steps)
         requires { root_entry (bits_of U L F) self.old p ≡ Child upper }
         ensures above { self.new.root ≡ self.old.root }
@@ -232,23 +232,24 @@ impl<
     }
 
     /// Takes the entry of p's root block away if it is a tile of the background, inactive.
-    pub(crate) fn drop_plain(&mut self, p: Coord)
+    pub(crate) fn drop_background(&mut self, p: Coord)
         ensures keeps { Keeps (bits_of U L F) self.old self.new }
         ensures same { (q : Coord) → SameDescent (bits_of U L F) self.old self.new q }
         ensures table { (k : Coord) → k ≢ key (bits_of U L F) p → root_at self.new.root k ≡ root_at self.old.root k }
-        ensures gone { root_at self.new.root (key (bits_of U L F) p) ≡ Some (Tile (plain self.new)) → ⊥ }
+        ensures gone { root_at self.new.root (key (bits_of U L F) p) ≡ Some (Tile (background_cell self.new)) → ⊥ }
     {
         let key = self.key(p);
-        let plain = Cell {
+        let background_cell = Cell {
             value: self.background,
             on: false,
         };
-        if self.root.get(key) == Some(Entry::Tile(plain)) {
+        if self.root.get(key) == Some(Entry::Tile(background_cell)) {
             self.root.remove(key);
         }
     }
 
-    /// Prunes the first root block past a key, or the first of all, and takes its entry away if it is plain. It gives the key.
+    /// Prunes the first root block past a key, or the first of all, and takes its entry away if it is all background. It gives
+    /// the key.
     fn prune_next_root(&mut self, after: Option<Coord>, steps: &mut Steps) -> Option<Coord>
         ensures next { IsNextKey self.old.root after result }
         ensures none { IsNone result → self.new ≡ self.old }
@@ -257,11 +258,11 @@ impl<
         let key = self.next_key(after)?;
         let corner = self.key_corner(key);
         self.prune_upper(corner, steps);
-        self.drop_plain(corner);
+        self.drop_background(corner);
         Some(key)
     }
 
-    /// Prunes each root block, in the order of keys, and takes the entries of plain ones away.
+    /// Prunes each root block, in the order of keys, and takes the entries of background blocks away.
     fn sweep(&mut self, steps: &mut Steps)
         ensures keeps { Keeps (bits_of U L F) self.old self.new }
         ensures needed { (p : Coord) → IsNeededTo (bits_of U L F) Upper self.new p }
@@ -273,8 +274,8 @@ impl<
         }
     }
 
-    /// Makes the tree as small as its field lets it be: a tile stands in place of each node whose block has one cell, and the
-    /// table has no entry of a plain block. It passes over each node once, from below, and takes no memory (OpenVDB's
+    /// Makes the tree as small as its field lets it be: a tile is in place of each node whose block has one cell, and the table
+    /// has no entry of a background block. It passes over each node once, from below, and takes no memory (OpenVDB's
     /// `tools::prune` without a tolerance, with `RootNode::eraseBackgroundTiles`).
     pub fn prune(&mut self, steps: &mut Steps)
         ensures field { field_of (bits_of U L F) self.new ≡ field_of (bits_of U L F) self.old }

@@ -1,4 +1,4 @@
-//! The active voxels of a block, counted along the nodes that stand over it.
+//! The active voxels of a block, counted along the nodes over it.
 
 ghost use Rattle.std.specs.Prelude.{◌≡◌, ◌<◌, ◌≤◌, ◌^◌};
 ghost use Rattle.vdb_coord.specs.Blocks.{block_around, entries, sub_block};
@@ -6,7 +6,7 @@ ghost use Rattle.vdb_coord.specs.declared.Level.TheVariants.{Leaf as leaf_level,
 ghost use Rattle.vdb_node.specs.declared.Entry.TheVariants.{Child, Tile};
 ghost use Rattle.vdb_tree.specs.Active.{IsNextActive};
 ghost use Rattle.vdb_tree.specs.Layout.{bits_of, entry_over, field_of, lower_entry, root_entry, upper_entry};
-ghost use Rattle.vdb_tree.specs.Plain.{count as active_count};
+ghost use Rattle.vdb_tree.specs.ConstantBlocks.{count as active_count};
 
 use crate::TreeOf;
 use crate::nodes::held_place;

@@ -5,7 +5,7 @@ ghost use Rattle.vdb_coord.specs.Blocks.{block_around};
 ghost use Rattle.vdb_coord.specs.declared.Level.TheVariants.{Leaf, Lower};
 ghost use Rattle.vdb_tree.specs.Changes.{IsConstantBlock};
 ghost use Rattle.vdb_tree.specs.Layout.{bits_of, field_of};
-ghost use Rattle.vdb_tree.specs.Plain.{is_constant};
+ghost use Rattle.vdb_tree.specs.ConstantBlocks.{is_constant};
 ghost use Rattle.vdb_tree.specs.Unlike.{IsOneCell};
 
 use crate::TreeOf;

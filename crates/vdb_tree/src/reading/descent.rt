@@ -28,7 +28,7 @@ impl<
         self.cell(p, steps)
     }
 
-    /// That cell.
+    /// The cell at a coordinate, as `get` answers it; the contract here speaks of the layout.
     #[tactic(auto, unfolding(crate::specs::Layout::cell_at))]
     pub(crate) fn cell(&self, p: Coord, steps: &mut Steps) -> Cell<V>
         ensures cell { cell_at (bits_of U L F) self.now p ≡ result }

@@ -37,7 +37,7 @@ pub(crate) enum Holder {
 
 /// The entry that a descent ends in, with what holds it.
 #[derive(Clone, Copy)]
-pub(crate) struct Held<V> {
+pub(crate) struct HeldEntry<V> {
     pub(crate) holder: Holder,
     pub(crate) entry: Entry<V>,
 }
@@ -73,14 +73,14 @@ impl<
     }
 
     /// The entry that the descent to `p` ends in, a tile or a leaf, with what holds it. It visits the nodes down to that.
-    pub(crate) fn held_entry(&self, p: Coord, steps: &mut Steps) -> Held<V>
+    pub(crate) fn held_entry(&self, p: Coord, steps: &mut Steps) -> HeldEntry<V>
         ensures value { lower_entry (bits_of U L F) self.now p ≡ result.entry }
         ensures held { IsHeldIn (bits_of U L F) self.now p result.holder result.entry }
         ensures steps { steps.new ≤ steps.old + nodes_to result.holder }
     {
         let upper = match self.root_entry(p) {
             Entry::Tile(cell) => {
-                return Held {
+                return HeldEntry {
                     holder: Holder::Root,
                     entry: Entry::Tile(cell),
                 };
@@ -89,7 +89,7 @@ impl<
         };
         let lower = match self.upper_entry(upper, p, steps) {
             Entry::Tile(cell) => {
-                return Held {
+                return HeldEntry {
                     holder: Holder::Upper(upper),
                     entry: Entry::Tile(cell),
                 };
@@ -97,7 +97,7 @@ impl<
             Entry::Child(slot) => slot,
         };
         let entry = self.lower_entry(lower, p, steps);
-        Held {
+        HeldEntry {
             holder: Holder::Lower(lower),
             entry,
         }

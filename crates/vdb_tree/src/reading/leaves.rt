@@ -12,7 +12,7 @@ ghost use Rattle.vdb_tree.specs.Layout.{bits_of, cell_at, field_of, lower_entry}
 ghost use Rattle.vdb_tree.specs.Leaves.{IsLeafAround, IsVoxelWritten, SetsStates, with_states_of};
 ghost use Rattle.vdb_tree.specs.Nodes.{AreStatesSet};
 ghost use Rattle.vdb_tree.specs.Paths.{in_leaf, IsChildAt, IsWhole, TreePath};
-ghost use Rattle.vdb_tree.specs.Plain.{count as active_count};
+ghost use Rattle.vdb_tree.specs.ConstantBlocks.{count as active_count};
 
 use crate::nodes::held_place;
 use crate::{TreeOf, Write};

@@ -7,7 +7,7 @@ ghost use Rattle.vdb_coord.specs.Space.{everywhere, is_inside};
 ghost use Rattle.vdb_coord.specs.declared.Coord.{Coord};
 ghost use Rattle.vdb_coord.specs.declared.Level.TheVariants.{Leaf as leaf_level, Lower, Upper};
 ghost use Rattle.vdb_node.specs.declared.Entry.TheVariants.{Tile};
-ghost use Rattle.vdb_tree.specs.Layout.{bits_of, entry_over, field_of, plain};
+ghost use Rattle.vdb_tree.specs.Layout.{bits_of, entry_over, field_of, background_cell};
 ghost use Rattle.vdb_tree.specs.Leaves.{IsLeafAround};
 ghost use Rattle.vdb_tree.specs.Parts.{IsEnd, IsPartAround, IsPartOfLeaf, IsPlace, IsSkipped, IsWalk, OnLeaf, OnTile, Passes, YieldsBox, end_level, is_left, left_count};
 ghost use Rattle.vdb_tree.specs.Paths.{common, ends_in_leaf, in_leaf, Lives};
@@ -49,8 +49,8 @@ pub struct Part<V, L> {
     pub content: Content<V, L>,
 }
 
-/// Where a walk over the parts of a tree stands: the coordinates that are left of a box, and the path of nodes to the last part.
-/// It owns nothing, and serves the tree that made it, as long as that doesn't change.
+/// How far a walk over the parts of a tree has come: the coordinates that are left of a box, and the path of nodes to the last
+/// part. It owns nothing, and serves the tree that made it, as long as that doesn't change.
 #[derive(Drop)]
 pub struct Walk<Upper, Lower, Leaf> {
     bounds: Bounds,
@@ -182,7 +182,8 @@ impl<
         }
     }
 
-    /// A law of every tree, which takes no work: the mask of a leaf has room for its voxels, in 512 words at most.
+    /// Does nothing; its contract states a fact of every tree: the mask of a leaf is long enough for its voxels, in 512 words
+    /// at most.
     pub fn has_leaf_words(&self)
         ensures few { WF ≤ 512 }
         ensures room { entries (bits_of U L F) leaf_level ≤ 64 * WF }
@@ -354,14 +355,14 @@ impl<
     }
 
     fn is_background(&self, cell: Cell<V>) -> bool
-        ensures { IsTrue result → cell ≡ plain self.now }
+        ensures { IsTrue result → cell ≡ background_cell self.now }
     {
-        cell == self.plain()
+        cell == self.background_cell()
     }
 
     /// The cell of what was never written: the background, inactive.
-    pub(crate) fn plain(&self) -> Cell<V>
-        ensures { result ≡ plain self.now }
+    pub(crate) fn background_cell(&self) -> Cell<V>
+        ensures { result ≡ background_cell self.now }
     {
         Cell {
             value: self.background,

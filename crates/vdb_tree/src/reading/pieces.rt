@@ -15,7 +15,7 @@ use vdb_node::{Entry, Stored};
 use vdb_pool::Steps;
 use vdb_value::Cell;
 
-/// A box of coordinates that all have one cell: a tile's block, or one voxel (what OpenVDB's value iterators stand on, whose
+/// A box of coordinates that all have one cell: a tile's block, or one voxel (what OpenVDB's value iterators point at, whose
 /// box `getBoundingBox` gives).
 #[derive(Clone, Copy, Debug, PartialEq, Eq)]
 pub struct Piece<V> {
@@ -58,7 +58,7 @@ impl<
         self.voxel_piece(leaf, p, steps)
     }
 
-    /// Whether a leaf stands over a coordinate, by at most two visits, since the leaf itself isn't visited (whether OpenVDB's
+    /// Whether there is a leaf over a coordinate, by at most two visits, since the leaf itself isn't visited (whether OpenVDB's
     /// `Tree::probeConstLeaf` finds one).
     pub fn leaf_at(&self, p: Coord, steps: &mut Steps) -> bool
         ensures answer { result ≡ in_leaf (bits_of U L F) self.now p }

@@ -72,7 +72,7 @@ impl<
         }
     }
 
-    /// The first place past the leaf block around `p`, over which a lower node stands.
+    /// The first place past the leaf block around `p`, over which there is a lower node.
     fn place_after_leaf(
         &self,
         bounds: Bounds,
@@ -92,7 +92,7 @@ impl<
         }
     }
 
-    /// The first place past the lower block around `p`, over which an upper node stands.
+    /// The first place past the lower block around `p`, over which there is an upper node.
     fn place_after_lower(
         &self,
         bounds: Bounds,
@@ -245,7 +245,7 @@ impl<
     {
         let _ = &self.root;
         let from = self.offset(p, Level::Lower) + 1;
-        match self.lowers.at(lower, steps).next_unlike(self.plain(), from) {
+        match self.lowers.at(lower, steps).next_unlike(self.background_cell(), from) {
             Some(index) => Some(p.entry_block_in(self.bits(), Level::Lower, index as u16)),
             None => None,
         }
@@ -281,7 +281,7 @@ impl<
     {
         let _ = &self.root;
         let from = self.offset(p, Level::Upper) + 1;
-        match self.uppers.at(upper, steps).next_unlike(self.plain(), from) {
+        match self.uppers.at(upper, steps).next_unlike(self.background_cell(), from) {
             Some(index) => Some(p.entry_block_in(self.bits(), Level::Upper, index as u16)),
             None => None,
         }

@@ -6,7 +6,7 @@ ghost use Rattle.vdb_coord.specs.declared.Level.TheVariants.{Leaf, Lower, Upper}
 ghost use Rattle.vdb_node.specs.declared.Entry.TheVariants.{Child};
 ghost use Rattle.vdb_tree.specs.Changes.{IsConstantAt, IsConstantBlock};
 ghost use Rattle.vdb_tree.specs.Layout.{bits_of, field_of, lower_entry, root_entry, upper_entry};
-ghost use Rattle.vdb_tree.specs.Plain.{roots};
+ghost use Rattle.vdb_tree.specs.ConstantBlocks.{roots};
 ghost use Rattle.vdb_tree.specs.Unlike.{IsNextUnlike};
 
 use crate::TreeOf;
@@ -31,7 +31,7 @@ impl<
     pub fn root_blocks(&self, steps: &mut Steps) -> u64
         ensures { result ≡ roots V.eq (bits_of U L F) (field_of (bits_of U L F) self.now) }
     {
-        let plain = Cell {
+        let background_cell = Cell {
             value: self.background,
             on: false,
         };
@@ -40,7 +40,7 @@ impl<
         let mut passed = None;
         while let Some(key) = self.next_key(passed) {
             passed = Some(key);
-            if self.root_block_is(self.key_corner(key), plain, steps) {
+            if self.root_block_is(self.key_corner(key), background_cell, steps) {
                 continue;
             }
             count += 1;

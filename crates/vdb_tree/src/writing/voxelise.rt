@@ -9,7 +9,7 @@ ghost use Rattle.vdb_tree.specs.Leaves.{HasLeaves};
 ghost use Rattle.vdb_tree.specs.Nodes.{IsActiveIn, MakesNoKey, MakesOnly};
 ghost use Rattle.vdb_tree.specs.Parts.{IsEnd, end_level, left_count};
 ghost use Rattle.vdb_tree.specs.Smallest.{IsLeast};
-ghost use Rattle.vdb_tree.specs.Table.{HasRoom};
+ghost use Rattle.vdb_tree.specs.Table.{HasCapacity};
 ghost use Rattle.vdb_tree.specs.Voxelised.{IsVoxelisedAround, IsVoxelisedFrom};
 ghost use Rattle.vdb_tree.specs.declared.refusal.TreeRefusal.TheVariants.{Memory};
 
@@ -72,7 +72,7 @@ impl<
     }
 
     /// Makes a leaf of the leaf block around `p` where that is an active tile. It gives the first place of the box past that
-    /// leaf, or past the leaf or the inactive tile that stood there.
+    /// leaf, or past the leaf or the inactive tile that was there.
     fn voxelise_from(
         &mut self,
         bounds: Bounds,
@@ -89,31 +89,31 @@ impl<
         ensures nearer { IfOk result (λ next. left_count (bits_of U L F) next < left_count (bits_of U L F) (Some p)) }
         ensures memory { IfErr result (λ refusal. refusal ≡ Memory) }
     {
-        match self.idle_after(bounds, p, steps) {
+        match self.inactive_after(bounds, p, steps) {
             Some(next) => Ok(next),
             None => self.voxelise_tile(bounds, p, steps),
         }
     }
 
-    /// The first place of the box past the leaf or the inactive tile around `p`; `None` where an active tile stands there, under
-    /// an entry of the table.
-    fn idle_after(&self, bounds: Bounds, p: Coord, steps: &mut Steps) -> Option<Option<Coord>>
+    /// The first place of the box past the leaf or the inactive tile around `p`; `None` where there is an active tile, under an
+    /// entry of the table.
+    fn inactive_after(&self, bounds: Bounds, p: Coord, steps: &mut Steps) -> Option<Option<Coord>>
         requires inside { IsTrue (is_inside bounds p) }
         ensures done { IfSome result (IsVoxelisedFrom (bits_of U L F) self.now bounds p) }
         ensures inside { IfSome result (λ next. IfSome next (λ q. IsTrue (is_inside bounds q))) }
         ensures nearer { IfSome result (λ next. left_count (bits_of U L F) next < left_count (bits_of U L F) (Some p)) }
         ensures active { IfNone result ((cell_at (bits_of U L F) self.now p).on ≡ true) }
-        ensures room { IfNone result (HasRoom self.now (key (bits_of U L F) p)) }
+        ensures room { IfNone result (HasCapacity self.now (key (bits_of U L F) p)) }
     {
         let end = self.end_of(p, steps);
-        if self.is_idle(p, end) {
-            return Some(self.place_past_idle(bounds, p, end));
+        if self.is_inactive(p, end) {
+            return Some(self.place_past_inactive(bounds, p, end));
         }
         None
     }
 
     /// The first place of the box past the leaf or the inactive tile in which the descent to `p` ends.
-    fn place_past_idle(&self, bounds: Bounds, p: Coord, end: End<V>) -> Option<Coord>
+    fn place_past_inactive(&self, bounds: Bounds, p: Coord, end: End<V>) -> Option<Coord>
         requires inside { IsTrue (is_inside bounds p) }
         requires end { IsEnd (bits_of U L F) self.now p end }
         ensures done { IsVoxelisedAround (bits_of U L F) self.now (end_level (bits_of U L F) self.now p) p → IsVoxelisedFrom (bits_of U L F) self.now bounds p result }
@@ -136,11 +136,11 @@ impl<
     }
 
     /// Whether the descent to `p` ends in a leaf or an inactive tile.
-    fn is_idle(&self, p: Coord, end: End<V>) -> bool
+    fn is_inactive(&self, p: Coord, end: End<V>) -> bool
         requires { IsEnd (bits_of U L F) self.now p end }
-        ensures idle { IsTrue result → IsVoxelisedAround (bits_of U L F) self.now (end_level (bits_of U L F) self.now p) p }
+        ensures inactive { IsTrue result → IsVoxelisedAround (bits_of U L F) self.now (end_level (bits_of U L F) self.now p) p }
         ensures active { result ≡ false → (cell_at (bits_of U L F) self.now p).on ≡ true }
-        ensures room { result ≡ false → HasRoom self.now (key (bits_of U L F) p) }
+        ensures room { result ≡ false → HasCapacity self.now (key (bits_of U L F) p) }
     {
         let _ = &self.root;
         match end {
@@ -157,7 +157,7 @@ impl<
         steps: &mut Steps,
     ) -> Result<Option<Coord>, TreeRefusal>
         requires inside { IsTrue (is_inside bounds p) }
-        requires room { HasRoom self.old (key (bits_of U L F) p) }
+        requires room { HasCapacity self.old (key (bits_of U L F) p) }
         ensures keeps { Keeps (bits_of U L F) self.old self.new }
         ensures adds { AddsNodes (bits_of U L F) self.old self.new }
         ensures made { (cell_at (bits_of U L F) self.old p).on ≡ true → MakesOnly (bits_of U L F) (IsActiveIn (bits_of U L F) bounds) self.old self.new }

@@ -12,12 +12,12 @@ ghost use Rattle.vdb_tree.specs.Layout.{bits_of, cell_at, field_of, lower_entry,
 ghost use Rattle.vdb_tree.specs.Nodes.{KeepsAllBut, KeepsElsewhere};
 ghost use Rattle.vdb_tree.specs.Outcome.{IsOutcome};
 ghost use Rattle.vdb_tree.specs.Paths.{in_leaf};
-ghost use Rattle.vdb_tree.specs.Plain.{is_constant, roots};
-ghost use Rattle.vdb_tree.specs.Table.{HasRoom};
+ghost use Rattle.vdb_tree.specs.ConstantBlocks.{is_constant, roots};
+ghost use Rattle.vdb_tree.specs.Table.{HasCapacity};
 ghost use Rattle.vdb_tree.specs.declared.Write.{Write};
 ghost use Rattle.vdb_tree.specs.declared.refusal.TreeRefusal.TheVariants.{Memory, RootLimit};
 
-use crate::reading::ends::{Held, Holder};
+use crate::reading::ends::{HeldEntry, Holder};
 use crate::{TreeOf, TreeRefusal, Write};
 use vdb_coord::Coord;
 use vdb_node::{Entry, Stored};
@@ -35,11 +35,11 @@ impl<
 > TreeOf<V, U, L, F, WU, WL, WF> {
     /// Writes the voxel at a coordinate (OpenVDB's `setValueOn`, `setValueOff`, `setActiveState` and `setValueOnly` of `Tree`).
     ///
-    /// Where a full root table would need one entry more, plain entries are swept out first. `RootLimit` says that even then
-    /// there are more root blocks with a cell that isn't plain than the limit, `Memory` that a growth was refused; both leave
-    /// every cell as it was. Neither comes where the cell stands already or where it lies in a leaf, as it does
-    /// wherever the cells of its leaf block aren't all equal. A write visits at most 5 nodes, and over each block that doesn't
-    /// hold the coordinate stands what stood there, unless it sweeps.
+    /// Where a full root table would need one entry more, background entries are swept out first. `RootLimit` says that even
+    /// then there are more root blocks with a cell that isn't the background than the limit, `Memory` that a growth was
+    /// refused; both leave every cell as it was. Neither comes where the voxel has that cell already or where it lies in a
+    /// leaf, as it does wherever the cells of its leaf block aren't all equal. A write visits at most 5 nodes, and each block
+    /// that doesn't hold the coordinate keeps the entry over it, unless it sweeps.
     pub fn write(
         &mut self,
         p: Coord,
@@ -49,17 +49,17 @@ impl<
         ensures outcome { IsOutcome V.eq (bits_of U L F) self.old.limit (field_of (bits_of U L F) self.old)
             (write p change (field_of (bits_of U L F) self.old)) (field_of (bits_of U L F) self.new) result }
         ensures limit { self.new.limit ≡ self.old.limit }
-        ensures elsewhere { HasRoom self.old (key (bits_of U L F) p) → KeepsElsewhere (bits_of U L F) self.old self.new p }
-        ensures stands { written change ((field_of (bits_of U L F) self.old).cell p) ≡ (field_of (bits_of U L F) self.old).cell p → IsOk result }
+        ensures elsewhere { HasCapacity self.old (key (bits_of U L F) p) → KeepsElsewhere (bits_of U L F) self.old self.new p }
+        ensures unchanged { written change ((field_of (bits_of U L F) self.old).cell p) ≡ (field_of (bits_of U L F) self.old).cell p → IsOk result }
         ensures leaf { IsTrue (in_leaf (bits_of U L F) self.old p) → IsOk result }
-        ensures mixed { is_constant V.eq (field_of (bits_of U L F) self.old) (block_around (bits_of U L F) Leaf p) ≡ false → IsOk result }
-        ensures steps { HasRoom self.old (key (bits_of U L F) p)
+        ensures non_constant { is_constant V.eq (field_of (bits_of U L F) self.old) (block_around (bits_of U L F) Leaf p) ≡ false → IsOk result }
+        ensures steps { HasCapacity self.old (key (bits_of U L F) p)
             ⊎ (written change ((field_of (bits_of U L F) self.old).cell p) ≡ (field_of (bits_of U L F) self.old).cell p)
             → steps.new ≤ steps.old + 5 }
     {
         self.keeps_to_limit(p);
-        self.has_leaf_if_mixed(p);
-        let Held { holder, entry } = self.held_entry(p, steps);
+        self.has_leaf_if_non_constant(p);
+        let HeldEntry { holder, entry } = self.held_entry(p, steps);
         let cell = match entry {
             Entry::Child(leaf) => {
                 self.write_voxel(leaf, p, change, steps);
@@ -87,8 +87,8 @@ impl<
             → IsOutcome V.eq (bits_of U L F) self.old.limit (field_of (bits_of U L F) self.old)
             (write p change (field_of (bits_of U L F) self.old)) (field_of (bits_of U L F) self.new) result }
         ensures limit { self.new.limit ≡ self.old.limit }
-        ensures elsewhere { HasRoom self.old (key (bits_of U L F) p) → KeepsElsewhere (bits_of U L F) self.old self.new p }
-        ensures steps { HasRoom self.old (key (bits_of U L F) p) → steps.new + nodes_to holder ≤ steps.old + 5 }
+        ensures elsewhere { HasCapacity self.old (key (bits_of U L F) p) → KeepsElsewhere (bits_of U L F) self.old self.new p }
+        ensures steps { HasCapacity self.old (key (bits_of U L F) p) → steps.new + nodes_to holder ≤ steps.old + 5 }
     {
         match holder {
             Holder::Root => self.write_root_tile(p, change, steps),
@@ -155,40 +155,42 @@ impl<
             → IsOutcome V.eq (bits_of U L F) self.old.limit (field_of (bits_of U L F) self.old)
             (write p change (field_of (bits_of U L F) self.old)) (field_of (bits_of U L F) self.new) result }
         ensures limit { self.new.limit ≡ self.old.limit }
-        ensures elsewhere { HasRoom self.old (key (bits_of U L F) p) → KeepsElsewhere (bits_of U L F) self.old self.new p }
-        ensures steps { HasRoom self.old (key (bits_of U L F) p) → steps.new ≤ steps.old + 5 }
+        ensures elsewhere { HasCapacity self.old (key (bits_of U L F) p) → KeepsElsewhere (bits_of U L F) self.old self.new p }
+        ensures steps { HasCapacity self.old (key (bits_of U L F) p) → steps.new ≤ steps.old + 5 }
     {
-        self.make_room(p, steps)?;
+        self.make_capacity(p, steps)?;
         let leaf = self.leaf_around(p, steps)?;
         self.write_voxel(leaf, p, change, steps);
         Ok(())
     }
 
-    /// A law of every tree, which takes no work: within its limit are the root blocks of its field, and those of a write
-    /// where the table has room; a swept table without room is full of them.
+    /// Does nothing; its contract states a fact of every tree: within its limit are the root blocks of its field that hold
+    /// anything but the background, and those of a write where the table has capacity; a swept table without capacity is full
+    /// of them.
     fn keeps_to_limit(&self, p: Coord)
         ensures kept { roots V.eq (bits_of U L F) (field_of (bits_of U L F) self.now) ≤ self.now.limit }
-        ensures within { HasRoom self.now (key (bits_of U L F) p) → (change : Write V)
+        ensures within { HasCapacity self.now (key (bits_of U L F) p) → (change : Write V)
             → roots V.eq (bits_of U L F) (write p change (field_of (bits_of U L F) self.now)) ≤ self.now.limit }
-        ensures full { (HasRoom self.now (key (bits_of U L F) p) → ⊥) → IsSwept (bits_of U L F) self.now → (change : Write V)
+        ensures full { (HasCapacity self.now (key (bits_of U L F) p) → ⊥) → IsSwept (bits_of U L F) self.now → (change : Write V)
             → written change ((field_of (bits_of U L F) self.now).cell p) ≢ (field_of (bits_of U L F) self.now).cell p
             → self.now.limit < roots V.eq (bits_of U L F) (write p change (field_of (bits_of U L F) self.now)) }
     {
         let _ = &self.root;
     }
 
-    /// A law of every tree, which takes no work: around p stands a leaf where the cells of its leaf block aren't all equal.
-    fn has_leaf_if_mixed(&self, p: Coord)
+    /// Does nothing; its contract states a fact of every tree: there is a leaf around p where the cells of its leaf block
+    /// aren't all equal.
+    fn has_leaf_if_non_constant(&self, p: Coord)
         ensures { is_constant V.eq (field_of (bits_of U L F) self.now) (block_around (bits_of U L F) Leaf p) ≡ false → IsTrue (in_leaf (bits_of U L F) self.now p) }
     {
         let _ = &self.root;
     }
 
-    /// Makes sure that p's root block has an entry or that the table has room for one, by sweeping plain entries out.
-    fn make_room(&mut self, p: Coord, steps: &mut Steps) -> Result<(), TreeRefusal>
+    /// Makes sure that p's root block has an entry or that the table has capacity for one, by sweeping background entries out.
+    fn make_capacity(&mut self, p: Coord, steps: &mut Steps) -> Result<(), TreeRefusal>
         ensures keeps { Keeps (bits_of U L F) self.old self.new }
-        ensures room { OnOk result (HasRoom self.new (key (bits_of U L F) p)) }
-        ensures there { HasRoom self.old (key (bits_of U L F) p) → IsOk result × (self.new ≡ self.old) × (steps.new ≡ steps.old) }
+        ensures room { OnOk result (HasCapacity self.new (key (bits_of U L F) p)) }
+        ensures there { HasCapacity self.old (key (bits_of U L F) p) → IsOk result × (self.new ≡ self.old) × (steps.new ≡ steps.old) }
         ensures within { OnOk result ((change : Write V)
             → roots V.eq (bits_of U L F) (write p change (field_of (bits_of U L F) self.old)) ≤ self.old.limit) }
         ensures full { IfErr result (λ refusal. (refusal ≡ RootLimit) × ((change : Write V)
@@ -196,27 +198,27 @@ impl<
             → self.old.limit < roots V.eq (bits_of U L F) (write p change (field_of (bits_of U L F) self.old)))) }
     {
         self.keeps_to_limit(p);
-        if self.has_room(p) {
+        if self.has_capacity(p) {
             return Ok(());
         }
-        self.erase_plain(steps);
+        self.erase_background(steps);
         self.keeps_to_limit(p);
-        if self.has_room(p) {
+        if self.has_capacity(p) {
             return Ok(());
         }
         Err(TreeRefusal::RootLimit)
     }
 
-    /// Whether p's root block has an entry or the table has room for one.
-    fn has_room(&self, p: Coord) -> bool
-        ensures { IsTrue result ↔ HasRoom self.now (key (bits_of U L F) p) }
+    /// Whether p's root block has an entry or the table has capacity for one.
+    fn has_capacity(&self, p: Coord) -> bool
+        ensures { IsTrue result ↔ HasCapacity self.now (key (bits_of U L F) p) }
     {
         self.root.len() < self.limit as usize || self.root.get(self.key(p)).is_some()
     }
 
     /// The slot of the leaf around p. Where there is none it is made, with the nodes above it.
     pub(crate) fn leaf_around(&mut self, p: Coord, steps: &mut Steps) -> Result<u32, TreeRefusal>
-        requires room { HasRoom self.old (key (bits_of U L F) p) }
+        requires room { HasCapacity self.old (key (bits_of U L F) p) }
         ensures keeps { Keeps (bits_of U L F) self.old self.new }
         ensures adds { AddsNodes (bits_of U L F) self.old self.new }
         ensures elsewhere { KeepsElsewhere (bits_of U L F) self.old self.new p }
@@ -233,7 +235,7 @@ impl<
 
     /// The slot of the upper node around p, which is made where there is none.
     pub(crate) fn upper_around(&mut self, p: Coord) -> Result<u32, TreeRefusal>
-        requires room { HasRoom self.old (key (bits_of U L F) p) }
+        requires room { HasCapacity self.old (key (bits_of U L F) p) }
         ensures keeps { Keeps (bits_of U L F) self.old self.new }
         ensures adds { AddsNodes (bits_of U L F) self.old self.new }
         ensures but { KeepsAllBut (bits_of U L F) Upper self.old self.new p }

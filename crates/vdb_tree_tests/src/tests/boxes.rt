@@ -57,7 +57,7 @@ fn a_split_keeps_every_cell(rt: HostRuntime) -> Result<(), TreeRefusal> {
 }
 
 #[test]
-fn plain_voxels_of_an_empty_tree(rt: HostRuntime) -> Result<(), TreeRefusal> {
+fn background_voxels_of_an_empty_tree(rt: HostRuntime) -> Result<(), TreeRefusal> {
     let mut steps = Steps::new(&rt);
     let mut tree = Tree::new(rt.alloc(), 7i32, 0);
     let acts = [
@@ -147,7 +147,7 @@ fn a_leaf_block_filled_voxelised_and_pruned(rt: HostRuntime) -> Result<(), TreeR
     run(&rt, &mut tree, &acts, &mut steps)
 }
 
-// Boxes apart that are ready for the plain cell stay so while others are split and painted.
+// Boxes apart that are split for the background cell stay so while others are split and painted.
 fn split_twice(
     rt: &impl Abort,
     tree: &mut Tree<i32>,

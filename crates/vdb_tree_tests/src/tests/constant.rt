@@ -26,7 +26,7 @@ fn blocks_of_tiles(rt: HostRuntime) -> Result<(), TreeRefusal> {
         Some(off(3))
     );
     assert_eq!(rt; tree.constant(Level::Upper, all(0), &mut steps), None);
-    // Written back, the nodes stand, but every cell is the background again.
+    // Written back, the nodes are still there, but every cell is the background again.
     tree.write(all(4095), Write::Off(3), &mut steps)?;
     for level in [Level::Leaf, Level::Lower, Level::Upper] {
         assert_eq!(rt; tree.constant(level, all(4095), &mut steps), Some(off(3)));

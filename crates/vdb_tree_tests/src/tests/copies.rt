@@ -125,7 +125,7 @@ fn copied_twice(tree: Tree433<i64>) -> Result<Tree433<i64>, TreeRefusal> {
     copy.try_copy()
 }
 
-// A copy of a copy has what the first tree has, once that is gone; a plain entry and its nodes are copied with the others.
+// A copy of a copy has what the first tree has, once that is gone; a background entry and its nodes are copied with the others.
 #[test]
 fn a_copy_of_a_copy(rt: HostRuntime) -> Result<(), TreeRefusal> {
     let mut steps = Steps::new(&rt);

@@ -53,7 +53,7 @@ fn no_root_block_at_all(rt: HostRuntime) -> Result<(), TreeRefusal> {
 
 // Entries whose blocks hold the background alone give way to a write elsewhere.
 #[test]
-fn plain_entries_are_swept_out(rt: HostRuntime) -> Result<(), TreeRefusal> {
+fn background_entries_are_swept_out(rt: HostRuntime) -> Result<(), TreeRefusal> {
     let mut steps = Steps::new(&rt);
     let mut tree = Tree::new(rt.alloc(), 7i64, 1);
     for (p, value) in [(all(0), 1), (at(4096, 0, 0), 2), (all(-1), 3)] {
@@ -71,7 +71,7 @@ fn plain_entries_are_swept_out(rt: HostRuntime) -> Result<(), TreeRefusal> {
     Ok(())
 }
 
-// Of two entries one becomes plain, and gives way to a third.
+// Of two entries one becomes all background, and gives way to a third.
 fn give_up(
     rt: &impl Abort,
     tree: &mut Tree433<i32>,
@@ -100,7 +100,7 @@ fn give_up(
     run(rt, tree, &acts, steps)
 }
 
-// The entry that isn't plain stays, whichever of the two it is.
+// The entry that isn't all background stays, whichever of the two it is.
 #[test]
 fn others_are_kept(rt: HostRuntime) -> Result<(), TreeRefusal> {
     let mut steps = Steps::new(&rt);

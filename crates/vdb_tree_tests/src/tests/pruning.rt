@@ -188,7 +188,7 @@ fn blocks_of_one_cell_at_each_level(rt: HostRuntime) -> Result<(), TreeRefusal> 
     Ok(())
 }
 
-// A full table of plain entries in place of one that was filled and pruned.
+// A full table of background entries in place of one that was filled and pruned.
 #[test]
 fn a_tile_of_the_root_table_is_kept(rt: HostRuntime) -> Result<(), TreeRefusal> {
     let mut steps = Steps::new(&rt);

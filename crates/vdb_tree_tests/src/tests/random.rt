@@ -43,7 +43,7 @@ impl Draws {
         at(x, y, z)
     }
 
-    // Often the background, so that blocks become plain again.
+    // Often the background, so that blocks are all background again.
     fn change(&mut self) -> Write<i32> {
         let value = self.below(2) as i32;
         match self.below(6) {

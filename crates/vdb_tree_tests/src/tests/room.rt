@@ -30,9 +30,9 @@ fn as_many_root_blocks_as_the_limit(rt: HostRuntime) -> Result<(), TreeRefusal> 
     run(&rt, &mut tree, &acts, &mut steps)
 }
 
-// An entry whose block is plain gives way to those of a box.
+// An entry whose block is all background gives way to those of a box.
 #[test]
-fn a_plain_entry_gives_way(rt: HostRuntime) -> Result<(), TreeRefusal> {
+fn a_background_entry_gives_way(rt: HostRuntime) -> Result<(), TreeRefusal> {
     let mut steps = Steps::new(&rt);
     let mut tree = Tree433::new(rt.alloc(), 7i64, 2);
     let acts = [
@@ -52,7 +52,7 @@ fn a_plain_entry_gives_way(rt: HostRuntime) -> Result<(), TreeRefusal> {
     run(&rt, &mut tree, &acts, &mut steps)
 }
 
-// Nodes whose cells are all one stay where that cell isn't plain.
+// Nodes whose cells are all one stay where that cell isn't the background.
 #[test]
 fn other_nodes_stay(rt: HostRuntime) -> Result<(), TreeRefusal> {
     let mut steps = Steps::new(&rt);
@@ -76,7 +76,7 @@ fn other_nodes_stay(rt: HostRuntime) -> Result<(), TreeRefusal> {
     run(&rt, &mut tree, &acts, &mut steps)
 }
 
-// A plain cell needs no entry, and more root blocks than any limit are refused without a look at one of them.
+// A background cell needs no entry, and more root blocks than any limit are refused without a look at one of them.
 #[test]
 fn the_whole_space(rt: HostRuntime) -> Result<(), TreeRefusal> {
     let mut steps = Steps::new(&rt);

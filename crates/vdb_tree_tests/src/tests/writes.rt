@@ -11,7 +11,7 @@ use vdb_tree::{Tree, Tree433, TreeOf, TreeRefusal, Write};
 use vdb_value::Cell;
 
 // Writes of the background to a fresh tree, which needs nothing for them.
-fn try_plain_writes<
+fn try_background_writes<
     V: Stored<WU> + Stored<WL> + Stored<WF>,
     const U: u32,
     const L: u32,
@@ -36,7 +36,7 @@ fn try_plain_writes<
     Ok(())
 }
 
-// A write, and again when it stands already. A voxel beside keeps the background.
+// A write, and again when the voxel has that cell already. A voxel beside keeps the background.
 fn try_write<
     V: Stored<WU> + Stored<WL> + Stored<WF>,
     const U: u32,
@@ -103,7 +103,7 @@ fn try_writes<
     steps: &mut Steps,
 ) -> Result<(), TreeRefusal> {
     let p = at(-9, 4100, 64);
-    try_plain_writes(rt, tree, p, zero, steps)?;
+    try_background_writes(rt, tree, p, zero, steps)?;
     try_write(rt, tree, p, Write::On(one), on(one), steps)?;
     try_each_write(rt, tree, p, zero, one, steps)?;
     try_write(rt, tree, p, Write::Value(one), off(one), steps)?;
@@ -220,7 +220,7 @@ fn cells_at_both_ends(rt: HostRuntime) -> Result<(), TreeRefusal> {
     run(&rt, &mut tree, &acts, &mut steps)
 }
 
-// Refused for want of memory at a run with refused allocations.
+// Refused for lack of memory at a run with refused allocations.
 #[test]
 fn a_refused_write_keeps_every_cell(rt: HostRuntime) -> Result<(), TreeRefusal> {
     let mut steps = Steps::new(&rt);

@@ -13,7 +13,7 @@ use vdb_pool::Steps;
 use vdb_tree::{NodeCounts, Tree, Tree433, TreeOf, TreeRefusal, Write};
 use vdb_value::Cell;
 
-// The root blocks that aren't plain, and the upper, lower and leaf blocks whose cells differ.
+// The root blocks that hold anything but the background, and the upper, lower and leaf blocks whose cells differ.
 fn expect_census<
     V: Stored<WU> + Stored<WL> + Stored<WF>,
     const U: u32,
@@ -33,7 +33,7 @@ fn expect_census<
     assert_eq!(rt; census(tree, steps), wanted);
 }
 
-// The same of the nodes that stand, with the entries of the root table in the first place.
+// How many entries the root table has, and how many upper, lower and leaf nodes there are.
 fn expect_nodes<
     V: Stored<WU> + Stored<WL> + Stored<WF>,
     const U: u32,
@@ -265,7 +265,7 @@ impl Draws {
         Bounds::new(p.lesser(q), p.greater(q))
     }
 
-    // Often the background, so that blocks become plain again.
+    // Often the background, so that blocks are all background again.
     fn cell(&mut self) -> Cell<i32> {
         let value = self.below(2) as i32;
         let on = self.below(2) == 0;
@@ -273,7 +273,7 @@ impl Draws {
     }
 }
 
-/// What a tree with background 0 is to hold. The rest is plain.
+/// What a tree with background 0 is to hold. The rest is the background.
 #[derive(Drop)]
 struct Wanted {
     alloc: Global,
@@ -316,9 +316,10 @@ impl Wanted {
         Some(first)
     }
 
-    // Of the blocks of so many voxels along each axis, from -16 to 15: how many aren't plain, and how many aren't of one cell.
+    // Of the blocks of so many voxels along each axis, from -16 to 15: how many hold anything but the background, and how many
+    // aren't of one cell.
     fn blocks(&self, span: i32) -> (u64, u64) {
-        let (mut unplain, mut mixed) = (0u64, 0u64);
+        let (mut non_background, mut non_constant) = (0u64, 0u64);
         let last = span.wrapping_sub(1);
         for x in -16..16i32 {
             for y in -16..16i32 {
@@ -332,15 +333,15 @@ impl Wanted {
                         None => None,
                     };
                     if one != Some(off(0)) {
-                        unplain = unplain.wrapping_add(1);
+                        non_background = non_background.wrapping_add(1);
                     }
                     if one.is_none() {
-                        mixed = mixed.wrapping_add(1);
+                        non_constant = non_constant.wrapping_add(1);
                     }
                 }
             }
         }
-        (unplain, mixed)
+        (non_background, non_constant)
     }
 
     // The census of blocks of 8, 4 and 2 voxels along each axis.

@@ -206,7 +206,7 @@ impl Draws {
     }
 }
 
-// Where a voxel stands in block order, where blocks span 2, 4 and 8 voxels and components count from the first of the blocks.
+// Where a voxel comes in block order, where blocks span 2, 4 and 8 voxels and components count from the first of the blocks.
 fn rank(x: u64, y: u64, z: u64) -> u64 {
     let mut rank = 0u64;
     for bits in [3, 2, 1, 0] {

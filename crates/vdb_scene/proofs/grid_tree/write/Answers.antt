@@ -29,7 +29,7 @@ returns-clause-memory g c = λ free.
     let exact = exact_by eq g.V.Ord.cmp g.met.V.Ord.matches_eq g.met.V.Voxel.exact in
     elim (no_memory _ _ (subst (λ w. write_takes_memory (as_field_of make (field_of vdb t)) c.args.at w ≡ false) (sym c.of_kind.ensures) free)) [
       | inl stands ↦
-          c.write.ensures.stands (cell_exact eq exact g.met.V.Eq.laws.refl (written c.of_kind.result old) old (sym (as_field_of_stands make t.background (cell_at vdb t) eq scalar_eq same c.of_kind.result c.args.at) ∙ stands))
-      | inr mixed ↦
-          c.write.ensures.mixed (sym (as_field_of_constant make t.background (cell_at vdb t) eq scalar_eq same (block_around vdb Leaf c.args.at)) ∙ mixed)
+          c.write.ensures.unchanged (cell_exact eq exact g.met.V.Eq.laws.refl (written c.of_kind.result old) old (sym (as_field_of_stands make t.background (cell_at vdb t) eq scalar_eq same c.of_kind.result c.args.at) ∙ stands))
+      | inr non_constant ↦
+          c.write.ensures.non_constant (sym (as_field_of_constant make t.background (cell_at vdb t) eq scalar_eq same (block_around vdb Leaf c.args.at)) ∙ non_constant)
     ]

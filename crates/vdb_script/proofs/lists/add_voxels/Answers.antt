@@ -4,7 +4,7 @@ use Rattle.vdb_coord.specs.declared.Coord.{Coord}
 use Rattle.vdb_scene.specs.Listings.{listed_of}
 use Rattle.vdb_scene.specs.declared.scalar.Scalar.{Scalar}
 use Rattle.vdb_script.specs.Text.{voxel_line}
-use Rattle.vdb_script.proofs.Handing.{behind_next, next_of}
+use Rattle.vdb_script.proofs.Yielding.{behind_next, next_of}
 use Rattle.vdb_script.proofs.Pages.{so_far_cut, so_far_more}
 use Rattle.vdb_script.proofs.lists.add_voxels.Goals as goal
 

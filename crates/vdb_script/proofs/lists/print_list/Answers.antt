@@ -7,7 +7,7 @@ use Rattle.vdb_scene.specs.Watched.{source}
 use Rattle.vdb_scene.specs.declared.scalar.Scalar.{Scalar}
 use Rattle.vdb_script.specs.Text.{last_line, more_word, voxel_line}
 use Rattle.vdb_script.specs.Writing.{HasAdded, HasCut}
-use Rattle.vdb_script.proofs.Handing.{first_items, last_items, more_than}
+use Rattle.vdb_script.proofs.Yielding.{first_items, last_items, more_than}
 use Rattle.vdb_script.proofs.Pages.{cut_at_items, cut_at_last, writes_all}
 use Rattle.vdb_script.proofs.lists.print_list.Goals as goal
 
@@ -30,7 +30,7 @@ returns-in_err-add-clause-writes g c =
     let items = first_items (listed_of c.listing-listing.result) c.limit.result voxels.limit (voxels_of voxels) c.listing-listing.ensures c.limit.ensures in
     let rest = c.in_ok-count.ensures.rest ∙ last_items (listed_of c.listing-listing.result) c.limit.result voxels.limit (voxels_of voxels) c.listing-listing.ensures c.limit.ensures in
     let more = more_than c.more-more.result voxels.limit (voxels_of voxels) _ rest c.more-more.ensures in
-    let line = ended c.in_ok-count.count c.more-more.result voxels.limit (voxels_of voxels) _ (c.as_slice.ensures.value ∙ c.count_line.ensures) (c.in_ok-count.ensures.count ∙ ap (λ (xs : List (Coord × Scalar)). length xs) items) more in
+    let line = ended c.in_ok-count.count c.more-more.result voxels.limit (voxels_of voxels) _ (c.as_slice.ensures.value ∙ c.list_end_line.ensures) (c.in_ok-count.ensures.count ∙ ap (λ (xs : List (Coord × Scalar)). length xs) items) more in
     rw exit.1 (cut_at_last _ _ _ _ _ c.new-page.ensures _ _ _ line
     (subst (λ (xs : List (Coord × Scalar)). HasAdded (g.W.Write.contents (source c.args.writer.now)) (g.W.Write.contents (source c.add_voxels.new.writer)) c.new-page.result.items (flat_map voxel_line xs) c.add_voxels.new.page.items) items c.in_ok-count.ensures.adds)
     c.in_err-add.ensures.adds)
@@ -41,7 +41,7 @@ returns-clause-writes g c =
     let items = first_items (listed_of c.listing-listing.result) c.limit.result voxels.limit (voxels_of voxels) c.listing-listing.ensures c.limit.ensures in
     let rest = c.in_ok-count.ensures.rest ∙ last_items (listed_of c.listing-listing.result) c.limit.result voxels.limit (voxels_of voxels) c.listing-listing.ensures c.limit.ensures in
     let more = more_than c.more-more.result voxels.limit (voxels_of voxels) _ rest c.more-more.ensures in
-    let line = ended c.in_ok-count.count c.more-more.result voxels.limit (voxels_of voxels) _ (c.as_slice.ensures.value ∙ c.count_line.ensures) (c.in_ok-count.ensures.count ∙ ap (λ (xs : List (Coord × Scalar)). length xs) items) more in
+    let line = ended c.in_ok-count.count c.more-more.result voxels.limit (voxels_of voxels) _ (c.as_slice.ensures.value ∙ c.list_end_line.ensures) (c.in_ok-count.ensures.count ∙ ap (λ (xs : List (Coord × Scalar)). length xs) items) more in
     writes_all _ _ _ _ _ c.new-page.ensures _ _ _ line
     (subst (λ (xs : List (Coord × Scalar)). HasAdded (g.W.Write.contents (source c.args.writer.now)) (g.W.Write.contents (source c.add_voxels.new.writer)) c.new-page.result.items (flat_map voxel_line xs) c.add_voxels.new.page.items) items c.in_ok-count.ensures.adds)
     _ _ _ c.in_ok-add.ensures.adds c.as_slice-2.ensures.value _ c.write_bytes.ensures.writes

@@ -1,4 +1,4 @@
--- `get` shows one item that the storage lends. Assumes `Logic`.
+-- `get` shows one item that the storage borrows. Assumes `Logic`.
 use Rattle.std.proofs.Common.{◌≡◌, ◌<◌, List, [], ◌∷◌, ◌++◌, length, get_or, refl, sym, ap, w32}
 use mir.Syntax.{Fn}
 use mir.MapTy.{inst_fn}

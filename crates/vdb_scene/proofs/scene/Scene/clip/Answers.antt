@@ -4,7 +4,7 @@ use Rattle.vdb_tree.specs.Field.{clip}
 use Rattle.vdb_scene.specs.Replies as replies
 use Rattle.vdb_scene.specs.Refusals.{of_tree}
 use Rattle.vdb_scene.specs.Step.{changed}
-use Rattle.vdb_scene.proofs.Lent.{changed_field, found, kept, missing, unchanged}
+use Rattle.vdb_scene.proofs.Borrowed.{changed_field, found, kept, missing, unchanged}
 use Rattle.vdb_scene.proofs.Steps.{corners_first, refused}
 use Rattle.vdb_scene.specs.Grids.{grid_field, grid_limit, scene_of}
 use Rattle.vdb_scene.specs.declared.command.Command.TheVariants as commands

@@ -3,7 +3,7 @@ use Rattle.std.proofs.lemmas.Result.{err_from_is_err_and}
 use Rattle.std.specs.Prelude.{Some}
 use Rattle.vdb_tree.specs.Field.{fill}
 use Rattle.vdb_scene.specs.Grids.{grid_field, grid_limit}
-use Rattle.vdb_scene.proofs.Lent.{changed_field, kept, unchanged}
+use Rattle.vdb_scene.proofs.Borrowed.{changed_field, kept, unchanged}
 use Rattle.vdb_scene.proofs.Filling.{fill_corners_refused, fill_done, fill_missing, fill_refused, fill_value_refused}
 use Rattle.vdb_scene.proofs.Trees.{refused_leaves, same_back}
 use Rattle.vdb_scene.specs.declared.command.Command.TheVariants as commands

@@ -7,7 +7,7 @@ use Rattle.vdb_scene.specs.Scene.{is_named}
 use Rattle.vdb_scene.proofs.Entries.{lookup-over}
 use Rattle.vdb_scene.proofs.scene.Scene.get.Goals as goal
 
--- what a lent grid is in the abstract scene
+-- what a borrowed grid is in the abstract scene
 lent : (o : Option (Bor AnyGrid)) → option_map (λ grid. grid_of grid.now) o ≡ option_map grid_of (option_copied o)
 lent None = refl
 lent (Some g) = refl

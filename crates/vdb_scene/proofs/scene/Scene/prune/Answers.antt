@@ -1,6 +1,6 @@
 use Rattle.std.proofs.Common.{refl, sym}
 use Rattle.vdb_scene.specs.Replies as replies
-use Rattle.vdb_scene.proofs.Lent.{found, missing, unchanged}
+use Rattle.vdb_scene.proofs.Borrowed.{found, missing, unchanged}
 use Rattle.vdb_scene.proofs.scene.Scene.prune.Goals as goal
 
 pub returns-in_default-clause-step : goal.returns-in_default-clause-step

@@ -4,7 +4,7 @@ use Rattle.vdb_scene.specs.Grids.{grid_of}
 use Rattle.vdb_scene.specs.Scene.{is_named}
 use Rattle.vdb_scene.specs.Replies as replies
 use Rattle.vdb_scene.proofs.Entries.{over, remove_entry-over}
-use Rattle.vdb_scene.proofs.Lent.{absent_is, missing}
+use Rattle.vdb_scene.proofs.Borrowed.{absent_is, missing}
 use Rattle.vdb_scene.proofs.scene.Scene.take.Goals as goal
 
 none_from : {A : Type 0} (o : Option A) → is_none o ≡ true → o ≡ None

@@ -5,7 +5,7 @@ use Rattle.vdb_coord.specs.Space.{volume}
 use Rattle.vdb_scene.specs.Replies as replies
 use Rattle.vdb_scene.specs.Places.{box_between}
 use Rattle.vdb_scene.specs.Refusals.{of_tree}
-use Rattle.vdb_scene.proofs.Lent.{found, missing, unchanged}
+use Rattle.vdb_scene.proofs.Borrowed.{found, missing, unchanged}
 use Rattle.vdb_scene.proofs.Steps.{corners_first, refused}
 use Rattle.vdb_scene.specs.Grids.{IsVoxelised, scene_of}
 use Rattle.vdb_scene.specs.declared.command.Command.TheVariants as commands

@@ -3,7 +3,7 @@ use Rattle.std.proofs.lemmas.Result.{err_from_is_err_and}
 use Rattle.std.specs.Prelude.{Some}
 use Rattle.vdb_tree.specs.Field.{write}
 use Rattle.vdb_scene.specs.Grids.{grid_field, grid_limit}
-use Rattle.vdb_scene.proofs.Lent.{changed_field, kept, unchanged}
+use Rattle.vdb_scene.proofs.Borrowed.{changed_field, kept, unchanged}
 use Rattle.vdb_scene.proofs.Steps.{test_fails, test_passes}
 use Rattle.vdb_scene.proofs.Writing.{write_accessor_refused, write_done, write_missing, write_place_refused, write_refused, write_value_refused}
 use Rattle.vdb_scene.proofs.Trees.{refused_leaves, same_back, write_leaves}

@@ -1,6 +1,6 @@
 use Rattle.std.proofs.Common.{◌≡◌, ◌∙◌, ap, refl, rules, map, ◌∷◌}
 use Rattle.vdb_value.specs.declared.Cell.{Cell}
-use Rattle.vdb_scene.specs.Slices.{cell_at, numbers_left}
+use Rattle.vdb_scene.specs.Slices.{row_cell, numbers_left}
 use Rattle.vdb_scene.specs.declared.scalar.Scalar.{Scalar}
 use Rattle.vdb_scene.proofs.slice.SliceRow.next.Goals as goal
 
@@ -9,5 +9,5 @@ returns-in-Some c =
     let row = c.args.self.now in
     let x = c.in-Some.x in
     let ahead : numbers_left row.x row.last ≡ x ∷ numbers_left c.advance.new.next row.last = search rules in
-    let cell : cell_at row x ≡ c.cell.result = search rules in
-    rw c.cell.ensures.same (ap (map (cell_at row)) ahead ∙ ap (λ (first : Cell Scalar). first ∷ map (cell_at row) (numbers_left c.advance.new.next row.last)) cell, refl)
+    let cell : row_cell row x ≡ c.cell.result = search rules in
+    rw c.cell.ensures.same (ap (map (row_cell row)) ahead ∙ ap (λ (first : Cell Scalar). first ∷ map (row_cell row) (numbers_left c.advance.new.next row.last)) cell, refl)

@@ -2,7 +2,7 @@ use Rattle.std.proofs.Common.{rules}
 use Rattle.vdb_coord.proofs.Meeting.{fits_everywhere}
 use Rattle.vdb_tree.specs.Layout.{bits_of}
 use Rattle.vdb_tree.proofs.Uniform.{exact_by}
-use Rattle.vdb_tree.proofs.UnlikeEntries.{one_constant, one_mixed, one_none, one_some}
+use Rattle.vdb_tree.proofs.UnlikeEntries.{one_constant, one_non_constant, one_none, one_some}
 use Rattle.vdb_tree.proofs.tree.TreeOf.constant.Goals as goal
 
 pub returns-then-block_is-clause-cell : goal.returns-then-block_is-clause-cell
@@ -29,4 +29,4 @@ returns-else-block_is-clause-test g c =
     let exact = exact_by g.V.PartialEq.eq g.V.Ord.cmp g.met.V.Ord.matches_eq g.met.V.Voxel.exact in
     let bits = bits_of g.row.U g.row.L g.row.F in
     let inside = fits_everywhere c.args.p (search rules) (search rules) (search rules) in
-    one_mixed bits c.self.invariant.0.bits c.args.level c.args.self.now c.args.p inside c.cell-cell.result c.cell-cell.ensures.cell c.block_is.result c.block_is.ensures g.V.PartialEq.eq exact g.met.V.Eq.laws.refl c.if-block_is.false
+    one_non_constant bits c.self.invariant.0.bits c.args.level c.args.self.now c.args.p inside c.cell-cell.result c.cell-cell.ensures.cell c.block_is.result c.block_is.ensures g.V.PartialEq.eq exact g.met.V.Eq.laws.refl c.if-block_is.false

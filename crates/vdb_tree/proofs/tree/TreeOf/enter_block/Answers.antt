@@ -1,6 +1,6 @@
 use Rattle.vdb_tree.specs.Layout.{bits_of}
 use Rattle.vdb_tree.proofs.MadeNodes.{keys_in_but}
-use Rattle.vdb_tree.proofs.Rooms.{room_stays}
+use Rattle.vdb_tree.proofs.Capacities.{room_stays}
 use Rattle.vdb_tree.proofs.tree.TreeOf.enter_block.Goals as goal
 
 pub returns-in_err-enter-in-Tile-clause-room : goal.returns-in_err-enter-in-Tile-clause-room

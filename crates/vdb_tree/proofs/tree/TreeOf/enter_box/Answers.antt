@@ -3,15 +3,15 @@ use Rattle.std.specs.Prelude.{IsSome}
 use Rattle.std.proofs.lemmas.Grind.{common_steps}
 use Rattle.vdb_coord.specs.Blocks.{key}
 use Rattle.vdb_tree.specs.Field.{fill}
-use Rattle.vdb_tree.specs.Layout.{Layout, bits_of, field_of, plain, root_at}
-use Rattle.vdb_tree.specs.Plain.{roots}
+use Rattle.vdb_tree.specs.Layout.{Layout, bits_of, field_of, background_cell, root_at}
+use Rattle.vdb_tree.specs.ConstantBlocks.{roots}
 use Rattle.vdb_tree.specs.declared.refusal.TreeRefusal.TheVariants.{RootLimit}
 use Rattle.vdb_value.specs.declared.Cell.{Cell}
 use Rattle.vdb_tree.proofs.Blocks.{never}
-use Rattle.vdb_tree.proofs.Erasing.{adds_plain_none, adds_plain_twice, ready_plain}
+use Rattle.vdb_tree.proofs.Erasing.{adds_background_none, adds_background_twice, ready_background}
 use Rattle.vdb_tree.specs.Changes.{AddsNodes}
 use Rattle.vdb_tree.proofs.MadeNodes.{keys_in_none, keys_in_twice, no_node_twice, same_no_node}
-use Rattle.vdb_tree.proofs.Rooms.{obeys_full, obeys_within, or_entered}
+use Rattle.vdb_tree.proofs.Capacities.{obeys_full, obeys_within, or_entered}
 use Rattle.vdb_tree.proofs.Splits.{adds_itself, keeps_twice}
 use Rattle.vdb_tree.proofs.Uniform.{cell_exact, cell_same, exact_by}
 use Rattle.vdb_tree.proofs.tree.TreeOf.enter_box.Goals as goal
@@ -22,111 +22,111 @@ returns-then-eq-clause-keeps g c = record { head = record { background = refl; l
 pub returns-then-eq-clause-entered : goal.returns-then-eq-clause-entered
 returns-then-eq-clause-entered g c =
     let exact = exact_by g.V.PartialEq.eq g.V.Ord.cmp g.met.V.Ord.matches_eq g.met.V.Voxel.exact in
-    let is : c.args.cell ≡ plain c.args.self.now =
-    subst (λ (s : Layout g.row.V.Denot). c.args.cell ≡ plain s) c.self.view_is (cell_exact g.V.PartialEq.eq exact g.met.V.Eq.laws.refl c.args.cell _ (sym c.eq.ensures ∙ c.if-eq.true)) in
+    let is : c.args.cell ≡ background_cell c.args.self.now =
+    subst (λ (s : Layout g.row.V.Denot). c.args.cell ≡ background_cell s) c.self.view_is (cell_exact g.V.PartialEq.eq exact g.met.V.Eq.laws.refl c.args.cell _ (sym c.eq.ensures ∙ c.if-eq.true)) in
     λ p inside. inl is
 
 pub returns-then-eq-clause-limit : goal.returns-then-eq-clause-limit
 returns-then-eq-clause-limit g c =
     let bits = bits_of g.row.U g.row.L g.row.F in
     let exact = exact_by g.V.PartialEq.eq g.V.Ord.cmp g.met.V.Ord.matches_eq g.met.V.Voxel.exact in
-    let is : c.args.cell ≡ plain c.args.self.now =
-    subst (λ (s : Layout g.row.V.Denot). c.args.cell ≡ plain s) c.self.view_is (cell_exact g.V.PartialEq.eq exact g.met.V.Eq.laws.refl c.args.cell _ (sym c.eq.ensures ∙ c.if-eq.true)) in
-    subst (λ (d : Cell g.row.V.Denot). roots g.V.PartialEq.eq bits (fill c.args.bounds d (field_of bits c.args.self.now)) ≤ c.args.self.now.limit) (sym is) c.keeps_fills_to_limit.ensures.plain
+    let is : c.args.cell ≡ background_cell c.args.self.now =
+    subst (λ (s : Layout g.row.V.Denot). c.args.cell ≡ background_cell s) c.self.view_is (cell_exact g.V.PartialEq.eq exact g.met.V.Eq.laws.refl c.args.cell _ (sym c.eq.ensures ∙ c.if-eq.true)) in
+    subst (λ (d : Cell g.row.V.Denot). roots g.V.PartialEq.eq bits (fill c.args.bounds d (field_of bits c.args.self.now)) ≤ c.args.self.now.limit) (sym is) c.keeps_fills_to_limit.ensures.background_cell
 
-pub returns-then-eq-clause-ready : goal.returns-then-eq-clause-ready
-returns-then-eq-clause-ready g c = λ box was. was
+pub returns-then-eq-clause-edges : goal.returns-then-eq-clause-edges
+returns-then-eq-clause-edges g c = λ box was. was
 
-pub returns-in_err-make_room_for-clause-keeps : goal.returns-in_err-make_room_for-clause-keeps
-returns-in_err-make_room_for-clause-keeps g c = c.in_err-make_room_for.ensures.adds.keeps
+pub returns-in_err-make_capacity_for-clause-keeps : goal.returns-in_err-make_capacity_for-clause-keeps
+returns-in_err-make_capacity_for-clause-keeps g c = c.in_err-make_capacity_for.ensures.adds.keeps
 
-pub returns-in_err-make_room_for-clause-limit : goal.returns-in_err-make_room_for-clause-limit
-returns-in_err-make_room_for-clause-limit g c =
+pub returns-in_err-make_capacity_for-clause-limit : goal.returns-in_err-make_capacity_for-clause-limit
+returns-in_err-make_capacity_for-clause-limit g c =
     let bits = bits_of g.row.U g.row.L g.row.F in
     let exact = exact_by g.V.PartialEq.eq g.V.Ord.cmp g.met.V.Ord.matches_eq g.met.V.Voxel.exact in
-    let full = c.in_err-make_room_for.ensures.full in
+    let full = c.in_err-make_capacity_for.ensures.full in
     let refused : c.from_residual.result ≡ Err RootLimit = grind (arith, common_steps, c.from_residual.ensures, full.0) in
-    let other : c.args.cell ≢ plain c.args.self.now = λ same.
-    never c.if-eq.false (c.eq.ensures ∙ cell_same g.V.PartialEq.eq exact g.met.V.Eq.laws.refl c.args.cell _ (subst (λ (s : Layout g.row.V.Denot). c.args.cell ≡ plain s) (sym c.self.view_is) same)) in
+    let other : c.args.cell ≢ background_cell c.args.self.now = λ same.
+    never c.if-eq.false (c.eq.ensures ∙ cell_same g.V.PartialEq.eq exact g.met.V.Eq.laws.refl c.args.cell _ (subst (λ (s : Layout g.row.V.Denot). c.args.cell ≡ background_cell s) (sym c.self.view_is) same)) in
     obeys_full g.V.PartialEq.eq bits c.args.self.now.limit _ c.from_residual.result refused (full.1 c.args.cell other)
 
-pub returns-in_err-make_room_for-clause-plain : goal.returns-in_err-make_room_for-clause-plain
-returns-in_err-make_room_for-clause-plain g c =
+pub returns-in_err-make_capacity_for-clause-background_cell : goal.returns-in_err-make_capacity_for-clause-background_cell
+returns-in_err-make_capacity_for-clause-background_cell g c =
     let exact = exact_by g.V.PartialEq.eq g.V.Ord.cmp g.met.V.Ord.matches_eq g.met.V.Voxel.exact in
     λ same.
-    absurd (never c.if-eq.false (c.eq.ensures ∙ cell_same g.V.PartialEq.eq exact g.met.V.Eq.laws.refl c.args.cell _ (subst (λ (s : Layout g.row.V.Denot). c.args.cell ≡ plain s) (sym c.self.view_is) same)))
+    absurd (never c.if-eq.false (c.eq.ensures ∙ cell_same g.V.PartialEq.eq exact g.met.V.Eq.laws.refl c.args.cell _ (subst (λ (s : Layout g.row.V.Denot). c.args.cell ≡ background_cell s) (sym c.self.view_is) same)))
 
-pub returns-in_err-make_room_for-clause-ready : goal.returns-in_err-make_room_for-clause-ready
-returns-in_err-make_room_for-clause-ready g c = ready_plain (bits_of g.row.U g.row.L g.row.F) c.args.self.now c.make_room_for.new.self c.in_err-make_room_for.ensures.adds
+pub returns-in_err-make_capacity_for-clause-edges : goal.returns-in_err-make_capacity_for-clause-edges
+returns-in_err-make_capacity_for-clause-edges g c = ready_background (bits_of g.row.U g.row.L g.row.F) c.args.self.now c.make_capacity_for.new.self c.in_err-make_capacity_for.ensures.adds
 
 pub returns-clause-keeps : goal.returns-clause-keeps
-returns-clause-keeps g c = keeps_twice (bits_of g.row.U g.row.L g.row.F) c.args.self.now c.make_room_for.new.self c.enter_blocks.new.self c.in_ok-make_room_for.ensures.adds.keeps c.enter_blocks.ensures.keeps
+returns-clause-keeps g c = keeps_twice (bits_of g.row.U g.row.L g.row.F) c.args.self.now c.make_capacity_for.new.self c.enter_blocks.new.self c.in_ok-make_capacity_for.ensures.adds.keeps c.enter_blocks.ensures.keeps
 
 pub returns-clause-entered : goal.returns-clause-entered
 returns-clause-entered g c =
-    or_entered c.args.bounds (c.args.cell ≡ plain c.enter_blocks.new.self) (λ p. IsSome (root_at c.enter_blocks.new.self.root (key (bits_of g.row.U g.row.L g.row.F) p))) c.enter_blocks.result c.enter_blocks.ensures.entered
+    or_entered c.args.bounds (c.args.cell ≡ background_cell c.enter_blocks.new.self) (λ p. IsSome (root_at c.enter_blocks.new.self.root (key (bits_of g.row.U g.row.L g.row.F) p))) c.enter_blocks.result c.enter_blocks.ensures.entered
 
 pub returns-clause-limit : goal.returns-clause-limit
 returns-clause-limit g c =
-    obeys_within g.V.PartialEq.eq (bits_of g.row.U g.row.L g.row.F) c.args.self.now.limit _ c.enter_blocks.result c.enter_blocks.ensures.memory (c.in_ok-make_room_for.ensures.within c.args.cell)
+    obeys_within g.V.PartialEq.eq (bits_of g.row.U g.row.L g.row.F) c.args.self.now.limit _ c.enter_blocks.result c.enter_blocks.ensures.memory (c.in_ok-make_capacity_for.ensures.within c.args.cell)
 
-pub returns-clause-plain : goal.returns-clause-plain
-returns-clause-plain g c =
+pub returns-clause-background_cell : goal.returns-clause-background_cell
+returns-clause-background_cell g c =
     let exact = exact_by g.V.PartialEq.eq g.V.Ord.cmp g.met.V.Ord.matches_eq g.met.V.Voxel.exact in
     λ same.
-    absurd (never c.if-eq.false (c.eq.ensures ∙ cell_same g.V.PartialEq.eq exact g.met.V.Eq.laws.refl c.args.cell _ (subst (λ (s : Layout g.row.V.Denot). c.args.cell ≡ plain s) (sym c.self.view_is) same)))
+    absurd (never c.if-eq.false (c.eq.ensures ∙ cell_same g.V.PartialEq.eq exact g.met.V.Eq.laws.refl c.args.cell _ (subst (λ (s : Layout g.row.V.Denot). c.args.cell ≡ background_cell s) (sym c.self.view_is) same)))
 
-pub returns-clause-ready : goal.returns-clause-ready
-returns-clause-ready g c =
+pub returns-clause-edges : goal.returns-clause-edges
+returns-clause-edges g c =
     let bits = bits_of g.row.U g.row.L g.row.F in
-    ready_plain bits c.args.self.now c.enter_blocks.new.self
-    (adds_plain_twice bits c.args.self.now c.make_room_for.new.self c.enter_blocks.new.self c.in_ok-make_room_for.ensures.adds
-    (adds_plain_none bits c.make_room_for.new.self c.enter_blocks.new.self c.enter_blocks.ensures.keeps c.enter_blocks.ensures.same))
+    ready_background bits c.args.self.now c.enter_blocks.new.self
+    (adds_background_twice bits c.args.self.now c.make_capacity_for.new.self c.enter_blocks.new.self c.in_ok-make_capacity_for.ensures.adds
+    (adds_background_none bits c.make_capacity_for.new.self c.enter_blocks.new.self c.enter_blocks.ensures.keeps c.enter_blocks.ensures.same))
 
 pub returns-then-eq-clause-adds : goal.returns-then-eq-clause-adds
 returns-then-eq-clause-adds g c = λ _. adds_itself (bits_of g.row.U g.row.L g.row.F) c.args.self.now
 
-pub returns-in_err-make_room_for-clause-nodes : goal.returns-in_err-make_room_for-clause-nodes
-returns-in_err-make_room_for-clause-nodes g c = c.in_err-make_room_for.ensures.adds.nodes
+pub returns-in_err-make_capacity_for-clause-nodes : goal.returns-in_err-make_capacity_for-clause-nodes
+returns-in_err-make_capacity_for-clause-nodes g c = c.in_err-make_capacity_for.ensures.adds.nodes
 
-pub returns-in_err-make_room_for-clause-keys : goal.returns-in_err-make_room_for-clause-keys
-returns-in_err-make_room_for-clause-keys g c = keys_in_none (bits_of g.row.U g.row.L g.row.F) c.args.bounds c.args.self.now c.make_room_for.new.self c.in_err-make_room_for.ensures.keys
+pub returns-in_err-make_capacity_for-clause-keys : goal.returns-in_err-make_capacity_for-clause-keys
+returns-in_err-make_capacity_for-clause-keys g c = keys_in_none (bits_of g.row.U g.row.L g.row.F) c.args.bounds c.args.self.now c.make_capacity_for.new.self c.in_err-make_capacity_for.ensures.keys
 
-pub returns-in_err-make_room_for-clause-no_keys : goal.returns-in_err-make_room_for-clause-no_keys
-returns-in_err-make_room_for-clause-no_keys g c = λ same. c.in_err-make_room_for.ensures.keys
+pub returns-in_err-make_capacity_for-clause-no_keys : goal.returns-in_err-make_capacity_for-clause-no_keys
+returns-in_err-make_capacity_for-clause-no_keys g c = λ same. c.in_err-make_capacity_for.ensures.keys
 
-pub returns-in_err-make_room_for-clause-adds : goal.returns-in_err-make_room_for-clause-adds
-returns-in_err-make_room_for-clause-adds g c =
+pub returns-in_err-make_capacity_for-clause-adds : goal.returns-in_err-make_capacity_for-clause-adds
+returns-in_err-make_capacity_for-clause-adds g c =
     let bits = bits_of g.row.U g.row.L g.row.F in
     let exact = exact_by g.V.PartialEq.eq g.V.Ord.cmp g.met.V.Ord.matches_eq g.met.V.Voxel.exact in
     λ h. elim h [
-      | inl same ↦ absurd (never c.if-eq.false (c.eq.ensures ∙ cell_same g.V.PartialEq.eq exact g.met.V.Eq.laws.refl c.args.cell _ (subst (λ (s : Layout g.row.V.Denot). c.args.cell ≡ plain s) (sym c.self.view_is) same)))
-      | inr room ↦ subst (λ (t : Layout g.row.V.Denot). AddsNodes bits c.args.self.now t) (sym (c.in_err-make_room_for.ensures.stays room)) (adds_itself bits c.args.self.now)
+      | inl same ↦ absurd (never c.if-eq.false (c.eq.ensures ∙ cell_same g.V.PartialEq.eq exact g.met.V.Eq.laws.refl c.args.cell _ (subst (λ (s : Layout g.row.V.Denot). c.args.cell ≡ background_cell s) (sym c.self.view_is) same)))
+      | inr room ↦ subst (λ (t : Layout g.row.V.Denot). AddsNodes bits c.args.self.now t) (sym (c.in_err-make_capacity_for.ensures.stays room)) (adds_itself bits c.args.self.now)
     ]
 
 pub returns-clause-nodes : goal.returns-clause-nodes
 returns-clause-nodes g c =
     let bits = bits_of g.row.U g.row.L g.row.F in
-    no_node_twice bits c.args.self.now c.make_room_for.new.self c.enter_blocks.new.self c.in_ok-make_room_for.ensures.adds.nodes
-    (same_no_node bits c.make_room_for.new.self c.enter_blocks.new.self c.enter_blocks.ensures.same)
+    no_node_twice bits c.args.self.now c.make_capacity_for.new.self c.enter_blocks.new.self c.in_ok-make_capacity_for.ensures.adds.nodes
+    (same_no_node bits c.make_capacity_for.new.self c.enter_blocks.new.self c.enter_blocks.ensures.same)
 
 pub returns-clause-keys : goal.returns-clause-keys
 returns-clause-keys g c =
     let bits = bits_of g.row.U g.row.L g.row.F in
-    keys_in_twice bits c.args.bounds c.args.self.now c.make_room_for.new.self c.enter_blocks.new.self
-    (keys_in_none bits c.args.bounds c.args.self.now c.make_room_for.new.self c.in_ok-make_room_for.ensures.keys) c.enter_blocks.ensures.keys
+    keys_in_twice bits c.args.bounds c.args.self.now c.make_capacity_for.new.self c.enter_blocks.new.self
+    (keys_in_none bits c.args.bounds c.args.self.now c.make_capacity_for.new.self c.in_ok-make_capacity_for.ensures.keys) c.enter_blocks.ensures.keys
 
 pub returns-clause-no_keys : goal.returns-clause-no_keys
 returns-clause-no_keys g c =
     let exact = exact_by g.V.PartialEq.eq g.V.Ord.cmp g.met.V.Ord.matches_eq g.met.V.Voxel.exact in
     λ same.
-    absurd (never c.if-eq.false (c.eq.ensures ∙ cell_same g.V.PartialEq.eq exact g.met.V.Eq.laws.refl c.args.cell _ (subst (λ (s : Layout g.row.V.Denot). c.args.cell ≡ plain s) (sym c.self.view_is) same)))
+    absurd (never c.if-eq.false (c.eq.ensures ∙ cell_same g.V.PartialEq.eq exact g.met.V.Eq.laws.refl c.args.cell _ (subst (λ (s : Layout g.row.V.Denot). c.args.cell ≡ background_cell s) (sym c.self.view_is) same)))
 
 pub returns-clause-adds : goal.returns-clause-adds
 returns-clause-adds g c =
     let bits = bits_of g.row.U g.row.L g.row.F in
     let exact = exact_by g.V.PartialEq.eq g.V.Ord.cmp g.met.V.Ord.matches_eq g.met.V.Voxel.exact in
     λ h. elim h [
-      | inl same ↦ absurd (never c.if-eq.false (c.eq.ensures ∙ cell_same g.V.PartialEq.eq exact g.met.V.Eq.laws.refl c.args.cell _ (subst (λ (s : Layout g.row.V.Denot). c.args.cell ≡ plain s) (sym c.self.view_is) same)))
-      | inr room ↦ subst (λ (t : Layout g.row.V.Denot). AddsNodes bits t c.enter_blocks.new.self) (c.in_ok-make_room_for.ensures.stays room) c.enter_blocks.ensures.adds
+      | inl same ↦ absurd (never c.if-eq.false (c.eq.ensures ∙ cell_same g.V.PartialEq.eq exact g.met.V.Eq.laws.refl c.args.cell _ (subst (λ (s : Layout g.row.V.Denot). c.args.cell ≡ background_cell s) (sym c.self.view_is) same)))
+      | inr room ↦ subst (λ (t : Layout g.row.V.Denot). AddsNodes bits t c.enter_blocks.new.self) (c.in_ok-make_capacity_for.ensures.stays room) c.enter_blocks.ensures.adds
     ]

@@ -1,13 +1,13 @@
 use Rattle.vdb_coord.proofs.Boxes.{both}
-use Rattle.vdb_tree.proofs.Rooms.{fill_exceeds, fill_plain, fill_too_wide, fill_within}
+use Rattle.vdb_tree.proofs.Capacities.{fill_exceeds, fill_background, fill_too_wide, fill_within}
 use Rattle.vdb_tree.proofs.Uniform.{exact_by}
 use Rattle.std.proofs.Common.{refl}
 use Rattle.vdb_tree.proofs.tree.TreeOf.keeps_fills_to_limit.Goals as goal
 
-pub returns-clause-plain : goal.returns-clause-plain
-returns-clause-plain g c =
+pub returns-clause-background_cell : goal.returns-clause-background_cell
+returns-clause-background_cell g c =
     let exact = exact_by g.V.PartialEq.eq g.V.Ord.cmp g.met.V.Ord.matches_eq g.met.V.Voxel.exact in
-    rw (← c.self.view_is) (fill_plain g.V.PartialEq.eq exact g.met.V.Eq.laws.refl _ c.self.invariant.0.bits _ c.args.bounds _ c.self.invariant.1 refl)
+    rw (← c.self.view_is) (fill_background g.V.PartialEq.eq exact g.met.V.Eq.laws.refl _ c.self.invariant.0.bits _ c.args.bounds _ c.self.invariant.1 refl)
 
 pub returns-clause-within : goal.returns-clause-within
 returns-clause-within g c =

@@ -5,7 +5,7 @@ use Rattle.vdb_coord.proofs.Meeting.{fits_everywhere}
 use Rattle.vdb_coord.proofs.Places.{entries_is}
 use Rattle.vdb_node.specs.declared.Entry.TheVariants.{Child}
 use Rattle.vdb_pool.specs.Contents.{node_at}
-use Rattle.vdb_tree.specs.Layout.{bits_of, lower_entry, plain}
+use Rattle.vdb_tree.specs.Layout.{bits_of, lower_entry, background_cell}
 use Rattle.vdb_tree.proofs.ActiveCounts.{next_active}
 use Rattle.vdb_tree.proofs.Descents.{lower_node_entry, tile_cell}
 use Rattle.vdb_tree.proofs.Sizes.{internal_small}
@@ -21,5 +21,5 @@ returns g c =
     let t = c.args.self.now in
     let bits = bits_of g.row.U g.row.L g.row.F in
     let was : node_at t.lowers c.held_place-place.result.slot ≡ Some c.at.result.now = rw (← c.self.view_is) c.at.ensures.node in
-    next_active bits c.self.invariant.0.bits t Lower c.args.p (fits_everywhere c.args.p (search rules) (search rules) (search rules)) (lower_entry bits t) (λ d q e. tile_cell bits t d q e) c.at.result.now (plain t)
+    next_active bits c.self.invariant.0.bits t Lower c.args.p (fits_everywhere c.args.p (search rules) (search rules) (search rules)) (lower_entry bits t) (λ d q e. tile_cell bits t d q e) c.at.result.now (background_cell t)
     (lower_node_entry bits t c.args.p _ _ (c.requires.child ∙ ap Child (sym c.held_place-place.ensures.slot)) was) c.args.from c.next_active.result c.next_active.ensures

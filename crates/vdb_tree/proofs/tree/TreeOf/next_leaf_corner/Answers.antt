@@ -5,7 +5,7 @@ use Rattle.vdb_coord.specs.declared.Level.TheVariants.{Leaf, Lower}
 use Rattle.vdb_coord.proofs.Places.{entries_is}
 use Rattle.vdb_node.specs.declared.Entry.TheVariants.{Child}
 use Rattle.vdb_pool.specs.Contents.{node_at}
-use Rattle.vdb_tree.specs.Layout.{bits_of, plain, lower_entry}
+use Rattle.vdb_tree.specs.Layout.{bits_of, background_cell, lower_entry}
 use Rattle.vdb_tree.proofs.Constants.{entries_few, next_corner, no_corner}
 use Rattle.vdb_tree.proofs.Descents.{upper_by_block, lower_node_entry}
 use Rattle.vdb_tree.proofs.Passes.{corner_block}
@@ -29,7 +29,7 @@ returns-in-Some-clause-corner g c =
     let bits = bits_of g.row.U g.row.L g.row.F in
     let was : node_at t.lowers c.held_place-place.result.slot ≡ Some c.at.result.now = rw (← c.self.view_is) c.at.ensures.node in
     let is = c.entry_corner.ensures in
-    let next = next_corner bits Lower c.args.p (lower_entry bits t) c.at.result.now (plain t) (lower_node_entry bits t c.args.p _ _ (c.requires.lower ∙ ap Child (sym c.held_place-place.ensures.slot)) was) c.args.from c.in-Some.offset c.in-Some.ensures c.entry_corner.result
+    let next = next_corner bits Lower c.args.p (lower_entry bits t) c.at.result.now (background_cell t) (lower_node_entry bits t c.args.p _ _ (c.requires.lower ∙ ap Child (sym c.held_place-place.ensures.slot)) was) c.args.from c.in-Some.offset c.in-Some.ensures c.entry_corner.result
     (rw c.bits-bits.ensures.value at is) in
     next
 
@@ -39,7 +39,7 @@ returns-in-Some-clause-inside g c =
     let bits = bits_of g.row.U g.row.L g.row.F in
     let was : node_at t.lowers c.held_place-place.result.slot ≡ Some c.at.result.now = rw (← c.self.view_is) c.at.ensures.node in
     let is = c.entry_corner.ensures in
-    let next = next_corner bits Lower c.args.p (lower_entry bits t) c.at.result.now (plain t) (lower_node_entry bits t c.args.p _ _ (c.requires.lower ∙ ap Child (sym c.held_place-place.ensures.slot)) was) c.args.from c.in-Some.offset c.in-Some.ensures c.entry_corner.result
+    let next = next_corner bits Lower c.args.p (lower_entry bits t) c.at.result.now (background_cell t) (lower_node_entry bits t c.args.p _ _ (c.requires.lower ∙ ap Child (sym c.held_place-place.ensures.slot)) was) c.args.from c.in-Some.offset c.in-Some.ensures c.entry_corner.result
     (rw c.bits-bits.ensures.value at is) in
     upper_by_block bits t c.entry_corner.result c.args.p (corner_block bits Lower Leaf c.args.p (lower_entry bits t) c.args.from c.in-Some.offset c.entry_corner.result next) ∙ c.requires.lower
 
@@ -53,4 +53,4 @@ returns-in-None-clause-corner g c =
     let t = c.args.self.now in
     let bits = bits_of g.row.U g.row.L g.row.F in
     let was : node_at t.lowers c.held_place-place.result.slot ≡ Some c.at.result.now = rw (← c.self.view_is) c.at.ensures.node in
-    no_corner bits Lower c.args.p (lower_entry bits t) c.at.result.now (plain t) (lower_node_entry bits t c.args.p _ _ (c.requires.lower ∙ ap Child (sym c.held_place-place.ensures.slot)) was) c.args.from c.in-None.ensures
+    no_corner bits Lower c.args.p (lower_entry bits t) c.at.result.now (background_cell t) (lower_node_entry bits t c.args.p _ _ (c.requires.lower ∙ ap Child (sym c.held_place-place.ensures.slot)) was) c.args.from c.in-None.ensures

@@ -26,7 +26,7 @@ returns-in-Some g c =
     let t = c.args.self.now in
     let was : node_at t.uppers c.args.upper.slot ≡ Some c.at.result.now = rw (← c.self.view_is) c.at.ensures.node in
     let next = upper_unlike bits t c.args.p c.args.upper.slot c.at.result.now (c.offset-from.result + 1) (Some c.in-Some.index) c.requires.child was
-    (ap (λ (n : ℕ). n + 1) c.offset-from.ensures.value) c.plain.result c.plain.ensures c.in-Some.ensures in
+    (ap (λ (n : ℕ). n + 1) c.offset-from.ensures.value) c.background_cell.result c.background_cell.ensures c.in-Some.ensures in
     part_at bits t Background Upper c.args.p c.in-Some.index next c.bits.result c.bits.ensures.value c.entry_block_in.result c.entry_block_in.ensures
 
 pub returns-in-None : goal.returns-in-None
@@ -35,4 +35,4 @@ returns-in-None g c =
     let t = c.args.self.now in
     let was : node_at t.uppers c.args.upper.slot ≡ Some c.at.result.now = rw (← c.self.view_is) c.at.ensures.node in
     upper_unlike bits t c.args.p c.args.upper.slot c.at.result.now (c.offset-from.result + 1) None c.requires.child was
-    (ap (λ (n : ℕ). n + 1) c.offset-from.ensures.value) c.plain.result c.plain.ensures c.in-None.ensures
+    (ap (λ (n : ℕ). n + 1) c.offset-from.ensures.value) c.background_cell.result c.background_cell.ensures c.in-None.ensures

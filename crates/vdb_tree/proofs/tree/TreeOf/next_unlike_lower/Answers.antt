@@ -4,7 +4,7 @@ use Rattle.vdb_coord.specs.declared.Level.TheVariants.{Upper}
 use Rattle.vdb_coord.proofs.Places.{entries_is}
 use Rattle.vdb_node.specs.declared.Entry.TheVariants.{Child}
 use Rattle.vdb_pool.specs.Contents.{node_at}
-use Rattle.vdb_tree.specs.Layout.{bits_of, plain, upper_entry}
+use Rattle.vdb_tree.specs.Layout.{bits_of, background_cell, upper_entry}
 use Rattle.vdb_tree.proofs.Descents.{tile_cell, tile_lower, upper_node_entry}
 use Rattle.vdb_tree.proofs.Sizes.{internal_small}
 use Rattle.vdb_tree.proofs.UnlikeEntries.{unlike}
@@ -20,5 +20,5 @@ returns g c =
     let t = c.args.self.now in
     let bits = bits_of g.row.U g.row.L g.row.F in
     let was : node_at t.uppers c.held_place-place.result.slot ≡ Some c.at.result.now = rw (← c.self.view_is) c.at.ensures.node in
-    unlike bits t Upper c.args.p c.args.cell (upper_entry bits t) (λ q e. tile_cell bits t c.args.cell q (tile_lower bits t c.args.cell q e)) c.at.result.now (plain t)
+    unlike bits t Upper c.args.p c.args.cell (upper_entry bits t) (λ q e. tile_cell bits t c.args.cell q (tile_lower bits t c.args.cell q e)) c.at.result.now (background_cell t)
     (upper_node_entry bits t c.args.p _ _ (c.requires.child ∙ ap Child (sym c.held_place-place.ensures.slot)) was) c.args.from c.next_unlike.result c.next_unlike.ensures

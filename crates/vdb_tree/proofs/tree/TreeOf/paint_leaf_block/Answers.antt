@@ -28,5 +28,5 @@ pub returns-else-covered-clause-painted : goal.returns-else-covered-clause-paint
 returns-else-covered-clause-painted g c =
     let bits = bits_of g.row.U g.row.L g.row.F in
     tiles_painted bits c.args.bounds c.args.cell Leaf c.args.self.now c.args.p
-    (uncovered_tile bits c.args.bounds c.args.cell Leaf c.args.self.now c.args.p c.in-Tile.field-0 c.requires.ready c.requires.inside (λ h. never c.if-covered.false (c.is_covered-covered.ensures.1 h))
+    (uncovered_tile bits c.args.bounds c.args.cell Leaf c.args.self.now c.args.p c.in-Tile.field-0 c.requires.edges c.requires.inside (λ h. never c.if-covered.false (c.is_covered-covered.ensures.1 h))
     (c.lower_entry.ensures.value ∙ c.in-Tile.is))

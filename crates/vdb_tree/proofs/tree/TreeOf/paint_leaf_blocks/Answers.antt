@@ -17,9 +17,9 @@ loop-next-init g c =
     let within = c.part-part.ensures.within in
     let first : PaintsTo bits c.args.bounds c.args.cell Lower Leaf part c.args.self.now c.args.self.now n c.min-q.result =
     rw c.min-q.ensures.corner
-    (paint_none bits c.args.bounds c.args.cell Lower Leaf part n (lower_from_leaf bits) within c.part-part.ensures.all c.args.self.now c.requires.ready (both _ _ c.min-q.ensures.bounds).0) in
+    (paint_none bits c.args.bounds c.args.cell Lower Leaf part n (lower_from_leaf bits) within c.part-part.ensures.all c.args.self.now c.requires.edges (both _ _ c.min-q.ensures.bounds).0) in
     let at = within c.min-q.result first.inside in
-    (first, uppers_same c.args.self.now, at.0, upper_by_block bits c.args.self.now c.min-q.result c.args.p at.1 ∙ c.requires.lower, c.requires.ready)
+    (first, uppers_same c.args.self.now, at.0, upper_by_block bits c.args.self.now c.min-q.result c.args.p at.1 ∙ c.requires.lower, c.requires.edges)
 
 pub loop-next-preserved : goal.loop-next-preserved
 loop-next-preserved g c =
@@ -31,7 +31,7 @@ loop-next-preserved g c =
     let on = paint_next bits c.args.bounds c.args.cell Lower Leaf c.part-part.result (block_number bits Lower c.args.p) (lower_from_leaf bits) within c.part-part.ensures.all c.args.self.now c.loop-next.self new c.loop-next.q
     c.loop-next.invariant.0 c.paint_leaf_block.ensures.outside c.paint_leaf_block.ensures.painted next c.in-Some.ensures.next in
     let at = within next on.inside in
-    (on, above, at.0, upper_entry_same bits c.args.self.now new above next ∙ upper_by_block bits c.args.self.now next c.args.p at.1 ∙ c.requires.lower, on.ready)
+    (on, above, at.0, upper_entry_same bits c.args.self.now new above next ∙ upper_by_block bits c.args.self.now next c.args.p at.1 ∙ c.requires.lower, on.edges)
 
 pub returns-in-None-clause-outside : goal.returns-in-None-clause-outside
 returns-in-None-clause-outside g c =

@@ -6,7 +6,7 @@ use Rattle.vdb_coord.specs.Walk.{coordinates_after}
 use Rattle.vdb_node.specs.declared.Entry.TheVariants.{Child}
 use Rattle.vdb_tree.specs.Changes.{KeepsUppers}
 use Rattle.vdb_tree.specs.Layout.{bits_of, upper_entry}
-use Rattle.vdb_tree.specs.Paints.{AreReady}
+use Rattle.vdb_tree.specs.Paints.{AreSplit}
 use Rattle.vdb_tree.proofs.Paints.{PaintsTo}
 use Rattle.vdb_tree.proofs.tree.TreeOf.paint_leaf_blocks.Given as goal
 
@@ -14,7 +14,7 @@ abbrev pub invariant-loop-next : goal.invariant-loop-next
 invariant-loop-next g l =
     let bits = bits_of g.row.U g.row.L g.row.F in
     PaintsTo bits l.fn.bounds l.fn.cell Lower Leaf l.part l.fn.self l.self (block_number bits Lower l.fn.p) l.q × KeepsUppers l.fn.self l.self
-    × IsTrue (is_inside l.fn.bounds l.q) × (upper_entry bits l.self l.q ≡ Child l.fn.lower) × AreReady bits l.fn.bounds l.fn.cell l.self
+    × IsTrue (is_inside l.fn.bounds l.q) × (upper_entry bits l.self l.q ≡ Child l.fn.lower) × AreSplit bits l.fn.bounds l.fn.cell l.self
 
 abbrev pub decreases-loop-next : goal.decreases-loop-next
 decreases-loop-next g l = coordinates_after l.q

@@ -25,7 +25,7 @@ pub returns-else-covered-clause-painted : goal.returns-else-covered-clause-paint
 returns-else-covered-clause-painted g c =
     let bits = bits_of g.row.U g.row.L g.row.F in
     tiles_painted bits c.args.bounds c.args.cell Lower c.args.self.now c.args.p
-    (uncovered_tile bits c.args.bounds c.args.cell Lower c.args.self.now c.args.p c.in-Tile.field-0 c.requires.ready c.requires.inside (λ h. never c.if-covered.false (c.is_covered-covered.ensures.1 h))
+    (uncovered_tile bits c.args.bounds c.args.cell Lower c.args.self.now c.args.p c.in-Tile.field-0 c.requires.edges c.requires.inside (λ h. never c.if-covered.false (c.is_covered-covered.ensures.1 h))
     (c.upper_entry.ensures.value ∙ c.in-Tile.is))
 
 pub returns-then-covered-2-clause-outside : goal.returns-then-covered-2-clause-outside

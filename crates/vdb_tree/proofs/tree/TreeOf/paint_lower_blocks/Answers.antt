@@ -17,9 +17,9 @@ loop-next-init g c =
     let within = c.part-part.ensures.within in
     let first : PaintsTo bits c.args.bounds c.args.cell Upper Lower part c.args.self.now c.args.self.now n c.min-q.result =
     rw c.min-q.ensures.corner
-    (paint_none bits c.args.bounds c.args.cell Upper Lower part n (upper_from_lower bits) within c.part-part.ensures.all c.args.self.now c.requires.ready (both _ _ c.min-q.ensures.bounds).0) in
+    (paint_none bits c.args.bounds c.args.cell Upper Lower part n (upper_from_lower bits) within c.part-part.ensures.all c.args.self.now c.requires.edges (both _ _ c.min-q.ensures.bounds).0) in
     let at = within c.min-q.result first.inside in
-    (first, refl, at.0, root_by_block bits c.args.self.now c.min-q.result c.args.p at.1 ∙ c.requires.upper, c.requires.ready)
+    (first, refl, at.0, root_by_block bits c.args.self.now c.min-q.result c.args.p at.1 ∙ c.requires.upper, c.requires.edges)
 
 pub loop-next-preserved : goal.loop-next-preserved
 loop-next-preserved g c =
@@ -31,7 +31,7 @@ loop-next-preserved g c =
     let on = paint_next bits c.args.bounds c.args.cell Upper Lower c.part-part.result (block_number bits Upper c.args.p) (upper_from_lower bits) within c.part-part.ensures.all c.args.self.now c.loop-next.self new c.loop-next.q
     c.loop-next.invariant.0 c.paint_lower_block.ensures.outside c.paint_lower_block.ensures.painted next c.in-Some.ensures.next in
     let at = within next on.inside in
-    (on, root, at.0, root_entry_same bits c.args.self.now new on.outside.head root next ∙ root_by_block bits c.args.self.now next c.args.p at.1 ∙ c.requires.upper, on.ready)
+    (on, root, at.0, root_entry_same bits c.args.self.now new on.outside.head root next ∙ root_by_block bits c.args.self.now next c.args.p at.1 ∙ c.requires.upper, on.edges)
 
 pub returns-in-None-clause-outside : goal.returns-in-None-clause-outside
 returns-in-None-clause-outside g c =

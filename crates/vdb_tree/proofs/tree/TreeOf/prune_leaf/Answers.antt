@@ -1,6 +1,6 @@
 use Rattle.std.proofs.Common.{refl}
 use Rattle.vdb_coord.specs.declared.Level.TheVariants.{Leaf}
-use Rattle.vdb_tree.proofs.Passes.{block_of_tile_needed, fills_keeps, leaf_descent, mixed_needed, none_mixed}
+use Rattle.vdb_tree.proofs.Passes.{block_of_tile_needed, fills_keeps, leaf_descent, non_constant_needed, none_non_constant}
 use Rattle.vdb_tree.proofs.tree.TreeOf.prune_leaf.Goals as goal
 
 pub returns-in-Tile-clause-needed : goal.returns-in-Tile-clause-needed
@@ -13,4 +13,4 @@ pub returns-in-Some-clause-others : goal.returns-in-Some-clause-others
 returns-in-Some-clause-others g c = λ q d. leaf_descent _ c.args.self.now c.drop_leaf.new.self c.drop_leaf.ensures.above q (c.drop_leaf.ensures.entries.there q d)
 
 pub returns-in_default-clause-needed : goal.returns-in_default-clause-needed
-returns-in_default-clause-needed g c = mixed_needed _ Leaf c.args.self.now c.args.p (none_mixed _ Leaf c.args.self.now c.args.p _ c.in_default.is (λ cell. (c.leaf_constant.ensures cell).1))
+returns-in_default-clause-needed g c = non_constant_needed _ Leaf c.args.self.now c.args.p (none_non_constant _ Leaf c.args.self.now c.args.p _ c.in_default.is (λ cell. (c.leaf_constant.ensures cell).1))

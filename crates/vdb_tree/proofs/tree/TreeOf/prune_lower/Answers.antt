@@ -3,7 +3,7 @@ use Rattle.vdb_coord.specs.declared.Level.TheVariants.{Leaf, Lower}
 use Rattle.vdb_coord.proofs.Nesting.{lower_from_leaf}
 use Rattle.vdb_coord.proofs.Places.{offset_below}
 use Rattle.vdb_tree.specs.Layout.{bits_of}
-use Rattle.vdb_tree.proofs.Passes.{block_of_tile_needed, descent_by, descent_trans, fills_keeps, keeps_trans, mixed_needed, none_mixed, root_entry_same, tile_needed, tiles_constant, tiles_of_constant}
+use Rattle.vdb_tree.proofs.Passes.{block_of_tile_needed, descent_by, descent_trans, fills_keeps, keeps_trans, non_constant_needed, none_non_constant, root_entry_same, tile_needed, tiles_constant, tiles_of_constant}
 use Rattle.vdb_tree.proofs.tree.TreeOf.prune_lower.Goals as goal
 
 least : (n : ℕ) → 0 ≤ n
@@ -51,6 +51,6 @@ returns-in_default-clause-needed g c =
     let mid = c.prune_leaves.new.self in
     λ q b. (
       c.prune_leaves.ensures.done.done q b (least _) (offset_below bits Lower q),
-      mixed_needed bits Lower mid c.args.p
-          (none_mixed bits Lower mid c.args.p _ c.in_default.is (λ cell const. (c.lower_constant.ensures.constant cell).1 (tiles_of_constant bits Leaf Lower mid c.args.p cell (lower_from_leaf bits) (λ r f. c.prune_leaves.ensures.done.done r f (least _) (offset_below bits Lower r)) const))) q b,
+      non_constant_needed bits Lower mid c.args.p
+          (none_non_constant bits Lower mid c.args.p _ c.in_default.is (λ cell const. (c.lower_constant.ensures.constant cell).1 (tiles_of_constant bits Leaf Lower mid c.args.p cell (lower_from_leaf bits) (λ r f. c.prune_leaves.ensures.done.done r f (least _) (offset_below bits Lower r)) const))) q b,
     )

@@ -3,7 +3,7 @@ use Rattle.vdb_coord.specs.declared.Level.TheVariants.{Leaf, Lower, Upper}
 use Rattle.vdb_coord.proofs.Nesting.{upper_from_lower}
 use Rattle.vdb_coord.proofs.Places.{offset_below}
 use Rattle.vdb_tree.specs.Layout.{bits_of, root_at}
-use Rattle.vdb_tree.proofs.Passes.{descent_by, descent_trans, fills_keeps, keeps_trans, mixed_needed, none_mixed, tile_needed, tiles_constant, tiles_of_constant}
+use Rattle.vdb_tree.proofs.Passes.{descent_by, descent_trans, fills_keeps, keeps_trans, non_constant_needed, none_non_constant, tile_needed, tiles_constant, tiles_of_constant}
 use Rattle.vdb_tree.proofs.Splits.{root_turns}
 use Rattle.vdb_tree.proofs.Sweeps.{other_key}
 use Rattle.vdb_tree.proofs.tree.TreeOf.prune_upper.Goals as goal
@@ -47,7 +47,7 @@ returns-in_default-clause-needed g c =
     let below = c.prune_lowers.ensures.done.done q b (least _) (offset_below bits Upper q) in (
       below.0,
       below.1,
-      mixed_needed bits Upper mid c.args.p
-          (none_mixed bits Upper mid c.args.p _ c.in_default.is (λ cell const. (c.upper_constant.ensures.constant cell).1 (tiles_of_constant bits Lower Upper mid c.args.p cell (upper_from_lower bits)
+      non_constant_needed bits Upper mid c.args.p
+          (none_non_constant bits Upper mid c.args.p _ c.in_default.is (λ cell const. (c.upper_constant.ensures.constant cell).1 (tiles_of_constant bits Lower Upper mid c.args.p cell (upper_from_lower bits)
           (λ r f. (c.prune_lowers.ensures.done.done r f (least _) (offset_below bits Upper r)).1) const))) q b,
     )

@@ -1,11 +1,11 @@
 use Rattle.std.proofs.Common.{◌∙◌}
-use Rattle.vdb_tree.specs.Layout.{bits_of, plain}
+use Rattle.vdb_tree.specs.Layout.{bits_of, background_cell}
 use Rattle.vdb_tree.proofs.Equations.{keeps_field}
 use Rattle.vdb_tree.specs.Nodes.{IsCut}
 use Rattle.vdb_tree.proofs.MadeNodes.{keys_in_none, keys_in_twice, keys_twice, makes_twice, no_node_makes}
 use Rattle.vdb_tree.proofs.Splits.{adds_twice}
-use Rattle.vdb_tree.proofs.Readiness.{box_stays, on_ok, ready_all}
-use Rattle.vdb_tree.proofs.Rooms.{obeys_within}
+use Rattle.vdb_tree.proofs.SplitTiles.{box_stays, on_ok, ready_all}
+use Rattle.vdb_tree.proofs.Capacities.{obeys_within}
 use Rattle.vdb_tree.proofs.tree.TreeOf.split.Goals as goal
 
 pub returns-in_err-enter_box-clause-field : goal.returns-in_err-enter_box-clause-field
@@ -14,8 +14,8 @@ returns-in_err-enter_box-clause-field g c = keeps_field (bits_of g.row.U g.row.L
 pub returns-in_err-enter_box-clause-kept : goal.returns-in_err-enter_box-clause-kept
 returns-in_err-enter_box-clause-kept g c = c.in_err-enter_box.ensures.keeps.head.limit
 
-pub returns-in_err-enter_box-clause-ready : goal.returns-in_err-enter_box-clause-ready
-returns-in_err-enter_box-clause-ready g c = c.in_err-enter_box.ensures.ready
+pub returns-in_err-enter_box-clause-edges : goal.returns-in_err-enter_box-clause-edges
+returns-in_err-enter_box-clause-edges g c = c.in_err-enter_box.ensures.edges
 
 pub returns-clause-field : goal.returns-clause-field
 returns-clause-field g c =
@@ -29,13 +29,13 @@ pub returns-clause-limit : goal.returns-clause-limit
 returns-clause-limit g c =
     obeys_within g.V.PartialEq.eq (bits_of g.row.U g.row.L g.row.F) c.args.self.now.limit _ c.split_root_blocks.result c.split_root_blocks.ensures.memory c.in_ok-enter_box.ensures.limit
 
-pub returns-clause-plain : goal.returns-clause-plain
-returns-clause-plain g c = λ same. c.split_root_blocks.ensures.memory
+pub returns-clause-background_cell : goal.returns-clause-background_cell
+returns-clause-background_cell g c = λ same. c.split_root_blocks.ensures.memory
 
-pub returns-clause-ready : goal.returns-clause-ready
-returns-clause-ready g c = λ box was.
-    box_stays (bits_of g.row.U g.row.L g.row.F) box (plain c.args.self.now) c.enter_box.new.self c.split_root_blocks.new.self c.split_root_blocks.ensures.keeps c.split_root_blocks.ensures.adds
-    (c.in_ok-enter_box.ensures.ready box was)
+pub returns-clause-edges : goal.returns-clause-edges
+returns-clause-edges g c = λ box was.
+    box_stays (bits_of g.row.U g.row.L g.row.F) box (background_cell c.args.self.now) c.enter_box.new.self c.split_root_blocks.new.self c.split_root_blocks.ensures.keeps c.split_root_blocks.ensures.adds
+    (c.in_ok-enter_box.ensures.edges box was)
 
 pub returns-in_err-enter_box-clause-made : goal.returns-in_err-enter_box-clause-made
 returns-in_err-enter_box-clause-made g c =
@@ -62,5 +62,5 @@ returns-clause-adds g c = λ h. adds_twice (bits_of g.row.U g.row.L g.row.F) c.a
 
 pub returns-clause-done : goal.returns-clause-done
 returns-clause-done g c =
-    on_ok c.split_root_blocks.result c.split_root_blocks.ensures.ready (λ ready.
-    ready_all (bits_of g.row.U g.row.L g.row.F) c.args.bounds c.args.cell c.enter_box.new.self c.split_root_blocks.new.self c.split_root_blocks.ensures.keeps c.split_root_blocks.ensures.adds c.in_ok-enter_box.ensures.entered ready)
+    on_ok c.split_root_blocks.result c.split_root_blocks.ensures.edges (λ edges.
+    ready_all (bits_of g.row.U g.row.L g.row.F) c.args.bounds c.args.cell c.enter_box.new.self c.split_root_blocks.new.self c.split_root_blocks.ensures.keeps c.split_root_blocks.ensures.adds c.in_ok-enter_box.ensures.entered edges)

@@ -4,7 +4,7 @@ use Rattle.vdb_coord.specs.declared.Level.TheVariants.{Leaf}
 use Rattle.vdb_node.specs.declared.Entry.TheVariants.{Child}
 use Rattle.vdb_tree.specs.Changes.{KeepsUppers}
 use Rattle.vdb_tree.specs.Layout.{bits_of, upper_entry}
-use Rattle.vdb_tree.proofs.Readiness.{SplitsTo}
+use Rattle.vdb_tree.proofs.SplitTiles.{SplitsTo}
 use Rattle.vdb_tree.proofs.tree.TreeOf.split_leaf_blocks.Given as goal
 
 abbrev pub invariant-loop-self : goal.invariant-loop-self

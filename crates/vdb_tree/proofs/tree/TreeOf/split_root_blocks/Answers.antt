@@ -5,12 +5,12 @@ use Rattle.vdb_coord.specs.Space.{is_inside}
 use Rattle.vdb_coord.specs.declared.Coord.{Coord}
 use Rattle.vdb_coord.specs.declared.Level.TheVariants.{Upper}
 use Rattle.vdb_tree.specs.Layout.{bits_of, root_at}
-use Rattle.vdb_tree.specs.Ready.{IsReadyTo}
-use Rattle.vdb_tree.specs.Room.{IsNextMet}
+use Rattle.vdb_tree.specs.SplitBox.{IsSplitTo}
+use Rattle.vdb_tree.specs.Capacity.{IsNextMet}
 use Rattle.vdb_tree.proofs.KeysPast.{fewer_beyond}
 use Rattle.vdb_tree.specs.Nodes.{IsCut}
 use Rattle.vdb_tree.proofs.MadeNodes.{keys_twice, makes_twice}
-use Rattle.vdb_tree.proofs.Readiness.{next_at_first, roots_end, roots_next, roots_none}
+use Rattle.vdb_tree.proofs.SplitTiles.{next_at_first, roots_end, roots_next, roots_none}
 use Rattle.vdb_tree.proofs.Splits.{adds_twice}
 use Rattle.vdb_tree.proofs.tree.TreeOf.split_root_blocks.Goals as goal
 
@@ -39,9 +39,9 @@ loop-key-preserved g c =
     let n = c.split_next_root.new.self in
     let next = subst (λ (o : Option Coord). IsNextMet bits c.args.bounds t.root c.loop-key.passed o) c.in-Some.is c.in_ok-key.ensures.next in
     let table = subst (λ (o : Option Coord). (j : Coord) → o ≢ Some j → root_at n.root j ≡ root_at t.root j) c.in-Some.is c.in_ok-key.ensures.table in
-    let ready = subst (λ (o : Option Coord). IfSome o (λ l. (q : Coord) → IsTrue (is_inside c.args.bounds q) → key bits q ≡ l → IsReadyTo bits c.args.bounds c.args.cell Upper n q)) c.in-Some.is c.in_ok-key.ensures.ready in
+    let edges = subst (λ (o : Option Coord). IfSome o (λ l. (q : Coord) → IsTrue (is_inside c.args.bounds q) → key bits q ≡ l → IsSplitTo bits c.args.bounds c.args.cell Upper n q)) c.in-Some.is c.in_ok-key.ensures.edges in
     roots_next bits c.args.bounds c.args.cell c.args.self.now t n c.loop-key.passed c.loop-key.invariant c.in_ok-key.ensures.keeps c.in_ok-key.ensures.adds k c.in_ok-key.ensures.made c.in_ok-key.ensures.keys next
-    (λ j d. table j (λ e. d (some_same j k e))) ready
+    (λ j d. table j (λ e. d (some_same j k e))) edges
 
 pub returns-in-None-clause-adds : goal.returns-in-None-clause-adds
 returns-in-None-clause-adds g c =
@@ -50,8 +50,8 @@ returns-in-None-clause-adds g c =
 none_some : (k : Coord) → ◌≡◌ {A = Option Coord} None (Some k) → ⊥
 none_some k e = cc
 
-pub returns-in-None-clause-ready : goal.returns-in-None-clause-ready
-returns-in-None-clause-ready g c =
+pub returns-in-None-clause-edges : goal.returns-in-None-clause-edges
+returns-in-None-clause-edges g c =
     let bits = bits_of g.row.U g.row.L g.row.F in
     let t = c.loop-key.self in
     let n = c.split_next_root.new.self in

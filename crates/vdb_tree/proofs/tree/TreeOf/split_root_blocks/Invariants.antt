@@ -1,6 +1,6 @@
 use Rattle.vdb_tree.specs.Layout.{bits_of}
 use Rattle.vdb_tree.proofs.KeysPast.{keys_past}
-use Rattle.vdb_tree.proofs.Readiness.{SplitsRoots}
+use Rattle.vdb_tree.proofs.SplitTiles.{SplitsRoots}
 use Rattle.vdb_tree.proofs.tree.TreeOf.split_root_blocks.Given as goal
 
 abbrev pub invariant-loop-key : goal.invariant-loop-key

@@ -1,7 +1,7 @@
 use Rattle.std.proofs.Common.{refl, subst, sym}
 use Rattle.vdb_coord.specs.declared.Coord.{Coord}
 use Rattle.vdb_coord.specs.declared.Level.TheVariants.{Upper}
-use Rattle.vdb_tree.specs.Changes.{IsNeededTo, IsNoPlainRoot, Keeps}
+use Rattle.vdb_tree.specs.Changes.{IsNeededTo, IsNoBackgroundRoot, Keeps}
 use Rattle.vdb_tree.specs.Layout.{Layout, bits_of}
 use Rattle.vdb_tree.proofs.KeysPast.{fewer_past}
 use Rattle.vdb_tree.proofs.Sweeps.{next_as_before, sweep_end, sweep_next, sweep_none}
@@ -28,7 +28,7 @@ returns-clause-needed g c =
 pub returns-clause-swept : goal.returns-clause-swept
 returns-clause-swept g c =
     let bits = bits_of g.row.U g.row.L g.row.F in
-    subst (λ (t : Layout g.row.V.Denot). (p : Coord) → IsNoPlainRoot bits t p) (sym (c.in_default.ensures.none refl))
+    subst (λ (t : Layout g.row.V.Denot). (p : Coord) → IsNoBackgroundRoot bits t p) (sym (c.in_default.ensures.none refl))
     (λ p. (sweep_end bits c.args.self.now c.loop-key.self c.loop-key.passed c.loop-key.invariant c.in_default.ensures.next p).1)
 
 pub returns-clause-keeps : goal.returns-clause-keeps

@@ -4,7 +4,7 @@ use Rattle.vdb_coord.specs.Blocks.{entries}
 use Rattle.vdb_coord.specs.declared.Level.TheVariants.{Upper}
 use Rattle.vdb_node.specs.declared.Entry.TheVariants.{Child}
 use Rattle.vdb_pool.specs.Contents.{node_at}
-use Rattle.vdb_tree.specs.Layout.{bits_of, plain, upper_entry}
+use Rattle.vdb_tree.specs.Layout.{bits_of, background_cell, upper_entry}
 use Rattle.vdb_tree.proofs.Constants.{entries_some, last_ends, last_within, node_iff}
 use Rattle.vdb_tree.proofs.Descents.{upper_node_entry}
 use Rattle.vdb_tree.proofs.Passes.{childless_if}
@@ -27,7 +27,7 @@ returns-clause-constant g c = λ cell.
     let bits = bits_of g.row.U g.row.L g.row.F in
     let count : c.from-count.result ≡ entries bits Upper = c.from-count.ensures ∙ c.entries.ensures ∙ ap (λ b. entries b Upper) c.bits.ensures.value in
     let was : node_at t.uppers c.held_place-place.result.slot ≡ Some c.at-node.result.now = rw (← c.self.view_is) c.at-node.ensures.node in
-    node_iff bits Upper c.args.p (upper_entry bits t) c.at-node.result.now (plain t) (upper_node_entry bits t c.args.p _ _ (c.requires ∙ ap Child (sym c.held_place-place.ensures.slot)) was)
+    node_iff bits Upper c.args.p (upper_entry bits t) c.at-node.result.now (background_cell t) (upper_node_entry bits t c.args.p _ _ (c.requires ∙ ap Child (sym c.held_place-place.ensures.slot)) was)
     _ (last_ends bits Upper c.args.p _ count) _ c.entry.ensures cell _ (c.constant.ensures cell)
 
 pub returns-clause-childless : goal.returns-clause-childless
@@ -37,5 +37,5 @@ returns-clause-childless g c =
     let count : c.from-count.result ≡ entries bits Upper = c.from-count.ensures ∙ c.entries.ensures ∙ ap (λ b. entries b Upper) c.bits.ensures.value in
     let was : node_at t.uppers c.held_place-place.result.slot ≡ Some c.at-node.result.now = rw (← c.self.view_is) c.at-node.ensures.node in
     childless_if bits Upper (upper_entry bits t) c.args.p c.constant.result
-    (λ cell. node_iff bits Upper c.args.p (upper_entry bits t) c.at-node.result.now (plain t) (upper_node_entry bits t c.args.p _ _ (c.requires ∙ ap Child (sym c.held_place-place.ensures.slot)) was)
+    (λ cell. node_iff bits Upper c.args.p (upper_entry bits t) c.at-node.result.now (background_cell t) (upper_node_entry bits t c.args.p _ _ (c.requires ∙ ap Child (sym c.held_place-place.ensures.slot)) was)
     _ (last_ends bits Upper c.args.p _ count) _ c.entry.ensures cell _ (c.constant.ensures cell))

@@ -2,7 +2,7 @@ use Rattle.std.proofs.Common.{◌≡◌, ◌∙◌, ap, refl, sym}
 use Rattle.vdb_node.specs.declared.Entry.TheVariants.{Child}
 use Rattle.std.specs.Prelude.{Some}
 use Rattle.vdb_pool.specs.Contents.{node_at}
-use Rattle.vdb_tree.specs.Layout.{plain}
+use Rattle.vdb_tree.specs.Layout.{background_cell}
 use Rattle.vdb_tree.proofs.Descents.{leaf_cell}
 use Rattle.vdb_tree.proofs.tree.TreeOf.voxel.Goals as goal
 
@@ -11,4 +11,4 @@ returns-clause-value g c =
     let t = c.args.self.now in
     let was : node_at t.leaves c.held_place-place.result.slot ≡ Some c.at.result.now = rw (← c.self.view_is) c.at.ensures.node in
     leaf_cell _ t c.args.p _ _ (c.requires ∙ ap Child (sym c.held_place-place.ensures.slot)) was c.args.p refl
-    ∙ rw c.offset-offset.ensures.value at (c.entry.ensures (plain t))
+    ∙ rw c.offset-offset.ensures.value at (c.entry.ensures (background_cell t))

@@ -3,7 +3,7 @@ use Rattle.vdb_coord.proofs.Meeting.{fits_everywhere}
 use Rattle.vdb_tree.specs.Field.{Field, written}
 use Rattle.vdb_tree.specs.Layout.{bits_of}
 use Rattle.vdb_tree.specs.Paths.{is_child}
-use Rattle.vdb_tree.specs.Plain.{roots}
+use Rattle.vdb_tree.specs.ConstantBlocks.{roots}
 use Rattle.vdb_tree.proofs.Blocks.{never}
 use Rattle.vdb_tree.proofs.Equations.{changes_field}
 use Rattle.vdb_tree.proofs.MadeNodes.{elsewhere_itself, elsewhere_same}
@@ -29,8 +29,8 @@ returns-then-eq-clause-outcome g c =
     let field = standing_field bits c.args.self.now c.args.p c.args.change stands in
     (field, subst (λ (f : Field g.row.V.Denot). roots g.V.PartialEq.eq bits f ≤ c.args.self.now.limit) field c.keeps_to_limit.ensures.kept)
 
-pub returns-clause-stands : goal.returns-clause-stands
-returns-clause-stands g c = λ stands.
+pub returns-clause-unchanged : goal.returns-clause-unchanged
+returns-clause-unchanged g c = λ stands.
     let bits = bits_of g.row.U g.row.L g.row.F in
     let exact = exact_by g.V.PartialEq.eq g.V.Ord.cmp g.met.V.Ord.matches_eq g.met.V.Voxel.exact in
     let inside = fits_everywhere c.args.p (search rules) (search rules) (search rules) in
@@ -60,8 +60,8 @@ returns-clause-outcome g c =
     let same = c.applied.ensures ∙ ap (written c.args.change) (sym at) ∙ stands ∙ at in
     never c.if-eq.false (c.eq.ensures ∙ cell_same g.V.PartialEq.eq exact g.met.V.Eq.laws.refl c.applied.result c.in-Tile.cell same))
 
-pub returns-clause-mixed : goal.returns-clause-mixed
-returns-clause-mixed g c = λ h. absurd (never (ap is_child (c.held_entry-holder.ensures.value ∙ c.in-Tile.is)) (c.has_leaf_if_mixed.ensures h))
+pub returns-clause-non_constant : goal.returns-clause-non_constant
+returns-clause-non_constant g c = λ h. absurd (never (ap is_child (c.held_entry-holder.ensures.value ∙ c.in-Tile.is)) (c.has_leaf_if_non_constant.ensures h))
 
 pub returns-in-Child-clause-elsewhere : goal.returns-in-Child-clause-elsewhere
 returns-in-Child-clause-elsewhere g c = λ room. elsewhere_same (bits_of g.row.U g.row.L g.row.F) c.args.self.now c.write_voxel.new.self c.args.p c.write_voxel.ensures.same

@@ -11,29 +11,29 @@ use Rattle.vdb_tree.proofs.tree.TreeOf.write_root_tile.Goals as goal
 pub returns-in_err-leaf-clause-outcome : goal.returns-in_err-leaf-clause-outcome
 returns-in_err-leaf-clause-outcome g c = λ _.
     let bits = bits_of g.row.U g.row.L g.row.F in
-    let keeps = keeps_twice bits c.args.self.now c.make_room.new.self c.leaf_around.new.self c.make_room.ensures.keeps c.leaf_around.ensures.keeps in
+    let keeps = keeps_twice bits c.args.self.now c.make_capacity.new.self c.leaf_around.new.self c.make_capacity.ensures.keeps c.leaf_around.ensures.keeps in
     let memory : c.from_residual-in_err-leaf.result ≡ Err Memory = grind (arith, common_steps, c.from_residual-in_err-leaf.ensures, c.in_err-leaf.ensures.memory) in
-    kept_outcome bits g.V.PartialEq.eq c.args.self.now c.leaf_around.new.self c.args.p c.args.change _ memory keeps (c.in_ok-make_room.ensures.within c.args.change)
+    kept_outcome bits g.V.PartialEq.eq c.args.self.now c.leaf_around.new.self c.args.p c.args.change _ memory keeps (c.in_ok-make_capacity.ensures.within c.args.change)
 
 pub returns-clause-outcome : goal.returns-clause-outcome
 returns-clause-outcome g c = λ _.
     let bits = bits_of g.row.U g.row.L g.row.F in
-    let keeps = keeps_twice bits c.args.self.now c.make_room.new.self c.leaf_around.new.self c.make_room.ensures.keeps c.leaf_around.ensures.keeps in
-    (written_field bits c.args.self.now c.leaf_around.new.self c.write_voxel.new.self c.args.p c.args.change keeps c.write_voxel.ensures.changes, c.in_ok-make_room.ensures.within c.args.change)
+    let keeps = keeps_twice bits c.args.self.now c.make_capacity.new.self c.leaf_around.new.self c.make_capacity.ensures.keeps c.leaf_around.ensures.keeps in
+    (written_field bits c.args.self.now c.leaf_around.new.self c.write_voxel.new.self c.args.p c.args.change keeps c.write_voxel.ensures.changes, c.in_ok-make_capacity.ensures.within c.args.change)
 
-pub returns-in_err-make_room-clause-elsewhere : goal.returns-in_err-make_room-clause-elsewhere
-returns-in_err-make_room-clause-elsewhere g c = λ room.
+pub returns-in_err-make_capacity-clause-elsewhere : goal.returns-in_err-make_capacity-clause-elsewhere
+returns-in_err-make_capacity-clause-elsewhere g c = λ room.
     let bits = bits_of g.row.U g.row.L g.row.F in
-    subst (λ (t : Layout g.row.V.Denot). KeepsElsewhere bits c.args.self.now t c.args.p) (sym (c.make_room.ensures.there room).1) (elsewhere_itself bits c.args.self.now c.args.p)
+    subst (λ (t : Layout g.row.V.Denot). KeepsElsewhere bits c.args.self.now t c.args.p) (sym (c.make_capacity.ensures.there room).1) (elsewhere_itself bits c.args.self.now c.args.p)
 
 pub returns-in_err-leaf-clause-elsewhere : goal.returns-in_err-leaf-clause-elsewhere
 returns-in_err-leaf-clause-elsewhere g c = λ room.
     let bits = bits_of g.row.U g.row.L g.row.F in
-    subst (λ (t : Layout g.row.V.Denot). KeepsElsewhere bits t c.leaf_around.new.self c.args.p) (c.make_room.ensures.there room).1 c.leaf_around.ensures.elsewhere
+    subst (λ (t : Layout g.row.V.Denot). KeepsElsewhere bits t c.leaf_around.new.self c.args.p) (c.make_capacity.ensures.there room).1 c.leaf_around.ensures.elsewhere
 
 pub returns-clause-elsewhere : goal.returns-clause-elsewhere
 returns-clause-elsewhere g c = λ room.
     let bits = bits_of g.row.U g.row.L g.row.F in
     let made = c.leaf_around.new.self in
-    let around = subst (λ (t : Layout g.row.V.Denot). KeepsElsewhere bits t made c.args.p) (c.make_room.ensures.there room).1 c.leaf_around.ensures.elsewhere in
+    let around = subst (λ (t : Layout g.row.V.Denot). KeepsElsewhere bits t made c.args.p) (c.make_capacity.ensures.there room).1 c.leaf_around.ensures.elsewhere in
     elsewhere_twice bits c.args.self.now made c.write_voxel.new.self c.args.p around (elsewhere_same bits made c.write_voxel.new.self c.args.p c.write_voxel.ensures.same)

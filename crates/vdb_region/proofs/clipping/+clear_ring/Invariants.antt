@@ -1,5 +1,0 @@
-use Rattle.std.proofs.Common.{length}
-use Rattle.vdb_region.proofs.clipping.+clear_ring.Given as goal
-
-abbrev pub decreases-clear_ring : goal.decreases-clear_ring
-decreases-clear_ring g l = length l.faces.now

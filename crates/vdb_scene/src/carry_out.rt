@@ -1,0 +1,438 @@
+//! The step of a scene by a command.
+ghost use Rattle.std.specs.Prelude.{◌≡◌, IfOk, IfErr, Some, None, ◌∷◌, [], true, if◌then◌else◌, ◌||◌, nat_lt};
+ghost use Rattle.std.specs.Borrow.{sem};
+ghost use Rattle.std.specs.Io.BufRead.{Rests};
+ghost use Rattle.vdb_coord.specs.Space.{extent, is_box};
+ghost use Rattle.vdb_scene.specs.Doing.{AppliesTo, CarriesOut, LeavesTrees, answer_of};
+ghost use Rattle.vdb_scene.specs.Grids.{scene_of};
+ghost use Rattle.vdb_scene.specs.contracts.scene.Scene.{the_row};
+ghost use Rattle.vdb_scene.specs.Scalars.{has_form, has_value, number, scalar};
+ghost use Rattle.vdb_scene.specs.Places.{name_coords, box_between, count_of, flat as flat_corners, is_accessor, is_component, is_limit, names_coord, coord_named};
+ghost use Rattle.vdb_scene.specs.Refusals.{first_of_all, no_box, other_form, out_of_range};
+ghost use Rattle.vdb_scene.specs.Step.{passes, write_command};
+ghost use Rattle.vdb_tree.specs.Field.{as_write_of};
+ghost use Rattle.vdb_scene.specs.declared.command.Command.TheVariants as commands;
+
+use crate::slice::numbers;
+use crate::{
+    Answer, AnyGrid, Area, Command, Corners, Literal, Name, Num, Point, ROOT_LIMIT, Refusal,
+    Scalar, Scene, Slice, Voxels,
+};
+use vdb_coord::{Bounds, Coord};
+use vdb_pool::Steps;
+use vdb_tree::Write;
+use vdb_value::{Cell, Kind};
+
+/// The most voxels of a box that is voxelised at once.
+const VOXELISE_LIMIT: u128 = 2_097_152;
+
+/// The most voxels that are listed at once.
+const LIST_LIMIT: i64 = 4096;
+
+/// The most columns, and the most rows, of a slice.
+const SLICE_LIMIT: u64 = 64;
+
+/// The 32-bit number that a line writes, if it is one.
+fn component_of(component: Num) -> Option<i32>
+    ensures { result ≡ (if is_component component then Some (number component) else None) }
+{
+    match component {
+        Num::Near(value) => i32::try_from(value).ok(),
+        Num::Far => None,
+    }
+}
+
+/// The coordinate that a line names, if it is one.
+fn place_of(at: &Point) -> Option<Coord>
+    ensures { result ≡ (if names_coord at.now then Some (coord_named at.now) else None) }
+{
+    let x = component_of(at.x)?;
+    let y = component_of(at.y)?;
+    let z = component_of(at.z)?;
+    Some(Coord { x, y, z })
+}
+
+/// The value of a kind that a line writes. `Kind` refuses one of another form, and `ValueRange` one outside the kind.
+fn scalar_of(kind: Kind, literal: Literal) -> Result<Scalar, Refusal>
+    ensures form { IfOk result (λ value. has_form kind literal ≡ true) }
+    ensures range { IfOk result (λ value. has_value kind literal ≡ true) }
+    ensures value { IfOk result (λ value. value ≡ scalar kind literal) }
+    ensures refusal { IfErr result (λ refusal. first_of_all (other_form (has_form kind literal) ∷ out_of_range (has_value kind literal) ∷ []) ≡ Some refusal) }
+{
+    match literal {
+        Literal::Truth(value) => match kind {
+            Kind::Bool => Ok(Scalar::Bool(value)),
+            _ => Err(Refusal::Kind),
+        },
+        Literal::Number(value) => match kind {
+            Kind::Bool => Err(Refusal::Kind),
+            Kind::I32 => match component_of(value) {
+                Some(value) => Ok(Scalar::I32(value)),
+                None => Err(Refusal::ValueRange),
+            },
+            Kind::I64 => match value {
+                Num::Near(value) => Ok(Scalar::I64(value)),
+                Num::Far => Err(Refusal::ValueRange),
+            },
+        },
+    }
+}
+
+/// The box that a line names. `ValueRange` refuses a corner that is no coordinate, and then `Box` a minimum that is greater
+/// than its maximum.
+pub(crate) fn bounds_of(corners: &Corners) -> Result<Bounds, Refusal>
+    ensures places { IfOk result (λ bounds. name_coords corners.now ≡ true) }
+    ensures ordered { IfOk result (λ bounds. is_box (box_between corners.now) ≡ true) }
+    ensures bounds { IfOk result (λ bounds. bounds ≡ box_between corners.now) }
+    ensures refusal { IfErr result (λ refusal. first_of_all (out_of_range (name_coords corners.now) ∷ no_box corners.now ∷ []) ≡ Some refusal) }
+{
+    let Some(min) = place_of(&corners.min) else {
+        return Err(Refusal::ValueRange);
+    };
+    let Some(max) = place_of(&corners.max) else {
+        return Err(Refusal::ValueRange);
+    };
+    let Some(bounds) = Bounds::new(min, max) else {
+        return Err(Refusal::Box);
+    };
+    Ok(bounds)
+}
+
+/// The corners of a part of a plane.
+fn flat(z: Num, area: Area) -> Corners
+    ensures { result ≡ flat_corners z area }
+{
+    let min = Point {
+        x: area.min_x,
+        y: area.min_y,
+        z,
+    };
+    let max = Point {
+        x: area.max_x,
+        y: area.max_y,
+        z,
+    };
+    Corners { min, max }
+}
+
+/// Whether a slice between two corners has more than `SLICE_LIMIT` columns or rows.
+fn is_wide(min: Coord, max: Coord) -> bool
+    ensures { result ≡ (nat_lt 64 (extent min.x max.x) || nat_lt 64 (extent min.y max.y)) }
+{
+    numbers(min.x, max.x) > SLICE_LIMIT || numbers(min.y, max.y) > SLICE_LIMIT
+}
+
+/// The limit of a listing that a line names, if it is one of 1 to `LIST_LIMIT`.
+fn limit_of(limit: Num) -> Option<u32>
+    ensures { result ≡ (if is_limit limit then Some (count_of limit) else None) }
+{
+    match limit {
+        Num::Near(value) => {
+            if 1 <= value && value <= LIST_LIMIT {
+                Some(value as u32)
+            } else {
+                None
+            }
+        }
+        Num::Far => None,
+    }
+}
+
+/// Whether a line names no accessor, or one of 0 to 7.
+fn names_accessor(accessor: Option<Num>) -> bool
+    ensures { result ≡ is_accessor accessor }
+{
+    match accessor {
+        None => true,
+        Some(Num::Near(k)) => 0 <= k && k <= 7,
+        Some(Num::Far) => false,
+    }
+}
+
+/// The write that a line asks for, with a value of the kind. `Kind` refuses a value of another form, and `ValueRange` one
+/// outside the kind.
+fn write_of(kind: Kind, change: Write<Literal>) -> Result<Write<Scalar>, Refusal>
+    ensures form { IfOk result (λ write. passes (has_form kind) change ≡ true) }
+    ensures range { IfOk result (λ write. passes (has_value kind) change ≡ true) }
+    ensures value { IfOk result (λ write. write ≡ as_write_of (scalar kind) change) }
+    ensures refusal { IfErr result (λ refusal. first_of_all (other_form (passes (has_form kind) change) ∷ out_of_range (passes (has_value kind) change) ∷ []) ≡ Some refusal) }
+{
+    match change {
+        Write::On(value) => Ok(Write::On(scalar_of(kind, value)?)),
+        Write::Off(value) => Ok(Write::Off(scalar_of(kind, value)?)),
+        Write::State(on) => Ok(Write::State(on)),
+        Write::Value(value) => Ok(Write::Value(scalar_of(kind, value)?)),
+    }
+}
+
+impl Scene {
+    /// Carries out a command that makes a grid.
+    fn make(
+        &mut self,
+        name: Name,
+        kind: Kind,
+        background: Literal,
+    ) -> Result<Answer<'static>, Refusal>
+        ensures step { CarriesOut (scene_of self.old) (commands.Grid name kind background) result (scene_of self.new) }
+        ensures trees { LeavesTrees (commands.Grid name kind background) (answer_of result) self.old self.new }
+    {
+        if self.has(&name) {
+            return Err(Refusal::NameTaken);
+        }
+        if self.is_full() {
+            return Err(Refusal::GridLimit);
+        }
+        let background = scalar_of(kind, background)?;
+        self.put(name, AnyGrid::new(self.alloc, background, ROOT_LIMIT))?;
+        Ok(Answer::Done)
+    }
+
+    /// Carries out a command that takes a grid away.
+    fn take(&mut self, name: &Name) -> Result<Answer<'static>, Refusal>
+        ensures step { CarriesOut (scene_of self.old) (commands.Drop name.now) result (scene_of self.new) }
+        ensures trees { LeavesTrees (commands.Drop name.now) (answer_of result) self.old self.new }
+    {
+        if self.grids.remove(name).is_none() {
+            return Err(Refusal::NoGrid);
+        }
+        Ok(Answer::Done)
+    }
+
+    /// Carries out a command that copies a grid.
+    fn copy(&mut self, from: &Name, to: Name) -> Result<Answer<'static>, Refusal>
+        ensures step { CarriesOut (scene_of self.old) (commands.Copy from.now to) result (scene_of self.new) }
+        ensures trees { LeavesTrees (commands.Copy from.now to) (answer_of result) self.old self.new }
+    {
+        let Some(grid) = self.get(from) else {
+            return Err(Refusal::NoGrid);
+        };
+        if self.has(&to) {
+            return Err(Refusal::NameTaken);
+        }
+        if self.is_full() {
+            return Err(Refusal::GridLimit);
+        }
+        let copy = grid.try_copy()?;
+        self.put(to, copy)?;
+        Ok(Answer::Done)
+    }
+
+    /// Carries out a command that looks up a voxel.
+    fn look_up(
+        &self,
+        name: &Name,
+        accessor: Option<Num>,
+        at: &Point,
+        steps: &mut Steps,
+    ) -> Result<Answer<'static>, Refusal>
+        ensures { CarriesOut (scene_of self.now) (commands.Get name.now accessor at.now) result (scene_of self.now) }
+    {
+        let Some(grid) = self.get(name) else {
+            return Err(Refusal::NoGrid);
+        };
+        let Some(at) = place_of(at) else {
+            return Err(Refusal::ValueRange);
+        };
+        if !names_accessor(accessor) {
+            return Err(Refusal::NoAccessor);
+        }
+        let cell = grid.get(at, steps);
+        Ok(Answer::Value(cell.value, cell.on))
+    }
+
+    /// Carries out a command that writes a voxel.
+    fn write(
+        &mut self,
+        name: &Name,
+        accessor: Option<Num>,
+        at: &Point,
+        change: Write<Literal>,
+        steps: &mut Steps,
+    ) -> Result<Answer<'static>, Refusal>
+        ensures step { CarriesOut (scene_of self.old) (write_command name.now accessor at.now change) result (scene_of self.new) }
+        ensures trees { LeavesTrees (write_command name.now accessor at.now change) (answer_of result) self.old self.new }
+    {
+        let Some(grid) = self.grids.get_mut(name) else {
+            return Err(Refusal::NoGrid);
+        };
+        let change = write_of(grid.kind(), change)?;
+        let Some(at) = place_of(at) else {
+            return Err(Refusal::ValueRange);
+        };
+        if !names_accessor(accessor) {
+            return Err(Refusal::NoAccessor);
+        }
+        grid.write(at, change, steps)?;
+        Ok(Answer::Done)
+    }
+
+    /// Carries out a command that fills a box.
+    fn fill(
+        &mut self,
+        name: &Name,
+        corners: &Corners,
+        value: Literal,
+        on: bool,
+        steps: &mut Steps,
+    ) -> Result<Answer<'static>, Refusal>
+        ensures step { CarriesOut (scene_of self.old) (commands.Fill name.now corners.now value on) result (scene_of self.new) }
+        ensures trees { LeavesTrees (commands.Fill name.now corners.now value on) (answer_of result) self.old self.new }
+    {
+        let Some(grid) = self.grids.get_mut(name) else {
+            return Err(Refusal::NoGrid);
+        };
+        let value = scalar_of(grid.kind(), value)?;
+        let bounds = bounds_of(corners)?;
+        grid.fill(bounds, Cell { value, on }, steps)?;
+        Ok(Answer::Done)
+    }
+
+    /// Carries out a command that clears all around a box.
+    fn clip(
+        &mut self,
+        name: &Name,
+        corners: &Corners,
+        steps: &mut Steps,
+    ) -> Result<Answer<'static>, Refusal>
+        ensures step { CarriesOut (scene_of self.old) (commands.Clip name.now corners.now) result (scene_of self.new) }
+        ensures trees { LeavesTrees (commands.Clip name.now corners.now) (answer_of result) self.old self.new }
+    {
+        let Some(grid) = self.grids.get_mut(name) else {
+            return Err(Refusal::NoGrid);
+        };
+        let bounds = bounds_of(corners)?;
+        grid.clip(bounds, steps)?;
+        Ok(Answer::Done)
+    }
+
+    /// Carries out a command that prunes a grid.
+    fn prune(&mut self, name: &Name, steps: &mut Steps) -> Result<Answer<'static>, Refusal>
+        ensures step { CarriesOut (scene_of self.old) (commands.Prune name.now) result (scene_of self.new) }
+        ensures trees { LeavesTrees (commands.Prune name.now) (answer_of result) self.old self.new }
+    {
+        let Some(grid) = self.grids.get_mut(name) else {
+            return Err(Refusal::NoGrid);
+        };
+        grid.prune(steps);
+        Ok(Answer::Done)
+    }
+
+    /// Carries out a command that makes leaves in a box.
+    fn voxelise(
+        &mut self,
+        name: &Name,
+        corners: &Corners,
+        steps: &mut Steps,
+    ) -> Result<Answer<'static>, Refusal>
+        ensures step { CarriesOut (scene_of self.old) (commands.Voxelise name.now corners.now) result (scene_of self.new) }
+        ensures trees { LeavesTrees (commands.Voxelise name.now corners.now) (answer_of result) self.old self.new }
+    {
+        let Some(grid) = self.grids.get_mut(name) else {
+            return Err(Refusal::NoGrid);
+        };
+        let bounds = bounds_of(corners)?;
+        if bounds.volume() > VOXELISE_LIMIT {
+            return Err(Refusal::TooLarge);
+        }
+        grid.voxelise(bounds, steps)?;
+        Ok(Answer::Done)
+    }
+
+    /// Carries out a command that lists voxels.
+    fn list(&self, name: &Name, corners: &Corners, limit: Num) -> Result<Answer<'_>, Refusal>
+        ensures { CarriesOut (scene_of self.now) (commands.List name.now corners.now limit) result (scene_of self.now) }
+    {
+        let Some(grid) = self.get(name) else {
+            return Err(Refusal::NoGrid);
+        };
+        let Some(limit) = limit_of(limit) else {
+            return Err(Refusal::ValueRange);
+        };
+        let bounds = bounds_of(corners)?;
+        Ok(Answer::List(Voxels::new(grid, bounds, limit)))
+    }
+
+    /// Carries out a command that shows a part of a plane.
+    fn slice(&self, name: &Name, z: Num, area: Area) -> Result<Answer<'_>, Refusal>
+        ensures { CarriesOut (scene_of self.now) (commands.Slice name.now z area) result (scene_of self.now) }
+    {
+        let Some(grid) = self.get(name) else {
+            return Err(Refusal::NoGrid);
+        };
+        let bounds = bounds_of(&flat(z, area))?;
+        if is_wide(bounds.min(), bounds.max()) {
+            return Err(Refusal::TooLarge);
+        }
+        Ok(Answer::Slice(Slice::new(grid, bounds)))
+    }
+
+    /// Carries out a command and answers it. Refusals are tried in their one order, the first that applies is answered, and
+    /// then the scene is as it was. It is also as it was where the answer is `Memory`, which comes in place of no other
+    /// refusal.
+    pub fn apply(&mut self, command: &Command, steps: &mut Steps) -> Answer<'_>
+        ensures* step { sem 𝓛 (Rests the_row self.entry (λ new. AppliesTo self.old command.now result new)) }
+    {
+        match self.carry_out(command, steps) {
+            Ok(answer) => answer,
+            Err(refusal) => Answer::Refused(refusal),
+        }
+    }
+
+    /// Carries out a command.
+    fn carry_out(&mut self, command: &Command, steps: &mut Steps) -> Result<Answer<'_>, Refusal>
+        ensures* step { sem 𝓛 (Rests the_row self.entry (λ new. CarriesOut (scene_of self.old) command.now result (scene_of new) × LeavesTrees command.now (answer_of result) self.old new)) }
+    {
+        match command {
+            Command::Grid {
+                name,
+                kind,
+                background,
+            } => self.make(*name, *kind, *background),
+            Command::Drop { name } => self.take(name),
+            Command::Copy { from, to } => self.copy(from, *to),
+            Command::Get { name, accessor, at } => self.look_up(name, *accessor, at, steps),
+            Command::Set {
+                name,
+                accessor,
+                at,
+                value,
+            } => self.write(name, *accessor, at, Write::On(*value), steps),
+            Command::Unset {
+                name,
+                accessor,
+                at,
+                value,
+            } => self.write(name, *accessor, at, Write::Off(*value), steps),
+            Command::Only {
+                name,
+                accessor,
+                at,
+                value,
+            } => self.write(name, *accessor, at, Write::Value(*value), steps),
+            Command::State {
+                name,
+                accessor,
+                at,
+                on,
+            } => self.write(name, *accessor, at, Write::State(*on), steps),
+            Command::Fill {
+                name,
+                corners,
+                value,
+                on,
+            } => self.fill(name, corners, *value, *on, steps),
+            Command::Clip { name, corners } => self.clip(name, corners, steps),
+            Command::Prune { name } => self.prune(name, steps),
+            Command::Voxelise { name, corners } => self.voxelise(name, corners, steps),
+            Command::List {
+                name,
+                corners,
+                limit,
+            } => self.list(name, corners, *limit),
+            Command::Slice { name, z, area } => self.slice(name, *z, *area),
+            Command::Count { name, corners } => self.count(name, corners, steps),
+            Command::Bounds { name } => self.bounds(name, steps),
+            Command::Census { name } => self.census(name, steps),
+        }
+    }
+}

@@ -1,0 +1,54 @@
+//! Commands that report on a grid: its active voxels, and how large its tree must be.
+ghost use Rattle.vdb_scene.specs.Doing.{CarriesOut};
+ghost use Rattle.vdb_scene.specs.Grids.{scene_of};
+ghost use Rattle.vdb_scene.specs.declared.command.Command.TheVariants as commands;
+
+use crate::carry_out::bounds_of;
+use crate::{Answer, Corners, Name, Refusal, Scene};
+use vdb_pool::Steps;
+
+impl Scene {
+    /// Carries out a command that counts active voxels.
+    pub(crate) fn count(
+        &self,
+        name: &Name,
+        corners: &Option<Corners>,
+        steps: &mut Steps,
+    ) -> Result<Answer<'static>, Refusal>
+        ensures { CarriesOut (scene_of self.now) (commands.Count name.now corners.now) result (scene_of self.now) }
+    {
+        let Some(grid) = self.get(name) else {
+            return Err(Refusal::NoGrid);
+        };
+        match corners {
+            Some(corners) => {
+                let bounds = bounds_of(corners)?;
+                Ok(Answer::Count(grid.count(Some(bounds), steps)))
+            }
+            None => Ok(Answer::Count(grid.count(None, steps))),
+        }
+    }
+
+    /// Carries out a command that asks for the box around the active voxels.
+    pub(crate) fn bounds(&self, name: &Name, steps: &mut Steps) -> Result<Answer<'static>, Refusal>
+        ensures { CarriesOut (scene_of self.now) (commands.Bounds name.now) result (scene_of self.now) }
+    {
+        let Some(grid) = self.get(name) else {
+            return Err(Refusal::NoGrid);
+        };
+        match grid.active_bounds(steps) {
+            Some(bounds) => Ok(Answer::Bounds(Some((bounds.min(), bounds.max())))),
+            None => Ok(Answer::Bounds(None)),
+        }
+    }
+
+    /// Carries out a command that asks how large the smallest tree is.
+    pub(crate) fn census(&self, name: &Name, steps: &mut Steps) -> Result<Answer<'static>, Refusal>
+        ensures { CarriesOut (scene_of self.now) (commands.Census name.now) result (scene_of self.now) }
+    {
+        let Some(grid) = self.get(name) else {
+            return Err(Refusal::NoGrid);
+        };
+        Ok(Answer::Census(grid.census(steps)))
+    }
+}

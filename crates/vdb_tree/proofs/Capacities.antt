@@ -1,0 +1,230 @@
+-- Fills of a box, counted in root blocks: those of the table with those that meet the box.
+use Rattle.std.proofs.Common.{◌≡◌, ◌≢◌, ◌⊎◌, inl, inr, ℕ, ◌<◌, ◌≤◌, Bool, true, false, List, ◌∷◌, length, refl, sym, subst, ◌∙◌, arith, IsTrue}
+use Rattle.std.specs.Prelude.{IsSome, filter, Err, IfErr, Ok, OnOk, Result}
+use Rattle.std.specs.List.{IsDistinct}
+use Rattle.std.specs.Map.{keys_of}
+use Rattle.std.specs.Set.{is_member}
+use Rattle.std.proofs.lemmas.Map.Entries.{length-keys_of}
+use Rattle.std.proofs.lemmas.Map.Made.{length-le_from_is_member}
+use Rattle.vdb_coord.specs.Blocks.{block, block_number, block_numbers, key}
+use Rattle.vdb_coord.specs.Boxes.{meets}
+use Rattle.vdb_coord.specs.Entries.{AreBits, blocks_meeting}
+use Rattle.vdb_coord.specs.Space.{Box, coord_eq, coordinates, everywhere, is_box, is_inside, is_within}
+use Rattle.vdb_coord.specs.declared.Bits.{Bits}
+use Rattle.vdb_coord.specs.declared.Coord.{Coord}
+use Rattle.vdb_coord.specs.declared.Level.TheVariants.{Upper}
+use Rattle.vdb_coord.proofs.Boxes.{both, box_from_inside, not_true}
+use Rattle.vdb_coord.proofs.CountBounds.{member_passing}
+use Rattle.vdb_coord.proofs.Counts.{distinct_filter}
+use Rattle.vdb_coord.proofs.Distinct.{distinct_coordinates}
+use Rattle.vdb_coord.proofs.InRange.{corner_in_range, number_in_range, number_of_corner, numbered_in_range}
+use Rattle.vdb_coord.proofs.Meeting.{common_from_meets, within_each}
+use Rattle.vdb_coord.proofs.Members.{coord_equiv, coord_exact}
+use Rattle.vdb_coord.proofs.Nesting.{inside_numbered, number_in_block}
+use Rattle.vdb_value.specs.declared.Cell.{Cell}
+use Rattle.vdb_tree.specs.Changes.{IsSwept}
+use Rattle.vdb_tree.specs.Field.{Field, fill}
+use Rattle.vdb_tree.specs.Layout.{Layout, cell_at, field_of, background_cell, root_at}
+use Rattle.vdb_tree.specs.Outcome.{ObeysLimit}
+use Rattle.vdb_tree.specs.ConstantBlocks.{is_background, roots}
+use Rattle.vdb_tree.specs.Capacity.{HasCapacityFor, LacksCapacityFor, MeetsRootBlock}
+use Rattle.vdb_tree.specs.Sound.{IsSound}
+use Rattle.vdb_tree.specs.Table.{HasCapacity}
+use Rattle.vdb_tree.specs.declared.refusal.TreeRefusal.{TreeRefusal}
+use Rattle.vdb_tree.specs.declared.refusal.TreeRefusal.TheVariants.{Memory, RootLimit}
+use Rattle.vdb_tree.proofs.Blocks.{never, uniform_block, uniform_block_from, non_background_from}
+use Rattle.vdb_tree.proofs.Fields.{cell_inside}
+use Rattle.vdb_tree.proofs.Levels.{bool_cases, coord_cases}
+use Rattle.vdb_tree.proofs.Needed.{absent_block, is_some_from, some_or_none}
+use Rattle.vdb_tree.proofs.Rooted.{absent_key, key_member, member_entry, one_more, or_cases, roots_at_least, roots_at_most}
+
+-- the cells of a filled box, and those around it
+module _ {V : Type 0} (box : Box) (cell : Cell V) (f : Field V) (q : Coord) (within : IsTrue (is_inside everywhere q)) where
+  fill_inside : is_inside box q ≡ true → (fill box cell f).cell q ≡ cell
+  fill_inside h = rw (within, h) refl
+
+  fill_outside : is_inside box q ≡ false → (fill box cell f).cell q ≡ f.cell q
+  fill_outside h = rw (within, h) refl
+
+-- a coordinate of a root block that there is lies within the range
+in_root : (bits : Bits) → AreBits bits → (k q : Coord) → IsTrue (is_inside (block_numbers bits Upper) k) → block_number bits Upper q ≡ k → IsTrue (is_inside everywhere q)
+in_root bits configured k q within at = numbered_in_range bits Upper configured q (subst (λ (n : Coord). is_inside (block_numbers bits Upper) n ≡ true) (sym at) within)
+
+-- a block is a box
+block_is_box : (bits : Bits) (k : Coord) → is_box (block bits Upper k) ≡ true
+block_is_box bits k = box_from_inside (block bits Upper k) (block bits Upper k).min (inside_numbered bits Upper k (block bits Upper k).min (number_of_corner bits Upper k))
+
+module _ {V : Type 0} (eq : V → V → Bool) (exact : (x y : V) → eq x y ≡ true → x ≡ y) (itself : (x : V) → eq x x ≡ true) (bits : Bits) (configured : AreBits bits) (t : Layout V) (box : Box) (cell : Cell V) where
+  abbrev was : Field V
+  was = field_of bits t
+
+  abbrev filled : Field V
+  filled = fill box cell was
+
+  -- keys among which are those of the table, and those of the box unless the cell is the background, are as many as the roots
+  -- at least
+  pub fill_at_most : (keys : List Coord) → ((k : Coord) → IsSome (root_at t.root k) → is_member coord_eq keys k ≡ true)
+      → ((p : Coord) → IsTrue (is_inside box p) → (cell ≡ background_cell t) ⊎ (is_member coord_eq keys (key bits p) ≡ true)) → roots eq bits filled ≤ length keys
+  fill_at_most keys entered met = roots_at_most eq bits filled keys each
+    where
+      outside : (k : Coord) → is_member coord_eq keys k ≡ false → (q : Coord) → IsTrue (is_inside everywhere q) → block_number bits Upper q ≡ k → was.cell q ≡ background_cell t
+      outside k out q range at =
+          elim (some_or_none (root_at t.root (key bits q))) [
+            | inl x ↦ absurd (never (subst (λ (n : Coord). is_member coord_eq keys n ≡ false) (sym at) out) (entered (key bits q) (is_some_from _ x.0 x.1)))
+            | inr none ↦ cell_inside t.background (cell_at bits t) q range ∙ absent_block bits t q none q refl
+          ]
+
+      still : (k : Coord) → is_member coord_eq keys k ≡ false → (q : Coord) → IsTrue (is_inside everywhere q) → block_number bits Upper q ≡ k → filled.cell q ≡ background_cell t
+      still k out q range at =
+          elim (bool_cases (is_inside box q)) [
+            | inl i ↦ elim (met q i) [
+              | inl same ↦ fill_inside box cell was q range i ∙ same
+              | inr m ↦ absurd (never (subst (λ (n : Coord). is_member coord_eq keys n ≡ false) (sym at) out) m)
+            ]
+            | inr o ↦ fill_outside box cell was q range o ∙ outside k out q range at
+          ]
+
+      each : (k : Coord) → IsTrue (is_inside (block_numbers bits Upper) k) → is_background eq filled (block bits Upper k) ≡ false → is_member coord_eq keys k ≡ true
+      each k within h =
+          elim (bool_cases (is_member coord_eq keys k)) [
+            | inl m ↦ m
+            | inr out ↦ absurd (never h (uniform_block_from eq exact itself bits Upper filled k (background_cell t) (λ q at. still k out q (in_root bits configured k q within at) at)))
+          ]
+
+  -- a box filled with the background cell adds no root
+  pub fill_background : IsSound bits t → cell ≡ background_cell t → roots eq bits filled ≤ t.limit
+  fill_background sound same =
+      let a = fill_at_most (keys_of t.root) (key_member t) (λ p i. inl same) in
+      omega (arith, a, length-keys_of t.root, sound.limit)
+
+  -- a table with capacity for the box keeps to the limit
+  pub fill_within : HasCapacityFor bits t box → roots eq bits filled ≤ t.limit
+  fill_within room = let a = fill_at_most room.keys room.entered (λ p i. inr (room.met p i)) in let b = room.few in omega (arith, a, b)
+
+  module _ (in_range : is_within box everywhere ≡ true) (other : cell ≢ background_cell t) where
+    range_of : (p : Coord) → IsTrue (is_inside box p) → IsTrue (is_inside everywhere p)
+    range_of p i = within_each box everywhere p in_range i
+
+    -- a root block that held anything but the background, or that meets the box, holds anything but the background
+    still_non_background : (k : Coord) → IsTrue (is_inside (block_numbers bits Upper) k) → ((is_background eq was (block bits Upper k) ≡ false) ⊎ MeetsRootBlock bits box k) → is_background eq filled (block bits Upper k) ≡ false
+    still_non_background k within h = not_true _ (λ u. elim h [
+      | inl before ↦ never before (uniform_block_from eq exact itself bits Upper was k (background_cell t) (λ q at. kept u q at (in_root bits configured k q within at)))
+      | inr p ↦ other (sym (fill_inside box cell was p.0 (range_of p.0 p.1) p.1) ∙ uniform_block eq exact itself bits Upper filled k (background_cell t) u p.0 p.2)
+    ])
+      where
+        kept : is_background eq filled (block bits Upper k) ≡ true → (q : Coord) → block_number bits Upper q ≡ k → IsTrue (is_inside everywhere q) → was.cell q ≡ background_cell t
+        kept u q at range =
+            let now = uniform_block eq exact itself bits Upper filled k (background_cell t) u q at in
+            elim (bool_cases (is_inside box q)) [
+              | inl i ↦ absurd (other (sym (fill_inside box cell was q range i) ∙ now))
+              | inr o ↦ sym (fill_outside box cell was q range o) ∙ now
+            ]
+
+    -- distinct keys of such blocks are as many as the roots at most
+    pub fill_at_least : (keys : List Coord) → IsDistinct coord_eq keys
+        → ((k : Coord) → is_member coord_eq keys k ≡ true → IsTrue (is_inside (block_numbers bits Upper) k) × ((is_background eq was (block bits Upper k) ≡ false) ⊎ MeetsRootBlock bits box k)) → length keys ≤ roots eq bits filled
+    fill_at_least keys apart each = roots_at_least eq bits filled keys apart (λ k m. let h = each k m in (h.0, still_non_background k h.0 h.1))
+
+    -- the root block of a key of a swept table isn't all background
+    swept_non_background : IsSwept bits t → (k : Coord) → IsTrue (is_inside (block_numbers bits Upper) k) → IsSome (root_at t.root k) → is_background eq was (block bits Upper k) ≡ false
+    swept_non_background swept k within held =
+        let corner = (block bits Upper k).min in
+        let number : key bits corner ≡ k = number_of_corner bits Upper k in
+        subst (λ (n : Coord). is_background eq was (block bits Upper n) ≡ false) number
+        (non_background_from eq exact itself bits configured Upper t corner (corner_in_range bits Upper configured k within) (λ const.
+        elim (some_or_none (root_at t.root (key bits corner))) [
+          | inl entry ↦ swept corner entry.0 entry.1 const
+          | inr empty ↦ never (rw (← number, empty) refl) held
+        ]))
+
+    -- a swept table without capacity for the box would exceed the limit
+    pub fill_exceeds : IsSound bits t → IsSwept bits t → LacksCapacityFor bits t box → t.limit < roots eq bits filled
+    fill_exceeds sound swept lacks =
+        let a = fill_at_least lacks.keys lacks.apart each in
+        let b = lacks.many in
+        omega (arith, a, b)
+      where
+        each : (k : Coord) → is_member coord_eq lacks.keys k ≡ true → IsTrue (is_inside (block_numbers bits Upper) k) × ((is_background eq was (block bits Upper k) ≡ false) ⊎ MeetsRootBlock bits box k)
+        each k m =
+            elim (lacks.each k m) [
+              | inl held ↦ let within = sound.keys k held in (within, inl (swept_non_background swept k within held))
+              | inr p ↦ (subst (λ (n : Coord). is_inside (block_numbers bits Upper) n ≡ true) p.2 (number_in_range bits Upper p.0 (range_of p.0 p.1)), inr p)
+            ]
+
+    -- each block that meets the box gets a root
+    pub fill_meeting : is_box box ≡ true → blocks_meeting bits Upper box ≤ roots eq bits filled
+    fill_meeting is =
+        let test : Coord → Bool = λ n. meets (block bits Upper n) box in
+        let all = block_numbers bits Upper in
+        fill_at_least (filter test (coordinates all)) (distinct_filter coord_eq test (coordinates all) (distinct_coordinates all))
+        (λ k m.
+        let hs = both (is_inside all k) (test k) (sym (member_passing all test k) ∙ m) in
+        let p = common_from_meets (block bits Upper k) box (block_is_box bits k) is hs.1 in
+        (hs.0, inr (p.0, p.2, number_in_block bits Upper k p.0 p.1)))
+
+    -- so a box that meets more of them than the limit would exceed it
+    pub fill_too_wide : is_box box ≡ true → t.limit < blocks_meeting bits Upper box → t.limit < roots eq bits filled
+    fill_too_wide is wide = let a = fill_meeting is in omega (arith, a, wide)
+
+-- a table doesn't both have capacity for a box and lack it
+pub room_or_lack : {V : Type 0} (bits : Bits) (t : Layout V) (box : Box) → HasCapacityFor bits t box → LacksCapacityFor bits t box → ⊥
+room_or_lack bits t box room lacks =
+    let among = length-le_from_is_member coord_equiv lacks.keys room.keys lacks.apart (λ k m. elim (lacks.each k m) [
+      | inl held ↦ room.entered k held
+      | inr p ↦ subst (λ (n : Coord). is_member coord_eq room.keys n ≡ true) p.2 (room.met p.0 p.1)
+    ]) in
+    let few = room.few in
+    let many = lacks.many in
+    omega (arith, among, few, many)
+
+-- ---- the table gets entries
+
+module _ {V : Type 0} (bits : Bits) (t : Layout V) (box : Box) (room : HasCapacityFor bits t box) (p : Coord) (inside : IsTrue (is_inside box p)) where
+  -- where a root block of the box has no entry, the table has capacity for one
+  pub room_at : IsDistinct coord_eq (keys_of t.root) → HasCapacity t (key bits p)
+  room_at apart =
+      elim (some_or_none (root_at t.root (key bits p))) [
+        | inl x ↦ inl (is_some_from _ x.0 x.1)
+        | inr none ↦
+            let keys = key bits p ∷ keys_of t.root in
+            let a = length-le_from_is_member coord_equiv keys room.keys (one_more (key bits p) (keys_of t.root) apart (absent_key t (key bits p) none)) each in
+            let b = room.few in
+            inr (omega (arith, a, b, length-keys_of t.root))
+      ]
+    where
+      each : (k : Coord) → is_member coord_eq (key bits p ∷ keys_of t.root) k ≡ true → is_member coord_eq room.keys k ≡ true
+      each k m =
+          elim (or_cases (coord_eq k (key bits p)) (is_member coord_eq (keys_of t.root) k) m) [
+            | inl s ↦ subst (λ (n : Coord). is_member coord_eq room.keys n ≡ true) (sym (coord_exact k (key bits p) s)) (room.met p inside)
+            | inr s ↦ room.entered k (member_entry t k s)
+          ]
+
+  -- once it has its entry, the others still have room
+  pub room_stays : (n : Layout V) → n.limit ≡ t.limit → ((k : Coord) → k ≢ key bits p → root_at n.root k ≡ root_at t.root k) → HasCapacityFor bits n box
+  room_stays n same table = record {
+    keys = room.keys;
+    few = rw same room.few;
+    entered = λ k held. elim (coord_cases k (key bits p)) [
+      | inl e ↦ subst (λ (j : Coord). is_member coord_eq room.keys j ≡ true) (sym e) (room.met p inside)
+      | inr d ↦ room.entered k (subst (λ o. IsSome o) (table k d) held)
+    ];
+    met = room.met;
+  }
+
+-- ---- what comes of it
+
+module _ {V : Type 0} (eq : V → V → Bool) (bits : Bits) (limit : ℕ) (changed : Field V) where
+  -- RootLimit, where the limit would be exceeded
+  pub obeys_full : (result : Result (Unit {0}) TreeRefusal) → result ≡ Err RootLimit → limit < roots eq bits changed → ObeysLimit eq bits limit changed result
+  obeys_full result refused h = rw refused h
+
+  -- `Memory` alone, where it would not
+  pub obeys_within : (result : Result (Unit {0}) TreeRefusal) → IfErr result (λ refusal. refusal ≡ Memory) → roots eq bits changed ≤ limit → ObeysLimit eq bits limit changed result
+  obeys_within (Ok _) memory h = h
+  obeys_within (Err refusal) memory h = rw memory h
+
+-- what is there for certain, is there or needn't be
+pub or_entered : {E : Type 0} (box : Box) (Plain : Type 0) (Entered : Coord → Type 0) (result : Result (Unit {0}) E) → OnOk result ((p : Coord) → IsTrue (is_inside box p) → Entered p)
+    → OnOk result ((p : Coord) → IsTrue (is_inside box p) → Plain ⊎ Entered p)
+or_entered box Plain Entered (Ok _) h = λ p inside. inr (h p inside)
+or_entered box Plain Entered (Err _) h = tt

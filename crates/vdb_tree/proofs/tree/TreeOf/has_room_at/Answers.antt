@@ -1,5 +1,0 @@
-use Rattle.vdb_tree.proofs.Rooms.{room_at}
-use Rattle.vdb_tree.proofs.tree.TreeOf.has_room_at.Goals as goal
-
-pub returns : goal.returns
-returns g c = rw (← c.self.view_is) (room_at _ _ c.args.bounds (rw (← c.self.view_is) at c.requires.room) c.args.p c.requires.inside c.self.invariant.1.apart)

@@ -1,0 +1,41 @@
+use Rattle.std.proofs.Common.{◌∙◌, None, Option, Some, subst, sym}
+use Rattle.std.specs.Prelude.{IfSome, option_map}
+use Rattle.vdb_coord.specs.Space.{Box}
+use Rattle.vdb_tree.specs.Layout.{bits_of, field_of}
+use Rattle.vdb_walk.specs.Firsts.{IsActivePast, IsFirst}
+use Rattle.vdb_walk.specs.Listings.{IsListing}
+use Rattle.vdb_walk.specs.declared.held.Held.{Held}
+use Rattle.vdb_walk.proofs.InOrder.{first_found}
+use Rattle.vdb_walk.proofs.PartSeeks.{found_in_part, listing_after, listing_past}
+use Rattle.vdb_walk.proofs.listing.yield_next.Goals as goal
+
+pub returns-then-is_some-clause-next : goal.returns-then-is_some-clause-next
+returns-then-is_some-clause-next g c =
+    let bits = bits_of g.row.U g.row.L g.row.F in
+    let t = c.args.tree.now in
+    let listing = subst (λ (o : Option (Held g.row.V.Denot)). IsListing bits t c.args.last c.args.walk.now o) c.in-Some.is c.requires in
+    let first = c.first_held-found.ensures.first in
+    first_found bits (field_of bits t) c.args.walk.now.box c.args.last c.first_held-found.result (found_in_part bits t c.args.last c.args.walk.now c.in-Some.held listing c.first_held-found.result (sym c.is_some.ensures ∙ c.if-is_some.true) first) c.first_held-found.ensures.value
+
+pub returns-then-is_some-clause-some : goal.returns-then-is_some-clause-some
+returns-then-is_some-clause-some g c =
+    let bits = bits_of g.row.U g.row.L g.row.F in
+    let t = c.args.tree.now in
+    let listing = subst (λ (o : Option (Held g.row.V.Denot)). IsListing bits t c.args.last c.args.walk.now o) c.in-Some.is c.requires in
+    let first = c.first_held-found.ensures.first in
+    subst (λ (o : Option (Held g.row.V.Denot)). IfSome c.first_held-found.result (λ item. IsListing bits t (Some item.0) c.args.walk.now o)) (sym c.in-Some.is) (listing_after bits t c.args.last c.args.walk.now c.in-Some.held listing c.first_held-found.result first)
+
+pub returns-in-Some-next_found-clause-next : goal.returns-in-Some-next_found-clause-next
+returns-in-Some-next_found-clause-next g c =
+    let bits = bits_of g.row.U g.row.L g.row.F in
+    first_found bits (field_of bits c.args.tree.now) c.args.walk.now.box c.args.last (Some c.in-Some-next_found.found.1) c.in-Some-next_found.ensures.first c.in-Some-next_found.ensures.value
+
+pub returns-in-Some-next_found-clause-some : goal.returns-in-Some-next_found-clause-some
+returns-in-Some-next_found-clause-some g c =
+    let bits = bits_of g.row.U g.row.L g.row.F in
+    listing_past bits c.args.tree.now c.args.last c.next_found.new.walk c.in-Some-next_found.found.0 c.in-Some-next_found.ensures.some c.in-Some-next_found.found.1.0 c.in-Some-next_found.ensures.first.1.0
+
+pub returns-in-None-clause-next : goal.returns-in-None-clause-next
+returns-in-None-clause-next g c =
+    let bits = bits_of g.row.U g.row.L g.row.F in
+    first_found bits (field_of bits c.args.tree.now) c.args.walk.now.box c.args.last None c.in-None.ensures.first tt

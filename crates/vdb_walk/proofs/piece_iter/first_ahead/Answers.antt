@@ -1,0 +1,13 @@
+use Rattle.std.proofs.Common.{sym, subst}
+use Rattle.std.specs.Prelude.{Option}
+use Rattle.vdb_coord.specs.Space.{everywhere}
+use Rattle.vdb_coord.specs.declared.Coord.{Coord}
+use Rattle.vdb_tree.specs.Layout.{bits_of}
+use Rattle.vdb_walk.specs.Firsts.{IsEnteredPast, IsFirst}
+use Rattle.vdb_walk.proofs.PiecesInTurn.{all_ahead}
+use Rattle.vdb_walk.proofs.piece_iter.first_ahead.Goals as goal
+
+pub returns-in-None-clause-first : goal.returns-in-None-clause-first
+returns-in-None-clause-first g c =
+    let bits = bits_of g.row.U g.row.L g.row.F in
+    subst (λ (l : Option Coord). IsFirst bits (IsEnteredPast bits c.args.tree.now l) everywhere c.first_of_key.result) (sym c.in-None.is) (all_ahead bits c.args.tree.now c.first_of_key.result c.first_of_key.ensures.first)

@@ -1,0 +1,243 @@
+//! The entries and nodes that a field needs, counted in a tree.
+
+ghost use Rattle.std.specs.Prelude.{◌≡◌, ◌+◌, ◌<◌, ◌≤◌, cond, not, IfSome, IsTrue, Some};
+ghost use Rattle.vdb_coord.specs.Blocks.{block_around};
+ghost use Rattle.vdb_coord.specs.Order.{coordinates_past};
+ghost use Rattle.vdb_coord.specs.Space.{everywhere, is_inside};
+ghost use Rattle.vdb_coord.specs.declared.Level.TheVariants.{Leaf as LeafLevel};
+ghost use Rattle.vdb_tree.specs.Layout.{bits_of, field_of};
+ghost use Rattle.vdb_tree.specs.Leaves.{IsNextLeaf};
+ghost use Rattle.vdb_tree.specs.Parts.{IsWalk};
+ghost use Rattle.vdb_tree.specs.ConstantBlocks.{is_constant, non_constant};
+ghost use Rattle.vdb_walk.specs.BlocksFrom.{IsBlockAt, IsBlockStart, IsPartStart, IsBackgroundTo, non_constant_from};
+ghost use Rattle.vdb_walk.specs.Reports.{census as census_of};
+
+use crate::Census;
+use vdb_coord::{Bounds, Coord, Level};
+use vdb_node::{Internal, Leaf, Stored};
+use vdb_pool::Steps;
+use vdb_tree::{Skip, TreeOf, Walk};
+
+/// The entries and nodes that the tree's field needs: what `node_counts` says after a prune, found without one (OpenVDB's
+/// `Tree::nodeCount` after `tools::prune`). For upper and lower blocks it goes along the tree's entries and nodes: from the
+/// table's entries down to the blocks of the level that aren't the background, each of which it visits up to the first
+/// difference that is found in it; a tile of a level above counts at once, and nothing is visited where there is no entry. For
+/// leaf blocks it goes from leaf to leaf, past the tiles between them. It takes no memory.
+pub fn census<
+    V: Stored<WU> + Stored<WL> + Stored<WF>,
+    const U: u32,
+    const L: u32,
+    const F: u32,
+    const WU: usize,
+    const WL: usize,
+    const WF: usize,
+>(tree: &TreeOf<V, U, L, F, WU, WL, WF>, steps: &mut Steps) -> Census
+    ensures { result ≡ census_of V.eq (bits_of U L F) (field_of (bits_of U L F) tree.now) }
+{
+    let roots = tree.root_blocks(steps);
+    let upper = non_constant_blocks(tree, Level::Upper, steps);
+    let lower = non_constant_blocks(tree, Level::Lower, steps);
+    let leaf = non_constant_blocks(tree, Level::Leaf, steps);
+    Census {
+        roots,
+        upper,
+        lower,
+        leaf,
+    }
+}
+
+/// How many blocks of the level have cells that differ.
+fn non_constant_blocks<
+    V: Stored<WU> + Stored<WL> + Stored<WF>,
+    const U: u32,
+    const L: u32,
+    const F: u32,
+    const WU: usize,
+    const WL: usize,
+    const WF: usize,
+>(tree: &TreeOf<V, U, L, F, WU, WL, WF>, level: Level, steps: &mut Steps) -> u64
+    ensures { result ≡ non_constant V.eq (bits_of U L F) level (field_of (bits_of U L F) tree.now) }
+{
+    if node_count(tree, level) == 0 {
+        return 0; // and the sum is no greater than that count
+    }
+    let _ = tree.bits(); // the proof learns from it that blocks lie in the range
+    let mut total = 0;
+    let mut at = Some(Bounds::all().min());
+    'places: while let Some(p) = at {
+        let (differs, next) = next_block(tree, level, p, steps);
+        if differs {
+            total += 1;
+        }
+        at = next;
+    }
+    total
+}
+
+/// How many nodes of the level there are, each over a block of its own: no fewer than blocks whose cells differ.
+fn node_count<
+    V: Stored<WU> + Stored<WL> + Stored<WF>,
+    const U: u32,
+    const L: u32,
+    const F: u32,
+    const WU: usize,
+    const WL: usize,
+    const WF: usize,
+>(tree: &TreeOf<V, U, L, F, WU, WL, WF>, level: Level) -> u64
+    ensures { non_constant V.eq (bits_of U L F) level (field_of (bits_of U L F) tree.now) ≤ result }
+{
+    let counts = tree.node_counts();
+    match level {
+        Level::Leaf => counts.leaf,
+        Level::Lower => counts.lower,
+        Level::Upper => counts.upper,
+    }
+}
+
+/// Whether the cells differ of the first block from a place on that isn't passed over, and a place past it. Passed over are
+/// blocks of the background, inactive, and a tile of a level above counts as one block; past a leaf block the next place is that
+/// of the next leaf.
+fn next_block<
+    V: Stored<WU> + Stored<WL> + Stored<WF>,
+    const U: u32,
+    const L: u32,
+    const F: u32,
+    const WU: usize,
+    const WL: usize,
+    const WF: usize,
+>(
+    tree: &TreeOf<V, U, L, F, WU, WL, WF>,
+    level: Level,
+    p: Coord,
+    steps: &mut Steps,
+) -> (bool, Option<Coord>)
+    requires { IsBlockStart (bits_of U L F) level p }
+    ensures counted { cond result.0 1 0 + non_constant_from V.eq (bits_of U L F) level (field_of (bits_of U L F) tree.now) result.1 ≡ non_constant_from V.eq (bits_of U L F) level (field_of (bits_of U L F) tree.now) (Some p) }
+    ensures start { IfSome result.1 (IsBlockStart (bits_of U L F) level) }
+    ensures nearer { IfSome result.1 (λ next. coordinates_past (bits_of U L F) next < coordinates_past (bits_of U L F) p) }
+{
+    let bits = tree.bits();
+    if let Level::Leaf = level {
+        return leaf_at(tree, p, steps);
+    }
+    match place_from(tree, p, steps) {
+        Some(q) => {
+            let (outer, differs) = block_at(tree, level, q, steps);
+            (differs, Bounds::all().next_place_in(bits, outer, q))
+        }
+        None => (false, None),
+    }
+}
+
+/// Whether the cells of the leaf block around a coordinate differ, and the first leaf that begins past the coordinate.
+fn leaf_at<
+    V: Stored<WU> + Stored<WL> + Stored<WF>,
+    const U: u32,
+    const L: u32,
+    const F: u32,
+    const WU: usize,
+    const WL: usize,
+    const WF: usize,
+>(tree: &TreeOf<V, U, L, F, WU, WL, WF>, p: Coord, steps: &mut Steps) -> (bool, Option<Coord>)
+    ensures test { result.0 ≡ not (is_constant V.eq (field_of (bits_of U L F) tree.now) (block_around (bits_of U L F) LeafLevel p)) }
+    ensures next { IsNextLeaf (bits_of U L F) tree.now (Some p) result.1 }
+{
+    let differs = leaf_differs(tree, p, steps);
+    (differs, tree.next_leaf(Some(p), steps))
+}
+
+/// Whether the cells of the leaf block around a coordinate differ, by at most three visits.
+fn leaf_differs<
+    V: Stored<WU> + Stored<WL> + Stored<WF>,
+    const U: u32,
+    const L: u32,
+    const F: u32,
+    const WU: usize,
+    const WL: usize,
+    const WF: usize,
+>(tree: &TreeOf<V, U, L, F, WU, WL, WF>, p: Coord, steps: &mut Steps) -> bool
+    ensures { result ≡ not (is_constant V.eq (field_of (bits_of U L F) tree.now) (block_around (bits_of U L F) LeafLevel p)) }
+{
+    tree.has_leaf_words();
+    let bits = tree.bits();
+    match tree.leaf(p, steps) {
+        Some(leaf) => {
+            let _ = leaf.entry(u32::from(bits.entries(Level::Leaf)) - 1); // the proof learns from it that each entry has a cell
+            leaf.constant().is_none()
+        }
+        None => false, // a block without a leaf has one cell
+    }
+}
+
+/// The first coordinate from a place on of the tiles and leaves that aren't passed over.
+fn place_from<
+    V: Stored<WU> + Stored<WL> + Stored<WF>,
+    const U: u32,
+    const L: u32,
+    const F: u32,
+    const WU: usize,
+    const WL: usize,
+    const WF: usize,
+>(tree: &TreeOf<V, U, L, F, WU, WL, WF>, p: Coord, steps: &mut Steps) -> Option<Coord>
+    requires { IsTrue (is_inside everywhere p) }
+    ensures { IsBackgroundTo (bits_of U L F) tree.now p result }
+{
+    let (_, bits) = (tree.mask_words(), tree.bits()); // the proof learns from it that nodes are small
+    let mut walk = tree.parts_from(Bounds::all(), Skip::Background, p, steps);
+    match part_from(tree, &mut walk, steps) {
+        Some(q) => {
+            if q.block_cmp_in(bits, &p).is_lt() {
+                Some(p)
+            } else {
+                Some(q)
+            }
+        }
+        None => None,
+    }
+}
+
+/// The first coordinate of the next part of a walk.
+pub(crate) fn part_from<
+    V: Stored<WU> + Stored<WL> + Stored<WF>,
+    const U: u32,
+    const L: u32,
+    const F: u32,
+    const WU: usize,
+    const WL: usize,
+    const WF: usize,
+>(
+    tree: &TreeOf<V, U, L, F, WU, WL, WF>,
+    walk: &mut Walk<Internal<V, U, WU>, Internal<V, L, WL>, Leaf<V, F, WF>>,
+    steps: &mut Steps,
+) -> Option<Coord>
+    requires upper { WU ≤ 512 }
+    requires lower { WL ≤ 512 }
+    requires leaf { WF ≤ 512 }
+    requires walk { IsWalk (bits_of U L F) tree.now walk.old }
+    ensures { IsPartStart (bits_of U L F) tree.now walk.old result }
+{
+    match tree.next_part(walk, steps) {
+        Some(part) => Some(part.bounds.min()),
+        None => None,
+    }
+}
+
+/// The level's block around a coordinate, or the upper one if that lies in a tile; and whether its cells differ.
+fn block_at<
+    V: Stored<WU> + Stored<WL> + Stored<WF>,
+    const U: u32,
+    const L: u32,
+    const F: u32,
+    const WU: usize,
+    const WL: usize,
+    const WF: usize,
+>(tree: &TreeOf<V, U, L, F, WU, WL, WF>, level: Level, q: Coord, steps: &mut Steps) -> (Level, bool)
+    ensures { IsBlockAt V.eq (bits_of U L F) level (field_of (bits_of U L F) tree.now) q result.0 result.1 }
+{
+    let bits = tree.bits();
+    let piece = tree.piece(q, steps).bounds;
+    if piece.covers(q.block_in(bits, Level::Upper)) {
+        return (Level::Upper, false);
+    }
+    (level, tree.constant(level, q, steps).is_none())
+}
