@@ -4,10 +4,10 @@ use Rattle.std.proofs.lemmas.List.{map-set, map_push, length-map, get_or-map}
 use Rattle.std.proofs.lemmas.List.Sums.{sum_by-set, sum_by_push}
 use Rattle.std.proofs.lemmas.Option.{slice_get_within, get_or_from_slice_get}
 use denote.RawPtr.{Ptr}
-use Rattle.vdb_pool.specs.Slot.{node_of}
+use Rattle.vdb_pool.specs.internal.Slot.{node_of}
 use Rattle.vdb_pool.specs.Contents.{IsAmong}
-use Rattle.vdb_pool.specs.Stack.{linked, IsStack, AreListed}
-use Rattle.vdb_pool.specs.Pool.{IsSound}
+use Rattle.vdb_pool.specs.internal.Stack.{linked, IsStack, AreListed}
+use Rattle.vdb_pool.specs.internal.Pool.{IsSound}
 use Rattle.vdb_pool.specs.declared.chunk.Chunk.{Chunk}
 use Rattle.vdb_pool.specs.declared.slot.Slot.{Slot}
 use Rattle.vdb_pool.specs.declared.slot.Slot.TheVariants.{Vacant, Held}

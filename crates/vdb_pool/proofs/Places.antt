@@ -22,8 +22,8 @@ use denote.Memory.{lone}
 use denote.RawPtr.{Ptr, block_ptr, null_ptr, lies_at, room_for}
 use denote.Steps.{nothing}
 use denote.Struct.Lending.{lent_at}
-use Rattle.vdb_pool.specs.Rows.{row_from}
-use Rattle.vdb_pool.specs.Ownership.{storage_owns, storage_lends}
+use Rattle.vdb_pool.specs.internal.Rows.{row_from}
+use Rattle.vdb_pool.specs.internal.Ownership.{storage_owns, storage_lends}
 
 module _ {X : Type 0} where
   pub some_item : (xs : List X) (i : ℕ) → i < length xs → X

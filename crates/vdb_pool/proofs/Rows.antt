@@ -5,9 +5,9 @@ use lib.ListN.{get_or-append}
 use lib.Seq.{get_or-append-add}
 use Rattle.std.proofs.Common.{Global}
 use denote.RawPtr.{Ptr, block_ptr, null_ptr, ◌+ₚ◌}
-use Rattle.vdb_pool.specs.Rows.{row_from}
-use Rattle.vdb_pool.specs.Chunks.{chunk_len, rows_of, AreWhole}
-use Rattle.vdb_pool.specs.Pool.{IsSound}
+use Rattle.vdb_pool.specs.internal.Rows.{row_from}
+use Rattle.vdb_pool.specs.internal.Chunks.{chunk_len, rows_of, AreWhole}
+use Rattle.vdb_pool.specs.internal.Pool.{IsSound}
 use Rattle.vdb_pool.specs.declared.slot.Slot.{Slot}
 use Rattle.vdb_pool.specs.declared.chunk.Chunk.{Chunk}
 

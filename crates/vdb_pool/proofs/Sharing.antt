@@ -11,7 +11,7 @@ use denote.Sharing.{ShrLaws, said}
 use denote.SharingLaws.{beside_shr_laws, nothing_shr_laws, said_shr_laws}
 use denote.Shares.{Shares-less}
 use denote.Struct.Lending.{Lends, Lends-both, Lends-nothing, Lends-false, Lends-lies, lent_at, lent_at_shr_laws}
-use Rattle.vdb_pool.specs.Ownership.{storage_owns, storage_lends}
+use Rattle.vdb_pool.specs.internal.Ownership.{storage_owns, storage_lends}
 
 -- what such a `&` holds can be copied and shortened
 pub storage_shr_laws : (R : RattleType) → RowLaws R → (ps : List Ptr) (xs : List R.Denot) → ShrLaws (storage_lends R ps xs)

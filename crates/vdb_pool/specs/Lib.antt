@@ -1,10 +1,4 @@
-pub mod Ownership
-pub mod Lends
-pub mod Rows
-pub mod Slot
-pub mod Stack
-pub mod Chunks
 pub mod Contents
-pub mod Pool
 pub mod Live
 pub mod LendsNode
+pub mod internal

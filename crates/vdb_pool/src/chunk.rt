@@ -1,7 +1,7 @@
 //! The chunks of a pool: blocks of equally many slots.
 ghost use Rattle.std.specs.Prelude.{◌≡◌, ◌<◌, length, get_or};
 ghost use denote.RawPtr.{null_ptr};
-ghost use Rattle.vdb_pool.specs.Chunks.{AreWhole, rows_of};
+ghost use Rattle.vdb_pool.specs.internal.Chunks.{AreWhole, rows_of};
 
 use crate::slot::Slot;
 use crate::storage::{Address, Block};

@@ -3,7 +3,7 @@ ghost use Rattle.std.specs.Prelude.{◌≡◌, ◌+◌, ◌*◌, ◌^◌, ◌-�
 ghost use Rattle.std.specs.Borrow.{sem};
 ghost use denote.RawPtr.{null_ptr};
 ghost use Rattle.vdb_pool.specs.Contents.{node_at, count_of, spare_of, next_slot, with_inserted, without_node, Grows, IsFalling, IsOrderly};
-ghost use Rattle.vdb_pool.specs.Chunks.{chunk_len};
+ghost use Rattle.vdb_pool.specs.internal.Chunks.{chunk_len};
 
 use crate::chunk::{CHUNK_LEN, Chunk, address_in};
 use crate::copying::TryCopy;
@@ -49,9 +49,9 @@ impl<T> Model for Pool<T> {
 
     ghost coded = { contents_code T.code };
 
-    ghost use Rattle.vdb_pool.specs.Slot.{node_of};
-    ghost use Rattle.vdb_pool.specs.Stack.{linked};
-    ghost use Rattle.vdb_pool.specs.Pool.{IsSound};
+    ghost use Rattle.vdb_pool.specs.internal.Slot.{node_of};
+    ghost use Rattle.vdb_pool.specs.internal.Stack.{linked};
+    ghost use Rattle.vdb_pool.specs.internal.Pool.{IsSound};
 
     ghost view = { λ p. record {
       nodes = map node_of p.storage.items;

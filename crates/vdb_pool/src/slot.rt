@@ -1,7 +1,7 @@
 //! A slot of the pool: a node, or a link of the stack of vacant slots.
 ghost use Rattle.std.specs.Prelude.{◌≡◌, Some, IsSome};
 ghost use Rattle.std.specs.Borrow.{Lends, sem};
-ghost use Rattle.vdb_pool.specs.Slot.{node_of};
+ghost use Rattle.vdb_pool.specs.internal.Slot.{node_of};
 
 /// A vacant slot names the one that was vacated before it, if that one is still vacant.
 #[derive(Drop)]

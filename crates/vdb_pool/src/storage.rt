@@ -6,8 +6,8 @@ ghost use Rattle.std.specs.Prelude.{◌≡◌, ℕ, ◌+◌, ◌*◌, ◌<◌, �
 ghost use Rattle.std.specs.Borrow.{sem};
 ghost use denote.RawPtr.{Ptr, null_ptr, ◌+ₚ◌};
 ghost use Rattle.std.specs.Vec.Ownership.{FitsInBlock};
-ghost use Rattle.vdb_pool.specs.Ownership.{storage_owns, storage_lends, block_owns, block_says};
-ghost use Rattle.vdb_pool.specs.Rows.{row_from, IsLastAt};
+ghost use Rattle.vdb_pool.specs.internal.Ownership.{storage_owns, storage_lends, block_owns, block_says};
+ghost use Rattle.vdb_pool.specs.internal.Rows.{row_from, IsLastAt};
 
 use std::alloc::{AllocError, Allocator};
 use std::marker::{Model, PhantomData};
@@ -116,7 +116,7 @@ impl<T, A: Allocator> Block<T, A> {
 }
 
 impl<T> Storage<T> {
-    ghost use Rattle.vdb_pool.specs.Lends.{lends_item};
+    ghost use Rattle.vdb_pool.specs.internal.Lends.{lends_item};
 
     /// No memory at all.
     pub(crate) fn new() -> Storage<T>

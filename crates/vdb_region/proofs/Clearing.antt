@@ -17,8 +17,8 @@ use Rattle.vdb_tree.proofs.Fields.{cell_inside, same_cells}
 use Rattle.vdb_tree.proofs.Rooted.{not_from, was_false}
 use Rattle.vdb_tree.proofs.Uniform.{uniform_cells, uniform_from}
 use Rattle.vdb_value.specs.declared.Cell.{Cell}
-use Rattle.vdb_region.specs.Beyond.{clear, is_beyond}
-use Rattle.vdb_region.specs.Rings.{hull}
+use Rattle.vdb_region.specs.internal.Beyond.{clear, is_beyond}
+use Rattle.vdb_region.specs.internal.Rings.{hull}
 use Rattle.vdb_region.proofs.Halves.{beyond_all}
 use Rattle.vdb_region.proofs.Hulls.{hull_holds}
 

@@ -12,7 +12,7 @@ use Rattle.vdb_coord.specs.declared.face.Face.TheVariants.{MinusX, PlusX, MinusY
 use Rattle.vdb_coord.proofs.Boxes.{both, box_from_inside, box_of_none, not_true, three}
 use Rattle.vdb_coord.proofs.Meeting.{le_from_test}
 use Rattle.vdb_tree.proofs.Blocks.{never}
-use Rattle.vdb_region.specs.Beyond.{half, is_beyond}
+use Rattle.vdb_region.specs.internal.Beyond.{half, is_beyond}
 
 abbrev low : ℤ
 low = negsuc 2147483647

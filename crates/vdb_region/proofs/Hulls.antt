@@ -23,8 +23,8 @@ use Rattle.vdb_tree.specs.SplitBox.{IsCovered, IsSplit}
 use Rattle.vdb_tree.proofs.Blocks.{never}
 use Rattle.vdb_tree.proofs.Covered.{covered_from, covered_inside}
 use Rattle.vdb_tree.proofs.Passes.{entry_by_block}
-use Rattle.vdb_region.specs.Beyond.{is_beyond}
-use Rattle.vdb_region.specs.Rings.{hull, inner, outer}
+use Rattle.vdb_region.specs.internal.Beyond.{is_beyond}
+use Rattle.vdb_region.specs.internal.Rings.{hull, inner, outer}
 use Rattle.vdb_region.specs.declared.rings.Ring.{Ring}
 use Rattle.vdb_region.specs.declared.rings.Ring.TheVariants.{AroundRoots, WithinRoots, WithinLowers, WithinLeaves}
 use Rattle.vdb_region.proofs.Halves.{not_le}

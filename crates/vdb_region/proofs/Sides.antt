@@ -9,8 +9,8 @@ use Rattle.vdb_coord.specs.declared.Level.{Level}
 use Rattle.vdb_coord.specs.declared.face.Face.{Face}
 use Rattle.vdb_coord.proofs.Boxes.{both, box_of_some}
 use Rattle.vdb_coord.proofs.Meeting.{within_each}
-use Rattle.vdb_region.specs.Beyond.{half, is_beyond}
-use Rattle.vdb_region.specs.Rings.{hull}
+use Rattle.vdb_region.specs.internal.Beyond.{half, is_beyond}
+use Rattle.vdb_region.specs.internal.Rings.{hull}
 use Rattle.vdb_region.proofs.Halves.{half_inside, no_half}
 use Rattle.vdb_region.proofs.Hulls.{hull_is_box}
 

@@ -1,3 +1,2 @@
 -- What lies beyond the faces of a box, and what lies around it.
-pub mod Beyond
-pub mod Rings
+pub mod internal

@@ -2,7 +2,7 @@
 
 ghost use Rattle.std.specs.Prelude.{◌≡◌, IsTrue};
 ghost use Rattle.vdb_coord.specs.Boxes.{box_of, is_bounds};
-ghost use Rattle.vdb_region.specs.Beyond.{half as half_of};
+ghost use Rattle.vdb_region.specs.internal.Beyond.{half as half_of};
 
 use vdb_coord::{Bounds, Coord, Face};
 

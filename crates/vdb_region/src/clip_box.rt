@@ -3,8 +3,8 @@
 ghost use Rattle.std.specs.Prelude.{◌≡◌, ◌&&◌, false, Err, IfErr, IfNone, IfSome};
 ghost use Rattle.vdb_coord.specs.Space.{is_inside};
 ghost use Rattle.vdb_coord.specs.declared.Coord.{Coord};
-ghost use Rattle.vdb_region.specs.Beyond.{clear, is_beyond};
-ghost use Rattle.vdb_region.specs.Rings.{inner, outer};
+ghost use Rattle.vdb_region.specs.internal.Beyond.{clear, is_beyond};
+ghost use Rattle.vdb_region.specs.internal.Rings.{inner, outer};
 ghost use Rattle.vdb_tree.specs.Field.{clip as clipped};
 ghost use Rattle.vdb_tree.specs.Layout.{bits_of, field_of, background_cell};
 ghost use Rattle.vdb_tree.specs.Outcome.{IsOutcome};

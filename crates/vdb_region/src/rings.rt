@@ -4,8 +4,8 @@ ghost use Rattle.std.specs.Prelude.{◌≡◌, ◌&&◌, false, IfNone, IfSome};
 ghost use Rattle.vdb_coord.specs.Entries.{AreBits};
 ghost use Rattle.vdb_coord.specs.Space.{everywhere, is_inside};
 ghost use Rattle.vdb_coord.specs.declared.Coord.{Coord};
-ghost use Rattle.vdb_region.specs.Beyond.{is_beyond};
-ghost use Rattle.vdb_region.specs.Rings.{hull as hull_of, inner as inner_of, outer as outer_of};
+ghost use Rattle.vdb_region.specs.internal.Beyond.{is_beyond};
+ghost use Rattle.vdb_region.specs.internal.Rings.{hull as hull_of, inner as inner_of, outer as outer_of};
 
 use crate::beyond::half;
 use vdb_coord::{Bits, Bounds, Coord, Face, Level};

@@ -18,7 +18,7 @@ use Rattle.vdb_script.specs.Run.{TakesLine, read}
 use Rattle.vdb_script.specs.Text.{text}
 use Rattle.vdb_script.specs.Writing.{Writes}
 use Rattle.vdb_script.specs.declared.output.WriteFault.{WriteFault}
-use Rattle.vdb_shell.specs.Answering.{GoesOut, TakesTurn}
+use Rattle.vdb_shell.specs.internal.Answering.{GoesOut, TakesTurn}
 use Rattle.vdb_shell.specs.Session.{is_refused}
 use Rattle.vdb_shell.specs.declared.playing.Turn.{Turn}
 

@@ -13,7 +13,7 @@ use Rattle.vdb_script.specs.Writing.{HasCut}
 use Rattle.vdb_script.specs.declared.output.WriteFault.{WriteFault}
 use Rattle.vdb_script.specs.declared.source.ScriptFault.{ScriptFault}
 use Rattle.vdb_script.specs.declared.source.ScriptFault.TheVariants.{Read, TooLong}
-use Rattle.vdb_shell.specs.Answering.{GoesOut, TakesTurn, is_read_ending}
+use Rattle.vdb_shell.specs.internal.Answering.{GoesOut, TakesTurn, is_read_ending}
 use Rattle.vdb_shell.specs.Session.{PlaysFrom, is_refused}
 use Rattle.vdb_shell.specs.declared.fault.Fault.{Fault}
 use Rattle.vdb_shell.specs.declared.playing.Turn.{Turn}

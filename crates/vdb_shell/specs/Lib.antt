@@ -1,3 +1,3 @@
 -- Sessions.
-pub mod Answering
 pub mod Session
+pub mod internal

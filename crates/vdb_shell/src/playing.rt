@@ -8,7 +8,7 @@ ghost use Rattle.vdb_scene.specs.Watched.{has_failed, source};
 ghost use Rattle.vdb_script.specs.Reading.{EndsWith, YieldsEnd, YieldsLine, YieldsPart, YieldsTooMuch, ahead, budget};
 ghost use Rattle.vdb_script.specs.Text.{text};
 ghost use Rattle.vdb_script.specs.Writing.{Writes};
-ghost use Rattle.vdb_shell.specs.Answering.{TakesTurn, is_read_ending};
+ghost use Rattle.vdb_shell.specs.internal.Answering.{TakesTurn, is_read_ending};
 ghost use Rattle.vdb_shell.specs.Session.{PlaysFrom, is_refused};
 
 use crate::Fault;

@@ -28,7 +28,7 @@ use Rattle.vdb_node.specs.Nodes.{entry_count}
 use Rattle.vdb_node.specs.declared.Entry.{Entry}
 use Rattle.vdb_node.specs.declared.Entry.TheVariants.{Tile}
 use Rattle.vdb_value.specs.declared.Cell.{Cell}
-use Rattle.vdb_tree.specs.Active.{IsInactiveFrom, IsNextActive}
+use Rattle.vdb_tree.specs.internal.Active.{IsInactiveFrom, IsNextActive}
 use Rattle.vdb_tree.specs.Changes.{IsConstantBlock}
 use Rattle.vdb_tree.specs.Field.{Field}
 use Rattle.vdb_tree.specs.Layout.{Layout, cell_at, field_of}

@@ -12,9 +12,9 @@ use Rattle.vdb_node.specs.declared.Entry.{Entry}
 use Rattle.vdb_node.specs.declared.Entry.TheVariants.{Child, Tile}
 use Rattle.vdb_value.specs.declared.Cell.{Cell}
 use Rattle.vdb_tree.specs.Changes.{Fills, KeepsBeyond, SameDescent}
-use Rattle.vdb_tree.specs.Corners.{IsChildless, IsNextCornerAt}
+use Rattle.vdb_tree.specs.internal.Corners.{IsChildless, IsNextCornerAt}
 use Rattle.vdb_tree.specs.Layout.{Layout}
-use Rattle.vdb_tree.specs.Paints.{KeepsOutside}
+use Rattle.vdb_tree.specs.internal.Paints.{KeepsOutside}
 use Rattle.vdb_tree.specs.SplitBox.{IsCovered}
 use Rattle.vdb_tree.proofs.Covered.{covered_inside}
 use Rattle.vdb_tree.proofs.Levels.{coord_cases, tile_no_child}

@@ -14,7 +14,7 @@ use Rattle.vdb_tree.specs.Layout.{Layout, cell_at, entry_over, lower_entry, back
 use Rattle.vdb_tree.specs.Nodes.{MakesNoKey}
 use Rattle.vdb_tree.specs.Paths.{is_child}
 use Rattle.vdb_tree.specs.SplitBox.{IsSplit}
-use Rattle.vdb_tree.specs.Erase.{AddsBackgroundTiles, ErasesRoot}
+use Rattle.vdb_tree.specs.internal.Erase.{AddsBackgroundTiles, ErasesRoot}
 use Rattle.vdb_tree.specs.Table.{IsNextKey, IsPast}
 use Rattle.vdb_tree.proofs.KeysPast.{past_on}
 use Rattle.vdb_tree.proofs.Levels.{coord_cases}

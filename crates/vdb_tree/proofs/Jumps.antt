@@ -19,7 +19,7 @@ use Rattle.vdb_node.specs.declared.Entry.{Entry}
 use Rattle.vdb_node.specs.declared.Entry.TheVariants.{Child, Tile}
 use Rattle.vdb_pool.specs.Contents.{node_at}
 use Rattle.vdb_value.specs.declared.Cell.{Cell}
-use Rattle.vdb_tree.specs.Jumps.{ArePassed, IsJump, IsJumpAt, IsLast, IsNextEntryAt, IsNextPartAt}
+use Rattle.vdb_tree.specs.internal.Jumps.{ArePassed, IsJump, IsJumpAt, IsLast, IsNextEntryAt, IsNextPartAt}
 use Rattle.vdb_tree.specs.Layout.{Layout, background_cell, root_entry, upper_entry}
 use Rattle.vdb_tree.specs.Parts.{IsNextAbove, IsSkipped}
 use Rattle.vdb_tree.specs.declared.reading.parts.Skip.{Skip}

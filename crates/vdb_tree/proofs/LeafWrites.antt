@@ -22,7 +22,7 @@ use Rattle.vdb_tree.specs.Field.{written}
 use Rattle.vdb_tree.specs.Layout.{Layout, cell_at, field_of, lower_entry, background_cell}
 use Rattle.vdb_tree.specs.Leaves.{IsVoxelWritten, with_states_of}
 use Rattle.vdb_tree.specs.Nodes.{AreStatesSet}
-use Rattle.vdb_tree.specs.Paints.{KeepsOutside, PaintsVoxels}
+use Rattle.vdb_tree.specs.internal.Paints.{KeepsOutside, PaintsVoxels}
 use Rattle.vdb_tree.specs.Paths.{IsWhole, Lives, TreePath}
 use Rattle.vdb_tree.specs.Sound.{IsSound}
 use Rattle.vdb_tree.proofs.Descents.{leaf_cell, lower_by_block}

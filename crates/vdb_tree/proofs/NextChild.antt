@@ -24,7 +24,7 @@ use Rattle.vdb_pool.specs.Contents.{node_at}
 use Rattle.vdb_value.specs.declared.Cell.{Cell}
 use Rattle.vdb_tree.specs.Layout.{Layout, lower_entry, background_cell, root_entry, upper_entry}
 use Rattle.vdb_tree.specs.Paths.{in_leaf, is_child}
-use Rattle.vdb_tree.specs.Seeks.{IsFirstLeaf, IsFrom, IsNextLower}
+use Rattle.vdb_tree.specs.internal.Seeks.{IsFirstLeaf, IsFrom, IsNextLower}
 use Rattle.vdb_coord.proofs.BlockOrder.{later_in_lower}
 use Rattle.vdb_tree.proofs.Descents.{lower_node_entry, root_by_block, tile_lower, tile_upper, upper_by_block, upper_node_entry}
 use Rattle.vdb_tree.proofs.Levels.{tile_no_child, tile_or_child}

@@ -14,7 +14,7 @@ use Rattle.vdb_coord.proofs.Nesting.{lower_from_upper, upper_from_lower}
 use Rattle.vdb_tree.specs.Layout.{Layout, root_at}
 use Rattle.vdb_tree.specs.Leaves.{IsNextLeaf}
 use Rattle.vdb_tree.specs.Paths.{in_leaf}
-use Rattle.vdb_tree.specs.Seeks.{IsFirstLeaf, IsFrom, IsKeyPast, IsLeafCorner, IsNextLower}
+use Rattle.vdb_tree.specs.internal.Seeks.{IsFirstLeaf, IsFrom, IsKeyPast, IsLeafCorner, IsNextLower}
 use Rattle.vdb_tree.specs.Table.{IsNextKey, IsPast}
 use Rattle.vdb_coord.proofs.BlockOrder.{from_key, from_lower, from_upper, key_equal, not_after, precedes, same_upper_offset}
 use Rattle.vdb_tree.proofs.NextChild.{leaf_below_lower, leaf_below_upper}

@@ -14,7 +14,7 @@ use Rattle.vdb_value.specs.declared.Cell.{Cell}
 use Rattle.vdb_tree.specs.Changes.{KeepsHead, SameDescent}
 use Rattle.vdb_tree.specs.Field.{fill}
 use Rattle.vdb_tree.specs.Layout.{Layout, cell_at, entry_over, field_of, background_cell, root_at}
-use Rattle.vdb_tree.specs.Paints.{ArePainted, AreSplit, IsPainted, KeepsOutside}
+use Rattle.vdb_tree.specs.internal.Paints.{ArePainted, AreSplit, IsPainted, KeepsOutside}
 use Rattle.vdb_tree.specs.SplitBox.{IsCovered, IsSplit}
 use Rattle.vdb_tree.specs.Capacity.{IsNextMet}
 use Rattle.vdb_tree.specs.Table.{IsPast}

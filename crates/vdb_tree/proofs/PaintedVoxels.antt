@@ -14,7 +14,7 @@ use Rattle.vdb_coord.proofs.Nesting.{entry_number_leaf}
 use Rattle.vdb_coord.proofs.Walk.{min_inside, next_x, next_y, next_z, no_next, none_before}
 use Rattle.vdb_node.specs.Leaf.{cell_in, FillsRun, Leaf as LeafOf}
 use Rattle.vdb_value.specs.declared.Cell.{Cell}
-use Rattle.vdb_tree.specs.Paints.{IsRun, PaintsVoxels, voxels}
+use Rattle.vdb_tree.specs.internal.Paints.{IsRun, PaintsVoxels, voxels}
 use Rattle.vdb_tree.proofs.Pools.{below_or}
 use Rattle.vdb_tree.proofs.VoxelRuns.{in_run_of_offset, offset_in_run}
 

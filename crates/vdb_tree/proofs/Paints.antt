@@ -12,7 +12,7 @@ use Rattle.vdb_node.specs.declared.Entry.TheVariants.{Child, Tile}
 use Rattle.vdb_value.specs.declared.Cell.{Cell}
 use Rattle.vdb_tree.specs.Changes.{Fills, SameDescent}
 use Rattle.vdb_tree.specs.Layout.{Layout, cell_at, entry_over}
-use Rattle.vdb_tree.specs.Paints.{ArePainted, AreSplit, IsPainted, KeepsOutside}
+use Rattle.vdb_tree.specs.internal.Paints.{ArePainted, AreSplit, IsPainted, KeepsOutside}
 use Rattle.vdb_tree.specs.SplitBox.{IsCovered, IsTiledTo}
 use Rattle.vdb_tree.proofs.Covered.{covered_by_block, covered_inside, leaf_covered, lower_covered}
 use Rattle.vdb_tree.proofs.Descents.{tile_lower, tile_upper}

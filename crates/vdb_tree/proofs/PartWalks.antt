@@ -16,7 +16,7 @@ use Rattle.vdb_coord.proofs.Members.{coord_total}
 use Rattle.vdb_coord.proofs.Nesting.{inside_numbered, lower_from_leaf, number_in_block, upper_from_lower}
 use Rattle.vdb_node.specs.declared.Entry.{Entry}
 use Rattle.vdb_node.specs.declared.Entry.TheVariants.{Child, Tile}
-use Rattle.vdb_tree.specs.Jumps.{IsJumpAt, IsLast}
+use Rattle.vdb_tree.specs.internal.Jumps.{IsJumpAt, IsLast}
 use Rattle.vdb_tree.specs.Layout.{Layout, cell_at, entry_over, field_of, background_cell, root_at, root_entry, upper_entry}
 use Rattle.vdb_tree.specs.Parts.{IsPartAround, IsPlace, IsPlaceAfter, IsSkipped, IsWalk, Passes, TreeWalk, YieldsBox, end_level, if_tile, is_left, left_count}
 use Rattle.vdb_tree.specs.declared.reading.parts.Skip.{Skip}

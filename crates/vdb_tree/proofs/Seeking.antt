@@ -6,7 +6,7 @@ use Rattle.vdb_coord.specs.Blocks.{block_cmp}
 use Rattle.vdb_coord.specs.declared.Bits.{Bits}
 use Rattle.vdb_coord.specs.declared.Coord.{Coord}
 use Rattle.vdb_tree.specs.Layout.{Layout}
-use Rattle.vdb_tree.specs.Seeks.{IsFirstLeaf, IsLeafCorner}
+use Rattle.vdb_tree.specs.internal.Seeks.{IsFirstLeaf, IsLeafCorner}
 
 -- one of two numbers is the lesser
 pub from_or_below : (m n : ℕ) → (m ≤ n) ⊎ (n < m)

@@ -14,7 +14,7 @@ use Rattle.vdb_coord.proofs.Nesting.{corner_of_entry, entry_number_leaf, inside_
 use Rattle.vdb_coord.proofs.Offsets.{offset_less}
 use Rattle.vdb_coord.proofs.Places.{offset_below}
 use Rattle.vdb_coord.proofs.Walk.{few_after, inside_from, inside_parts, nearer_x, nearer_y, nearer_z}
-use Rattle.vdb_tree.specs.Paints.{IsRun}
+use Rattle.vdb_tree.specs.internal.Paints.{IsRun}
 
 -- ---- along one axis
 

@@ -17,7 +17,7 @@ use Rattle.vdb_tree.specs.Layout.{Layout, cell_at, entry_over, field_of, lower_e
 use Rattle.vdb_tree.specs.Parts.{IsEnd, end_level, left_count}
 use Rattle.vdb_tree.specs.Paths.{in_leaf}
 use Rattle.vdb_tree.specs.Table.{HasCapacity}
-use Rattle.vdb_tree.specs.Voxelised.{IsVoxelisedAround, IsVoxelisedFrom, IsVoxelisedTo}
+use Rattle.vdb_tree.specs.internal.Voxelised.{IsVoxelisedAround, IsVoxelisedFrom, IsVoxelisedTo}
 use Rattle.vdb_tree.specs.declared.reading.ends.End.TheVariants.{Leaf as EndLeaf, Tile as EndTile}
 use Rattle.vdb_tree.proofs.Blocks.{never}
 use Rattle.vdb_tree.proofs.Descents.{lower_by_block, tile_lower, tile_upper}

@@ -2,6 +2,6 @@
 
 pub(crate) mod paint;
 pub(crate) mod paint_voxels;
-pub(crate) mod split_box;
 pub(crate) mod root_capacity;
+pub(crate) mod split_box;
 pub(crate) mod tiles;

@@ -16,9 +16,8 @@ ghost use Rattle.std.specs.Prelude.{◌≡◌};
 ghost use Rattle.vdb_tree.specs.Field.{written};
 
 mod boxes;
-mod whole_copy;
-mod node_counts;
 mod keys;
+mod node_counts;
 mod nodes;
 mod path;
 mod pruning;
@@ -26,6 +25,7 @@ mod reading;
 mod refusal;
 mod root;
 mod tree;
+mod whole_copy;
 mod writing;
 
 pub use node_counts::NodeCounts;

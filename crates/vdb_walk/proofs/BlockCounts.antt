@@ -25,7 +25,7 @@ use Rattle.vdb_tree.specs.ConstantBlocks.{count}
 use Rattle.vdb_tree.specs.declared.reading.parts.Skip.{Skip}
 use Rattle.vdb_tree.specs.declared.reading.parts.Skip.TheVariants.{Inactive}
 use Rattle.vdb_tree.proofs.PartStarts.{before_place}
-use Rattle.vdb_walk.specs.BlocksFrom.{IsBoxStart, IsInactiveTo, IsPartStart, active_around, active_from}
+use Rattle.vdb_walk.specs.internal.BlocksFrom.{IsBoxStart, IsInactiveTo, IsPartStart, active_around, active_from}
 use Rattle.vdb_walk.proofs.Counts.{count_few, none_on, nothing_apart, volume_few}
 use Rattle.vdb_walk.proofs.NonConstantBlocks.{from_on, left_from, past_both}
 use Rattle.vdb_walk.proofs.PartCounts.{count_listed, count_split, left_first}

@@ -24,7 +24,7 @@ use Rattle.vdb_coord.proofs.Members.{coord_total}
 use Rattle.vdb_coord.proofs.Nesting.{lower_from_leaf, offset_from_entry, upper_from_lower}
 use Rattle.vdb_coord.proofs.Places.{block_bits_split, joined, offset_is}
 use Rattle.vdb_coord.proofs.BlockOrder.{from_key, from_lower, from_upper}
-use Rattle.vdb_walk.specs.Halves.{AreInBlockOrder, AreOrdered, IsHalved, numbers}
+use Rattle.vdb_walk.specs.internal.Halves.{AreInBlockOrder, AreOrdered, IsHalved, numbers}
 use Rattle.vdb_walk.proofs.Cuts.{below_x, below_y, below_z, from_x, from_y, from_z}
 
 ends : (a x c : ℤ) → is_between a c x ≡ true → (a ≤ℤ x) × (x ≤ℤ c)

@@ -16,7 +16,7 @@ use Rattle.vdb_coord.proofs.Members.{coord_equiv, coord_exact, member_coordinate
 use Rattle.vdb_coord.proofs.Volume.{length_coordinates}
 use Rattle.vdb_tree.specs.Field.{Field}
 use Rattle.vdb_tree.specs.ConstantBlocks.{count}
-use Rattle.vdb_walk.specs.Halves.{IsHalved}
+use Rattle.vdb_walk.specs.internal.Halves.{IsHalved}
 
 -- ---- truth values
 

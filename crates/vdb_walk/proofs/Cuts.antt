@@ -7,7 +7,7 @@ use Rattle.vdb_coord.specs.Space.{Box, coord, is_between, is_box}
 use Rattle.vdb_coord.specs.declared.Coord.{Coord}
 use Rattle.vdb_coord.proofs.Boxes.{both, three, together}
 use Rattle.vdb_coord.proofs.Meeting.{test_from_le}
-use Rattle.vdb_walk.specs.Halves.{IsHalved}
+use Rattle.vdb_walk.specs.internal.Halves.{IsHalved}
 
 -- what lies below a number along an axis, and what lies from it on
 abbrev pub below_x : Box → ℤ → Box

@@ -17,8 +17,8 @@ use Rattle.vdb_coord.proofs.Nesting.{block_total, offset_from_entry}
 use Rattle.vdb_coord.proofs.Walk.{min_inside}
 use Rattle.vdb_coord.proofs.BlockOrder.{from_key, from_lower, from_upper, not_after, precedes}
 use Rattle.vdb_tree.proofs.Rooted.{or_cases}
-use Rattle.vdb_walk.specs.Firsts.{IsFirst}
-use Rattle.vdb_walk.specs.Halves.{AreInBlockOrder, IsHalved, numbers}
+use Rattle.vdb_walk.specs.internal.Firsts.{IsFirst}
+use Rattle.vdb_walk.specs.internal.Halves.{AreInBlockOrder, IsHalved, numbers}
 use Rattle.vdb_walk.proofs.BoxOrder.{between_x, between_y, between_z, from_leaf, in_half, in_other, key_less, offset_less}
 use Rattle.vdb_walk.proofs.Keys.{IsUpTo}
 

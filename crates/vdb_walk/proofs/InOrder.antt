@@ -18,7 +18,7 @@ use Rattle.vdb_coord.proofs.Nesting.{block_exact, block_total}
 use Rattle.vdb_tree.proofs.Levels.{like_coords}
 use Rattle.vdb_tree.proofs.Rooted.{or_cases, or_first, or_second}
 use Rattle.vdb_tree.specs.Field.{Field}
-use Rattle.vdb_walk.specs.Firsts.{IsActivePast, IsFirst}
+use Rattle.vdb_walk.specs.internal.Firsts.{IsActivePast, IsFirst}
 use Rattle.vdb_walk.specs.Reports.{active, in_block_order, past}
 use Rattle.vdb_walk.proofs.Firsts.{comes_on, never_back, never_itself}
 

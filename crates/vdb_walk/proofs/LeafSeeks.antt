@@ -10,8 +10,8 @@ use Rattle.vdb_coord.specs.declared.Coord.{Coord}
 use Rattle.vdb_coord.specs.declared.Level.TheVariants.{Leaf, Lower, Upper}
 use Rattle.vdb_coord.proofs.Nesting.{lower_from_leaf, offset_from_entry, upper_from_lower, voxel_from_leaf}
 use Rattle.vdb_coord.proofs.Walk.{min_inside}
-use Rattle.vdb_walk.specs.Firsts.{IsEntryPast, IsFirst, IsInLeafBlock, IsOnPast, IsPastLast}
-use Rattle.vdb_walk.specs.Voxels.{IsInFirstBlock, IsNextSet}
+use Rattle.vdb_walk.specs.internal.Firsts.{IsEntryPast, IsFirst, IsInLeafBlock, IsOnPast, IsPastLast}
+use Rattle.vdb_walk.specs.internal.Voxels.{IsInFirstBlock, IsNextSet}
 use Rattle.vdb_walk.proofs.BoxOrder.{from_leaf}
 use Rattle.vdb_walk.proofs.Firsts.{never_back, never_itself, past_after}
 

@@ -15,7 +15,7 @@ use Rattle.vdb_coord.proofs.Boxes.{and_true, both}
 use Rattle.vdb_coord.proofs.Nesting.{inside_numbered, number_in_block}
 use Rattle.vdb_coord.proofs.Walk.{inside_from, inside_parts, up_to_x}
 use Rattle.vdb_tree.proofs.Levels.{bool_cases}
-use Rattle.vdb_walk.specs.Firsts.{IsFirst, IsNextVoxel, IsPastLast}
+use Rattle.vdb_walk.specs.internal.Firsts.{IsFirst, IsNextVoxel, IsPastLast}
 
 false_true : false ≡ true → ⊥
 false_true e = cc

@@ -28,7 +28,7 @@ use Rattle.vdb_tree.proofs.PartStarts.{before_place}
 use Rattle.vdb_tree.proofs.Rooted.{one_more}
 use Rattle.vdb_tree.proofs.Uniform.{uniform_cells, uniform_from}
 use Rattle.vdb_value.specs.declared.Cell.{Cell}
-use Rattle.vdb_walk.specs.BlocksFrom.{IsBlockAt, IsBlockStart, IsPartStart, IsBackgroundTo, non_constant_from}
+use Rattle.vdb_walk.specs.internal.BlocksFrom.{IsBlockAt, IsBlockStart, IsPartStart, IsBackgroundTo, non_constant_from}
 use Rattle.vdb_walk.proofs.Counts.{none_on, nothing_apart}
 use Rattle.vdb_walk.proofs.PartCounts.{count_alike, count_listed, count_split}
 

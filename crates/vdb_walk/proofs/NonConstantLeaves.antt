@@ -31,7 +31,7 @@ use Rattle.vdb_tree.specs.ConstantBlocks.{is_constant}
 use Rattle.vdb_tree.proofs.LeafBlocks.{tile_around}
 use Rattle.vdb_tree.proofs.Rooted.{one_more}
 use Rattle.vdb_tree.proofs.Uniform.{uniform_from}
-use Rattle.vdb_walk.specs.BlocksFrom.{IsBlockStart, non_constant_from}
+use Rattle.vdb_walk.specs.internal.BlocksFrom.{IsBlockStart, non_constant_from}
 use Rattle.vdb_walk.proofs.Counts.{nothing_apart}
 use Rattle.vdb_walk.proofs.LeafSeeks.{later_in_leaf}
 use Rattle.vdb_walk.proofs.NonConstantBlocks.{denied, false_true, from_on, left_from, no_more, one_of, other_of, with_same}

@@ -26,7 +26,7 @@ use Rattle.vdb_tree.specs.declared.reading.parts.Skip.TheVariants.{Absent, Backg
 use Rattle.vdb_tree.proofs.PartWalks.{absent_skipped}
 use Rattle.vdb_tree.proofs.Uniform.{cell_exact, cell_itself, uniform_cells, uniform_from}
 use Rattle.vdb_value.specs.declared.Cell.{Cell}
-use Rattle.vdb_walk.specs.PartCells.{IsCellAt, IsCellOrSkipped, IsInEachRoot}
+use Rattle.vdb_walk.specs.internal.PartCells.{IsCellAt, IsCellOrSkipped, IsInEachRoot}
 
 false_true : {b : Bool} → b ≡ false → b ≡ true → ⊥
 false_true {b} h k = let e : false ≡ true = sym h ∙ k in cc

@@ -26,8 +26,8 @@ use Rattle.vdb_tree.specs.declared.reading.parts.Part.{Part}
 use Rattle.vdb_tree.specs.declared.reading.parts.Skip.{Skip}
 use Rattle.vdb_tree.specs.declared.reading.parts.Skip.TheVariants.{Inactive}
 use Rattle.vdb_value.specs.declared.Cell.{Cell}
-use Rattle.vdb_walk.specs.Firsts.{IsActivePast, IsFirst, IsInLeafBlock, IsOnPast, IsPastLast}
-use Rattle.vdb_walk.specs.Listings.{HasCells, IsHeld, IsListing, tile_of}
+use Rattle.vdb_walk.specs.internal.Firsts.{IsActivePast, IsFirst, IsInLeafBlock, IsOnPast, IsPastLast}
+use Rattle.vdb_walk.specs.internal.Listings.{HasCells, IsHeld, IsListing, tile_of}
 use Rattle.vdb_walk.specs.declared.held.Held.{Held}
 use Rattle.vdb_walk.proofs.Firsts.{comes_on, first_same, past_after}
 

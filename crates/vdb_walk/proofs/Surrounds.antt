@@ -20,9 +20,9 @@ use Rattle.vdb_tree.specs.declared.reading.parts.Skip.TheVariants.{Inactive}
 use Rattle.vdb_tree.proofs.Levels.{bool_cases}
 use Rattle.vdb_tree.proofs.Rooted.{or_cases, or_first, or_second}
 use Rattle.vdb_value.specs.declared.Cell.{Cell}
-use Rattle.vdb_walk.specs.Voxels.{is_set, IsInFirstBlock, IsNextSet, IsNextSetAt}
+use Rattle.vdb_walk.specs.internal.Voxels.{is_set, IsInFirstBlock, IsNextSet, IsNextSetAt}
 use Rattle.vdb_walk.specs.Reports.{IsActiveBounds}
-use Rattle.vdb_walk.specs.Surround.{Surrounds, is_in, is_wanted, is_wanted_by}
+use Rattle.vdb_walk.specs.internal.Surround.{Surrounds, is_in, is_wanted, is_wanted_by}
 use Rattle.vdb_walk.proofs.VoxelRows.{run_inside}
 
 -- ---- two boxes joined

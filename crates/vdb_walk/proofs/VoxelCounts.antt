@@ -22,7 +22,7 @@ use Rattle.vdb_tree.specs.Parts.{IsPartOfLeaf}
 use Rattle.vdb_tree.specs.ConstantBlocks.{count}
 use Rattle.vdb_tree.proofs.LeafCounts.{leaf_counted}
 use Rattle.vdb_value.specs.declared.Cell.{Cell}
-use Rattle.vdb_walk.specs.Voxels.{is_set, IsInFirstBlock, IsNextSet, IsNextSetAt, set_count}
+use Rattle.vdb_walk.specs.internal.Voxels.{is_set, IsInFirstBlock, IsNextSet, IsNextSetAt, set_count}
 use Rattle.vdb_walk.proofs.Counts.{none_on, nothing_apart}
 use Rattle.vdb_walk.proofs.PartCounts.{count_alike, count_listed, count_split, first_way, other_way}
 use Rattle.vdb_walk.proofs.Surrounds.{min_inside}

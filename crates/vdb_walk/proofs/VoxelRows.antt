@@ -14,7 +14,7 @@ use Rattle.vdb_coord.proofs.Digits.{between_fits, digit_is, first_fits, last_fit
 use Rattle.vdb_coord.proofs.Division.{parts, rest, rest_of}
 use Rattle.vdb_coord.proofs.Places.{offset_is}
 use Rattle.vdb_coord.proofs.Walk.{inside_from, inside_parts, own_end}
-use Rattle.vdb_walk.specs.Voxels.{IsInFirstBlock}
+use Rattle.vdb_walk.specs.internal.Voxels.{IsInFirstBlock}
 use Rattle.vdb_walk.proofs.VoxelSeeks.{same_entry}
 
 -- ---- the voxel of an entry

@@ -9,7 +9,7 @@ use Rattle.vdb_coord.specs.declared.Level.TheVariants.{Leaf}
 use Rattle.vdb_coord.proofs.Nesting.{corner_of_entry, voxel_from_leaf}
 use Rattle.vdb_mask.specs.Mask.{IsNextAt, is_on}
 use Rattle.vdb_node.specs.Nodes.{IsOffFrom}
-use Rattle.vdb_walk.specs.Voxels.{is_set, IsInFirstBlock, IsNextSet}
+use Rattle.vdb_walk.specs.internal.Voxels.{is_set, IsInFirstBlock, IsNextSet}
 
 false_true : false ≡ true → ⊥
 false_true e = cc

@@ -12,8 +12,8 @@ ghost use Rattle.vdb_node.specs.Nodes.{IsOffFrom};
 ghost use Rattle.vdb_tree.specs.Layout.{bits_of, field_of};
 ghost use Rattle.vdb_tree.specs.Parts.{IsPartOfLeaf};
 ghost use Rattle.vdb_tree.specs.ConstantBlocks.{count as active_count};
-ghost use Rattle.vdb_walk.specs.BlocksFrom.{IsBoxStart, IsInactiveTo, active_around, active_from};
-ghost use Rattle.vdb_walk.specs.Voxels.{IsInFirstBlock, set_count};
+ghost use Rattle.vdb_walk.specs.internal.BlocksFrom.{IsBoxStart, IsInactiveTo, active_around, active_from};
+ghost use Rattle.vdb_walk.specs.internal.Voxels.{IsInFirstBlock, set_count};
 
 use crate::node_census::part_from;
 use crate::voxels::{block_corner, next_set_in, run_end};

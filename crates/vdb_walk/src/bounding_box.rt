@@ -9,9 +9,9 @@ ghost use Rattle.vdb_coord.specs.declared.Level.TheVariants.{Leaf as leaf_level}
 ghost use Rattle.vdb_node.specs.Nodes.{IsOffFrom};
 ghost use Rattle.vdb_tree.specs.Layout.{bits_of, field_of};
 ghost use Rattle.vdb_tree.specs.Parts.{IsPartOfLeaf};
-ghost use Rattle.vdb_walk.specs.Voxels.{IsInFirstBlock};
+ghost use Rattle.vdb_walk.specs.internal.Voxels.{IsInFirstBlock};
 ghost use Rattle.vdb_walk.specs.Reports.{IsActiveBounds};
-ghost use Rattle.vdb_walk.specs.Surround.{Surrounds, is_in, is_wanted, is_wanted_by};
+ghost use Rattle.vdb_walk.specs.internal.Surround.{Surrounds, is_in, is_wanted, is_wanted_by};
 
 use crate::voxels::{block_corner, next_set_in, past_run};
 use vdb_coord::{Bits, Bounds};

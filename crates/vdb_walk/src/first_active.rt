@@ -9,9 +9,9 @@ ghost use Rattle.vdb_coord.specs.declared.Level.TheVariants.{Leaf as leaf_level}
 ghost use Rattle.vdb_node.specs.Leaf.{cell_in};
 ghost use Rattle.vdb_tree.specs.Layout.{bits_of, field_of};
 ghost use Rattle.vdb_value.specs.declared.Cell.{Cell};
-ghost use Rattle.vdb_walk.specs.Firsts.{IsActivePast, IsFirst, IsEntryPast, IsInLeafBlock, IsOnPast, IsPastLast};
+ghost use Rattle.vdb_walk.specs.internal.Firsts.{IsActivePast, IsFirst, IsEntryPast, IsInLeafBlock, IsOnPast, IsPastLast};
 ghost use Rattle.vdb_tree.specs.Parts.{IsWalk};
-ghost use Rattle.vdb_walk.specs.Listings.{HasCells, IsHeld, IsListing};
+ghost use Rattle.vdb_walk.specs.internal.Listings.{HasCells, IsHeld, IsListing};
 ghost use Rattle.vdb_walk.specs.Reports.{active};
 
 use crate::held::{Held, without_leaf};

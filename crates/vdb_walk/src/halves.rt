@@ -5,7 +5,7 @@ ghost use Rattle.vdb_coord.specs.Components.{first_of, number_at};
 ghost use Rattle.vdb_coord.specs.Entries.{AreBits};
 ghost use Rattle.vdb_coord.specs.Space.{is_box, is_inside};
 ghost use Rattle.vdb_coord.specs.declared.Coord.{Coord};
-ghost use Rattle.vdb_walk.specs.Halves.{AreInBlockOrder, AreOrdered, IsHalved, numbers};
+ghost use Rattle.vdb_walk.specs.internal.Halves.{AreInBlockOrder, AreOrdered, IsHalved, numbers};
 
 use vdb_coord::{Bits, Bounds, Coord, Level};
 

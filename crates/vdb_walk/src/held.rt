@@ -1,7 +1,7 @@
 //! The part of a tree that a listing is in.
 
 ghost use Rattle.std.specs.Prelude.{◌≡◌};
-ghost use Rattle.vdb_walk.specs.Listings.{tile_of};
+ghost use Rattle.vdb_walk.specs.internal.Listings.{tile_of};
 
 use vdb_coord::Bounds;
 use vdb_tree::{Content, Part};

@@ -2,25 +2,25 @@
 #![tactic(auto)]
 
 mod active_count;
+mod bounding_box;
+mod first_active;
 mod halves;
 mod held;
 mod listing;
 mod node_census;
 mod order;
 mod piece_iter;
-mod first_active;
 mod smallest;
-mod bounding_box;
 #[cfg(test)]
 mod tests;
 mod uniform_box;
 mod voxels;
 
 pub use active_count::count;
+pub use bounding_box::active_bounds;
+pub use first_active::next_active;
 pub use listing::{Listing, list};
 pub use node_census::census;
 pub use piece_iter::Pieces;
-pub use first_active::next_active;
 pub use smallest::Census;
-pub use bounding_box::active_bounds;
 pub use uniform_box::uniform;

@@ -4,11 +4,11 @@ ghost use Rattle.std.specs.Prelude.{◌≡◌, ◌≢◌, ◌↔◌, [], IfNone,
 ghost use Rattle.vdb_tree.specs.Layout.{bits_of, field_of};
 ghost use Rattle.vdb_coord.specs.Blocks.{is_past};
 ghost use Rattle.std.specs.List.{find};
-ghost use Rattle.vdb_walk.specs.Listings.{IsListing};
+ghost use Rattle.vdb_walk.specs.internal.Listings.{IsListing};
 ghost use Rattle.vdb_walk.specs.Reports.{active, past, Yields, Listed};
 
-use crate::held::Held;
 use crate::first_active::{begun, first_held, next_active, next_found};
+use crate::held::Held;
 use std::marker::Model;
 use vdb_coord::{Bounds, Coord};
 use vdb_node::{Internal, Leaf, Stored};
@@ -46,7 +46,7 @@ impl<
     const WF: usize,
 > Model for Listing<'a, V, U, L, F, WU, WL, WF> {
     ghost use Rattle.vdb_tree.specs.Layout.{bits_of, field_of};
-    ghost use Rattle.vdb_walk.specs.Listings.{IsListing};
+    ghost use Rattle.vdb_walk.specs.internal.Listings.{IsListing};
     ghost use Rattle.vdb_walk.specs.Reports.{active, past, Listed};
 
     ghost Value = { Listed V };

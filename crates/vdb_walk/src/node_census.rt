@@ -9,7 +9,7 @@ ghost use Rattle.vdb_tree.specs.Layout.{bits_of, field_of};
 ghost use Rattle.vdb_tree.specs.Leaves.{IsNextLeaf};
 ghost use Rattle.vdb_tree.specs.Parts.{IsWalk};
 ghost use Rattle.vdb_tree.specs.ConstantBlocks.{is_constant, non_constant};
-ghost use Rattle.vdb_walk.specs.BlocksFrom.{IsBlockAt, IsBlockStart, IsPartStart, IsBackgroundTo, non_constant_from};
+ghost use Rattle.vdb_walk.specs.internal.BlocksFrom.{IsBlockAt, IsBlockStart, IsPartStart, IsBackgroundTo, non_constant_from};
 ghost use Rattle.vdb_walk.specs.Reports.{census as census_of};
 
 use crate::Census;

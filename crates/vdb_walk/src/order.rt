@@ -4,7 +4,7 @@ ghost use Rattle.std.specs.Prelude.{◌≡◌, IsTrue, Some};
 ghost use Rattle.vdb_coord.specs.Blocks.{is_past};
 ghost use Rattle.vdb_coord.specs.Entries.{AreBits};
 ghost use Rattle.vdb_coord.specs.Space.{is_inside};
-ghost use Rattle.vdb_walk.specs.Firsts.{IsFirst, IsNextVoxel, IsPastLast};
+ghost use Rattle.vdb_walk.specs.internal.Firsts.{IsFirst, IsNextVoxel, IsPastLast};
 
 use crate::halves::halves;
 use vdb_coord::{Bits, Bounds, Coord, Level};

@@ -6,7 +6,7 @@ ghost use Rattle.vdb_coord.specs.Blocks.{key};
 ghost use Rattle.vdb_coord.specs.Entries.{AreBits};
 ghost use Rattle.vdb_coord.specs.Space.{everywhere, is_inside};
 ghost use Rattle.vdb_tree.specs.Layout.{bits_of, root_at};
-ghost use Rattle.vdb_walk.specs.Firsts.{EndsPiece, IsEntered, IsEnteredPast, IsFirst};
+ghost use Rattle.vdb_walk.specs.internal.Firsts.{EndsPiece, IsEntered, IsEnteredPast, IsFirst};
 ghost use Rattle.vdb_walk.specs.Passing.{IsNextPiece, Passage};
 
 use crate::order::first_past;
@@ -45,7 +45,7 @@ impl<
 > Model for Pieces<'a, V, U, L, F, WU, WL, WF> {
     ghost use Rattle.std.specs.Prelude.{IfSome};
     ghost use Rattle.vdb_tree.specs.Layout.{bits_of};
-    ghost use Rattle.vdb_walk.specs.Firsts.{EndsPiece};
+    ghost use Rattle.vdb_walk.specs.internal.Firsts.{EndsPiece};
     ghost use Rattle.vdb_walk.specs.Passing.{Passage};
 
     ghost Value = { Passage V };

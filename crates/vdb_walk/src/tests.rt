@@ -1,8 +1,8 @@
 //! Trees of both layouts and of the smallest nodes. Expected values are worked out by hand.
+mod bounding_box;
 mod census;
 mod listing;
 mod piece_iter;
-mod bounding_box;
 
 use crate::count;
 use std::process::Abort;

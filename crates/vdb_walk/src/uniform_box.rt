@@ -8,7 +8,7 @@ ghost use Rattle.vdb_coord.specs.declared.Level.TheVariants.{Leaf as leaf_level}
 ghost use Rattle.vdb_tree.specs.Layout.{bits_of, field_of};
 ghost use Rattle.vdb_tree.specs.Parts.{IsPartOfLeaf, IsWalk, OnLeaf, OnTile};
 ghost use Rattle.vdb_tree.specs.ConstantBlocks.{is_constant, is_uniform};
-ghost use Rattle.vdb_walk.specs.PartCells.{IsCellAt, IsCellOrSkipped, IsInEachRoot};
+ghost use Rattle.vdb_walk.specs.internal.PartCells.{IsCellAt, IsCellOrSkipped, IsInEachRoot};
 
 use vdb_coord::{Bounds, Level};
 use vdb_node::{Internal, Leaf, Stored};

@@ -8,7 +8,7 @@ ghost use Rattle.vdb_coord.specs.Entries.{AreBits};
 ghost use Rattle.vdb_coord.specs.declared.Level.TheVariants.{Leaf as leaf_level};
 ghost use Rattle.vdb_mask.specs.Mask.{is_on};
 ghost use Rattle.vdb_node.specs.Nodes.{IsOffFrom};
-ghost use Rattle.vdb_walk.specs.Voxels.{IsInFirstBlock, IsNextSet};
+ghost use Rattle.vdb_walk.specs.internal.Voxels.{IsInFirstBlock, IsNextSet};
 
 use vdb_coord::{Bits, Bounds, Coord, Level};
 use vdb_mask::Mask;

@@ -11,7 +11,7 @@ ghost use Rattle.vdb_node.specs.declared.Entry.TheVariants.{Child, Tile};
 ghost use Rattle.vdb_tree.specs.Changes.{KeepsUppers};
 ghost use Rattle.vdb_tree.specs.Field.{fill};
 ghost use Rattle.vdb_tree.specs.Layout.{bits_of, cell_at, entry_over, field_of, lower_entry, root_at, root_entry, upper_entry};
-ghost use Rattle.vdb_tree.specs.Paints.{ArePainted, AreSplit, KeepsOutside};
+ghost use Rattle.vdb_tree.specs.internal.Paints.{ArePainted, AreSplit, KeepsOutside};
 ghost use Rattle.vdb_tree.specs.SplitBox.{IsCovered, IsSplit};
 ghost use Rattle.vdb_tree.specs.Capacity.{IsNextMet};
 

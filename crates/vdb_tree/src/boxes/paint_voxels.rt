@@ -5,7 +5,7 @@ ghost use Rattle.vdb_coord.specs.Entries.{AreBits};
 ghost use Rattle.vdb_coord.specs.Space.{is_inside};
 ghost use Rattle.vdb_coord.specs.Walk.{IsNextBlock, coordinates_after};
 ghost use Rattle.vdb_coord.specs.declared.Level.TheVariants.{Leaf as leaf_level};
-ghost use Rattle.vdb_tree.specs.Paints.{IsRun, PaintsVoxels, voxels};
+ghost use Rattle.vdb_tree.specs.internal.Paints.{IsRun, PaintsVoxels, voxels};
 
 use vdb_coord::{Bits, Bounds, Coord, Level};
 use vdb_node::{Leaf, Stored};

@@ -7,7 +7,7 @@ ghost use Rattle.vdb_coord.specs.Space.{Box, is_inside};
 ghost use Rattle.vdb_coord.specs.declared.Coord.{Coord};
 ghost use Rattle.vdb_coord.specs.declared.Level.TheVariants.{Upper};
 ghost use Rattle.vdb_tree.specs.Changes.{AddsNodes, IsSwept, Keeps, SameDescent};
-ghost use Rattle.vdb_tree.specs.Erase.{AddsBackgroundTiles};
+ghost use Rattle.vdb_tree.specs.internal.Erase.{AddsBackgroundTiles};
 ghost use Rattle.vdb_tree.specs.Field.{fill};
 ghost use Rattle.vdb_tree.specs.Layout.{bits_of, field_of, background_cell, root_at};
 ghost use Rattle.vdb_tree.specs.Nodes.{MakesKeysIn, MakesNoKey, MakesNoNode};

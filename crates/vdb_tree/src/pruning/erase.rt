@@ -3,7 +3,7 @@
 ghost use Rattle.std.specs.Prelude.{◌≡◌, IfSome, IsNone};
 ghost use Rattle.vdb_tree.specs.Changes.{IsSwept, Keeps};
 ghost use Rattle.vdb_tree.specs.Layout.{bits_of};
-ghost use Rattle.vdb_tree.specs.Erase.{AddsBackgroundTiles, ErasesRoot};
+ghost use Rattle.vdb_tree.specs.internal.Erase.{AddsBackgroundTiles, ErasesRoot};
 ghost use Rattle.vdb_tree.specs.Nodes.{MakesNoKey};
 ghost use Rattle.vdb_tree.specs.Table.{IsNextKey};
 

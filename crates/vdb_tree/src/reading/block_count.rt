@@ -4,7 +4,7 @@ ghost use Rattle.std.specs.Prelude.{◌≡◌, ◌<◌, ◌≤◌, ◌^◌};
 ghost use Rattle.vdb_coord.specs.Blocks.{block_around, entries, sub_block};
 ghost use Rattle.vdb_coord.specs.declared.Level.TheVariants.{Leaf as leaf_level, Lower, Upper};
 ghost use Rattle.vdb_node.specs.declared.Entry.TheVariants.{Child, Tile};
-ghost use Rattle.vdb_tree.specs.Active.{IsNextActive};
+ghost use Rattle.vdb_tree.specs.internal.Active.{IsNextActive};
 ghost use Rattle.vdb_tree.specs.Layout.{bits_of, entry_over, field_of, lower_entry, root_entry, upper_entry};
 ghost use Rattle.vdb_tree.specs.ConstantBlocks.{count as active_count};
 

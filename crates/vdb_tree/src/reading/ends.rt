@@ -2,7 +2,7 @@
 
 ghost use Rattle.std.specs.Prelude.{◌≡◌, ◌+◌, ◌≤◌};
 ghost use Rattle.vdb_node.specs.declared.Entry.TheVariants.{Child};
-ghost use Rattle.vdb_tree.specs.Holders.{IsHeldIn, nodes_to};
+ghost use Rattle.vdb_tree.specs.internal.Holders.{IsHeldIn, nodes_to};
 ghost use Rattle.vdb_tree.specs.Layout.{bits_of, lower_entry, root_entry, upper_entry};
 ghost use Rattle.vdb_tree.specs.Parts.{IsEnd};
 ghost use Rattle.vdb_tree.specs.Paths.{IsChildAt, Lives};

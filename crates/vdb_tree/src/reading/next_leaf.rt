@@ -7,7 +7,7 @@ ghost use Rattle.vdb_node.specs.Nodes.{entry_count};
 ghost use Rattle.vdb_node.specs.declared.Entry.TheVariants.{Child};
 ghost use Rattle.vdb_tree.specs.Layout.{bits_of, root_entry};
 ghost use Rattle.vdb_tree.specs.Leaves.{IsNextLeaf};
-ghost use Rattle.vdb_tree.specs.Seeks.{IsFirstLeaf, IsFrom, IsKeyPast, IsNextLower};
+ghost use Rattle.vdb_tree.specs.internal.Seeks.{IsFirstLeaf, IsFrom, IsKeyPast, IsNextLower};
 
 use crate::TreeOf;
 use crate::nodes::held_place;

@@ -4,7 +4,7 @@ ghost use Rattle.std.specs.Prelude.{◌≡◌, ◌<◌, IfSome, IsTrue};
 ghost use Rattle.vdb_coord.specs.Order.{coordinates_past};
 ghost use Rattle.vdb_coord.specs.Space.{is_inside};
 ghost use Rattle.vdb_coord.specs.declared.Level.TheVariants.{Leaf as leaf_level, Lower, Upper};
-ghost use Rattle.vdb_tree.specs.Jumps.{IsJump, IsNextPart, IsNextPartAt};
+ghost use Rattle.vdb_tree.specs.internal.Jumps.{IsJump, IsNextPart, IsNextPartAt};
 ghost use Rattle.vdb_tree.specs.Layout.{bits_of, root_entry, upper_entry};
 ghost use Rattle.vdb_tree.specs.Parts.{IsEnd, IsNextAbove, IsPlaceAfter, end_level};
 ghost use Rattle.vdb_tree.specs.Paths.{IsChildAt, Lives};
@@ -245,7 +245,11 @@ impl<
     {
         let _ = &self.root;
         let from = self.offset(p, Level::Lower) + 1;
-        match self.lowers.at(lower, steps).next_unlike(self.background_cell(), from) {
+        match self
+            .lowers
+            .at(lower, steps)
+            .next_unlike(self.background_cell(), from)
+        {
             Some(index) => Some(p.entry_block_in(self.bits(), Level::Lower, index as u16)),
             None => None,
         }
@@ -281,7 +285,11 @@ impl<
     {
         let _ = &self.root;
         let from = self.offset(p, Level::Upper) + 1;
-        match self.uppers.at(upper, steps).next_unlike(self.background_cell(), from) {
+        match self
+            .uppers
+            .at(upper, steps)
+            .next_unlike(self.background_cell(), from)
+        {
             Some(index) => Some(p.entry_block_in(self.bits(), Level::Upper, index as u16)),
             None => None,
         }

@@ -10,7 +10,7 @@ ghost use Rattle.vdb_tree.specs.Nodes.{IsActiveIn, MakesNoKey, MakesOnly};
 ghost use Rattle.vdb_tree.specs.Parts.{IsEnd, end_level, left_count};
 ghost use Rattle.vdb_tree.specs.Smallest.{IsLeast};
 ghost use Rattle.vdb_tree.specs.Table.{HasCapacity};
-ghost use Rattle.vdb_tree.specs.Voxelised.{IsVoxelisedAround, IsVoxelisedFrom};
+ghost use Rattle.vdb_tree.specs.internal.Voxelised.{IsVoxelisedAround, IsVoxelisedFrom};
 ghost use Rattle.vdb_tree.specs.declared.refusal.TreeRefusal.TheVariants.{Memory};
 
 use crate::reading::ends::End;

@@ -7,7 +7,7 @@ ghost use Rattle.vdb_coord.specs.declared.Level.TheVariants.{Leaf, Lower, Upper}
 ghost use Rattle.vdb_node.specs.declared.Entry.TheVariants.{Child, Tile};
 ghost use Rattle.vdb_tree.specs.Changes.{AddsNodes, IsSwept, Keeps};
 ghost use Rattle.vdb_tree.specs.Field.{write, written};
-ghost use Rattle.vdb_tree.specs.Holders.{IsHeldIn, nodes_to};
+ghost use Rattle.vdb_tree.specs.internal.Holders.{IsHeldIn, nodes_to};
 ghost use Rattle.vdb_tree.specs.Layout.{bits_of, cell_at, field_of, lower_entry, root_at, root_entry, upper_entry};
 ghost use Rattle.vdb_tree.specs.Nodes.{KeepsAllBut, KeepsElsewhere};
 ghost use Rattle.vdb_tree.specs.Outcome.{IsOutcome};

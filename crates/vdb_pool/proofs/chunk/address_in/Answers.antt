@@ -1,5 +1,5 @@
 use Rattle.std.proofs.Common.{◌≡◌, ◌<◌, ◌/◌, ◌%◌, ◌*◌, ◌+◌, arith, sym, ◌∙◌}
-use Rattle.vdb_pool.specs.Chunks.{chunk_len}
+use Rattle.vdb_pool.specs.internal.Chunks.{chunk_len}
 use Rattle.vdb_pool.proofs.Rows.{rows_at, chunk_of, whole_at}
 use Rattle.vdb_pool.proofs.chunk.address_in.Goals as goal
 

@@ -42,8 +42,8 @@ use Rattle.std_alloc.proofs.RawLayout.{as_written}
 use Rattle.std_alloc.proofs.RcSteps.{Good, word-Good, first_Good}
 use Rattle.std_alloc.proofs.ResultValues.{ok_of, err_of}
 use Rattle.std_alloc.proofs.VecSteps.Shapes.{after, head, arm_body}
-use Rattle.vdb_pool.specs.Ownership.{storage_owns}
-use Rattle.vdb_pool.specs.Rows.{row_from}
+use Rattle.vdb_pool.specs.internal.Ownership.{storage_owns}
+use Rattle.vdb_pool.specs.internal.Rows.{row_from}
 use Rattle.vdb_pool.proofs.Places.{of_room}
 use Rattle.vdb_pool.proofs.Walks.{slot, Addr, Store, Mark, addr_val, addr_made, mark_val, mark_made, three_val, three_made}
 use Rattle.vdb_pool.specs.contracts.storage.Block as block

@@ -34,8 +34,8 @@ use Rattle.std.proofs.raw_atomic.Walks.{proved_at, leaves}
 use Rattle.std_alloc.proofs.RawLayout.{as_raw}
 use Rattle.std_alloc.proofs.VecSteps.Shapes.{after}
 use Rattle.std_alloc.proofs.RcSteps.{word-Good}
-use Rattle.vdb_pool.specs.Ownership.{storage_owns}
-use Rattle.vdb_pool.specs.Rows.{row_from}
+use Rattle.vdb_pool.specs.internal.Ownership.{storage_owns}
+use Rattle.vdb_pool.specs.internal.Rows.{row_from}
 use Rattle.vdb_pool.proofs.Places.{to_room}
 use Rattle.vdb_pool.proofs.Walks.{slot, addr_val, addr_told, mark_val, mark_told}
 use Rattle.vdb_pool.specs.contracts.storage.deallocate as F

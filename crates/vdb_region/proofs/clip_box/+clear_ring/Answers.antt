@@ -2,8 +2,8 @@ use Rattle.std.proofs.Common.{◌∙◌, ap, sym, List}
 use Rattle.vdb_coord.specs.declared.face.Face.{Face}
 use Rattle.vdb_tree.specs.Field.{Field, fill, off}
 use Rattle.vdb_tree.specs.Layout.{bits_of, cell_at, field_of}
-use Rattle.vdb_region.specs.Beyond.{clear}
-use Rattle.vdb_region.specs.Rings.{inner, outer}
+use Rattle.vdb_region.specs.internal.Beyond.{clear}
+use Rattle.vdb_region.specs.internal.Rings.{inner, outer}
 use Rattle.vdb_region.proofs.Clearing.{clear_next, clear_none, clear_skip}
 use Rattle.vdb_region.proofs.clip_box.+clear_ring.Goals as goal
 

@@ -6,8 +6,8 @@ use Rattle.vdb_tree.specs.Field.{Field, clip, off}
 use Rattle.vdb_tree.specs.Layout.{bits_of, cell_at, field_of}
 use Rattle.vdb_tree.specs.ConstantBlocks.{roots}
 use Rattle.vdb_tree.proofs.Uniform.{exact_by}
-use Rattle.vdb_region.specs.Beyond.{clear}
-use Rattle.vdb_region.specs.Rings.{hull}
+use Rattle.vdb_region.specs.internal.Beyond.{clear}
+use Rattle.vdb_region.specs.internal.Rings.{hull}
 use Rattle.vdb_region.proofs.Clearing.{clear_all, clip_within}
 use Rattle.vdb_region.proofs.clip_box.clip.Goals as goal
 

@@ -4,7 +4,7 @@ use Rattle.vdb_coord.specs.declared.Coord.{Coord}
 use Rattle.vdb_coord.specs.declared.Level.TheVariants.{Upper}
 use Rattle.vdb_tree.specs.Layout.{bits_of, field_of}
 use Rattle.vdb_tree.specs.ConstantBlocks.{count}
-use Rattle.vdb_walk.specs.BlocksFrom.{active_from}
+use Rattle.vdb_walk.specs.internal.BlocksFrom.{active_from}
 use Rattle.vdb_walk.proofs.BlockCounts.{first_counted, sum_all, sum_fits, sum_more}
 use Rattle.vdb_walk.proofs.active_count.count_blocks.Goals as goal
 

@@ -4,7 +4,7 @@ use Rattle.vdb_coord.specs.declared.Level.TheVariants.{Upper}
 use Rattle.vdb_tree.specs.Layout.{bits_of, field_of}
 use Rattle.vdb_tree.specs.Parts.{left_count}
 use Rattle.vdb_tree.specs.ConstantBlocks.{count}
-use Rattle.vdb_walk.specs.BlocksFrom.{IsBoxStart, active_from}
+use Rattle.vdb_walk.specs.internal.BlocksFrom.{IsBoxStart, active_from}
 use Rattle.vdb_walk.proofs.active_count.count_blocks.Given as goal
 
 abbrev pub invariant-places : goal.invariant-places

@@ -6,7 +6,7 @@ use Rattle.vdb_coord.proofs.Places.{entries_is}
 use Rattle.vdb_mask.specs.Mask.{on_count}
 use Rattle.vdb_node.specs.Nodes.{IsOffFrom}
 use Rattle.vdb_tree.specs.Layout.{bits_of, field_of}
-use Rattle.vdb_walk.specs.Voxels.{IsInFirstBlock}
+use Rattle.vdb_walk.specs.internal.Voxels.{IsInFirstBlock}
 use Rattle.vdb_walk.proofs.Cuts.{same_boxes}
 use Rattle.vdb_walk.proofs.VoxelCounts.{cut_counted, in_one_block, whole_counted}
 use Rattle.vdb_walk.proofs.active_count.count_leaf.Goals as goal

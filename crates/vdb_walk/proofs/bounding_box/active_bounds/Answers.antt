@@ -3,7 +3,7 @@ use Rattle.vdb_coord.specs.Space.{Box, everywhere}
 use Rattle.vdb_coord.specs.declared.Coord.{Coord}
 use Rattle.vdb_tree.specs.Layout.{bits_of}
 use Rattle.vdb_tree.proofs.Sizes.{internal_small, leaf_small}
-use Rattle.vdb_walk.specs.Surround.{Surrounds}
+use Rattle.vdb_walk.specs.internal.Surround.{Surrounds}
 use Rattle.vdb_walk.proofs.Surrounds.{active_bounds, found_all, found_first, found_more, is_found}
 use Rattle.vdb_walk.proofs.bounding_box.active_bounds.Goals as goal
 

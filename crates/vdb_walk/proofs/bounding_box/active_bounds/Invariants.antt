@@ -4,7 +4,7 @@ use Rattle.vdb_coord.specs.Space.{everywhere, is_box}
 use Rattle.vdb_tree.specs.Layout.{bits_of}
 use Rattle.vdb_tree.specs.Parts.{IsWalk, left_count}
 use Rattle.vdb_tree.specs.declared.reading.parts.Skip.TheVariants.{Inactive}
-use Rattle.vdb_walk.specs.Surround.{Surrounds}
+use Rattle.vdb_walk.specs.internal.Surround.{Surrounds}
 use Rattle.vdb_walk.proofs.Surrounds.{is_found}
 use Rattle.vdb_walk.proofs.bounding_box.active_bounds.Given as goal
 

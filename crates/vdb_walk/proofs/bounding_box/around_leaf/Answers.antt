@@ -6,7 +6,7 @@ use Rattle.vdb_coord.proofs.Places.{entries_is}
 use Rattle.vdb_node.specs.Nodes.{IsOffFrom}
 use Rattle.vdb_tree.specs.Field.{Field}
 use Rattle.vdb_tree.specs.Layout.{bits_of, field_of}
-use Rattle.vdb_walk.specs.Voxels.{IsInFirstBlock}
+use Rattle.vdb_walk.specs.internal.Voxels.{IsInFirstBlock}
 use Rattle.vdb_walk.proofs.Surrounds.{by_states, kept}
 use Rattle.vdb_walk.proofs.VoxelCounts.{has_states, in_one_block}
 use Rattle.vdb_walk.proofs.bounding_box.around_leaf.Goals as goal

@@ -2,8 +2,8 @@ use Rattle.std.proofs.Common.{◌∙◌, None, Option, Some, subst, sym}
 use Rattle.std.specs.Prelude.{IfSome, option_map}
 use Rattle.vdb_coord.specs.Space.{Box}
 use Rattle.vdb_tree.specs.Layout.{bits_of, field_of}
-use Rattle.vdb_walk.specs.Firsts.{IsActivePast, IsFirst}
-use Rattle.vdb_walk.specs.Listings.{IsListing}
+use Rattle.vdb_walk.specs.internal.Firsts.{IsActivePast, IsFirst}
+use Rattle.vdb_walk.specs.internal.Listings.{IsListing}
 use Rattle.vdb_walk.specs.declared.held.Held.{Held}
 use Rattle.vdb_walk.proofs.InOrder.{first_found}
 use Rattle.vdb_walk.proofs.PartSeeks.{found_in_part, listing_after, listing_past}

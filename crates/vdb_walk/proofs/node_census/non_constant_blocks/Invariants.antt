@@ -3,7 +3,7 @@ use Rattle.std.specs.Prelude.{IfSome}
 use Rattle.vdb_tree.specs.Layout.{bits_of, field_of}
 use Rattle.vdb_tree.specs.Parts.{left_count}
 use Rattle.vdb_tree.specs.ConstantBlocks.{non_constant}
-use Rattle.vdb_walk.specs.BlocksFrom.{IsBlockStart, non_constant_from}
+use Rattle.vdb_walk.specs.internal.BlocksFrom.{IsBlockStart, non_constant_from}
 use Rattle.vdb_walk.proofs.node_census.non_constant_blocks.Given as goal
 
 abbrev pub invariant-places : goal.invariant-places

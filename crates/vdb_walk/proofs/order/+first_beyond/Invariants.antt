@@ -1,4 +1,4 @@
-use Rattle.vdb_walk.specs.Halves.{reach}
+use Rattle.vdb_walk.specs.internal.Halves.{reach}
 use Rattle.vdb_walk.proofs.order.+first_beyond.Given as goal
 
 abbrev pub decreases-first_beyond : goal.decreases-first_beyond

@@ -3,7 +3,7 @@ use Rattle.std.specs.Prelude.{Option}
 use Rattle.vdb_coord.specs.Space.{everywhere}
 use Rattle.vdb_coord.specs.declared.Coord.{Coord}
 use Rattle.vdb_tree.specs.Layout.{bits_of}
-use Rattle.vdb_walk.specs.Firsts.{IsEnteredPast, IsFirst}
+use Rattle.vdb_walk.specs.internal.Firsts.{IsEnteredPast, IsFirst}
 use Rattle.vdb_walk.proofs.PiecesInTurn.{all_ahead}
 use Rattle.vdb_walk.proofs.piece_iter.first_ahead.Goals as goal
 

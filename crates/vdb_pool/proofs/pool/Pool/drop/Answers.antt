@@ -1,8 +1,8 @@
 use Rattle.std.proofs.Common.{◌≡◌, ◌*◌, ◌+◌, List, [], ◌∷◌, ◌++◌, length, take, drop, refl, ap, subst, ◌∙◌, arith, length-append}
 use lib.Seq.{take_at, drop_at}
 use denote.RawPtr.{Ptr}
-use Rattle.vdb_pool.specs.Rows.{row_from}
-use Rattle.vdb_pool.specs.Chunks.{AreWhole, rows_of, chunk_len}
+use Rattle.vdb_pool.specs.internal.Rows.{row_from}
+use Rattle.vdb_pool.specs.internal.Chunks.{AreWhole, rows_of, chunk_len}
 use Rattle.vdb_pool.proofs.Rows.{length-rows, rows_push, whole_last}
 use Rattle.vdb_pool.proofs.pool.Pool.drop.Goals as goal
 

@@ -3,8 +3,8 @@ use Rattle.std.proofs.lemmas.List.{map-set, map_push, get_or-map, length-map}
 use Rattle.std.proofs.lemmas.Option.{slice_get_within, slice_get-get_or, get_or_from_slice_get}
 use denote.RawPtr.{null_ptr}
 use Rattle.vdb_pool.specs.Contents.{next_slot, spare_of, with_inserted}
-use Rattle.vdb_pool.specs.Slot.{node_of}
-use Rattle.vdb_pool.specs.Stack.{linked}
+use Rattle.vdb_pool.specs.internal.Slot.{node_of}
+use Rattle.vdb_pool.specs.internal.Stack.{linked}
 use Rattle.vdb_pool.specs.declared.slot.Slot.TheVariants.{Vacant, Held}
 use Rattle.vdb_pool.proofs.Links.{top_found, none_of, length-linked}
 use Rattle.vdb_pool.proofs.Changes.{refilled, extended}

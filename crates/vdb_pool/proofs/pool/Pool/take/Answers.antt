@@ -1,7 +1,7 @@
 use Rattle.std.proofs.Common.{◌≡◌, ◌+◌, IsSome, sym, subst}
 use Rattle.std.proofs.lemmas.List.{map-set}
 use Rattle.vdb_pool.specs.Contents.{node_at, spare_of}
-use Rattle.vdb_pool.specs.Slot.{node_of}
+use Rattle.vdb_pool.specs.internal.Slot.{node_of}
 use Rattle.vdb_pool.specs.declared.slot.Slot.TheVariants.{Vacant}
 use Rattle.vdb_pool.proofs.Links.{held_at}
 use Rattle.vdb_pool.proofs.Changes.{vacated}

@@ -9,7 +9,7 @@ use denote.Struct.Laws.{field_copy}
 use denote.Struct.Lending.{of_Lends, Lends-first, Lends-said, in_block_pure}
 use Rattle.core.specs.declared.alloc.Allocator.{Ghosts}
 use Rattle.core.specs.contracts.marker.PhantomData as marker
-use Rattle.vdb_pool.specs.Ownership.{block_says}
+use Rattle.vdb_pool.specs.internal.Ownership.{block_says}
 use Rattle.vdb_pool.specs.contracts.storage.Block as block
 use Rattle.vdb_pool.proofs.storage.Block.TheLaw.Statement.{statement}
 

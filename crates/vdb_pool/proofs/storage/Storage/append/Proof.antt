@@ -21,7 +21,7 @@ use denote.Triple.Walked.{Stays, stay_dropped, stay_ref, walk_of, Goes-ref}
 use Rattle.core.proofs.alloc.Calls.{Goes-blank}
 use Rattle.core.proofs.mem.Param.{El, R, args}
 use Rattle.std.proofs.raw_atomic.Walks.{proved_at, leaves}
-use Rattle.vdb_pool.specs.Ownership.{storage_owns}
+use Rattle.vdb_pool.specs.internal.Ownership.{storage_owns}
 use Rattle.vdb_pool.proofs.Places.{joined}
 use Rattle.vdb_pool.proofs.Walks.{slot, Store, mark_val, mark_told}
 use Rattle.vdb_pool.specs.contracts.storage.Storage.append as F

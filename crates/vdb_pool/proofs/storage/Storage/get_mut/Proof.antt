@@ -30,8 +30,8 @@ use Rattle.core.proofs.mem.Param.{El, R, args, el_x}
 use Rattle.std.proofs.raw_atomic.Walks.{proved_at, leaves}
 use Rattle.std_alloc.proofs.VecSteps.Shapes.{after}
 use Rattle.std_alloc.proofs.RcSteps.{word-Good}
-use Rattle.vdb_pool.specs.Ownership.{storage_owns}
-use Rattle.vdb_pool.specs.Lends.{with_items}
+use Rattle.vdb_pool.specs.internal.Ownership.{storage_owns}
+use Rattle.vdb_pool.specs.internal.Lends.{with_items}
 use Rattle.vdb_pool.proofs.Places.{some_item, same_item, all_but, item_out, item_in}
 use Rattle.vdb_pool.proofs.Walks.{slot, Store, Mark, addr_val, addr_told}
 use Rattle.vdb_pool.specs.contracts.storage.Storage.get_mut as F

@@ -29,9 +29,9 @@ use Rattle.std.proofs.raw_atomic.Walks.{proved_at, leaves}
 use Rattle.std_alloc.proofs.RawLayout.{as_raw}
 use Rattle.std_alloc.proofs.VecSteps.Shapes.{after}
 use Rattle.std_alloc.proofs.RcSteps.{word-Good}
-use Rattle.vdb_pool.specs.Ownership.{storage_owns}
-use Rattle.vdb_pool.specs.Rows.{IsLastAt}
-use Rattle.vdb_pool.specs.Lends.{with_items}
+use Rattle.vdb_pool.specs.internal.Ownership.{storage_owns}
+use Rattle.vdb_pool.specs.internal.Rows.{IsLastAt}
+use Rattle.vdb_pool.specs.internal.Lends.{with_items}
 use Rattle.vdb_pool.proofs.Places.{split_last, around, last_out, free_in}
 use Rattle.vdb_pool.proofs.Walks.{slot, Store, addr_val, addr_told}
 use Rattle.vdb_pool.specs.contracts.storage.Storage.pop as F

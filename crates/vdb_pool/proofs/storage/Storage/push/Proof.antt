@@ -28,8 +28,8 @@ use Rattle.std.proofs.raw_atomic.Walks.{proved_at, leaves}
 use Rattle.std_alloc.proofs.RawLayout.{as_written}
 use Rattle.std_alloc.proofs.VecSteps.Shapes.{after}
 use Rattle.std_alloc.proofs.RcSteps.{word-Good}
-use Rattle.vdb_pool.specs.Ownership.{storage_owns}
-use Rattle.vdb_pool.specs.Lends.{with_items}
+use Rattle.vdb_pool.specs.internal.Ownership.{storage_owns}
+use Rattle.vdb_pool.specs.internal.Lends.{with_items}
 use Rattle.vdb_pool.proofs.Places.{around, free_out, last_in}
 use Rattle.vdb_pool.proofs.Walks.{slot, Store, addr_val, addr_told}
 use Rattle.vdb_pool.specs.contracts.storage.Storage.push as F

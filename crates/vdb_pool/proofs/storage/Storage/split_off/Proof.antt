@@ -21,7 +21,7 @@ use denote.Triple.Clauses.{Clauses, Ended}
 use denote.Triple.Walked.{Stays, stay_dropped, stay_ref, walk_of, Goes-dropped, Goes-ref}
 use Rattle.core.proofs.mem.Param.{El, R, args}
 use Rattle.std.proofs.raw_atomic.Walks.{proved_at, leaves}
-use Rattle.vdb_pool.specs.Ownership.{storage_owns}
+use Rattle.vdb_pool.specs.internal.Ownership.{storage_owns}
 use Rattle.vdb_pool.proofs.Places.{cut}
 use Rattle.vdb_pool.proofs.Walks.{slot, Store, Mark, mark_val, mark_made}
 use Rattle.vdb_pool.specs.contracts.storage.Storage.split_off as F

@@ -4,7 +4,7 @@ use Rattle.vdb_coord.specs.declared.Coord.{Coord}
 use Rattle.vdb_coord.proofs.Boxes.{both}
 use Rattle.vdb_coord.proofs.Walk.{min_inside}
 use Rattle.vdb_tree.specs.Layout.{bits_of}
-use Rattle.vdb_tree.specs.Voxelised.{IsVoxelisedTo}
+use Rattle.vdb_tree.specs.internal.Voxelised.{IsVoxelisedTo}
 use Rattle.vdb_tree.proofs.Equations.{keeps_field}
 use Rattle.vdb_tree.specs.Nodes.{IsActiveIn}
 use Rattle.vdb_tree.proofs.MadeNodes.{keys_twice, makes_none, makes_twice}

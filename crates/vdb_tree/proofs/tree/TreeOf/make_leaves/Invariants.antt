@@ -4,7 +4,7 @@ use Rattle.vdb_tree.specs.Changes.{AddsNodes, Keeps}
 use Rattle.vdb_tree.specs.Layout.{bits_of}
 use Rattle.vdb_tree.specs.Nodes.{IsActiveIn, MakesNoKey, MakesOnly}
 use Rattle.vdb_tree.specs.Parts.{left_count}
-use Rattle.vdb_tree.specs.Voxelised.{IsVoxelisedTo}
+use Rattle.vdb_tree.specs.internal.Voxelised.{IsVoxelisedTo}
 use Rattle.vdb_tree.proofs.tree.TreeOf.make_leaves.Given as goal
 
 abbrev pub invariant-loop-next : goal.invariant-loop-next

@@ -8,7 +8,7 @@ use Rattle.vdb_coord.proofs.Places.{entries_is}
 use Rattle.vdb_node.specs.declared.Entry.TheVariants.{Child}
 use Rattle.vdb_pool.specs.Contents.{node_at}
 use Rattle.vdb_tree.specs.Layout.{bits_of}
-use Rattle.vdb_tree.specs.Seeks.{IsFirstLeaf, IsFrom}
+use Rattle.vdb_tree.specs.internal.Seeks.{IsFirstLeaf, IsFrom}
 use Rattle.vdb_tree.proofs.NextChild.{next_leaf_none, next_leaf_some, no_leaf_root, no_leaf_upper}
 use Rattle.vdb_tree.proofs.tree.TreeOf.next_leaf_of_lower.Goals as goal
 

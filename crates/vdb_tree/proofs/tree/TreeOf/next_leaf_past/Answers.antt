@@ -5,7 +5,7 @@ use Rattle.vdb_coord.specs.declared.Bits.{Bits}
 use Rattle.vdb_coord.specs.declared.Coord.{Coord}
 use Rattle.vdb_coord.specs.declared.Level.TheVariants.{Lower, Upper}
 use Rattle.vdb_tree.specs.Layout.{bits_of}
-use Rattle.vdb_tree.specs.Seeks.{IsFirstLeaf, IsFrom, IsKeyPast}
+use Rattle.vdb_tree.specs.internal.Seeks.{IsFirstLeaf, IsFrom, IsKeyPast}
 use Rattle.vdb_tree.proofs.NextLeaf.{past_in_later, past_in_lower, past_in_upper}
 use Rattle.vdb_tree.proofs.tree.TreeOf.next_leaf_past.Goals as goal
 

@@ -8,7 +8,7 @@ use Rattle.vdb_coord.proofs.Places.{entries_is}
 use Rattle.vdb_node.specs.declared.Entry.TheVariants.{Child}
 use Rattle.vdb_pool.specs.Contents.{node_at}
 use Rattle.vdb_tree.specs.Layout.{bits_of}
-use Rattle.vdb_tree.specs.Seeks.{IsNextLower}
+use Rattle.vdb_tree.specs.internal.Seeks.{IsNextLower}
 use Rattle.vdb_tree.proofs.NextChild.{next_lower_none, next_lower_some}
 use Rattle.vdb_tree.proofs.tree.TreeOf.next_lower.Goals as goal
 

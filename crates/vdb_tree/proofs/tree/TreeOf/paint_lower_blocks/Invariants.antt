@@ -5,7 +5,7 @@ use Rattle.vdb_coord.specs.Walk.{coordinates_after}
 use Rattle.vdb_coord.specs.declared.Level.TheVariants.{Lower, Upper}
 use Rattle.vdb_node.specs.declared.Entry.TheVariants.{Child}
 use Rattle.vdb_tree.specs.Layout.{bits_of, root_entry}
-use Rattle.vdb_tree.specs.Paints.{AreSplit}
+use Rattle.vdb_tree.specs.internal.Paints.{AreSplit}
 use Rattle.vdb_tree.proofs.Paints.{PaintsTo}
 use Rattle.vdb_tree.proofs.tree.TreeOf.paint_lower_blocks.Given as goal
 

@@ -1,7 +1,7 @@
 -- How the slots lie in the chunks. No public clause cites this module.
 use Rattle.std.specs.Prelude.{◌≡◌, ℕ, List, [], ◌∷◌, ◌++◌}
 use denote.RawPtr.{Ptr}
-use Rattle.vdb_pool.specs.Rows.{row_from}
+use Rattle.vdb_pool.specs.internal.Rows.{row_from}
 use Rattle.vdb_pool.specs.declared.chunk.Chunk.{Chunk}
 
 -- how many slots a chunk has

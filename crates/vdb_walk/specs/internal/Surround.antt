@@ -4,7 +4,7 @@ use Rattle.vdb_coord.specs.Space.{Box, is_inside}
 use Rattle.vdb_coord.specs.declared.Bits.{Bits}
 use Rattle.vdb_coord.specs.declared.Coord.{Coord}
 use Rattle.vdb_tree.specs.Field.{Field}
-use Rattle.vdb_walk.specs.Voxels.{is_set}
+use Rattle.vdb_walk.specs.internal.Voxels.{is_set}
 
 -- whether the box, if there is one, holds the coordinate
 abbrev pub is_in : Option Box → Coord → Bool

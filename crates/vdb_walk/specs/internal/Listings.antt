@@ -12,7 +12,7 @@ use Rattle.vdb_tree.specs.declared.reading.parts.Content.TheVariants.{Leaf, Tile
 use Rattle.vdb_tree.specs.declared.reading.parts.Part.{Part}
 use Rattle.vdb_tree.specs.declared.reading.parts.Skip.TheVariants.{Inactive}
 use Rattle.vdb_value.specs.declared.Cell.{Cell}
-use Rattle.vdb_walk.specs.Firsts.{IsActivePast, IsInLeafBlock}
+use Rattle.vdb_walk.specs.internal.Firsts.{IsActivePast, IsInLeafBlock}
 use Rattle.vdb_walk.specs.declared.held.Held.{Held}
 
 -- a tile's cell

@@ -1,9 +1,9 @@
 -- What holds of the fields of a pool. No public clause cites this module.
 use Rattle.std.specs.Prelude.{◌≡◌, ℕ, ◌-◌, ◌^◌, ◌<◌, ◌≤◌, List, length, map, Option, is_some, count_by}
 use denote.RawPtr.{Ptr}
-use Rattle.vdb_pool.specs.Slot.{node_of}
-use Rattle.vdb_pool.specs.Stack.{linked, IsStack, AreListed}
-use Rattle.vdb_pool.specs.Chunks.{rows_of, AreWhole}
+use Rattle.vdb_pool.specs.internal.Slot.{node_of}
+use Rattle.vdb_pool.specs.internal.Stack.{linked, IsStack, AreListed}
+use Rattle.vdb_pool.specs.internal.Chunks.{rows_of, AreWhole}
 use Rattle.vdb_pool.specs.declared.chunk.Chunk.{Chunk}
 use Rattle.vdb_pool.specs.declared.slot.Slot.{Slot}
 

@@ -1,0 +1,2 @@
+-- Words of private functions and of proofs alone: no public contract needs them.
+pub mod Answering

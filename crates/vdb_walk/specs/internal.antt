@@ -1,0 +1,8 @@
+-- Words of private functions and of proofs alone: no public contract needs them.
+pub mod Halves
+pub mod BlocksFrom
+pub mod Surround
+pub mod Firsts
+pub mod Voxels
+pub mod PartCells
+pub mod Listings
