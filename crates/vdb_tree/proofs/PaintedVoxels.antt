@@ -84,7 +84,7 @@ not_after last q h past = elim h [
   | inr same ↦ before_not_same last q past (sym (own_block q last same))
 ]
 
--- what comes no later than a run stands in it, or comes before it
+-- what comes no later than a run is in it, or comes before it
 run_or_before : (p q : Coord) → (IsBefore q p → ⊥) ⊎ IsBlockBefore voxels Leaf q p
 run_or_before p q = elim (which_before q p) [
   | inl before ↦ inr (block_before q p before)

@@ -7,18 +7,21 @@ ghost use Rattle.vdb_coord.specs.Blocks.{entries, is_past, offset};
 ghost use Rattle.vdb_coord.specs.Entries.{AreBits};
 ghost use Rattle.vdb_coord.specs.declared.Level.TheVariants.{Leaf as leaf_level};
 ghost use Rattle.vdb_node.specs.Leaf.{cell_in};
+ghost use Rattle.vdb_node.specs.Nodes.{IsOffFrom};
 ghost use Rattle.vdb_tree.specs.Layout.{bits_of, field_of};
 ghost use Rattle.vdb_value.specs.declared.Cell.{Cell};
 ghost use Rattle.vdb_walk.specs.internal.Firsts.{IsActivePast, IsFirst, IsEntryPast, IsInLeafBlock, IsOnPast, IsPastLast};
 ghost use Rattle.vdb_tree.specs.Parts.{IsWalk};
 ghost use Rattle.vdb_walk.specs.internal.Listings.{HasCells, IsHeld, IsListing};
 ghost use Rattle.vdb_walk.specs.Reports.{active};
+ghost use Rattle.vdb_walk.specs.internal.Voxels.{IsNextSetAt};
 
 use crate::held::{Held, without_leaf};
 use crate::listing::list_past;
 use crate::order::first_past;
 use crate::voxels::next_set;
 use vdb_coord::{Bits, Bounds, Coord, Level};
+use vdb_mask::Mask;
 use vdb_node::{Internal, Leaf, Stored};
 use vdb_pool::Steps;
 use vdb_tree::{Content, Part, Skip, TreeOf, Walk};
@@ -130,7 +133,10 @@ pub(crate) fn first_held<
     match tree.leaf_of(walk, corner, steps) {
         Some(leaf) => {
             tree.has_leaf_words();
-            first_in_leaf(leaf, bits, after, part)
+            match near_in_leaf(leaf, bits, after, part) {
+                Some(item) => Some(item),
+                None => first_in_leaf(leaf, bits, after, part),
+            }
         }
         // a block without a leaf has one cell
         None => first_in_tile(tree.piece(corner, steps).cell, bits, after, part),
@@ -208,6 +214,64 @@ fn first_in_leaf<V: Stored<W>, const F: u32, const W: usize>(
     match next_set(leaf.states(), bits, part, from) {
         Some((entry, p)) => Some((p, leaf.entry(entry).value)),
         None => None,
+    }
+}
+
+/// What `first_in_leaf` answers where `after` lies in the part and so does the next voxel of the leaf whose state is on; `None`
+/// where it isn't so, and then there may be a later one. This is the short way, for most of the voxels of a leaf.
+fn near_in_leaf<V: Stored<W>, const F: u32, const W: usize>(
+    leaf: &Leaf<V, F, W>,
+    bits: Bits,
+    after: Option<Coord>,
+    part: Bounds,
+) -> Option<(Coord, V)>
+    requires configured { AreBits bits }
+    requires leaf { bits.leaf ≡ F }
+    requires few_words { W ≤ 512 }
+    requires room { entries bits leaf_level ≤ 64 * W }
+    requires block { IsInLeafBlock bits part }
+    ensures first { IfSome result (λ item. IsFirst bits (IsOnPast bits after leaf.now.states) part (Some item.0)) }
+    ensures value { IfSome result (λ item. (d : Cell V) → item.1 ≡ (cell_in d leaf.now (offset bits leaf_level item.0)).value) }
+{
+    let p = match after {
+        Some(p) => p,
+        None => return None,
+    };
+    if !part.contains(p) {
+        return None;
+    }
+    let from = u32::from(p.offset_in(bits, Level::Leaf)) + 1;
+    match near_set(leaf.states(), bits, part, from) {
+        Some((entry, q)) => Some((q, leaf.entry(entry).value)),
+        None => None,
+    }
+}
+
+/// The first voxel of the leaf from an entry on whose state is on, after its entry, where it lies in the part.
+fn near_set<const W: usize>(
+    states: &Mask<W>,
+    bits: Bits,
+    part: Bounds,
+    from: u32,
+) -> Option<(u32, Coord)>
+    requires configured { AreBits bits }
+    requires few_words { W ≤ 512 }
+    requires past_end { IsOffFrom states.now (entries bits leaf_level) }
+    requires from_within { from ≤ 64 * W }
+    ensures { IfSome result (λ next. IsNextSetAt bits states.now part from next.0 next.1) }
+{
+    let index = match states.next_on(from) {
+        Some(index) => index,
+        None => return None,
+    };
+    let voxel = part
+        .min()
+        .entry_block_in(bits, Level::Leaf, index as u16)
+        .min();
+    if part.contains(voxel) {
+        Some((index, voxel))
+    } else {
+        None
     }
 }
 

@@ -109,8 +109,7 @@ fn in_place(first: i32, component: i32, bits: u32, place: u32) -> i32
     first + place as i32
 }
 
-/// The entry past the voxels that follow `p` along z in both boxes, where `p` stands at this entry; the limit where it comes
-/// first.
+/// The entry past the voxels that follow `p` along z in both boxes, where `p` is at this entry; the limit where it comes first.
 pub(crate) fn past_run(part: Bounds, other: Bounds, p: Coord, entry: u32, limit: u32) -> u32
     requires { entry < limit }
     ensures past { entry < result }
@@ -124,7 +123,7 @@ pub(crate) fn past_run(part: Bounds, other: Bounds, p: Coord, entry: u32, limit:
         .min(limit)
 }
 
-/// The entry past a run of voxels along z in the part whose states are on. The run begins with `p`, which stands at this entry.
+/// The entry past a run of voxels along z in the part whose states are on. The run begins with `p`, which is at this entry.
 pub(crate) fn run_end<const W: usize>(states: &Mask<W>, part: Bounds, p: Coord, entry: u32) -> u32
     requires few_words { W ≤ 512 }
     requires within { entry < 64 * W }
