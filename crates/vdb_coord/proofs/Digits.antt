@@ -1,6 +1,6 @@
 -- One component of a coordinate: its blocks and its entries in them.
 use Rattle.std.proofs.Common.{◌≡◌, ℕ, ℤ, pos, negsuc, suc, ◌+◌, ◌-◌, ◌*◌, ◌<◌, ◌≤◌, ◌%◌, ◌/◌, ◌^◌, ◌+ℤ◌, ◌-ℤ◌, ◌*ℤ◌, ◌≤ℤ◌, true, SFits, w32, arith, ap, sym, subst, ◌∙◌, mul_comm}
-use Rattle.std.specs.Int.{int_gap, int_rem_euclid}
+use Rattle.std.specs.Int.{int_gap}
 use lib.IntN.{neg_ℤ}
 use Rattle.std.proofs.Math.Nat.{suc-mul, mod-lt, div-one, div-mul-le_self, mul-le-mul_right}
 use Rattle.std.proofs.Math.Pow.{pow_mono}
@@ -8,7 +8,7 @@ use Rattle.std.proofs.lemmas.Int.{ints}
 use Rattle.std.proofs.lemmas.Nat.{div-add-mod', div_below, pow_pos, pow-add}
 use Rattle.vdb_coord.specs.Components.{digit, first_of, last_of, number_at}
 use Rattle.vdb_coord.specs.Space.{is_between}
-use Rattle.vdb_coord.proofs.Division.{entry_start, parts, start, quotient, quotient_mono, quotient_of, rest, rest_below, rest_of}
+use Rattle.vdb_coord.proofs.Division.{entry_start, parts, quotient, quotient_mono, quotient_of, rest, rest_below, rest_of}
 
 -- ---- blocks of b entries of a numbers each
 
@@ -142,13 +142,6 @@ last_fits bits (negsuc a) h f =
 pub between_fits : (y : ℤ) (s t : ℕ) → SFits w32 y → SFits w32 (y +ℤ pos s) → t ≤ s → SFits w32 (y +ℤ pos t)
 between_fits (pos y) s t f g h = grind (arith, ints)
 between_fits (negsuc y) s t f g h = grind (arith, ints)
-
-less_rest : (bits : ℕ) (x r : ℤ) → r ≡ int_rem_euclid x (pos (2 ^ bits)) → x -ℤ r ≡ first_of bits (number_at bits x)
-less_rest bits x r e = ap (λ t. x -ℤ t) e ∙ start (2 ^ bits) x (pow_pos bits)
-
--- a number less its rest is the first of its block, which fits as the number does
-pub start_is : (bits : ℕ) (x r : ℤ) → bits ≤ 31 → SFits w32 x → r ≡ int_rem_euclid x (pos (2 ^ bits)) → (x -ℤ r ≡ first_of bits (number_at bits x)) × SFits w32 (x -ℤ r)
-start_is bits x r h f e = (less_rest bits x r e, subst (λ t. SFits w32 t) (sym (less_rest bits x r e)) (first_fits bits x h f))
 
 -- ---- entries that fit
 

@@ -55,17 +55,6 @@ parts m (negsuc a) h =
     below_zero m (a / m) (m - 1 - a % m) (rest_is_small m (a % m) (mod-lt a h))
     ∙ ap negsuc (rest_negative a (a / m * m) (a % m) m (sym (div-add-mod' a m)) (mod-lt a h))
 
-rest_is_positive : (m : ℕ) (x : ℤ) → int_rem_euclid x (pos m) ≡ pos (rest m x)
-rest_is_positive m (pos a) = refl
-rest_is_positive m (negsuc a) = refl
-
-less : (x y : ℤ) (r : ℕ) → y +ℤ pos r ≡ x → x -ℤ pos r ≡ y
-less x y r e = omega (arith, ints, e)
-
--- what is left, taken away, leaves the quotient's multiple
-pub start : (m : ℕ) (x : ℤ) → 0 < m → x -ℤ int_rem_euclid x (pos m) ≡ quotient m x *ℤ pos m
-start m x h = ap (λ r. x -ℤ r) (rest_is_positive m x) ∙ less x (quotient m x *ℤ pos m) (rest m x) (parts m x h)
-
 -- ---- order
 
 div_mono : (m a b : ℕ) → 0 < m → a ≤ b → a / m ≤ b / m

@@ -32,7 +32,7 @@ pub(crate) fn first_around(component: i32, bits: u32) -> i32
     requires { bits ≤ 15 }
     ensures { result ≡ first_of bits (number_at bits component) }
 {
-    component - component.rem_euclid(power(bits))
+    number_at(component, bits) * power(bits)
 }
 
 /// The last number of the component's block of `2 ^ bits`.
@@ -50,7 +50,9 @@ pub(crate) fn digit(component: i32, low: u32, bits: u32) -> u32
     ensures value { result ≡ digit low bits component }
     ensures bound { result < 2 ^ bits }
 {
-    number_at(component, low).rem_euclid(power(bits)) as u32
+    let entry = number_at(component, low);
+    let block = number_at(component, low + bits);
+    (entry - block * power(bits)) as u32
 }
 
 /// How many entries of `bits` bits there are along an axis.
