@@ -1,5 +1,5 @@
 -- Whether the cells of a leaf block differ, told by its leaf.
-use Rattle.std.proofs.Common.{◌≡◌, sym, ap, ◌∙◌, refl, subst, ℕ, ◌+◌, ◌<◌, Bool, true, false, not, IsTrue}
+use Rattle.std.proofs.Common.{◌≡◌, sym, ap, ◌∙◌, refl, subst, ℕ, ◌+◌, Bool, true, false, not, IsTrue}
 use Rattle.std.specs.Prelude.{is_some, ◌↔◌, Option, Some, None}
 use Rattle.vdb_coord.specs.Blocks.{block_around, block_number, block_numbers, entries, node_bits, offset}
 use Rattle.vdb_coord.specs.Entries.{AreBits}

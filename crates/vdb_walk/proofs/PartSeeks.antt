@@ -3,7 +3,7 @@ use Rattle.std.proofs.Common.{◌≡◌, inl, inr, sym, ap, ◌∙◌, refl, sub
 use Rattle.std.specs.Borrow.{Bor}
 use Rattle.std.specs.Prelude.{not, Option, Some, None, IfNone, IfSome, is_some, option_map}
 use Rattle.std.specs.Ordering.{is_lt}
-use Rattle.vdb_coord.specs.Blocks.{block_cmp, block_number, is_past, offset}
+use Rattle.vdb_coord.specs.Blocks.{block_cmp, block_number, offset}
 use Rattle.vdb_coord.specs.Order.{ComesBefore}
 use Rattle.vdb_coord.specs.Boxes.{is_bounds}
 use Rattle.vdb_coord.specs.Space.{Box, everywhere, is_box, is_inside, is_within}

@@ -71,7 +71,11 @@ module _ (bits : Bits) (states : List Bool) (part : Box) (from : ℕ) where
             ];
           }
 
--- the first from the start on, where it lies in the part
+-- the first from the start on is an entry of the leaf
+pub near_below : (bits : Bits) (states : List Bool) (part : Box) (from n index : ℕ) → IsNextAt true states n from index → IsOffFrom states (entries bits Leaf) → index < entries bits Leaf
+near_below bits states part from n index next past_end = set_below bits states part from from n (inactive_first bits states part from) index next past_end
+
+-- and the next voxel of the part, where it lies in it
 pub near_found : (bits : Bits) (states : List Bool) (part : Box) (from n index : ℕ) → IsNextAt true states n from index → IsOffFrom states (entries bits Leaf)
     → (p : Coord) → p ≡ (sub_block bits Leaf (block_around bits Leaf part.min) index).min → is_inside part p ≡ true → IsNextSetAt bits states part from index p
 near_found bits states part from n index next past_end p corner inside = set_found bits states part from from n (inactive_first bits states part from) index next past_end p corner inside

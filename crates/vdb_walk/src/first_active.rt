@@ -241,26 +241,7 @@ fn near_in_leaf<V: Stored<W>, const F: u32, const W: usize>(
         return None;
     }
     let from = u32::from(p.offset_in(bits, Level::Leaf)) + 1;
-    match near_set(leaf.states(), bits, part, from) {
-        Some((entry, q)) => Some((q, leaf.entry(entry).value)),
-        None => None,
-    }
-}
-
-/// The first voxel of the leaf from an entry on whose state is on, after its entry, where it lies in the part.
-fn near_set<const W: usize>(
-    states: &Mask<W>,
-    bits: Bits,
-    part: Bounds,
-    from: u32,
-) -> Option<(u32, Coord)>
-    requires configured { AreBits bits }
-    requires few_words { W ≤ 512 }
-    requires past_end { IsOffFrom states.now (entries bits leaf_level) }
-    requires from_within { from ≤ 64 * W }
-    ensures { IfSome result (λ next. IsNextSetAt bits states.now part from next.0 next.1) }
-{
-    let index = match states.next_on(from) {
+    let index = match leaf.states().next_on(from) {
         Some(index) => index,
         None => return None,
     };
@@ -268,11 +249,10 @@ fn near_set<const W: usize>(
         .min()
         .entry_block_in(bits, Level::Leaf, index as u16)
         .min();
-    if part.contains(voxel) {
-        Some((index, voxel))
-    } else {
-        None
+    if !part.contains(voxel) {
+        return None;
     }
+    Some((voxel, leaf.entry(index).value))
 }
 
 /// The first entry of the leaf past `after`, for the coordinates of the part, which lies in the leaf's block; `None` where none

@@ -1,8 +1,6 @@
 use Rattle.std.proofs.Common.{◌∙◌, None, Option, Some, subst, sym}
-use Rattle.std.specs.Prelude.{IfSome, option_map}
-use Rattle.vdb_coord.specs.Space.{Box}
+use Rattle.std.specs.Prelude.{IfSome}
 use Rattle.vdb_tree.specs.Layout.{bits_of, field_of}
-use Rattle.vdb_walk.specs.internal.Firsts.{IsActivePast, IsFirst}
 use Rattle.vdb_walk.specs.internal.Listings.{IsListing}
 use Rattle.vdb_walk.specs.declared.held.Held.{Held}
 use Rattle.vdb_walk.proofs.InOrder.{first_found}
