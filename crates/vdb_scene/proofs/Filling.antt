@@ -15,7 +15,7 @@ use Rattle.vdb_scene.specs.Grids.{grid_field, grid_limit, grid_of, scene_over}
 use Rattle.vdb_scene.specs.Scalars.{has_form, has_value, kind_of, scalar, scalar_eq}
 use Rattle.vdb_scene.specs.Scene.{Grid, Scene, is_named}
 use Rattle.vdb_scene.specs.Replies as replies
-use Rattle.vdb_scene.specs.Places.{name_coords, box_between}
+use Rattle.vdb_scene.specs.Places.{are_coords, box_between}
 use Rattle.vdb_scene.specs.Refusals.{first_of_all, no_box, of_tree, other_form, out_of_range, refused_if}
 use Rattle.vdb_scene.specs.Step.{after, changed, refusal}
 use Rattle.vdb_scene.specs.declared.any_grid.AnyGrid.{AnyGrid}
@@ -66,30 +66,30 @@ module _ (grids : List (List ℕ × AnyGrid)) (name : List ℕ) (c : Corners) (v
     over = nat_lt (grid_limit grid) (roots scalar_eq vdb (fill (box_between c) (record { value = scalar kind v; on = on }) (grid_field grid)))
 
     -- what is said of the scene's grid is said of the one that was found
-    refusal_is : refusal scene command ≡ first_of_all (tests (has_form kind v) (name_coords c) (has_value kind v) (is_box (box_between c)) over)
+    refusal_is : refusal scene command ≡ first_of_all (tests (has_form kind v) (are_coords c) (has_value kind v) (is_box (box_between c)) over)
     refusal_is =
         passed_over _ _ (ap is_none (found grids name grid there))
-        ∙ ap (λ (g : Grid). first_of_all (tests (has_form (kind_of g.field.background) v) (name_coords c) (has_value (kind_of g.field.background) v) (is_box (box_between c))
+        ∙ ap (λ (g : Grid). first_of_all (tests (has_form (kind_of g.field.background) v) (are_coords c) (has_value (kind_of g.field.background) v) (is_box (box_between c))
         (nat_lt g.limit (roots scalar_eq vdb (fill (box_between c) (record { value = scalar (kind_of g.field.background) v; on = on }) g.field)))))
         (grid_found scene name (grid_of grid) (found grids name grid there))
-        ∙ ap (λ k. first_of_all (tests (has_form k v) (name_coords c) (has_value k v) (is_box (box_between c))
+        ∙ ap (λ k. first_of_all (tests (has_form k v) (are_coords c) (has_value k v) (is_box (box_between c))
         (nat_lt (grid_limit grid) (roots scalar_eq vdb (fill (box_between c) (record { value = scalar k v; on = on }) (grid_field grid))))))
         (sym is_kind)
 
     -- a value that the kind doesn't have
     pub fill_value_refused : (r : Refusal) → first_of_all (other_form (has_form kind v) ∷ out_of_range (has_value kind v) ∷ []) ≡ Some r → next ≡ scene → CarriesOut scene command (Err r) next
     fill_value_refused r is same =
-        let h = value_first (has_form kind v) (has_value kind v) (name_coords c) (no_box c ∷ refused_if over refusals.RootLimit ∷ []) r is in
+        let h = value_first (has_form kind v) (has_value kind v) (are_coords c) (no_box c ∷ refused_if over refusals.RootLimit ∷ []) r is in
         refused scene command r next (refusal_is ∙ h.0) h.1 same
 
     module _ (form : has_form kind v ≡ true) (value : has_value kind v ≡ true) where
       -- corners that are no box
-      pub fill_corners_refused : (r : Refusal) → first_of_all (out_of_range (name_coords c) ∷ no_box c ∷ []) ≡ Some r → next ≡ scene → CarriesOut scene command (Err r) next
+      pub fill_corners_refused : (r : Refusal) → first_of_all (out_of_range (are_coords c) ∷ no_box c ∷ []) ≡ Some r → next ≡ scene → CarriesOut scene command (Err r) next
       fill_corners_refused r is same =
-          let h = corners_next (name_coords c) (has_value kind v) (is_box (box_between c)) (refused_if over refusals.RootLimit ∷ []) r value is in
+          let h = corners_next (are_coords c) (has_value kind v) (is_box (box_between c)) (refused_if over refusals.RootLimit ∷ []) r value is in
           refused scene command r next (refusal_is ∙ kind_passed (has_form kind v) _ form ∙ h.0) h.1 same
 
-      module _ (placed : name_coords c ≡ true) (ordered : is_box (box_between c) ≡ true) (box : Box) (is_bounds : box ≡ box_between c) (x : Scalar) (is_x : x ≡ scalar kind v) where
+      module _ (placed : are_coords c ≡ true) (ordered : is_box (box_between c) ≡ true) (box : Box) (is_bounds : box ≡ box_between c) (x : Scalar) (is_x : x ≡ scalar kind v) where
         -- the grid's field after the fill
         abbrev filled : Field Scalar
         filled = fill box (record { value = x; on = on }) (grid_field grid)

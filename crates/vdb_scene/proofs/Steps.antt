@@ -6,7 +6,7 @@ use Rattle.vdb_scene.specs.Scalars.{kind_of}
 use Rattle.vdb_scene.specs.Scene.{Grid, Scene, field_at, grid_at, kind_at, new_grid, the_grid}
 use Rattle.vdb_scene.specs.declared.scalar.Scalar.{Scalar}
 use Rattle.vdb_scene.specs.declared.scalar.Scalar.TheVariants.{Bool as truth}
-use Rattle.vdb_scene.specs.Places.{is_accessor, names_coord}
+use Rattle.vdb_scene.specs.Places.{is_accessor, is_coord}
 use Rattle.vdb_scene.specs.Refusals.{first_of_all}
 use Rattle.vdb_scene.specs.Replies.{Refused}
 use Rattle.vdb_scene.specs.Step.{refusal}
@@ -39,7 +39,7 @@ module _ (s : Scene) (name : List ℕ) (g : Grid) (found : grid_at s name ≡ So
   kind_found = ap (λ (f : Field Scalar). kind_of f.background) field_found
 
   -- no refusal of a look-up is left
-  pub get_accepted : (k : Option Num) (p : Point) → names_coord p ≡ true → is_accessor k ≡ true → refusal s (commands.Get name k p) ≡ None
+  pub get_accepted : (k : Option Num) (p : Point) → is_coord p ≡ true → is_accessor k ≡ true → refusal s (commands.Get name k p) ≡ None
   get_accepted k p there accessor = rw (found, there, accessor) refl
 
 -- a refusal that isn't `Memory`

@@ -17,7 +17,7 @@ use Rattle.vdb_scene.specs.Grids.{grid_field, grid_limit, grid_of, scene_over}
 use Rattle.vdb_scene.specs.Scalars.{has_form, has_value, kind_of, scalar, scalar_eq}
 use Rattle.vdb_scene.specs.Scene.{Grid, Scene, field_at, grid_at, is_named, kind_at, limit_at}
 use Rattle.vdb_scene.specs.Replies as replies
-use Rattle.vdb_scene.specs.Places.{is_accessor, names_coord, coord_named}
+use Rattle.vdb_scene.specs.Places.{is_accessor, is_coord, coord_of}
 use Rattle.vdb_scene.specs.Refusals.{first_of_all, of_tree, other_form, out_of_range, refused_if}
 use Rattle.vdb_scene.specs.Step.{IsReply, after, after_write, changed, line_takes_memory, passes, refusal, takes_memory, tried_write, write_at, write_command, write_takes_memory}
 use Rattle.vdb_scene.specs.declared.any_grid.AnyGrid.{AnyGrid}
@@ -118,10 +118,10 @@ module _ (grids : List (List ℕ × AnyGrid)) (name : List ℕ) (k : Option Num)
   fits = passes (has_form (kind_at scene name)) w
 
   abbrev in_range : Bool
-  in_range = names_coord p && passes (has_value (kind_at scene name)) w
+  in_range = is_coord p && passes (has_value (kind_at scene name)) w
 
   abbrev over : Bool
-  over = nat_lt (limit_at scene name) (roots scalar_eq vdb (write (coord_named p) (write_at scene name w) (field_at scene name)))
+  over = nat_lt (limit_at scene name) (roots scalar_eq vdb (write (coord_of p) (write_at scene name w) (field_at scene name)))
 
   -- no grid of that name
   pub write_missing : lookup (is_named name) grids ≡ None → next ≡ scene → CarriesOut scene command (Err refusals.NoGrid) next
@@ -138,7 +138,7 @@ module _ (grids : List (List ℕ × AnyGrid)) (name : List ℕ) (k : Option Num)
     pub write_value_refused : (r : Refusal) → first_of_all (other_form (passes (has_form kind) w) ∷ out_of_range (passes (has_value kind) w) ∷ []) ≡ Some r → next ≡ scene
         → CarriesOut scene command (Err r) next
     write_value_refused r is same =
-        let h = value_first fits (passes (has_value (kind_at scene name)) w) (names_coord p) (refused_if (not (is_accessor k)) refusals.NoAccessor ∷ refused_if over refusals.RootLimit ∷ []) r
+        let h = value_first fits (passes (has_value (kind_at scene name)) w) (is_coord p) (refused_if (not (is_accessor k)) refusals.NoAccessor ∷ refused_if over refusals.RootLimit ∷ []) r
         (subst (λ h. first_of_all (other_form (passes (has_form h) w) ∷ out_of_range (passes (has_value h) w) ∷ []) ≡ Some r) kind_here is) in
         refused scene command r next (tried_for scene name k p w ∙ passed_over absent _ is_there ∙ h.0) h.1 same
 
@@ -150,37 +150,37 @@ module _ (grids : List (List ℕ × AnyGrid)) (name : List ℕ) (k : Option Num)
       value_here = subst (λ h. passes (has_value h) w ≡ true) kind_here value
 
       -- a place that is no coordinate
-      pub write_place_refused : names_coord p ≡ false → next ≡ scene → CarriesOut scene command (Err refusals.ValueRange) next
+      pub write_place_refused : is_coord p ≡ false → next ≡ scene → CarriesOut scene command (Err refusals.ValueRange) next
       write_place_refused nowhere same =
-          (tried_for scene name k p w ∙ first_range absent fits in_range (is_accessor k) over is_there fits_here (first_fails (names_coord p) _ nowhere), same)
+          (tried_for scene name k p w ∙ first_range absent fits in_range (is_accessor k) over is_there fits_here (first_fails (is_coord p) _ nowhere), same)
 
       -- no such accessor
-      pub write_accessor_refused : names_coord p ≡ true → is_accessor k ≡ false → next ≡ scene → CarriesOut scene command (Err refusals.NoAccessor) next
+      pub write_accessor_refused : is_coord p ≡ true → is_accessor k ≡ false → next ≡ scene → CarriesOut scene command (Err refusals.NoAccessor) next
       write_accessor_refused at none same =
-          (tried_for scene name k p w ∙ first_accessor absent fits in_range (is_accessor k) over is_there fits_here (both (names_coord p) _ at value_here) none, same)
+          (tried_for scene name k p w ∙ first_accessor absent fits in_range (is_accessor k) over is_there fits_here (both (is_coord p) _ at value_here) none, same)
 
-      module _ (at : names_coord p ≡ true) (accessor : is_accessor k ≡ true) (q : Coord) (is_q : coord_named p ≡ q) (change : Write Scalar) (is_change : change ≡ as_write_of (scalar kind) w) where
+      module _ (at : is_coord p ≡ true) (accessor : is_accessor k ≡ true) (q : Coord) (is_q : coord_of p ≡ q) (change : Write Scalar) (is_change : change ≡ as_write_of (scalar kind) w) where
         change_here : write_at scene name w ≡ change
         change_here = ap (λ h. as_write_of (scalar h) w) (sym kind_here) ∙ sym is_change
 
         -- what is said of the scene's grid is said of the one that was found
         over_is : over ≡ nat_lt (grid_limit grid) (roots scalar_eq vdb (write q change (grid_field grid)))
         over_is =
-            ap (λ (g : Grid). nat_lt g.limit (roots scalar_eq vdb (write (coord_named p) (write_at scene name w) g.field))) (grid_found scene name (grid_of grid) (found grids name grid there))
+            ap (λ (g : Grid). nat_lt g.limit (roots scalar_eq vdb (write (coord_of p) (write_at scene name w) g.field))) (grid_found scene name (grid_of grid) (found grids name grid there))
             ∙ ap (λ r. nat_lt (grid_limit grid) (roots scalar_eq vdb (write r (write_at scene name w) (grid_field grid)))) is_q
             ∙ ap (λ c. nat_lt (grid_limit grid) (roots scalar_eq vdb (write q c (grid_field grid)))) change_here
 
         memory_is : takes_memory scene command ≡ write_takes_memory (grid_field grid) q change
         memory_is =
             memory_for scene name k p w
-            ∙ ap (λ (g : Grid). write_takes_memory g.field (coord_named p) (write_at scene name w)) (grid_found scene name (grid_of grid) (found grids name grid there))
+            ∙ ap (λ (g : Grid). write_takes_memory g.field (coord_of p) (write_at scene name w)) (grid_found scene name (grid_of grid) (found grids name grid there))
             ∙ ap (λ r. write_takes_memory (grid_field grid) r (write_at scene name w)) is_q
             ∙ ap (λ c. write_takes_memory (grid_field grid) q c) change_here
 
         accepted : roots scalar_eq vdb (write q change (grid_field grid)) ≤ grid_limit grid → refusal scene command ≡ None
         accepted few =
             tried_for scene name k p w
-            ∙ first_none absent fits in_range (is_accessor k) over is_there fits_here (both (names_coord p) _ at value_here) accessor (over_is ∙ le-ltb _ _ few)
+            ∙ first_none absent fits in_range (is_accessor k) over is_there fits_here (both (is_coord p) _ at value_here) accessor (over_is ∙ le-ltb _ _ few)
 
         -- the voxel is written
         pub write_done : roots scalar_eq vdb (write q change (grid_field grid)) ≤ grid_limit grid → next ≡ changed scene name (write q change) → CarriesOut scene command (Ok Done) next
@@ -195,7 +195,7 @@ module _ (grids : List (List ℕ × AnyGrid)) (name : List ℕ) (k : Option Num)
             → (write_takes_memory (grid_field grid) q change ≡ false → IsOk {T = Unit {0}} (Err e)) → next ≡ scene → CarriesOut scene command (Err (of_tree e)) next
         write_refused RootLimit after h free same = (
           tried_for scene name k p w
-              ∙ first_over absent fits in_range (is_accessor k) over is_there fits_here (both (names_coord p) _ at value_here) accessor (over_is ∙ lt-ltb _ _ h.1),
+              ∙ first_over absent fits in_range (is_accessor k) over is_there fits_here (both (is_coord p) _ at value_here) accessor (over_is ∙ lt-ltb _ _ h.1),
           same,
         )
         write_refused Memory after h free same = (accepted h.1, subst IsTrue (sym memory_is) (not_free _ free), same)

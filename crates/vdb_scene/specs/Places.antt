@@ -9,8 +9,8 @@ use Rattle.vdb_scene.specs.declared.command.Num.{Num}
 use Rattle.vdb_scene.specs.declared.command.Point.{Point}
 
 -- the coordinate that a line names
-abbrev pub coord_named : Point → Coord
-coord_named p = coord (number p.x) (number p.y) (number p.z)
+abbrev pub coord_of : Point → Coord
+coord_of p = coord (number p.x) (number p.y) (number p.z)
 
 -- whether a number of a line is one from low to high
 abbrev pub is_from : ℤ → ℤ → Num → Bool
@@ -21,16 +21,16 @@ abbrev pub is_component : Num → Bool
 is_component n = is_from everywhere.min.x everywhere.max.x n
 
 -- whether a line names a coordinate
-abbrev pub names_coord : Point → Bool
-names_coord p = is_component p.x && is_component p.y && is_component p.z
+abbrev pub is_coord : Point → Bool
+is_coord p = is_component p.x && is_component p.y && is_component p.z
 
 -- the box between two corners of a line
 abbrev pub box_between : Corners → Box
-box_between c = record { min = coord_named c.min; max = coord_named c.max }
+box_between c = record { min = coord_of c.min; max = coord_of c.max }
 
 -- whether both corners are coordinates
-abbrev pub name_coords : Corners → Bool
-name_coords c = names_coord c.min && names_coord c.max
+abbrev pub are_coords : Corners → Bool
+are_coords c = is_coord c.min && is_coord c.max
 
 -- the corners of a part of a plane of one z
 abbrev pub flat : Num → Area → Corners

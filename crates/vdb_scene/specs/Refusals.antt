@@ -6,7 +6,7 @@ use Rattle.vdb_tree.specs.Field.{Field}
 use Rattle.vdb_tree.specs.ConstantBlocks.{roots}
 use Rattle.vdb_tree.specs.declared.refusal.TreeRefusal.{TreeRefusal}
 use Rattle.vdb_tree.specs.declared.refusal.TreeRefusal.TheVariants.{Memory, RootLimit}
-use Rattle.vdb_scene.specs.Places.{name_coords, box_between, is_accessor}
+use Rattle.vdb_scene.specs.Places.{are_coords, box_between, is_accessor}
 use Rattle.vdb_scene.specs.Scalars.{scalar_eq}
 use Rattle.vdb_scene.specs.Scene.{Scene, field_at, grid_at, limit_at}
 use Rattle.vdb_scene.specs.declared.answer.Refusal.{Refusal}
@@ -68,7 +68,7 @@ too_wide most box = refused_if (nat_lt most (extent box.min.x box.max.x) || nat_
 -- what the box of a line may be refused for, if there is one
 abbrev pub tried_region : Option Corners → List (Option Refusal)
 tried_region None = []
-tried_region (Some c) = out_of_range (name_coords c) ∷ no_box c ∷ []
+tried_region (Some c) = out_of_range (are_coords c) ∷ no_box c ∷ []
 
 -- the first refusal of a list, if there is one
 abbrev pub first_of_all : List (Option Refusal) → Option Refusal

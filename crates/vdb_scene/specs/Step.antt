@@ -10,7 +10,7 @@ use Rattle.vdb_tree.specs.declared.Write.TheVariants as writes
 use Rattle.vdb_tree.specs.Field.{Field, as_write_of, clip, fill, write, written}
 use Rattle.vdb_tree.specs.ConstantBlocks.{cell_eq, count, is_constant}
 use Rattle.vdb_walk.specs.Reports.{IsActiveBounds, active, census}
-use Rattle.vdb_scene.specs.Places.{name_coords, box_between, count_of, flat, is_limit, names_coord, coord_named, region}
+use Rattle.vdb_scene.specs.Places.{are_coords, box_between, count_of, flat, is_limit, is_coord, coord_of, region}
 use Rattle.vdb_scene.specs.Refusals.{first_of_all, too_many_grids, name_taken, no_accessor, no_box, no_grid, other_form, out_of_range, root_limit, too_large, too_wide, tried_region}
 use Rattle.vdb_scene.specs.Replies.{Bounds, Census, Count, Done, Refused, Reply, Slice, Value, listing, rows}
 use Rattle.vdb_scene.specs.Scalars.{has_form, has_value, scalar, scalar_eq}
@@ -50,7 +50,7 @@ write_at s name w = as_write_of (scalar (kind_at s name)) w
 
 -- the scene with one voxel of a grid written
 abbrev pub after_write : Scene → List ℕ → Point → Write Literal → Scene
-after_write s name p w = changed s name (write (coord_named p) (write_at s name w))
+after_write s name p w = changed s name (write (coord_of p) (write_at s name w))
 
 -- the cell that a line writes to each voxel of a box
 abbrev pub cell_of_line : Scene → List ℕ → Literal → Bool → Cell Scalar
@@ -59,8 +59,8 @@ cell_of_line s name v on = record { value = scalar (kind_at s name) v; on = on }
 -- what a write of a voxel may be refused for
 abbrev pub tried_write : Scene → List ℕ → Option Num → Point → Write Literal → List (Option Refusal)
 tried_write s name k p w =
-    no_grid s name ∷ other_form (passes (has_form (kind_at s name)) w) ∷ out_of_range (names_coord p && passes (has_value (kind_at s name)) w)
-    ∷ no_accessor k ∷ root_limit s name (write (coord_named p) (write_at s name w)) ∷ []
+    no_grid s name ∷ other_form (passes (has_form (kind_at s name)) w) ∷ out_of_range (is_coord p && passes (has_value (kind_at s name)) w)
+    ∷ no_accessor k ∷ root_limit s name (write (coord_of p) (write_at s name w)) ∷ []
 
 -- whether a write may take memory: where the cell changes, and the cells of the leaf block around it are all equal
 abbrev pub write_takes_memory : Field Scalar → Coord → Write Scalar → Bool
@@ -68,7 +68,7 @@ write_takes_memory f p w = not (cell_eq scalar_eq (written w (f.cell p)) (f.cell
 
 -- whether that of a line may
 abbrev pub line_takes_memory : Scene → List ℕ → Point → Write Literal → Bool
-line_takes_memory s name p w = write_takes_memory (field_at s name) (coord_named p) (write_at s name w)
+line_takes_memory s name p w = write_takes_memory (field_at s name) (coord_of p) (write_at s name w)
 
 -- ---- what a command means
 
@@ -118,9 +118,9 @@ meaning s (commands.Copy from to) = record {
 }
 -- the cell of a voxel
 meaning s (commands.Get name k p) = record {
-  tried = no_grid s name ∷ out_of_range (names_coord p) ∷ no_accessor k ∷ [];
+  tried = no_grid s name ∷ out_of_range (is_coord p) ∷ no_accessor k ∷ [];
   after = s;
-  IsReply = only (Value ((field_at s name).cell (coord_named p)));
+  IsReply = only (Value ((field_at s name).cell (coord_of p)));
   takes_memory = false;
 }
 -- the four writes of a voxel: the value and active, the value and inactive, the value alone, the state alone
@@ -130,7 +130,7 @@ meaning s (commands.Only name k p v) = meaning_of_write s name k p (writes.Value
 meaning s (commands.State name k p on) = meaning_of_write s name k p (writes.State on)
 -- each voxel of the box gets one cell
 meaning s (commands.Fill name c v on) = record {
-  tried = no_grid s name ∷ other_form (has_form (kind_at s name) v) ∷ out_of_range (name_coords c && has_value (kind_at s name) v) ∷ no_box c
+  tried = no_grid s name ∷ other_form (has_form (kind_at s name) v) ∷ out_of_range (are_coords c && has_value (kind_at s name) v) ∷ no_box c
       ∷ root_limit s name (fill (box_between c) (cell_of_line s name v on)) ∷ [];
   after = changed s name (fill (box_between c) (cell_of_line s name v on));
   IsReply = only Done;
@@ -138,7 +138,7 @@ meaning s (commands.Fill name c v on) = record {
 }
 -- each voxel outside the box gets the background, inactive
 meaning s (commands.Clip name c) = record {
-  tried = no_grid s name ∷ out_of_range (name_coords c) ∷ no_box c ∷ [];
+  tried = no_grid s name ∷ out_of_range (are_coords c) ∷ no_box c ∷ [];
   after = changed s name (clip (box_between c));
   IsReply = only Done;
   takes_memory = true;
@@ -152,21 +152,21 @@ meaning s (commands.Prune name) = record {
 }
 -- no cell changes; of the tree it is said in Doing
 meaning s (commands.Voxelise name c) = record {
-  tried = no_grid s name ∷ out_of_range (name_coords c) ∷ no_box c ∷ too_large 2097152 (box_between c) ∷ [];
+  tried = no_grid s name ∷ out_of_range (are_coords c) ∷ no_box c ∷ too_large 2097152 (box_between c) ∷ [];
   after = s;
   IsReply = only Done;
   takes_memory = true;
 }
 -- the first active voxels of the box in block order, and whether there are more
 meaning s (commands.List name c limit) = record {
-  tried = no_grid s name ∷ out_of_range (is_limit limit && name_coords c) ∷ no_box c ∷ [];
+  tried = no_grid s name ∷ out_of_range (is_limit limit && are_coords c) ∷ no_box c ∷ [];
   after = s;
   IsReply = only (listing (count_of limit) (active vdb (field_at s name) (box_between c)));
   takes_memory = false;
 }
 -- the cells of a part of a plane, row by row
 meaning s (commands.Slice name z a) = record {
-  tried = no_grid s name ∷ out_of_range (name_coords (flat z a)) ∷ no_box (flat z a) ∷ too_wide 64 (box_between (flat z a)) ∷ [];
+  tried = no_grid s name ∷ out_of_range (are_coords (flat z a)) ∷ no_box (flat z a) ∷ too_wide 64 (box_between (flat z a)) ∷ [];
   after = s;
   IsReply = only (Slice (rows (field_at s name) (box_between (flat z a))));
   takes_memory = false;

@@ -7,7 +7,7 @@ ghost use Rattle.vdb_scene.specs.Doing.{AppliesTo, CarriesOut, LeavesTrees, answ
 ghost use Rattle.vdb_scene.specs.Grids.{scene_of};
 ghost use Rattle.vdb_scene.specs.contracts.scene.Scene.{the_row};
 ghost use Rattle.vdb_scene.specs.Scalars.{has_form, has_value, number, scalar};
-ghost use Rattle.vdb_scene.specs.Places.{name_coords, box_between, count_of, flat as flat_corners, is_accessor, is_component, is_limit, names_coord, coord_named};
+ghost use Rattle.vdb_scene.specs.Places.{are_coords, box_between, count_of, flat as flat_corners, is_accessor, is_component, is_limit, is_coord, coord_of};
 ghost use Rattle.vdb_scene.specs.Refusals.{first_of_all, no_box, other_form, out_of_range};
 ghost use Rattle.vdb_scene.specs.Step.{passes, write_command};
 ghost use Rattle.vdb_tree.specs.Field.{as_write_of};
@@ -44,7 +44,7 @@ fn component_of(component: Num) -> Option<i32>
 
 /// The coordinate that a line names, if it is one.
 fn place_of(at: &Point) -> Option<Coord>
-    ensures { result ≡ (if names_coord at.now then Some (coord_named at.now) else None) }
+    ensures { result ≡ (if is_coord at.now then Some (coord_of at.now) else None) }
 {
     let x = component_of(at.x)?;
     let y = component_of(at.y)?;
@@ -81,10 +81,10 @@ fn scalar_of(kind: Kind, literal: Literal) -> Result<Scalar, Refusal>
 /// The box that a line names. `ValueRange` refuses a corner that is no coordinate, and then `Box` a minimum that is greater
 /// than its maximum.
 pub(crate) fn bounds_of(corners: &Corners) -> Result<Bounds, Refusal>
-    ensures places { IfOk result (λ bounds. name_coords corners.now ≡ true) }
+    ensures places { IfOk result (λ bounds. are_coords corners.now ≡ true) }
     ensures ordered { IfOk result (λ bounds. is_box (box_between corners.now) ≡ true) }
     ensures bounds { IfOk result (λ bounds. bounds ≡ box_between corners.now) }
-    ensures refusal { IfErr result (λ refusal. first_of_all (out_of_range (name_coords corners.now) ∷ no_box corners.now ∷ []) ≡ Some refusal) }
+    ensures refusal { IfErr result (λ refusal. first_of_all (out_of_range (are_coords corners.now) ∷ no_box corners.now ∷ []) ≡ Some refusal) }
 {
     let Some(min) = place_of(&corners.min) else {
         return Err(Refusal::ValueRange);

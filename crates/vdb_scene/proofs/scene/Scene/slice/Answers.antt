@@ -2,7 +2,7 @@ use Rattle.std.proofs.Common.{◌≡◌, ◌∙◌, ap, refl, subst, sym, Some, 
 use Rattle.std.proofs.lemmas.Result.{err_from_is_err_and}
 use Rattle.vdb_scene.proofs.Steps.{corners_first, refused}
 use Rattle.vdb_scene.specs.Grids.{scene_of}
-use Rattle.vdb_scene.specs.Places.{name_coords}
+use Rattle.vdb_scene.specs.Places.{are_coords}
 use Rattle.vdb_scene.specs.Refusals.{first_of_all, no_box, out_of_range}
 use Rattle.vdb_scene.specs.declared.command.Corners.{Corners}
 use Rattle.vdb_scene.specs.declared.command.Command.TheVariants as commands
@@ -11,5 +11,5 @@ use Rattle.vdb_scene.proofs.scene.Scene.slice.Goals as goal
 pub returns-in_err-bounds : goal.returns-in_err-bounds
 returns-in_err-bounds c =
     let exit = err_from_is_err_and c.from_residual.result c.from_residual.ensures.1 in
-    let first = corners_first _ _ _ _ (subst (λ (k : Corners). first_of_all (out_of_range (name_coords k) ∷ no_box k ∷ []) ≡ Some c.in_err-bounds.field-0.0) c.flat.ensures c.in_err-bounds.ensures.refusal ∙ ap Some (sym exit.2)) in
+    let first = corners_first _ _ _ _ (subst (λ (k : Corners). first_of_all (out_of_range (are_coords k) ∷ no_box k ∷ []) ≡ Some c.in_err-bounds.field-0.0) c.flat.ensures c.in_err-bounds.ensures.refusal ∙ ap Some (sym exit.2)) in
     rw exit.1 (refused (scene_of c.args.self.now) (commands.Slice c.args.name.now c.args.z c.args.area) _ _ (rw (sym c.in-Some.ensures) first.0) first.1 refl)
