@@ -1,10 +1,9 @@
 -- Active voxels of a box, counted from block to block.
-use Rattle.std.proofs.Common.{◌≡◌, ◌⊎◌, inl, inr, sym, ap, ◌∙◌, refl, subst, ℕ, ◌+◌, ◌<◌, ◌≤◌, ◌^◌, Bool, true, false, not, ◌&&◌, arith, [], IsTrue}
+use Rattle.std.proofs.Common.{◌≡◌, ◌⊎◌, inl, inr, sym, ap, ◌∙◌, refl, subst, ℕ, ◌+◌, ◌<◌, ◌≤◌, ◌^◌, Bool, true, false, not, ◌&&◌, arith, []}
 use Rattle.std.specs.Prelude.{IfSome, Option, Some, None}
 use Rattle.std.specs.List.{filter}
-use Rattle.std.specs.Ordering.{is_lt}
 use Rattle.std.proofs.lemmas.List.Sums.{length-filter}
-use Rattle.vdb_coord.specs.Blocks.{block_around, block_cmp, block_number}
+use Rattle.vdb_coord.specs.Blocks.{block_around, block_number}
 use Rattle.vdb_coord.specs.Boxes.{is_bounds}
 use Rattle.vdb_coord.specs.Order.{ComesBefore, IsNextPlace, IsUpToBlock, coordinates_past}
 use Rattle.vdb_coord.specs.Space.{Box, coord_eq, coordinates, everywhere, is_box, is_inside, is_within}
@@ -20,12 +19,11 @@ use Rattle.vdb_coord.proofs.Meeting.{within_each}
 use Rattle.vdb_coord.proofs.Nesting.{inside_numbered, number_in_block}
 use Rattle.vdb_coord.proofs.Walk.{min_inside}
 use Rattle.vdb_tree.specs.Layout.{Layout, field_of}
-use Rattle.vdb_tree.specs.Parts.{IsSkipped, TreeWalk, is_left}
+use Rattle.vdb_tree.specs.Parts.{is_left}
 use Rattle.vdb_tree.specs.ConstantBlocks.{count}
-use Rattle.vdb_tree.specs.declared.reading.parts.Skip.{Skip}
 use Rattle.vdb_tree.specs.declared.reading.parts.Skip.TheVariants.{Inactive}
 use Rattle.vdb_tree.proofs.PartStarts.{before_place}
-use Rattle.vdb_walk.specs.internal.BlocksFrom.{IsBoxStart, IsInactiveTo, IsPartStart, active_around, active_from}
+use Rattle.vdb_walk.specs.internal.BlocksFrom.{IsBoxStart, IsSkippedTo, active_around, active_from}
 use Rattle.vdb_walk.proofs.Counts.{count_few, none_on, nothing_apart, volume_few}
 use Rattle.vdb_walk.proofs.NonConstantBlocks.{from_on, left_from, past_both}
 use Rattle.vdb_walk.proofs.PartCounts.{count_listed, count_split, left_first}
@@ -115,7 +113,7 @@ module _ {V : Type 0} (bits : Bits) (t : Layout V) (box : Box) where
 
   module _ (p : Coord) where
     -- where none is active from the place on
-    pub inactive_end : IsInactiveTo bits t box p None → 0 + active_from bits t box None ≡ active_from bits t box (Some p)
+    pub inactive_end : IsSkippedTo bits t box Inactive p None → 0 + active_from bits t box None ≡ active_from bits t box (Some p)
     inactive_end inactive =
         let none = from_none in
         let all = count_listed box (λ r. on r && is_left bits (Some p) r) [] nothing_apart
@@ -127,7 +125,7 @@ module _ {V : Type 0} (bits : Bits) (t : Layout V) (box : Box) where
         step true false h = refl
         step false l h = refl
 
-    module _ (level : Level) (starts : IsBoxStart bits level box p) (q : Coord) (inactive : IsInactiveTo bits t box p (Some q)) (next : Option Coord) (place : IsNextPlace bits level box q next) where
+    module _ (level : Level) (starts : IsBoxStart bits level box p) (q : Coord) (inactive : IsSkippedTo bits t box Inactive p (Some q)) (next : Option Coord) (place : IsNextPlace bits level box q next) where
       q_from : ComesBefore bits q p → ⊥
       q_from = from_on bits p q inactive.1
 
@@ -205,31 +203,6 @@ module _ {V : Type 0} (bits : Bits) (t : Layout V) (box : Box) where
           by : (o : Option Coord) → IsNextPlace bits level box q o → IfSome o (λ m. coordinates_past bits m < coordinates_past bits p)
           by None h = tt
           by (Some m) h = fewer_past bits p m (within_each box everywhere m (both (is_box box) (is_within box everywhere) bounds).1 h.inside) (past_both bits p q m q_from (h.past q inactive.0 refl))
-
-  -- ---- where a place is found
-
-  module _ (p : Coord) (walk : TreeWalk V) (same : walk.box ≡ box) (skip : walk.skip ≡ Inactive) (earlier : (r : Coord) → IsTrue (is_inside box r) → is_left bits walk.at r ≡ false → ComesBefore bits r p) where
-    still_left : (r : Coord) → is_inside box r ≡ true → is_left bits (Some p) r ≡ true → is_left bits walk.at r ≡ true
-    still_left r i left = elim (true_or_false (is_left bits walk.at r)) [ inl h ↦ h | inr h ↦ absurd (from_on bits p r left (earlier r i h)) ]
-
-    in_box : (r : Coord) → is_inside box r ≡ true → is_inside walk.box r ≡ true
-    in_box r i = ap (λ (b : Box). is_inside b r) same ∙ i
-
-    inactive_at : (r : Coord) → IsSkipped bits walk.skip t r → on r ≡ false
-    inactive_at r h = subst (λ (s : Skip). IsSkipped bits s t r) skip h
-
-    pub inactive_there : (q : Coord) → IsPartStart bits t walk (Some q) → is_lt (block_cmp bits q p) ≡ false → IsInactiveTo bits t box p (Some q)
-    inactive_there q h from = (
-      sym (ap (λ (b : Box). is_inside b q) same) ∙ h.0,
-      ap not from,
-      λ r i left before. inactive_at r (h.1 r (in_box r i) (still_left r i left) before),
-    )
-
-    pub inactive_all : IsPartStart bits t walk None → IsInactiveTo bits t box p None
-    inactive_all h r i left = inactive_at r (h r (in_box r i) (still_left r i left))
-
-  pub inactive_here : (p : Coord) → is_inside box p ≡ true → IsInactiveTo bits t box p (Some p)
-  inactive_here p i = (i, left_from bits p p (not_itself bits p), λ r j left before. absurd (from_on bits p r left before))
 
   -- ---- sums
 

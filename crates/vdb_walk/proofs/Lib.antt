@@ -21,3 +21,4 @@ pub mod NextVoxels
 pub mod Yielded
 pub mod ListingSizes
 pub mod BlockCounts
+pub mod SkippedParts

@@ -5,30 +5,27 @@ use Rattle.std.specs.Ordering.{is_lt}
 use Rattle.vdb_coord.specs.Blocks.{block, block_around, block_cmp, block_number, block_numbers}
 use Rattle.vdb_coord.specs.Entries.{AreBits}
 use Rattle.vdb_coord.specs.Order.{ComesBefore, IsNextPlace, IsUpToBlock, coordinates_past}
-use Rattle.vdb_coord.specs.Boxes.{is_bounds}
-use Rattle.vdb_coord.specs.Space.{Box, coord_eq, everywhere, is_box, is_inside, is_within}
+use Rattle.vdb_coord.specs.Space.{Box, coord_eq, everywhere, is_inside, is_within}
 use Rattle.vdb_coord.specs.declared.Bits.{Bits}
 use Rattle.vdb_coord.specs.declared.Coord.{Coord}
 use Rattle.vdb_coord.specs.declared.Level.{Level}
 use Rattle.vdb_coord.specs.declared.Level.TheVariants.{Leaf, Lower, Upper}
 use Rattle.vdb_coord.proofs.BlockOrder.{comes_on, contiguous, fewer_past, not_before_min, not_both, not_itself, which_first}
-use Rattle.vdb_coord.proofs.Boxes.{both, not_true, same_truth}
+use Rattle.vdb_coord.proofs.Boxes.{not_true, same_truth}
 use Rattle.vdb_coord.proofs.InRange.{corner_in_range, number_in_range, number_of_corner, numbered_in_range}
 use Rattle.vdb_coord.proofs.Meeting.{within_each}
 use Rattle.vdb_coord.proofs.Members.{coord_equiv, coord_exact}
 use Rattle.vdb_coord.proofs.Nesting.{inside_numbered, lower_from_leaf, number_in_block, upper_from_lower}
-use Rattle.vdb_coord.proofs.Walk.{min_inside}
 use Rattle.vdb_tree.specs.Field.{Field, off}
 use Rattle.vdb_tree.specs.Layout.{Layout, field_of}
-use Rattle.vdb_tree.specs.Parts.{IsSkipped, TreeWalk, YieldsBox, is_left}
+use Rattle.vdb_tree.specs.Parts.{is_left}
 use Rattle.vdb_tree.specs.ConstantBlocks.{is_constant, non_constant}
-use Rattle.vdb_tree.specs.declared.reading.parts.Skip.{Skip}
 use Rattle.vdb_tree.specs.declared.reading.parts.Skip.TheVariants.{Background}
 use Rattle.vdb_tree.proofs.PartStarts.{before_place}
 use Rattle.vdb_tree.proofs.Rooted.{one_more}
 use Rattle.vdb_tree.proofs.Uniform.{uniform_cells, uniform_from}
 use Rattle.vdb_value.specs.declared.Cell.{Cell}
-use Rattle.vdb_walk.specs.internal.BlocksFrom.{IsBlockAt, IsBlockStart, IsPartStart, IsBackgroundTo, non_constant_from}
+use Rattle.vdb_walk.specs.internal.BlocksFrom.{IsBlockAt, IsBoxStart, IsSkippedTo, non_constant_from}
 use Rattle.vdb_walk.proofs.Counts.{none_on, nothing_apart}
 use Rattle.vdb_walk.proofs.PartCounts.{count_alike, count_listed, count_split}
 
@@ -126,7 +123,7 @@ non_constant_none eq bits level f =
     (λ n. none_on (is_inside (block_numbers bits level) n) (not (is_constant eq f (block bits level n)) && is_left bits None (block bits level n).min) (λ i. never_and (not (is_constant eq f (block bits level n)))))
 
 -- the first coordinate of all begins its block
-pub first_start : (bits : Bits) (level : Level) → is_inside everywhere everywhere.min ≡ true → IsBlockStart bits level everywhere.min
+pub first_start : (bits : Bits) (level : Level) → is_inside everywhere everywhere.min ≡ true → IsBoxStart bits level everywhere everywhere.min
 first_start bits level i = record { inside = i; first = λ q inside before same. not_before_min bits everywhere q inside before }
 
 module _ {V : Type 0} (eq : V → V → Bool) (exact : (x y : V) → eq x y ≡ true → x ≡ y) (itself : (x : V) → eq x x ≡ true) (bits : Bits) (configured : AreBits bits) (level : Level) (t : Layout V) (p : Coord) where
@@ -161,13 +158,13 @@ module _ {V : Type 0} (eq : V → V → Bool) (exact : (x y : V) → eq x y ≡ 
   never_non_constant n c m = denied (is_constant eq f (block bits level n)) m c
 
   -- where all that is left is the background no block is left
-  pub non_constant_end : IsBackgroundTo bits t p None → 0 + non_constant_from eq bits level f None ≡ non_constant_from eq bits level f (Some p)
+  pub non_constant_end : IsSkippedTo bits t everywhere Background p None → 0 + non_constant_from eq bits level f None ≡ non_constant_from eq bits level f (Some p)
   non_constant_end background_cell =
       no_more (count_alike (block_numbers bits level) (λ n. differs_at n && is_left bits None (begin n)) (λ n. differs_at n && is_left bits (Some p) (begin n))
       (λ n i. with_same (differs_at n) false (is_left bits (Some p) (begin n)) (λ m. sym (not_true (is_left bits (Some p) (begin n)) (λ left.
       never_non_constant n (background_block n (λ r j. background_cell r (of_block n i r j) (left_in_block n left r j))) m)))))
 
-  module _ (starts : IsBlockStart bits level p) (q : Coord) (background_cell : IsBackgroundTo bits t p (Some q)) (outer : Level) (differs : Bool) (at : IsBlockAt eq bits level f q outer differs) where
+  module _ (starts : IsBoxStart bits level everywhere p) (q : Coord) (background_cell : IsSkippedTo bits t everywhere Background p (Some q)) (outer : Level) (differs : Bool) (at : IsBlockAt eq bits level f q outer differs) where
     abbrev here : Coord
     here = block_number bits level q
 
@@ -294,10 +291,10 @@ module _ {V : Type 0} (eq : V → V → Bool) (exact : (x y : V) → eq x y ≡ 
       ]
 
       -- the next place begins a block
-      pub start_next : IfSome next (IsBlockStart bits level)
+      pub start_next : IfSome next (IsBoxStart bits level everywhere)
       start_next = by next place
         where
-          by : (o : Option Coord) → IsNextPlace bits outer everywhere q o → IfSome o (IsBlockStart bits level)
+          by : (o : Option Coord) → IsNextPlace bits outer everywhere q o → IfSome o (IsBoxStart bits level everywhere)
           by None h = tt
           by (Some m) h = record {
             inside = h.inside;
@@ -318,49 +315,6 @@ module _ {V : Type 0} (eq : V → V → Bool) (exact : (x y : V) → eq x y ≡ 
           by : (o : Option Coord) → IsNextPlace bits outer everywhere q o → IfSome o (λ m. coordinates_past bits m < coordinates_past bits p)
           by None h = tt
           by (Some m) h = fewer_past bits p m h.inside (past_both bits p q m q_from (h.past q background_cell.0 refl))
-
--- ---- where a place is found
-
-module _ {V : Type 0} (bits : Bits) (t : Layout V) where
-  -- the first coordinate of a part
-  pub part_start : (old new : TreeWalk V) (part : Box) → is_bounds part ≡ true → YieldsBox bits t old new part → (q : Coord) → q ≡ part.min → IsPartStart bits t old (Some q)
-  part_start old new part bounds yields q e = subst (λ (s : Coord). IsPartStart bits t old (Some s)) (sym e) (
-    yields.inside part.min corner,
-    λ r i left before. yields.passes.passed r i left (gone new.at (yields.gone part.min corner) r before) (not_true (is_inside part r) (λ k. not_before_min bits part r k before)),
-  )
-    where
-      corner : is_inside part part.min ≡ true
-      corner = min_inside part (both (is_box part) (is_within part everywhere) bounds).0
-
-      gone : (at : Option Coord) → is_left bits at part.min ≡ false → (r : Coord) → ComesBefore bits r part.min → is_left bits at r ≡ false
-      gone None h r before = refl
-      gone (Some a) h r before = ap not (comes_on bits r part.min a before (before_place bits a part.min h))
-
-  -- the place itself
-  pub background_here : (p : Coord) → is_inside everywhere p ≡ true → IsBackgroundTo bits t p (Some p)
-  background_here p i = (i, left_from bits p p (not_itself bits p), λ r j left before. absurd (from_on bits p r left before))
-
-  module _ (p : Coord) (walk : TreeWalk V) (box : walk.box ≡ everywhere) (skip : walk.skip ≡ Background) (earlier : (r : Coord) → IsTrue (is_inside everywhere r) → is_left bits walk.at r ≡ false → ComesBefore bits r p) where
-    still_left : (r : Coord) → is_inside everywhere r ≡ true → is_left bits (Some p) r ≡ true → is_left bits walk.at r ≡ true
-    still_left r i left = elim (true_or_false (is_left bits walk.at r)) [ inl h ↦ h | inr h ↦ absurd (from_on bits p r left (earlier r i h)) ]
-
-    in_box : (r : Coord) → is_inside everywhere r ≡ true → is_inside walk.box r ≡ true
-    in_box r i = ap (λ (b : Box). is_inside b r) box ∙ i
-
-    background_at : (r : Coord) → IsSkipped bits walk.skip t r → (field_of bits t).cell r ≡ off t.background
-    background_at r h = subst (λ (s : Skip). IsSkipped bits s t r) skip h
-
-    -- the part's first coordinate
-    pub background_there : (q : Coord) → IsPartStart bits t walk (Some q) → is_lt (block_cmp bits q p) ≡ false → IsBackgroundTo bits t p (Some q)
-    background_there q h from = (
-      sym (ap (λ (b : Box). is_inside b q) box) ∙ h.0,
-      ap not from,
-      λ r i left before. background_at r (h.1 r (in_box r i) (still_left r i left) before),
-    )
-
-    -- no part is left
-    pub background_all : IsPartStart bits t walk None → IsBackgroundTo bits t p None
-    background_all h r i left = background_at r (h r (in_box r i) (still_left r i left))
 
 -- ---- a block in a piece of one cell
 
@@ -399,9 +353,9 @@ sum_few total rest all bound h k = omega (arith, h, k)
 
 -- the loop begins
 pub first_counted : {V : Type 0} (eq : V → V → Bool) (bits : Bits) → AreBits bits → (level : Level) (f : Field V) (p : Coord) → p ≡ everywhere.min
-    → IsBlockStart bits level p × (0 + non_constant_from eq bits level f (Some p) ≡ non_constant eq bits level f)
+    → IsBoxStart bits level everywhere p × (0 + non_constant_from eq bits level f (Some p) ≡ non_constant eq bits level f)
 first_counted eq bits configured level f p e =
-    subst (λ (q : Coord). IsBlockStart bits level q × (0 + non_constant_from eq bits level f (Some q) ≡ non_constant eq bits level f)) (sym e)
+    subst (λ (q : Coord). IsBoxStart bits level everywhere q × (0 + non_constant_from eq bits level f (Some q) ≡ non_constant eq bits level f)) (sym e)
     (first_start bits level refl, no_more (non_constant_first eq bits configured level f))
 
 -- and ends

@@ -31,7 +31,7 @@ use Rattle.vdb_tree.specs.ConstantBlocks.{is_constant}
 use Rattle.vdb_tree.proofs.LeafBlocks.{tile_around}
 use Rattle.vdb_tree.proofs.Rooted.{one_more}
 use Rattle.vdb_tree.proofs.Uniform.{uniform_from}
-use Rattle.vdb_walk.specs.internal.BlocksFrom.{IsBlockStart, non_constant_from}
+use Rattle.vdb_walk.specs.internal.BlocksFrom.{IsBoxStart, non_constant_from}
 use Rattle.vdb_walk.proofs.Counts.{nothing_apart}
 use Rattle.vdb_walk.proofs.LeafSeeks.{later_in_leaf}
 use Rattle.vdb_walk.proofs.NonConstantBlocks.{denied, false_true, from_on, left_from, no_more, one_of, other_of, with_same}
@@ -82,7 +82,7 @@ module _ {V : Type 0} (eq : V → V → Bool) (exact : (x y : V) → eq x y ≡ 
       by (Tile cell) e = absurd (denied (is_constant eq f (block bits Leaf n)) m (uniform_from eq exact itself f (block bits Leaf n) (f.cell (begin n)) (λ r j.
           tile_around bits t (begin n) cell e (begin_inside n i) r (of_block n i r j) (number_in_block bits Leaf n r j ∙ sym (number_of_corner bits Leaf n)))))
 
-  module _ (p : Coord) (starts : IsBlockStart bits Leaf p) where
+  module _ (p : Coord) (starts : IsBoxStart bits Leaf everywhere p) where
     abbrev here : Coord
     here = block_number bits Leaf p
 
@@ -157,10 +157,10 @@ module _ {V : Type 0} (eq : V → V → Bool) (exact : (x y : V) → eq x y ≡ 
       leaves_next false h = no_more (none_here (sym h))
 
       -- a leaf begins its block
-      pub leaf_start : IfSome next (IsBlockStart bits Leaf)
+      pub leaf_start : IfSome next (IsBoxStart bits Leaf everywhere)
       leaf_start = by next found
         where
-          by : (o : Option Coord) → IsNextLeaf bits t (Some p) o → IfSome o (IsBlockStart bits Leaf)
+          by : (o : Option Coord) → IsNextLeaf bits t (Some p) o → IfSome o (IsBoxStart bits Leaf everywhere)
           by None h = tt
           by (Some k) h = record {
             inside = h.0.inside;

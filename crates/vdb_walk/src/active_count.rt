@@ -12,10 +12,10 @@ ghost use Rattle.vdb_node.specs.Nodes.{IsOffFrom};
 ghost use Rattle.vdb_tree.specs.Layout.{bits_of, field_of};
 ghost use Rattle.vdb_tree.specs.Parts.{IsPartOfLeaf};
 ghost use Rattle.vdb_tree.specs.ConstantBlocks.{count as active_count};
-ghost use Rattle.vdb_walk.specs.internal.BlocksFrom.{IsBoxStart, IsInactiveTo, active_around, active_from};
+ghost use Rattle.vdb_walk.specs.internal.BlocksFrom.{IsBoxStart, active_around, active_from};
 ghost use Rattle.vdb_walk.specs.internal.Voxels.{IsInFirstBlock, set_count};
 
-use crate::node_census::part_from;
+use crate::part_starts::place_from;
 use crate::voxels::{block_corner, next_set_in, run_end};
 use vdb_coord::{Bits, Bounds, Coord, Level};
 use vdb_mask::Mask;
@@ -91,44 +91,12 @@ fn count_next<
     ensures nearer { IfSome result.1 (λ next. coordinates_past (bits_of U L F) next < coordinates_past (bits_of U L F) p) }
 {
     let (bits, _) = (tree.bits(), bounds.min());
-    match active_place(tree, bounds, p, steps) {
+    match place_from(tree, bounds, Skip::Inactive, p, steps) {
         Some(q) => {
             let active = count_around(tree, bounds, q, steps);
             (active, bounds.next_place_in(bits, Level::Upper, q))
         }
         None => (0, None),
-    }
-}
-
-/// The first coordinate from a place on of what the box has of the active tiles and the leaves.
-fn active_place<
-    V: Stored<WU> + Stored<WL> + Stored<WF>,
-    const U: u32,
-    const L: u32,
-    const F: u32,
-    const WU: usize,
-    const WL: usize,
-    const WF: usize,
->(
-    tree: &TreeOf<V, U, L, F, WU, WL, WF>,
-    bounds: Bounds,
-    p: Coord,
-    steps: &mut Steps,
-) -> Option<Coord>
-    requires { IsTrue (is_inside bounds p) }
-    ensures { IsInactiveTo (bits_of U L F) tree.now bounds p result }
-{
-    let (_, bits) = (tree.mask_words(), tree.bits()); // the proof learns from it that nodes are small
-    let mut walk = tree.parts_from(bounds, Skip::Inactive, p, steps);
-    match part_from(tree, &mut walk, steps) {
-        Some(q) => {
-            if q.block_cmp_in(bits, &p).is_lt() {
-                Some(p)
-            } else {
-                Some(q)
-            }
-        }
-        None => None,
     }
 }
 

@@ -9,6 +9,7 @@ mod held;
 mod listing;
 mod node_census;
 mod order;
+mod part_starts;
 mod piece_iter;
 mod smallest;
 #[cfg(test)]

@@ -1,22 +1,22 @@
 //! The entries and nodes that a field needs, counted in a tree.
 
-ghost use Rattle.std.specs.Prelude.{◌≡◌, ◌+◌, ◌<◌, ◌≤◌, cond, not, IfSome, IsTrue, Some};
+ghost use Rattle.std.specs.Prelude.{◌≡◌, ◌+◌, ◌<◌, ◌≤◌, cond, not, IfSome, Some};
 ghost use Rattle.vdb_coord.specs.Blocks.{block_around};
 ghost use Rattle.vdb_coord.specs.Order.{coordinates_past};
-ghost use Rattle.vdb_coord.specs.Space.{everywhere, is_inside};
+ghost use Rattle.vdb_coord.specs.Space.{everywhere};
 ghost use Rattle.vdb_coord.specs.declared.Level.TheVariants.{Leaf as LeafLevel};
 ghost use Rattle.vdb_tree.specs.Layout.{bits_of, field_of};
 ghost use Rattle.vdb_tree.specs.Leaves.{IsNextLeaf};
-ghost use Rattle.vdb_tree.specs.Parts.{IsWalk};
 ghost use Rattle.vdb_tree.specs.ConstantBlocks.{is_constant, non_constant};
-ghost use Rattle.vdb_walk.specs.internal.BlocksFrom.{IsBlockAt, IsBlockStart, IsPartStart, IsBackgroundTo, non_constant_from};
+ghost use Rattle.vdb_walk.specs.internal.BlocksFrom.{IsBlockAt, IsBoxStart, non_constant_from};
 ghost use Rattle.vdb_walk.specs.Reports.{census as census_of};
 
 use crate::Census;
+use crate::part_starts::place_from;
 use vdb_coord::{Bounds, Coord, Level};
-use vdb_node::{Internal, Leaf, Stored};
+use vdb_node::Stored;
 use vdb_pool::Steps;
-use vdb_tree::{Skip, TreeOf, Walk};
+use vdb_tree::{Skip, TreeOf};
 
 /// The entries and nodes that the tree's field needs: what `node_counts` says after a prune, found without one (OpenVDB's
 /// `Tree::nodeCount` after `tools::prune`). For upper and lower blocks it goes along the tree's entries and nodes: from the
@@ -111,16 +111,16 @@ fn next_block<
     p: Coord,
     steps: &mut Steps,
 ) -> (bool, Option<Coord>)
-    requires { IsBlockStart (bits_of U L F) level p }
+    requires { IsBoxStart (bits_of U L F) level everywhere p }
     ensures counted { cond result.0 1 0 + non_constant_from V.eq (bits_of U L F) level (field_of (bits_of U L F) tree.now) result.1 ≡ non_constant_from V.eq (bits_of U L F) level (field_of (bits_of U L F) tree.now) (Some p) }
-    ensures start { IfSome result.1 (IsBlockStart (bits_of U L F) level) }
+    ensures start { IfSome result.1 (IsBoxStart (bits_of U L F) level everywhere) }
     ensures nearer { IfSome result.1 (λ next. coordinates_past (bits_of U L F) next < coordinates_past (bits_of U L F) p) }
 {
     let bits = tree.bits();
     if let Level::Leaf = level {
         return leaf_at(tree, p, steps);
     }
-    match place_from(tree, p, steps) {
+    match place_from(tree, Bounds::all(), Skip::Background, p, steps) {
         Some(q) => {
             let (outer, differs) = block_at(tree, level, q, steps);
             (differs, Bounds::all().next_place_in(bits, outer, q))
@@ -166,59 +166,6 @@ fn leaf_differs<
             leaf.constant().is_none()
         }
         None => false, // a block without a leaf has one cell
-    }
-}
-
-/// The first coordinate from a place on of the tiles and leaves that aren't passed over.
-fn place_from<
-    V: Stored<WU> + Stored<WL> + Stored<WF>,
-    const U: u32,
-    const L: u32,
-    const F: u32,
-    const WU: usize,
-    const WL: usize,
-    const WF: usize,
->(tree: &TreeOf<V, U, L, F, WU, WL, WF>, p: Coord, steps: &mut Steps) -> Option<Coord>
-    requires { IsTrue (is_inside everywhere p) }
-    ensures { IsBackgroundTo (bits_of U L F) tree.now p result }
-{
-    let (_, bits) = (tree.mask_words(), tree.bits()); // the proof learns from it that nodes are small
-    let mut walk = tree.parts_from(Bounds::all(), Skip::Background, p, steps);
-    match part_from(tree, &mut walk, steps) {
-        Some(q) => {
-            if q.block_cmp_in(bits, &p).is_lt() {
-                Some(p)
-            } else {
-                Some(q)
-            }
-        }
-        None => None,
-    }
-}
-
-/// The first coordinate of the next part of a walk.
-pub(crate) fn part_from<
-    V: Stored<WU> + Stored<WL> + Stored<WF>,
-    const U: u32,
-    const L: u32,
-    const F: u32,
-    const WU: usize,
-    const WL: usize,
-    const WF: usize,
->(
-    tree: &TreeOf<V, U, L, F, WU, WL, WF>,
-    walk: &mut Walk<Internal<V, U, WU>, Internal<V, L, WL>, Leaf<V, F, WF>>,
-    steps: &mut Steps,
-) -> Option<Coord>
-    requires upper { WU ≤ 512 }
-    requires lower { WL ≤ 512 }
-    requires leaf { WF ≤ 512 }
-    requires walk { IsWalk (bits_of U L F) tree.now walk.old }
-    ensures { IsPartStart (bits_of U L F) tree.now walk.old result }
-{
-    match tree.next_part(walk, steps) {
-        Some(part) => Some(part.bounds.min()),
-        None => None,
     }
 }
 

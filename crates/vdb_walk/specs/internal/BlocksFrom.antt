@@ -1,27 +1,29 @@
 -- The blocks of a level from a place on. Only proofs and private functions speak of these.
-use Rattle.std.specs.Prelude.{◌≡◌, ℕ, Bool, true, not, ◌&&◌, Option, Some, None, IsTrue, count_by, false}
+use Rattle.std.specs.Prelude.{◌≡◌, ℕ, Bool, true, not, ◌&&◌, Option, Some, None, IsTrue, count_by}
 use Rattle.vdb_coord.specs.Blocks.{block, block_around, block_number, block_numbers}
 use Rattle.vdb_coord.specs.Order.{ComesBefore}
-use Rattle.vdb_coord.specs.Space.{Box, coordinates, everywhere, is_inside}
+use Rattle.vdb_coord.specs.Space.{Box, coordinates, is_inside}
 use Rattle.vdb_coord.specs.declared.Bits.{Bits}
 use Rattle.vdb_coord.specs.declared.Coord.{Coord}
 use Rattle.vdb_coord.specs.declared.Level.{Level}
-use Rattle.vdb_tree.specs.Field.{Field, off}
+use Rattle.vdb_tree.specs.Field.{Field}
 use Rattle.vdb_tree.specs.Layout.{Layout, field_of}
 use Rattle.vdb_tree.specs.Parts.{IsSkipped, TreeWalk, is_left}
+use Rattle.vdb_tree.specs.declared.reading.parts.Skip.{Skip}
 use Rattle.vdb_tree.specs.ConstantBlocks.{is_constant}
 
--- p is the first coordinate, in block order, of the level's block around it
-pub record IsBlockStart (bits : Bits) (level : Level) (p : Coord) : Type 0 where
-  pub inside : IsTrue (is_inside everywhere p)
-  pub first : (q : Coord) → IsTrue (is_inside everywhere q) → ComesBefore bits q p → block_number bits level q ≡ block_number bits level p → ⊥
+-- p is the first coordinate, in block order, that the box has of the level's block around it
+pub record IsBoxStart (bits : Bits) (level : Level) (box : Box) (p : Coord) : Type 0 where
+  pub inside : IsTrue (is_inside box p)
+  pub first : (q : Coord) → IsTrue (is_inside box q) → ComesBefore bits q p → block_number bits level q ≡ block_number bits level p → ⊥
 
--- q is p or comes after it, and each coordinate from p on and before q is the background, inactive; all are where there is no q
-abbrev pub IsBackgroundTo : {V : Type 0} → Bits → Layout V → Coord → Option Coord → Type 0
-IsBackgroundTo bits t p None = (r : Coord) → IsTrue (is_inside everywhere r) → IsTrue (is_left bits (Some p) r) → (field_of bits t).cell r ≡ off t.background
-IsBackgroundTo bits t p (Some q) =
-    IsTrue (is_inside everywhere q) × IsTrue (is_left bits (Some p) q)
-    × ((r : Coord) → IsTrue (is_inside everywhere r) → IsTrue (is_left bits (Some p) r) → ComesBefore bits r q → (field_of bits t).cell r ≡ off t.background)
+-- q is p or comes after it, and a walk may pass over each coordinate of the box from p on and before q; over all from p on where
+-- there is no q
+abbrev pub IsSkippedTo : {V : Type 0} → Bits → Layout V → Box → Skip → Coord → Option Coord → Type 0
+IsSkippedTo bits t box skip p None = (r : Coord) → IsTrue (is_inside box r) → IsTrue (is_left bits (Some p) r) → IsSkipped bits skip t r
+IsSkippedTo bits t box skip p (Some q) =
+    IsTrue (is_inside box q) × IsTrue (is_left bits (Some p) q)
+    × ((r : Coord) → IsTrue (is_inside box r) → IsTrue (is_left bits (Some p) r) → ComesBefore bits r q → IsSkipped bits skip t r)
 
 -- q is the first coordinate of the next part of the walk: what was left and comes before it may be passed over; all of it where
 -- no part is left
@@ -44,19 +46,7 @@ module _ {V : Type 0} (eq : V → V → Bool) (bits : Bits) (level : Level) (f :
 
 -- ---- the active voxels of a box from a place on
 
--- p is the first coordinate, in block order, that the box has of the level's block around it
-pub record IsBoxStart (bits : Bits) (level : Level) (box : Box) (p : Coord) : Type 0 where
-  pub inside : IsTrue (is_inside box p)
-  pub first : (q : Coord) → IsTrue (is_inside box q) → ComesBefore bits q p → block_number bits level q ≡ block_number bits level p → ⊥
-
 module _ {V : Type 0} (bits : Bits) (t : Layout V) (box : Box) where
-  -- q is p or comes after it, and no voxel of the box from p on and before q is active; none from p on is where there is no q
-  abbrev pub IsInactiveTo : Coord → Option Coord → Type 0
-  IsInactiveTo p None = (r : Coord) → IsTrue (is_inside box r) → IsTrue (is_left bits (Some p) r) → ((field_of bits t).cell r).on ≡ false
-  IsInactiveTo p (Some q) =
-      IsTrue (is_inside box q) × IsTrue (is_left bits (Some p) q)
-      × ((r : Coord) → IsTrue (is_inside box r) → IsTrue (is_left bits (Some p) r) → ComesBefore bits r q → ((field_of bits t).cell r).on ≡ false)
-
   -- how many voxels of the box are active at the place or past it; none where there is no place
   abbrev pub active_from : Option Coord → ℕ
   active_from at = count_by (λ p. ((field_of bits t).cell p).on && is_left bits at p) (coordinates box)

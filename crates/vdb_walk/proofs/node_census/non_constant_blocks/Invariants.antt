@@ -1,16 +1,17 @@
 use Rattle.std.proofs.Common.{◌≡◌, ◌+◌}
 use Rattle.std.specs.Prelude.{IfSome}
+use Rattle.vdb_coord.specs.Space.{everywhere}
 use Rattle.vdb_tree.specs.Layout.{bits_of, field_of}
 use Rattle.vdb_tree.specs.Parts.{left_count}
 use Rattle.vdb_tree.specs.ConstantBlocks.{non_constant}
-use Rattle.vdb_walk.specs.internal.BlocksFrom.{IsBlockStart, non_constant_from}
+use Rattle.vdb_walk.specs.internal.BlocksFrom.{IsBoxStart, non_constant_from}
 use Rattle.vdb_walk.proofs.node_census.non_constant_blocks.Given as goal
 
 abbrev pub invariant-places : goal.invariant-places
 invariant-places g l =
     let bits = bits_of g.row.U g.row.L g.row.F in
     record {
-      start : IfSome l.at (IsBlockStart bits l.level);
+      start : IfSome l.at (IsBoxStart bits l.level everywhere);
       counted : l.total + non_constant_from g.V.PartialEq.eq bits l.level (field_of bits l.tree) l.at ≡ non_constant g.V.PartialEq.eq bits l.level (field_of bits l.tree);
     }
 

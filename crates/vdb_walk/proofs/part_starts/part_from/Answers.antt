@@ -1,6 +1,6 @@
 use Rattle.vdb_tree.specs.Layout.{bits_of}
-use Rattle.vdb_walk.proofs.NonConstantBlocks.{part_start}
-use Rattle.vdb_walk.proofs.node_census.part_from.Goals as goal
+use Rattle.vdb_walk.proofs.SkippedParts.{part_start}
+use Rattle.vdb_walk.proofs.part_starts.part_from.Goals as goal
 
 pub returns-in-Some : goal.returns-in-Some
 returns-in-Some g c =
