@@ -20,7 +20,6 @@ use vdb_tree::{TreeOf, TreeRefusal};
 use vdb_value::Cell;
 
 /// Makes every coordinate outside the box the background, inactive, and keeps the cells of the box (OpenVDB's `Tree::clip`).
-/// Nodes that lie outside are given back to their pools.
 ///
 /// `Memory` says that a growth was refused; it leaves every cell as it was, and no node over a block of one cell: the tree is
 /// pruned then, so that the nodes that were made are given back to their pools.
