@@ -29,9 +29,9 @@ impl<
     const WF: usize,
 > TreeOf<V, U, L, F, WU, WL, WF> {
     /// Makes a leaf of each active tile over a leaf block that meets the box, so that every active voxel of the box lies in a
-    /// leaf (OpenVDB's `Tree::voxelizeActiveTiles`, within a box). No cell changes, no other tile becomes a node and no node
-    /// goes. It goes through the leaves and the tiles that meet the box, an active tile by leaf blocks and an inactive one,
-    /// of any level, or a root block without an entry, at once.
+    /// leaf (OpenVDB's `Tree::voxelizeActiveTiles`, within a box). No cell changes; unless it is refused, no other tile becomes
+    /// a node and no node goes. It goes through the leaves and the tiles that meet the box, an active tile by leaf blocks and
+    /// an inactive one, of any level, or a root block without an entry, at once.
     ///
     /// `Memory` says that a growth was refused. The tree is pruned then, so that it has no node over a block of one cell: the
     /// leaves that were made are given back to their pool.
