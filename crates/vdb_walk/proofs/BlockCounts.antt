@@ -25,17 +25,10 @@ use Rattle.vdb_tree.specs.declared.reading.parts.Skip.TheVariants.{Inactive}
 use Rattle.vdb_tree.proofs.PartStarts.{before_place}
 use Rattle.vdb_walk.specs.internal.BlocksFrom.{IsBoxStart, IsSkippedTo, active_around, active_from}
 use Rattle.vdb_walk.proofs.Counts.{count_few, none_on, nothing_apart, volume_few}
-use Rattle.vdb_walk.proofs.NonConstantBlocks.{from_on, left_from, past_both}
+use Rattle.vdb_walk.proofs.NonConstantBlocks.{false_true, from_on, left_from, past_both, true_or_false}
 use Rattle.vdb_walk.proofs.PartCounts.{count_listed, count_split, left_first}
 
 -- ---- truth values: inside the box, active, left before, left now, inside the block
-
-false_true : {b : Bool} → b ≡ false → b ≡ true → ⊥
-false_true {b} h k = let e : false ≡ true = sym h ∙ k in cc
-
-true_or_false : (b : Bool) → (b ≡ true) ⊎ (b ≡ false)
-true_or_false true = inl refl
-true_or_false false = inr refl
 
 never_and : (b : Bool) → (b && false) ≡ false
 never_and true = refl
