@@ -1,11 +1,13 @@
 -- What a leaf shows of its row and its mask.
-use Rattle.std.proofs.Common.{◌≡◌, ◌≢◌, ◌<◌, ◌≤◌, ℕ, Bool, List, ap, sym, ◌∙◌, refl, inl, inr, arith}
-use Rattle.std.specs.Prelude.{◌↔◌, Some, None}
-use Rattle.std.proofs.lemmas.Bool.{cases_lt}
+use Rattle.std.proofs.Common.{◌≡◌, ◌≢◌, ◌<◌, ◌≤◌, ℕ, Bool, true, List, ap, sym, ◌∙◌, refl, inl, inr, arith}
+use Rattle.std.specs.Prelude.{◌↔◌, ◌||◌, if◌then◌else◌, Option, Some, None}
+use Rattle.std.proofs.Math.Bool.{or-false, or-true}
+use Rattle.std.proofs.lemmas.Bool.{cases_Bool, cases_lt}
 use Rattle.vdb_mask.specs.Mask.{is_on}
+use Rattle.vdb_node.specs.Blends.{AreBlended, LacksBlend}
 use Rattle.vdb_node.specs.Leaf.{Leaf, cell_in, FillsRun, IsConstantLeaf, SetsVoxel}
 use Rattle.vdb_node.specs.Nodes.{listed}
-use Rattle.vdb_node.proofs.Listed.{get_or-listed, get_or-listed_past}
+use Rattle.vdb_node.proofs.Listed.{get_or-listed, get_or-listed_past, listed_same}
 use Rattle.vdb_value.specs.declared.Cell.{Cell}
 
 -- a cell of these two parts
@@ -33,6 +35,10 @@ module _ {V : Type 0} (value_at : ℕ → V) (n : ℕ) (states : List Bool) wher
   -- and one state
   pub same_states : (cell : Cell V) → 0 < n → IsConstantLeaf (leaf_of value_at n states) n cell → (i : ℕ) → i < n → is_on states i ≡ cell.on
   same_states cell some constant i h = ap (λ (c : Cell V). c.on) (sym (cell_in-leaf_of cell i h) ∙ constant cell i h)
+
+-- rows with the same first values give, with one mask, the same leaf
+pub same_leaf : {V : Type 0} (f g : ℕ → V) (n : ℕ) (states states' : List Bool) → ((i : ℕ) → i < n → f i ≡ g i) → states ≡ states' → leaf_of f n states ≡ leaf_of g n states'
+same_leaf f g n states states' values on = rw (listed_same f g n values, on) refl
 
 -- one entry of the row and of the mask is changed
 pub SetsVoxel-leaf_of : {V : Type 0} (old new : ℕ → V) (n : ℕ) (states states' : List Bool) (i : ℕ) (cell : Cell V) → i < n
@@ -99,3 +105,36 @@ module _ {V : Type 0} (value_at : ℕ → V) (n : ℕ) (states : List Bool) (som
         (λ i h. same_states value_at n states cell some constant i h ∙ sym (same_states value_at n states cell some constant 0 some))
         (λ i h. same_values value_at n states cell some constant i h ∙ sym (same_values value_at n states cell some constant 0 some))),
   )
+
+module _ {V : Type 0} (blend : V → V → Option V) (old : ℕ → V) (n : ℕ) (states : List Bool) (other : Cell V → ℕ → Cell V) (others : ℕ → V) (on : ℕ → Bool)
+    (given : (d : Cell V) (i : ℕ) → i < n → other d i ≡ cell_of (others i) (on i)) where
+  -- where each value is made of two, and each state
+  pub AreBlended-leaf_of : (new : ℕ → V) (states' : List Bool) → ((i : ℕ) → i < n → blend (old i) (others i) ≡ Some (new i))
+      → ((i : ℕ) → i < n → is_on states' i ≡ (is_on states i || on i))
+      → AreBlended blend n (leaf_of old n states) other (leaf_of new n states')
+  AreBlended-leaf_of new states' values joined = λ d i h. (
+    rw (get_or-listed old n i d.value h, get_or-listed new n i d.value h, given d i h) (values i h),
+    rw (given d i h) (joined i h),
+  )
+
+  -- where two values become none
+  pub LacksBlend-leaf_of : ((i : ℕ) × (i < n) × (blend (old i) (others i) ≡ None)) → LacksBlend blend n (leaf_of old n states) other
+  LacksBlend-leaf_of (i, h, none) = (i, h, λ d. rw (get_or-listed old n i d.value h, given d i h) none)
+
+-- the cells of another leaf are taken where they are on
+pub takes_active-leaf_of : {V : Type 0} (old other new : ℕ → V) (n : ℕ) (states others states' : List Bool)
+    → ((i : ℕ) → i < n → new i ≡ (if is_on others i then other i else old i))
+    → ((i : ℕ) → is_on states' i ≡ (is_on states i || is_on others i))
+    → (d : Cell V) (i : ℕ) → i < n
+    → cell_in d (leaf_of new n states') i ≡ (if is_on others i then cell_in d (leaf_of other n others) i else cell_in d (leaf_of old n states) i)
+takes_active-leaf_of old other new n states others states' taken joined d i h =
+    elim (cases_Bool (is_on others i)) [
+      | inl on ↦
+          let value : new i ≡ other i = taken i h ∙ rw on refl in
+          let state : is_on states' i ≡ true = joined i ∙ rw on (or-true (is_on states i)) in
+          cell_in-leaf_of new n states' d i h ∙ rw (value, state, on) (rw (get_or-listed other n i d.value h) refl)
+      | inr off ↦
+          let value : new i ≡ old i = taken i h ∙ rw off refl in
+          let state : is_on states' i ≡ is_on states i = joined i ∙ rw off (or-false (is_on states i)) in
+          cell_in-leaf_of new n states' d i h ∙ rw (value, state, off) (rw (get_or-listed old n i d.value h) refl)
+    ]

@@ -1,3 +1,4 @@
+pub mod Blends
 pub mod Entries
 pub mod Leaf
 pub mod Nodes

@@ -1,14 +1,15 @@
 //! The rows of the three kinds of values.
 
-ghost use Rattle.std.specs.Prelude.{◌≡◌, ◌≢◌, ◌*◌, ◌<◌, ◌≤◌, ◌↔◌, ℕ, pos, length, slice_index_or, IsTrue};
+ghost use Rattle.std.specs.Prelude.{◌≡◌, ◌≢◌, ◌*◌, ◌<◌, ◌≤◌, ◌↔◌, ℕ, pos, length, slice_index_or, false, if◌then◌else◌, Some, None, IsTrue};
 ghost use Rattle.std.proofs.Common.{arith};
 ghost use Rattle.vdb_mask.specs.Mask.{is_on};
+ghost use Rattle.vdb_value.specs.Blends.{blended};
 
 use crate::Stored;
 use crate::uniform::{is_uniform, put};
 use std::alloc::{AllocError, Global};
 use vdb_mask::Mask;
-use vdb_value::Voxel;
+use vdb_value::{Blend, Voxel};
 
 /// Whether the values of the slice are one and the same.
 fn are_one<V: Voxel>(values: &[V]) -> bool
@@ -55,6 +56,165 @@ fn set_each<V: Voxel>(values: &mut [V], from: u32, to: u32, value: V)
     }
 }
 
+/// Makes the first `count` values those of the other slice; every other stays.
+fn copy_first<V: Voxel>(values: &mut [V], others: &[V], count: u32)
+    requires within { count ≤ length values.old }
+    requires source { count ≤ length others.now }
+    ensures room { length values.new ≡ length values.old }
+    ensures values { (i : ℕ) (d : V) → i < count
+        → slice_index_or values.new i d ≡ slice_index_or others.now i d }
+{
+    let count = count as usize;
+    values[..count].copy_from_slice(&others[..count]);
+}
+
+/// Takes the others' values from `from` on and below `to`; every other stays.
+fn copy_run<V: Voxel>(values: &mut [V], others: &[V], from: u32, to: u32)
+    requires in_order { from ≤ to }
+    requires within { to ≤ length values.old }
+    requires other_within { to ≤ length others.now }
+    ensures room { length values.new ≡ length values.old }
+    ensures run { (i : ℕ) (d : V) → from ≤ i → i < to
+        → slice_index_or values.new i d ≡ slice_index_or others.now i d }
+    ensures before { (i : ℕ) (d : V) → i < from
+        → slice_index_or values.new i d ≡ slice_index_or values.old i d }
+    ensures after { (i : ℕ) (d : V) → to ≤ i
+        → slice_index_or values.new i d ≡ slice_index_or values.old i d }
+{
+    values[from as usize..to as usize].copy_from_slice(&others[from as usize..to as usize]);
+}
+
+/// Makes each of the first `count` values the one that it and the other at its index become; those past
+/// them stay. False says that some two of the first `count` become none: then some may have changed.
+#[inline(always)]
+fn blend_each<V: Voxel>(values: &mut [V], others: &[V], count: u32, how: Blend) -> bool
+    requires room { count ≤ length values.old }
+    requires other_room { count ≤ length others.now }
+    ensures room { length values.new ≡ length values.old }
+    ensures blended { (i : ℕ) (d : V) → IsTrue result → i < count
+        → blended V.greater V.lesser V.sum_of how (slice_index_or values.old i d) (slice_index_or others.now i d)
+        ≡ Some (slice_index_or values.new i d) }
+    ensures lacks { result ≡ false → (i : ℕ) × (i < count)
+        × ((d : V) → blended V.greater V.lesser V.sum_of how (slice_index_or values.old i d) (slice_index_or others.now i d)
+        ≡ None) }
+{
+    'values: for i in 0..count {
+        match how.of(values[i as usize], others[i as usize]) {
+            Some(value) => values[i as usize] = value,
+            None => return false,
+        }
+    }
+    true
+}
+
+/// Makes each of the first `count` values the one that it and this become; those past them stay. False
+/// says that one of the first `count` and this become none: then some may have changed.
+#[inline(always)]
+fn blend_each_with<V: Voxel>(values: &mut [V], value: V, count: u32, how: Blend) -> bool
+    requires room { count ≤ length values.old }
+    ensures room { length values.new ≡ length values.old }
+    ensures blended { (i : ℕ) (d : V) → IsTrue result → i < count
+        → blended V.greater V.lesser V.sum_of how (slice_index_or values.old i d) value
+        ≡ Some (slice_index_or values.new i d) }
+    ensures lacks { result ≡ false → (i : ℕ) × (i < count)
+        × ((d : V) → blended V.greater V.lesser V.sum_of how (slice_index_or values.old i d) value ≡ None) }
+{
+    'values: for i in 0..count {
+        match how.of(values[i as usize], value) {
+            Some(both) => values[i as usize] = both,
+            None => return false,
+        }
+    }
+    true
+}
+
+/// What `blend_each` does, by a loop for each way: none asks at a value which way it is.
+fn blend_slices<V: Voxel>(values: &mut [V], others: &[V], count: u32, how: Blend) -> bool
+    requires room { count ≤ length values.old }
+    requires other_room { count ≤ length others.now }
+    ensures room { length values.new ≡ length values.old }
+    ensures blended { (i : ℕ) (d : V) → IsTrue result → i < count
+        → blended V.greater V.lesser V.sum_of how (slice_index_or values.old i d) (slice_index_or others.now i d)
+        ≡ Some (slice_index_or values.new i d) }
+    ensures lacks { result ≡ false → (i : ℕ) × (i < count)
+        × ((d : V) → blended V.greater V.lesser V.sum_of how (slice_index_or values.old i d) (slice_index_or others.now i d)
+        ≡ None) }
+{
+    match how {
+        Blend::Greatest => blend_each(values, others, count, Blend::Greatest),
+        Blend::Least => blend_each(values, others, count, Blend::Least),
+        Blend::Sum => blend_each(values, others, count, Blend::Sum),
+    }
+}
+
+/// What `blend_each_with` does, by a loop for each way.
+fn blend_slice_with<V: Voxel>(values: &mut [V], value: V, count: u32, how: Blend) -> bool
+    requires room { count ≤ length values.old }
+    ensures room { length values.new ≡ length values.old }
+    ensures blended { (i : ℕ) (d : V) → IsTrue result → i < count
+        → blended V.greater V.lesser V.sum_of how (slice_index_or values.old i d) value
+        ≡ Some (slice_index_or values.new i d) }
+    ensures lacks { result ≡ false → (i : ℕ) × (i < count)
+        × ((d : V) → blended V.greater V.lesser V.sum_of how (slice_index_or values.old i d) value ≡ None) }
+{
+    match how {
+        Blend::Greatest => blend_each_with(values, value, count, Blend::Greatest),
+        Blend::Least => blend_each_with(values, value, count, Blend::Least),
+        Blend::Sum => blend_each_with(values, value, count, Blend::Sum),
+    }
+}
+
+/// Takes the others' values where the mask is on, from `from` on and up to the end of the first run of
+/// marks there, and answers where that ends: `count` where there is no mark. All else stays.
+fn take_next_run<V: Voxel, const W: usize>(
+    values: &mut [V],
+    others: &[V],
+    marks: &Mask<W>,
+    from: u32,
+    count: u32,
+) -> u32
+    requires few_words { W ≤ 512 }
+    requires some { from < count }
+    requires mask_room { count ≤ 64 * W }
+    requires room { count ≤ length values.old }
+    requires other_room { count ≤ length others.now }
+    ensures room { length values.new ≡ length values.old }
+    ensures further { from < result }
+    ensures within { result ≤ count }
+    ensures before { (i : ℕ) (d : V) → i < from
+        → slice_index_or values.new i d ≡ slice_index_or values.old i d }
+    ensures taken { (i : ℕ) (d : V) → from ≤ i → i < result → slice_index_or values.new i d
+        ≡ (if is_on marks.now i then slice_index_or others.now i d else slice_index_or values.old i d) }
+    ensures after { (i : ℕ) (d : V) → result ≤ i
+        → slice_index_or values.new i d ≡ slice_index_or values.old i d }
+{
+    let Some(first) = marks.next_before(true, from, count) else {
+        return count;
+    };
+    let end = match marks.next_before(false, first, count) {
+        Some(i) => i,
+        None => count,
+    };
+    copy_run(values, others, first, end);
+    end
+}
+
+/// Takes the others' values at each index below `count` where the mask is on; every other stays.
+fn take_each<V: Voxel, const W: usize>(values: &mut [V], others: &[V], marks: &Mask<W>, count: u32)
+    requires few_words { W ≤ 512 }
+    requires mask_room { count ≤ 64 * W }
+    requires room { count ≤ length values.old }
+    requires other_room { count ≤ length others.now }
+    ensures room { length values.new ≡ length values.old }
+    ensures taken { (i : ℕ) (d : V) → i < count → slice_index_or values.new i d
+        ≡ (if is_on marks.now i then slice_index_or others.now i d else slice_index_or values.old i d) }
+{
+    let mut from = 0;
+    'runs: while from < count {
+        from = take_next_run(values, others, marks, from, count);
+    }
+}
+
 impl<const W: usize> Stored<W> for bool {
     type Row = Mask<W>;
 
@@ -68,6 +228,10 @@ impl<const W: usize> Stored<W> for bool {
 
     fn copied_row(row: &Mask<W>, _alloc: Global) -> Result<Mask<W>, AllocError> {
         Ok(row.copied())
+    }
+
+    fn copy_row(row: &mut Mask<W>, other: &Mask<W>, _count: u32) {
+        row.copy_from(other);
     }
 
     fn value_at(row: &Mask<W>, i: u32) -> bool {
@@ -93,6 +257,32 @@ impl<const W: usize> Stored<W> for bool {
         }
     }
 
+    fn blend_rows(row: &mut Mask<W>, other: &Mask<W>, count: u32, how: Blend) -> bool {
+        match how {
+            Blend::Greatest => row.union(other),
+            Blend::Least => row.both(other),
+            Blend::Sum => return count == 0,
+        }
+        true
+    }
+
+    fn blend_row_with(row: &mut Mask<W>, value: bool, count: u32, how: Blend) -> bool {
+        match how {
+            Blend::Greatest if value => row.set_run(0, count, true),
+            Blend::Least if !value => row.set_run(0, count, false),
+            Blend::Sum => return count == 0,
+            _ => {}
+        }
+        true
+    }
+
+    fn take_marked(row: &mut Mask<W>, other: &Mask<W>, marks: &Mask<W>, _count: u32) {
+        let mut taken = other.copied();
+        taken.both(marks);
+        row.minus(marks);
+        row.union(&taken);
+    }
+
     ghost row_small = { (Prim.omega arith, Prim.omega arith) };
 }
 
@@ -109,6 +299,10 @@ impl<const W: usize> Stored<W> for i32 {
 
     fn copied_row(row: &Vec<i32>, alloc: Global) -> Result<Vec<i32>, AllocError> {
         Vec::from_slice(alloc, row)
+    }
+
+    fn copy_row(row: &mut Vec<i32>, other: &Vec<i32>, count: u32) {
+        copy_first(row, other, count);
     }
 
     fn value_at(row: &Vec<i32>, i: u32) -> i32 {
@@ -131,6 +325,18 @@ impl<const W: usize> Stored<W> for i32 {
         next_other(row, value, from, to)
     }
 
+    fn blend_rows(row: &mut Vec<i32>, other: &Vec<i32>, count: u32, how: Blend) -> bool {
+        blend_slices(row, other, count, how)
+    }
+
+    fn blend_row_with(row: &mut Vec<i32>, value: i32, count: u32, how: Blend) -> bool {
+        blend_slice_with(row, value, count, how)
+    }
+
+    fn take_marked(row: &mut Vec<i32>, other: &Vec<i32>, marks: &Mask<W>, count: u32) {
+        take_each(row, other, marks, count);
+    }
+
     ghost row_small = { (Prim.omega arith, Prim.omega arith) };
 }
 
@@ -147,6 +353,10 @@ impl<const W: usize> Stored<W> for i64 {
 
     fn copied_row(row: &Vec<i64>, alloc: Global) -> Result<Vec<i64>, AllocError> {
         Vec::from_slice(alloc, row)
+    }
+
+    fn copy_row(row: &mut Vec<i64>, other: &Vec<i64>, count: u32) {
+        copy_first(row, other, count);
     }
 
     fn value_at(row: &Vec<i64>, i: u32) -> i64 {
@@ -167,6 +377,18 @@ impl<const W: usize> Stored<W> for i64 {
 
     fn next_unlike(row: &Vec<i64>, value: i64, from: u32, to: u32) -> u32 {
         next_other(row, value, from, to)
+    }
+
+    fn blend_rows(row: &mut Vec<i64>, other: &Vec<i64>, count: u32, how: Blend) -> bool {
+        blend_slices(row, other, count, how)
+    }
+
+    fn blend_row_with(row: &mut Vec<i64>, value: i64, count: u32, how: Blend) -> bool {
+        blend_slice_with(row, value, count, how)
+    }
+
+    fn take_marked(row: &mut Vec<i64>, other: &Vec<i64>, marks: &Mask<W>, count: u32) {
+        take_each(row, other, marks, count);
     }
 
     ghost row_small = { (Prim.omega arith, Prim.omega arith) };

@@ -1,18 +1,20 @@
 //! Leaves.
 
-ghost use Rattle.std.specs.Prelude.{◌≡◌, ◌*◌, ◌<◌, ◌≤◌, ◌↔◌, ℕ, IfOk, IsOk, Some};
+ghost use Rattle.std.specs.Prelude.{◌≡◌, ◌*◌, ◌<◌, ◌≤◌, ◌↔◌, ℕ, false, if◌then◌else◌, length, IfOk, IsOk, IsTrue, Some};
 ghost use Rattle.vdb_mask.specs.Mask.{is_on, on_count};
+ghost use Rattle.vdb_node.specs.Blends.{AreBlended, LacksBlend};
 ghost use Rattle.vdb_node.specs.Leaf.{cell_in, FillsRun, IsConstantLeaf, SetsVoxel};
 ghost use Rattle.vdb_node.specs.Nodes.{entry_count, IsOffFrom};
+ghost use Rattle.vdb_value.specs.Blends.{blended};
 ghost use Rattle.vdb_value.specs.declared.Kind.TheVariants.{Bool as truths};
 
 use crate::Stored;
-use crate::uniform::{cut, entries, is_uniform, put};
+use crate::uniform::{cut, entries, is_uniform, join, put};
 use std::alloc::{AllocError, Global};
 use std::marker::Model;
 use vdb_mask::Mask;
 use vdb_pool::TryCopy;
-use vdb_value::Cell;
+use vdb_value::{Blend, Cell};
 
 /// A node whose 8 to the power `LOG2` entries are cells of single voxels. It is a row of values and a
 /// mask of active states. The mask's bits past the last entry are off; with the least `W` only a leaf
@@ -74,6 +76,15 @@ impl<V: Stored<W>, const LOG2: u32, const W: usize> Leaf<V, LOG2, W> {
         })
     }
 
+    /// Takes the cells of another leaf, which stays. It takes no memory. The assignment `operator=` of `LeafNode`'s buffer and
+    /// value mask.
+    pub fn copy_from(&mut self, other: &Self)
+        ensures { self.new ≡ other.now }
+    {
+        V::copy_row(&mut self.row, &other.row, entries(LOG2));
+        self.states.copy_from(&other.states);
+    }
+
     /// The cell at index `i`. `LeafNode::getValue(i)` with `LeafNode::isValueOn(i)`.
     pub fn entry(&self, i: u32) -> Cell<V>
         requires { i < entry_count LOG2 }
@@ -121,9 +132,10 @@ impl<V: Stored<W>, const LOG2: u32, const W: usize> Leaf<V, LOG2, W> {
         }
     }
 
-    /// The states of the entries, which are off past the last one. `LeafNode::getValueMask()`.
+    /// The states of the entries, which are off past the last one; there is a value for each entry. `LeafNode::getValueMask()`.
     pub fn states(&self) -> &Mask<W>
         ensures same { result.now ≡ self.now.states }
+        ensures values { length self.now.values ≡ entry_count LOG2 }
         ensures past_end { IsOffFrom result.now (entry_count LOG2) }
     {
         &self.states
@@ -146,6 +158,41 @@ impl<V: Stored<W>, const LOG2: u32, const W: usize> Leaf<V, LOG2, W> {
         ensures { result ≡ on_count self.now.states (entry_count LOG2) }
     {
         self.states.count()
+    }
+
+    /// Makes each value the one that it and the other leaf's become, and turns on what that has on.
+    /// False says that some two values become none, as they have no sum: then some cells of this
+    /// leaf may have changed. `LeafNode::combine(other, op)`.
+    pub fn blend(&mut self, other: &Leaf<V, LOG2, W>, how: Blend) -> bool
+        ensures blended { IsTrue result → AreBlended (blended V.greater V.lesser V.sum_of how)
+            (entry_count LOG2) self.old (λ d i. cell_in d other.now i) self.new }
+        ensures lacks { result ≡ false → LacksBlend (blended V.greater V.lesser V.sum_of how)
+            (entry_count LOG2) self.old (λ d i. cell_in d other.now i) }
+    {
+        self.states.union(&other.states);
+        V::blend_rows(&mut self.row, &other.row, entries(LOG2), how)
+    }
+
+    /// Makes each value the one that it and the cell's become, and turns all on where the cell is.
+    /// False says that some value and the cell's become none, as they have no sum: then some cells
+    /// of this leaf may have changed. `LeafNode::combine(value, valueIsActive, op)`.
+    pub fn blend_with(&mut self, cell: Cell<V>, how: Blend) -> bool
+        ensures blended { IsTrue result → AreBlended (blended V.greater V.lesser V.sum_of how)
+            (entry_count LOG2) self.old (λ d i. cell) self.new }
+        ensures lacks { result ≡ false → LacksBlend (blended V.greater V.lesser V.sum_of how)
+            (entry_count LOG2) self.old (λ d i. cell) }
+    {
+        join(&mut self.states, cell.on, entries(LOG2));
+        V::blend_row_with(&mut self.row, cell.value, entries(LOG2), how)
+    }
+
+    /// Takes the other leaf's cells where they are active; every other stays.
+    pub fn take_active(&mut self, other: &Leaf<V, LOG2, W>)
+        ensures { (d : Cell V) (i : ℕ) → i < entry_count LOG2 → cell_in d self.new i
+            ≡ (if (cell_in d other.now i).on then cell_in d other.now i else cell_in d self.old i) }
+    {
+        V::take_marked(&mut self.row, &other.row, &other.states, entries(LOG2));
+        self.states.union(&other.states);
     }
 }
 

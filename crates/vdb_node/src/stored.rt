@@ -2,12 +2,15 @@
 
 ghost use Rattle.std.specs.Align.{type_align};
 ghost use Rattle.std.specs.Mem.{type_size};
-ghost use Rattle.std.specs.Prelude.{◌≡◌, ◌≢◌, ◌+◌, ◌*◌, ◌<◌, ◌≤◌, ◌↔◌, ℕ, max, IfOk, IsOk, IsTrue};
+ghost use Rattle.std.specs.Prelude.{◌≡◌, ◌≢◌, ◌+◌, ◌*◌, ◌<◌, ◌≤◌, ◌↔◌, ℕ, max, false, if◌then◌else◌, Some, None, IfOk, IsOk, IsTrue};
+ghost use Rattle.vdb_mask.specs.Mask.{is_on};
 ghost use Rattle.vdb_mask.specs.contracts.Mask.{the_row as mask_row};
+ghost use Rattle.vdb_value.specs.Blends.{blended};
 ghost use Rattle.vdb_value.specs.declared.Kind.TheVariants.{Bool as truths};
 
 use std::alloc::{AllocError, Global};
-use vdb_value::Voxel;
+use vdb_mask::Mask;
+use vdb_value::{Blend, Voxel};
 
 /// A type of voxel values with the row in which a node keeps them: a vector for the integers, a mask
 /// of `W` words for truth values (OpenVDB's `LeafBuffer<ValueT, LOG2>` and `LeafBuffer<bool, LOG2>`).
@@ -34,6 +37,13 @@ pub trait Stored<const W: usize>: Voxel {
         ensures room { IfOk result (λ copy. row_len copy ≡ row_len row.now) }
         ensures values { IfOk result (λ copy. value_in copy ≡ value_in row.now) }
         ensures in_place { Self.KIND ≡ truths → IsOk result };
+
+    /// Makes the first `count` values those of another row, which stays; the values past them may be any. It takes no memory.
+    fn copy_row(row: &mut Self::Row, other: &Self::Row, count: u32)
+        requires within { count ≤ row_len row.old }
+        requires source { count ≤ row_len other.now }
+        ensures room { row_len row.new ≡ row_len row.old }
+        ensures values { (i : ℕ) → i < count → value_in row.new i ≡ value_in other.now i };
 
     /// The value at an index.
     fn value_at(row: &Self::Row, i: u32) -> Self
@@ -74,6 +84,43 @@ pub trait Stored<const W: usize>: Voxel {
         ensures within { result ≤ to }
         ensures here { result < to → value_in row.now result ≢ value }
         ensures before { (i : ℕ) → from ≤ i → i < result → value_in row.now i ≡ value };
+
+    /// Makes each of the first `count` values the one that it and the other row's become. What comes of
+    /// the values past them isn't said. False says that some two of the first `count` become none, as
+    /// they have no sum: then some of these may have changed.
+    fn blend_rows(row: &mut Self::Row, other: &Self::Row, count: u32, how: Blend) -> bool
+        requires room { count ≤ row_len row.old }
+        requires other_room { count ≤ row_len other.now }
+        ensures room { row_len row.new ≡ row_len row.old }
+        ensures blended { IsTrue result → (i : ℕ) → i < count
+            → blended Self.greater Self.lesser Self.sum_of how (value_in row.old i) (value_in other.now i)
+            ≡ Some (value_in row.new i) }
+        ensures lacks { result ≡ false → (i : ℕ) × (i < count)
+            × (blended Self.greater Self.lesser Self.sum_of how (value_in row.old i) (value_in other.now i) ≡ None) };
+
+    /// Makes each of the first `count` values the one that it and this value become. What comes of the
+    /// values past them isn't said. False says that one of the first `count` and this value become
+    /// none, as they have no sum: then some of these may have changed.
+    fn blend_row_with(row: &mut Self::Row, value: Self, count: u32, how: Blend) -> bool
+        requires few_words { W ≤ 512 }
+        requires room { count ≤ row_len row.old }
+        ensures room { row_len row.new ≡ row_len row.old }
+        ensures blended { IsTrue result → (i : ℕ) → i < count
+            → blended Self.greater Self.lesser Self.sum_of how (value_in row.old i) value
+            ≡ Some (value_in row.new i) }
+        ensures lacks { result ≡ false → (i : ℕ) × (i < count)
+            × (blended Self.greater Self.lesser Self.sum_of how (value_in row.old i) value ≡ None) };
+
+    /// Takes the other row's values at each index below `count` where the mask is on. The others below
+    /// `count` stay.
+    fn take_marked(row: &mut Self::Row, other: &Self::Row, marks: &Mask<W>, count: u32)
+        requires few_words { W ≤ 512 }
+        requires mask_room { count ≤ 64 * W }
+        requires room { count ≤ row_len row.old }
+        requires other_room { count ≤ row_len other.now }
+        ensures room { row_len row.new ≡ row_len row.old }
+        ensures taken { (i : ℕ) → i < count → value_in row.new i
+            ≡ (if is_on marks.now i then value_in other.now i else value_in row.old i) };
 
     /// A row's place takes at most 64 bytes more than a mask's, at addresses that 8 divides or a
     /// mask's place needs. (A law here cannot count a mask's bytes, `8 * W`.)

@@ -1,6 +1,6 @@
 //! Masks of which only the first values stand for entries.
 
-ghost use Rattle.std.specs.Prelude.{◌≡◌, ◌≢◌, ◌*◌, ◌<◌, ◌≤◌, ◌↔◌, ℕ, false, IsTrue};
+ghost use Rattle.std.specs.Prelude.{◌≡◌, ◌≢◌, ◌*◌, ◌<◌, ◌≤◌, ◌↔◌, ◌||◌, ℕ, false, IsTrue};
 ghost use Rattle.vdb_mask.specs.Mask.{is_on};
 ghost use Rattle.vdb_node.specs.Nodes.{entry_count, IsOffFrom};
 
@@ -78,5 +78,17 @@ pub fn next_marked<const W: usize>(
     match mask.next_on_or_other(states, !on, from, to) {
         Some(i) => i,
         None => to,
+    }
+}
+
+/// Turns on the first `count` values of the mask where `on` says so; the others stay.
+pub fn join<const W: usize>(mask: &mut Mask<W>, on: bool, count: u32)
+    requires few_words { W ≤ 512 }
+    requires room { count ≤ 64 * W }
+    ensures within { (i : ℕ) → i < count → is_on mask.new i ≡ (is_on mask.old i || on) }
+    ensures after { (i : ℕ) → count ≤ i → is_on mask.new i ≡ is_on mask.old i }
+{
+    if on {
+        mask.set_run(0, count, true);
     }
 }

@@ -1,11 +1,13 @@
 //! The values of voxels: three kinds of them, and cells.
 #![tactic(auto)]
 
+mod blend;
 mod kinds;
 #[cfg(test)]
 mod tests;
 mod voxel;
 
+pub use blend::Blend;
 pub use voxel::Voxel;
 
 /// The kinds of values that a grid may have.

@@ -29,6 +29,18 @@ fn truth_values_are_ordered(rt: HostRuntime) -> Result<(), Fail> {
 }
 
 #[test]
+fn two_values_become_one(rt: HostRuntime) -> Result<(), Fail> {
+    assert_eq!(rt; Blend::Greatest.of(-7i32, 3), Some(3));
+    assert_eq!(rt; Blend::Least.of(-7i32, 3), Some(-7));
+    assert_eq!(rt; Blend::Sum.of(-7i32, 3), Some(-4));
+    assert_eq!(rt; Blend::Sum.of(i64::MAX, 1), None);
+    assert_eq!(rt; Blend::Greatest.of(true, false), Some(true));
+    assert_eq!(rt; Blend::Least.of(true, false), Some(false));
+    assert_eq!(rt; Blend::Sum.of(true, false), None);
+    Ok(())
+}
+
+#[test]
 fn values_have_bytes(rt: HostRuntime) -> Result<(), Fail> {
     let mut bytes = [9; 8];
     assert_eq!(rt; true.to_bytes(&mut bytes), 1);
