@@ -47,7 +47,7 @@ module _ {V : Type 0} (box : Box) (cell : Cell V) (f : Field V) (q : Coord) (wit
   fill_outside h = rw (within, h) refl
 
 -- a coordinate of a root block that there is lies within the range
-in_root : (bits : Bits) → AreBits bits → (k q : Coord) → IsTrue (is_inside (block_numbers bits Upper) k) → block_number bits Upper q ≡ k → IsTrue (is_inside everywhere q)
+pub in_root : (bits : Bits) → AreBits bits → (k q : Coord) → IsTrue (is_inside (block_numbers bits Upper) k) → block_number bits Upper q ≡ k → IsTrue (is_inside everywhere q)
 in_root bits configured k q within at = numbered_in_range bits Upper configured q (subst (λ (n : Coord). is_inside (block_numbers bits Upper) n ≡ true) (sym at) within)
 
 -- a block is a box
@@ -179,35 +179,42 @@ room_or_lack bits t box room lacks =
 
 -- ---- the table gets entries
 
+module _ {V : Type 0} (t : Layout V) (keys : List Coord) (entered : (k : Coord) → IsSome (root_at t.root k) → is_member coord_eq keys k ≡ true) (k : Coord) (listed : is_member coord_eq keys k ≡ true) where
+  -- where a key has no entry that is among so many as the limit, with those of the table, the table has capacity for one
+  pub capacity_from : length keys ≤ t.limit → IsDistinct coord_eq (keys_of t.root) → HasCapacity t k
+  capacity_from few apart =
+      elim (some_or_none (root_at t.root k)) [
+        | inl x ↦ inl (is_some_from _ x.0 x.1)
+        | inr none ↦
+            let a = length-le_from_is_member coord_equiv (k ∷ keys_of t.root) keys (one_more k (keys_of t.root) apart (absent_key t k none)) each in
+            inr (omega (arith, a, few, length-keys_of t.root))
+      ]
+    where
+      each : (j : Coord) → is_member coord_eq (k ∷ keys_of t.root) j ≡ true → is_member coord_eq keys j ≡ true
+      each j m =
+          elim (or_cases (coord_eq j k) (is_member coord_eq (keys_of t.root) j) m) [
+            | inl s ↦ subst (λ (n : Coord). is_member coord_eq keys n ≡ true) (sym (coord_exact j k s)) listed
+            | inr s ↦ entered j (member_entry t j s)
+          ]
+
+  -- once it has its entry, the keys of the table are still among them
+  pub entered_still : (n : Layout V) → ((j : Coord) → j ≢ k → root_at n.root j ≡ root_at t.root j) → (j : Coord) → IsSome (root_at n.root j) → is_member coord_eq keys j ≡ true
+  entered_still n table j held = elim (coord_cases j k) [
+    | inl e ↦ subst (λ (i : Coord). is_member coord_eq keys i ≡ true) (sym e) listed
+    | inr d ↦ entered j (subst (λ o. IsSome o) (table j d) held)
+  ]
+
 module _ {V : Type 0} (bits : Bits) (t : Layout V) (box : Box) (room : HasCapacityFor bits t box) (p : Coord) (inside : IsTrue (is_inside box p)) where
   -- where a root block of the box has no entry, the table has capacity for one
   pub room_at : IsDistinct coord_eq (keys_of t.root) → HasCapacity t (key bits p)
-  room_at apart =
-      elim (some_or_none (root_at t.root (key bits p))) [
-        | inl x ↦ inl (is_some_from _ x.0 x.1)
-        | inr none ↦
-            let keys = key bits p ∷ keys_of t.root in
-            let a = length-le_from_is_member coord_equiv keys room.keys (one_more (key bits p) (keys_of t.root) apart (absent_key t (key bits p) none)) each in
-            let b = room.few in
-            inr (omega (arith, a, b, length-keys_of t.root))
-      ]
-    where
-      each : (k : Coord) → is_member coord_eq (key bits p ∷ keys_of t.root) k ≡ true → is_member coord_eq room.keys k ≡ true
-      each k m =
-          elim (or_cases (coord_eq k (key bits p)) (is_member coord_eq (keys_of t.root) k) m) [
-            | inl s ↦ subst (λ (n : Coord). is_member coord_eq room.keys n ≡ true) (sym (coord_exact k (key bits p) s)) (room.met p inside)
-            | inr s ↦ room.entered k (member_entry t k s)
-          ]
+  room_at apart = capacity_from t room.keys room.entered (key bits p) (room.met p inside) room.few apart
 
   -- once it has its entry, the others still have room
   pub room_stays : (n : Layout V) → n.limit ≡ t.limit → ((k : Coord) → k ≢ key bits p → root_at n.root k ≡ root_at t.root k) → HasCapacityFor bits n box
   room_stays n same table = record {
     keys = room.keys;
     few = rw same room.few;
-    entered = λ k held. elim (coord_cases k (key bits p)) [
-      | inl e ↦ subst (λ (j : Coord). is_member coord_eq room.keys j ≡ true) (sym e) (room.met p inside)
-      | inr d ↦ room.entered k (subst (λ o. IsSome o) (table k d) held)
-    ];
+    entered = entered_still t room.keys room.entered (key bits p) (room.met p inside) n table;
     met = room.met;
   }
 

@@ -20,7 +20,7 @@ use Rattle.vdb_tree.specs.declared.path.PathOf.TheVariants.{Empty, ToUpper, ToLo
 use Rattle.vdb_tree.specs.Changes.{Changes, Turns}
 use Rattle.vdb_tree.specs.Field.{written}
 use Rattle.vdb_tree.specs.Layout.{Layout, cell_at, field_of, lower_entry, background_cell}
-use Rattle.vdb_tree.specs.Leaves.{IsVoxelWritten, with_states_of}
+use Rattle.vdb_tree.specs.Leaves.{IsVoxelWritten, with_leaf as with_leaf_cells, with_states_of}
 use Rattle.vdb_tree.specs.Nodes.{AreStatesSet}
 use Rattle.vdb_tree.specs.internal.Paints.{KeepsOutside, PaintsVoxels}
 use Rattle.vdb_tree.specs.Paths.{IsWhole, Lives, TreePath}
@@ -61,6 +61,27 @@ module _ {V : Type 0} (bits : Bits) (t : Layout V) (u : ℕ) (n m : LeafOf V) (w
 
   pub whole_after : (path : TreePath V) (q : Coord) → IsWhole bits t path q → IsWhole bits (with_leaf t u m) path q
   whole_after path q h = record { lives = lives_after path q h.lives; whole = h.whole }
+
+  -- the cells beyond the leaf over p stay
+  pub elsewhere : (p : Coord) → lower_entry bits t p ≡ Child u → IsSound bits t → (q : Coord) → block_number bits Leaf q ≢ block_number bits Leaf p
+      → cell_at bits (with_leaf t u m) q ≡ cell_at bits t q
+  unfolding cell_at
+  elsewhere p child sound q d =
+      within_same (cell_in (background_cell t)) (λ c. c) (background_cell t) t.leaves (with_node t.leaves u m) (lower_entry bits t q) (offset bits Leaf q)
+      (λ r e. (node_puts t.leaves u n m was).others r (λ s. d (sound.leaves.own q p u (e ∙ ap Child s) child)))
+
+  -- the leaf over p gets all its cells
+  pub leaf_field : (p : Coord) → lower_entry bits t p ≡ Child u → IsSound bits t → field_of bits (with_leaf t u m) ≡ with_leaf_cells bits p m (field_of bits t)
+  leaf_field p child sound = same_field bits (with_leaf t u m) t.background _ refl (λ q inside.
+      let at = cell_inside t.background (cell_at bits t) q inside in
+      elim (coord_cases (block_number bits Leaf p) (block_number bits Leaf q)) [
+        | inl e ↦
+            let yes = like_coords (block_number bits Leaf p) (block_number bits Leaf q) e in
+            rw yes (leaf_cell bits (with_leaf t u m) p u m child (node_puts t.leaves u n m was).here q (sym e))
+        | inr d ↦
+            let no = unlike_coords (block_number bits Leaf p) (block_number bits Leaf q) d in
+            rw (no, at) (elsewhere p child sound q (λ e. d (sym e)))
+      ])
 
   -- a voxel of the leaf over p is set
   module _ (p : Coord) (child : lower_entry bits t p ≡ Child u) (cell : Cell V) (sets : SetsVoxel n m (offset bits Leaf p) cell) where
@@ -105,19 +126,13 @@ module _ {V : Type 0} (bits : Bits) (t : Layout V) (u : ℕ) (n m : LeafOf V) (w
   -- the leaf over p gets the states of a mask
   module _ (p : Coord) (child : lower_entry bits t p ≡ Child u) (mask : List Bool) (values : m.values ≡ n.values)
       (states : (i : ℕ) → i < entry_count bits.leaf → is_on m.states i ≡ is_on mask i) where
-    states_here : (q : Coord) → block_number bits Leaf q ≡ block_number bits Leaf p
+    pub states_here : (q : Coord) → block_number bits Leaf q ≡ block_number bits Leaf p
         → cell_at bits (with_leaf t u m) q ≡ record { value = (cell_at bits t q).value; on = is_on mask (offset bits Leaf q) }
     states_here q e =
         let after = leaf_cell bits (with_leaf t u m) p u m child (node_puts t.leaves u n m was).here q e in
         let before = leaf_cell bits t p u n child was q e in
         let state = states (offset bits Leaf q) (subst (λ k. offset bits Leaf q < k) (entries_is bits Leaf) (offset_below bits Leaf q)) in
         after ∙ rw (before, values, state) refl
-
-    states_there : IsSound bits t → (q : Coord) → block_number bits Leaf q ≢ block_number bits Leaf p → cell_at bits (with_leaf t u m) q ≡ cell_at bits t q
-    unfolding cell_at
-    states_there sound q d =
-        within_same (cell_in (background_cell t)) (λ c. c) (background_cell t) t.leaves (with_node t.leaves u m) (lower_entry bits t q) (offset bits Leaf q)
-        (λ r e. (node_puts t.leaves u n m was).others r (λ s. d (sound.leaves.own q p u (e ∙ ap Child s) child)))
 
     pub states_field : IsSound bits t → field_of bits (with_leaf t u m) ≡ with_states_of bits p mask (field_of bits t)
     states_field sound = same_field bits (with_leaf t u m) t.background _ refl (λ q inside.
@@ -128,7 +143,7 @@ module _ {V : Type 0} (bits : Bits) (t : Layout V) (u : ℕ) (n m : LeafOf V) (w
               rw (yes, at) (states_here q (sym e))
           | inr d ↦
               let no = unlike_coords (block_number bits Leaf p) (block_number bits Leaf q) d in
-              rw (no, at) (states_there sound q (λ e. d (sym e)))
+              rw (no, at) (elsewhere p child sound q (λ e. d (sym e)))
         ])
 
     pub states_alone : AreStatesSet bits t (with_leaf t u m) p mask
@@ -144,12 +159,6 @@ module _ {V : Type 0} (bits : Bits) (t : Layout V) (u : ℕ) (n m : LeafOf V) (w
     pub painted_here : (q : Coord) → IsTrue (is_inside box q) → block_number bits Leaf q ≡ block_number bits Leaf p → cell_at bits (with_leaf t u m) q ≡ cell
     painted_here q inside e = leaf_cell bits (with_leaf t u m) p u m child (node_puts t.leaves u n m was).here q e ∙ paints.painted q (all q inside e) (background_cell t)
 
-    other_leaf : (q : Coord) → block_number bits Leaf q ≢ block_number bits Leaf p → cell_at bits (with_leaf t u m) q ≡ cell_at bits t q
-    unfolding cell_at
-    other_leaf q d =
-        within_same (cell_in (background_cell t)) (λ c. c) (background_cell t) t.leaves (with_node t.leaves u m) (lower_entry bits t q) (offset bits Leaf q)
-        (λ r e. (node_puts t.leaves u n m was).others r (λ s. d (sound.leaves.own q p u (e ∙ ap Child s) child)))
-
     same_leaf : (q : Coord) → (IsTrue (is_inside box q) → ⊥) → block_number bits Leaf q ≡ block_number bits Leaf p → cell_at bits (with_leaf t u m) q ≡ cell_at bits t q
     same_leaf q out e =
         let after = leaf_cell bits (with_leaf t u m) p u m child (node_puts t.leaves u n m was).here q e in
@@ -164,7 +173,7 @@ module _ {V : Type 0} (bits : Bits) (t : Layout V) (u : ℕ) (n m : LeafOf V) (w
       head = record { background = refl; limit = refl };
       cells = λ q out. elim (coord_cases (block_number bits Leaf q) (block_number bits Leaf p)) [
         | inl e ↦ same_leaf q (λ inside. out inside e) e
-        | inr d ↦ other_leaf q d
+        | inr d ↦ elsewhere p child sound q d
       ];
       entries = λ q out. descent_by bits t (with_leaf t u m) q refl refl refl;
     }

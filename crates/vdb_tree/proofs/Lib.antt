@@ -49,5 +49,13 @@ pub mod Clears
 pub mod PaintedRoots
 pub mod UnlikeEntries
 pub mod PartStarts
+pub mod PairWalks
 pub mod ActiveCounts
 pub mod MadeNodes
+pub mod ActiveBlocks
+pub mod ActiveCapacities
+pub mod Refining
+pub mod StateRuns
+pub mod Ruled
+pub mod RuledRoots
+pub mod WrittenLeaves

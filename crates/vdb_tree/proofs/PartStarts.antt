@@ -25,7 +25,8 @@ before_place bits p q h = by (is_lt (block_cmp bits q p)) h
     by true h = refl
     by false h = cc
 
-in_upper : (bits : Bits) (level : Level) (q n : Coord) → block_number bits level q ≡ block_number bits level n → block_number bits Upper q ≡ block_number bits Upper n
+-- the blocks of each level lie in root blocks
+pub in_upper : (bits : Bits) (level : Level) (q n : Coord) → block_number bits level q ≡ block_number bits level n → block_number bits Upper q ≡ block_number bits Upper n
 in_upper bits Upper q n e = e
 in_upper bits Lower q n e = upper_from_lower bits q n e
 in_upper bits Leaf q n e = upper_from_lower bits q n (lower_from_leaf bits q n e)
@@ -36,7 +37,7 @@ module _ {V : Type 0} (bits : Bits) (t : Layout V) where
   in_lower (Child s) n p e = lower_from_leaf bits n p e
 
   -- descents end alike all over the block where one ends
-  same_end : (p n : Coord) → block_number bits (end_level bits t p) n ≡ block_number bits (end_level bits t p) p → end_level bits t n ≡ end_level bits t p
+  pub same_end : (p n : Coord) → block_number bits (end_level bits t p) n ≡ block_number bits (end_level bits t p) p → end_level bits t n ≡ end_level bits t p
   same_end p n e =
       let root : root_entry bits t n ≡ root_entry bits t p = root_by_block bits t n p (in_upper bits (end_level bits t p) n p e) in
       ap (λ (x : Entry V). if_tile x Upper (if_tile (upper_entry bits t n) Lower Leaf)) root ∙ below (root_entry bits t p) e

@@ -59,7 +59,7 @@ key_ways k l = by (coord_cmp k l) refl
 
 module _ (bits : Bits) where
   -- what comes before the place isn't left, and the other way round
-  left_not_before : (p q : Coord) → IsTrue (is_left bits (Some p) q) → ComesBefore bits q p → ⊥
+  pub left_not_before : (p q : Coord) → IsTrue (is_left bits (Some p) q) → ComesBefore bits q p → ⊥
   left_not_before p q h b = let e : is_lt (block_cmp bits q p) ≡ true = b in false_true (rw e at h)
 
   pub before_not_left : (p q : Coord) → is_left bits (Some p) q ≡ false → ComesBefore bits q p
@@ -69,7 +69,7 @@ module _ (bits : Bits) where
       by true h = refl
       by false h = cc
 
-  left_unless : (p q : Coord) → (ComesBefore bits q p → ⊥) → IsTrue (is_left bits (Some p) q)
+  pub left_unless : (p q : Coord) → (ComesBefore bits q p → ⊥) → IsTrue (is_left bits (Some p) q)
   left_unless p q h = by (is_lt (block_cmp bits q p)) h
     where
       by : (b : Bool) → (b ≡ true → ⊥) → not b ≡ true

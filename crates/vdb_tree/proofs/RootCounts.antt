@@ -25,7 +25,7 @@ use Rattle.vdb_tree.proofs.Blocks.{never, background_from, non_background_from}
 use Rattle.vdb_tree.proofs.KeysPast.{fewer_past, keys_past, past_on}
 use Rattle.vdb_tree.proofs.Rooted.{one_more, or_cases, or_first, or_second, rooted, roots_at_least, roots_at_most}
 
-nothing_apart : IsDistinct coord_eq []
+pub nothing_apart : IsDistinct coord_eq []
 unfolding IsDistinct
 nothing_apart = tt
 

@@ -20,10 +20,11 @@ use Rattle.vdb_coord.proofs.Members.{coord_equiv, coord_exact}
 use Rattle.vdb_node.specs.declared.Entry.{Entry}
 use Rattle.vdb_value.specs.declared.Cell.{Cell}
 use Rattle.vdb_tree.specs.Changes.{IsConstantBlock}
-use Rattle.vdb_tree.specs.Field.{Field, write, written}
+use Rattle.vdb_tree.specs.Field.{Field, off, write, written}
 use Rattle.vdb_tree.specs.Layout.{Layout, cell_at, field_of, background_cell, root_at}
 use Rattle.vdb_tree.specs.ConstantBlocks.{is_background, is_uniform, roots}
 use Rattle.vdb_tree.specs.Sound.{IsSound}
+use Rattle.vdb_tree.specs.internal.Altered.{AreSameCells, IsAlteredIn}
 use Rattle.vdb_tree.specs.Table.{HasCapacity}
 use Rattle.vdb_tree.specs.declared.Write.{Write}
 use Rattle.vdb_tree.proofs.Blocks.{never, uniform_block, uniform_block_from}
@@ -82,6 +83,14 @@ module _ {V : Type 0} (p : Coord) (w : Write V) (f : Field V) where
   pub write_there : (q : Coord) → IsTrue (is_inside everywhere q) → q ≢ p → (write p w f).cell q ≡ f.cell q
   write_there q inside d = let e = unlike_coords p q (λ s. d (sym s)) in rw (inside, e) refl
 
+  -- it changes the root block around the voxel alone
+  pub write_altered : (bits : Bits) → IsAlteredIn bits (key bits p) f (write p w f)
+  write_altered bits = record { background = refl; elsewhere = λ q inside d. write_there q inside (λ e. d (ap (key bits) e)) }
+
+  -- and it does, where the cell becomes another
+  pub write_differs : IsTrue (is_inside everywhere p) → written w (f.cell p) ≢ f.cell p → AreSameCells f (write p w f) → ⊥
+  write_differs inside differs same = differs (sym (write_here inside) ∙ same p inside)
+
 -- ---- the table
 
 module _ {V : Type 0} (t : Layout V) where
@@ -108,13 +117,6 @@ module _ {V : Type 0} (eq : V → V → Bool) (exact : (x y : V) → eq x y ≡ 
       → is_uniform eq f (block bits level n) c ≡ true → is_uniform eq g (block bits level n) c ≡ true
   uniform_as level f g n c same h = uniform_block_from eq exact itself bits level g n c (λ q e. same q e ∙ uniform_block eq exact itself bits level f n c h q e)
 
-  -- a write leaves the other root blocks as they are
-  write_elsewhere : (p : Coord) (w : Write V) (f : Field V) (k : Coord) → IsTrue (is_inside (block_numbers bits Upper) k) → k ≢ key bits p
-      → (q : Coord) → block_number bits Upper q ≡ k → (write p w f).cell q ≡ f.cell q
-  write_elsewhere p w f k inside d q e =
-      write_there p w f q (numbered_in_range bits Upper configured q (subst (λ (n : Coord). is_inside (block_numbers bits Upper) n ≡ true) (sym e) inside))
-      (λ s. d (sym e ∙ ap (key bits) s))
-
   module _ (t : Layout V) where
     -- a root block that holds anything but the background has an entry
     pub rooted : (k : Coord) → IsTrue (is_inside (block_numbers bits Upper) k) → is_background eq (field_of bits t) (block bits Upper k) ≡ false → IsSome (root_at t.root k)
@@ -134,53 +136,66 @@ module _ {V : Type 0} (eq : V → V → Bool) (exact : (x y : V) → eq x y ≡ 
     pub roots_limit : IsSound bits t → roots eq bits (field_of bits t) ≤ t.limit
     roots_limit sound = let a = roots_within in let b = sound.limit in omega (arith, a, b)
 
-    module _ (p : Coord) (w : Write V) (inside : IsTrue (is_inside everywhere p)) where
-      -- after a write, a root block that holds anything but the background has an entry or is the one around the voxel
-      write_rooted : (k : Coord) → IsTrue (is_inside (block_numbers bits Upper) k) → is_background eq (write p w (field_of bits t)) (block bits Upper k) ≡ false → k ≢ key bits p → IsSome (root_at t.root k)
-      write_rooted k within h d =
-          let f = field_of bits t in
-          let elsewhere = write_elsewhere p w f k within d in
-          rooted k within (not_true _ (λ u. never h (uniform_as Upper f (write p w f) k (background_cell t) elsewhere u)))
+    module _ (p : Coord) (changed : Field V) (altered : IsAlteredIn bits (key bits p) (field_of bits t) changed) where
+      -- a field that differs from the tree's in p's root block alone has the other root blocks as they are
+      altered_there : (k : Coord) → IsTrue (is_inside (block_numbers bits Upper) k) → k ≢ key bits p → (q : Coord) → block_number bits Upper q ≡ k → changed.cell q ≡ (field_of bits t).cell q
+      altered_there k inside d q e =
+          altered.elsewhere q (numbered_in_range bits Upper configured q (subst (λ (n : Coord). is_inside (block_numbers bits Upper) n ≡ true) (sym e) inside))
+          (λ s. d (sym e ∙ s))
 
-      -- a write that has capacity keeps to the limit
-      pub write_within : IsSound bits t → HasCapacity t (key bits p) → roots eq bits (write p w (field_of bits t)) ≤ t.limit
-      write_within sound room =
+      -- a root block of its background, by the cell
+      altered_cells : (k : Coord) → is_background eq changed (block bits Upper k) ≡ true → (q : Coord) → block_number bits Upper q ≡ k → changed.cell q ≡ background_cell t
+      altered_cells k u q e =
+          uniform_block eq exact itself bits Upper changed k (background_cell t)
+          (subst (λ (v : V). is_uniform eq changed (block bits Upper k) (off v) ≡ true) altered.background u) q e
+
+      -- one of its root blocks that holds anything but the background has an entry or is that around p
+      altered_rooted : (k : Coord) → IsTrue (is_inside (block_numbers bits Upper) k) → is_background eq changed (block bits Upper k) ≡ false → k ≢ key bits p → IsSome (root_at t.root k)
+      altered_rooted k within h d =
+          rooted k within
+          (not_true _
+          (λ u.
+          never h
+          (subst (λ (v : V). is_uniform eq changed (block bits Upper k) (off v) ≡ true) (sym altered.background)
+          (uniform_as Upper (field_of bits t) changed k (background_cell t) (altered_there k within d) u))))
+
+      -- where p's root block has capacity, it keeps to the limit
+      pub altered_within : IsSound bits t → HasCapacity t (key bits p) → roots eq bits changed ≤ t.limit
+      altered_within sound room =
           elim room [
             | inl held ↦
-                let a = roots_at_most eq bits (write p w (field_of bits t)) (keys_of t.root)
+                let a = roots_at_most eq bits changed (keys_of t.root)
                 (λ k within h. elim (coord_cases k (key bits p)) [
                   | inl e ↦ key_member t k (subst (λ (n : Coord). IsSome (root_at t.root n)) (sym e) held)
-                  | inr d ↦ key_member t k (write_rooted k within h d)
+                  | inr d ↦ key_member t k (altered_rooted k within h d)
                 ]) in
                 omega (arith, a, length-keys_of t.root, sound.limit)
             | inr more ↦
-                let a = roots_at_most eq bits (write p w (field_of bits t)) (key bits p ∷ keys_of t.root)
+                let a = roots_at_most eq bits changed (key bits p ∷ keys_of t.root)
                 (λ k within h. elim (coord_cases k (key bits p)) [
                   | inl e ↦ or_first _ _ (subst (λ (n : Coord). coord_eq k n ≡ true) e (coord_equiv.refl k))
-                  | inr d ↦ or_second _ _ (key_member t k (write_rooted k within h d))
+                  | inr d ↦ or_second _ _ (key_member t k (altered_rooted k within h d))
                 ]) in
                 omega (arith, a, length-keys_of t.root, more)
           ]
 
-      -- one that hasn't would exceed it, where no entry is for a background block
-      pub write_exceeds : IsSound bits t
+      -- where it hasn't, and no entry is for a background block, it exceeds the limit if it differs at all
+      pub altered_exceeds : IsTrue (is_inside everywhere p) → IsSound bits t
           → ((q : Coord) (entry : Entry V) → root_at t.root (key bits q) ≡ Some entry → IsConstantBlock bits Upper t q (background_cell t) → ⊥)
-          → root_at t.root (key bits p) ≡ None → length t.root ≡ t.limit → (written w (cell_at bits t p) ≡ cell_at bits t p → ⊥)
-          → t.limit < roots eq bits (write p w (field_of bits t))
-      write_exceeds sound entries none full changed =
-          let a = roots_at_least eq bits (write p w (field_of bits t)) (key bits p ∷ keys_of t.root) (one_more (key bits p) (keys_of t.root) sound.apart (absent_key t (key bits p) none)) each in
+          → root_at t.root (key bits p) ≡ None → length t.root ≡ t.limit → (AreSameCells (field_of bits t) changed → ⊥) → t.limit < roots eq bits changed
+      altered_exceeds inside sound entries none full differs =
+          let a = roots_at_least eq bits changed (key bits p ∷ keys_of t.root) (one_more (key bits p) (keys_of t.root) sound.apart (absent_key t (key bits p) none)) each in
           omega (arith, a, length-keys_of t.root, full)
         where
-          -- the block of the voxel was all background, and isn't now
-          here : is_background eq (write p w (field_of bits t)) (block bits Upper (key bits p)) ≡ false
-          here = not_true _ (λ u.
-              let was : cell_at bits t p ≡ background_cell t = absent_block bits t p none p refl in
-              let now : (write p w (field_of bits t)).cell p ≡ background_cell t = uniform_block eq exact itself bits Upper (write p w (field_of bits t)) (key bits p) (background_cell t) u p refl in
-              let cell : (write p w (field_of bits t)).cell p ≡ written w (cell_at bits t p) = write_here p w (field_of bits t) inside ∙ ap (written w) (cell_inside t.background (cell_at bits t) p inside) in
-              changed (sym cell ∙ now ∙ sym was))
+          -- p's block was all background, and isn't now
+          here : is_background eq changed (block bits Upper (key bits p)) ≡ false
+          here = not_true _ (λ u. differs (λ q range. elim (coord_cases (key bits q) (key bits p)) [
+            | inl e ↦ altered_cells (key bits p) u q e ∙ sym (cell_inside t.background (cell_at bits t) q range ∙ absent_block bits t p none q e)
+            | inr d ↦ altered.elsewhere q range d
+          ]))
 
           -- the block of another key isn't all background, as before
-          there : (k : Coord) → IsTrue (is_inside (block_numbers bits Upper) k) → k ≢ key bits p → IsSome (root_at t.root k) → is_background eq (write p w (field_of bits t)) (block bits Upper k) ≡ false
+          there : (k : Coord) → IsTrue (is_inside (block_numbers bits Upper) k) → k ≢ key bits p → IsSome (root_at t.root k) → is_background eq changed (block bits Upper k) ≡ false
           there k within d held = not_true _ (λ u.
               let corner = (block bits Upper k).min in
               let number : key bits corner ≡ k = number_of_corner bits Upper k in
@@ -188,17 +203,16 @@ module _ {V : Type 0} (eq : V → V → Bool) (exact : (x y : V) → eq x y ≡ 
                 | inl entry ↦ entries corner entry.0 entry.1 (λ q e.
                     let at : key bits q ≡ k = e ∙ number in
                     let range : IsTrue (is_inside everywhere q) = numbered_in_range bits Upper configured q (subst (λ (n : Coord). is_inside (block_numbers bits Upper) n ≡ true) (sym at) within) in
-                    sym (cell_inside t.background (cell_at bits t) q range) ∙ sym (write_elsewhere p w (field_of bits t) k within d q at)
-                    ∙ uniform_block eq exact itself bits Upper (write p w (field_of bits t)) k (background_cell t) u q at)
+                    sym (cell_inside t.background (cell_at bits t) q range) ∙ sym (altered_there k within d q at) ∙ altered_cells k u q at)
                 | inr empty ↦ never (rw (← number, empty) refl) held
               ])
 
-          each : (k : Coord) → is_member coord_eq (key bits p ∷ keys_of t.root) k ≡ true → IsTrue (is_inside (block_numbers bits Upper) k) × (is_background eq (write p w (field_of bits t)) (block bits Upper k) ≡ false)
+          each : (k : Coord) → is_member coord_eq (key bits p ∷ keys_of t.root) k ≡ true → IsTrue (is_inside (block_numbers bits Upper) k) × (is_background eq changed (block bits Upper k) ≡ false)
           each k m =
               elim (coord_cases k (key bits p)) [
                 | inl e ↦ (
                   subst (λ (n : Coord). is_inside (block_numbers bits Upper) n ≡ true) (sym e) (number_in_range bits Upper p inside),
-                  subst (λ (n : Coord). is_background eq (write p w (field_of bits t)) (block bits Upper n) ≡ false) (sym e) here,
+                  subst (λ (n : Coord). is_background eq changed (block bits Upper n) ≡ false) (sym e) here,
                 )
                 | inr d ↦ elim (or_cases (coord_eq k (key bits p)) (is_member coord_eq (keys_of t.root) k) m) [
                   | inl s ↦ absurd (d (coord_exact k (key bits p) s))

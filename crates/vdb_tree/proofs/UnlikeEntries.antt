@@ -30,10 +30,10 @@ same_some x y e = cc
 none_is_some : {A : Type 0} (x : A) → ◌≡◌ {A = Option A} None (Some x) → ⊥
 none_is_some x e = cc
 
-from_or_below : (a i : ℕ) → (a < i) ⊎ (i ≤ a)
+pub from_or_below : (a i : ℕ) → (a < i) ⊎ (i ≤ a)
 from_or_below a i = grind arith
 
-here_or_later : (a i : ℕ) → i ≤ a → a < i + 1 → a ≡ i
+pub here_or_later : (a i : ℕ) → i ≤ a → a < i + 1 → a ≡ i
 here_or_later a i h k = omega (arith, h, k)
 
 module _ {V : Type 0} (bits : Bits) (t : Layout V) (level : Level) (p : Coord) (cell : Cell V) where

@@ -1,5 +1,5 @@
 -- What a write of a voxel comes to: the outcome of each way through it.
-use Rattle.std.proofs.Common.{◌≡◌, ◌≢◌, ◌⊎◌, inl, inr, ◌<◌, ◌≤◌, ℕ, Bool, true, IsTrue, refl, sym, ap, subst, ◌∙◌, arith, length, Err}
+use Rattle.std.proofs.Common.{◌≡◌, ◌⊎◌, inl, inr, ◌<◌, ◌≤◌, ℕ, Bool, true, IsTrue, refl, sym, ap, subst, ◌∙◌, arith, length, Err}
 use Rattle.std.specs.Prelude.{None, Result}
 use Rattle.vdb_coord.specs.Blocks.{key}
 use Rattle.vdb_coord.specs.Entries.{AreBits}
@@ -8,22 +8,23 @@ use Rattle.vdb_coord.specs.declared.Bits.{Bits}
 use Rattle.vdb_coord.specs.declared.Coord.{Coord}
 use Rattle.vdb_tree.specs.declared.Write.{Write}
 use Rattle.vdb_tree.specs.declared.refusal.TreeRefusal.{TreeRefusal}
-use Rattle.vdb_tree.specs.declared.refusal.TreeRefusal.TheVariants.{Memory}
+use Rattle.vdb_tree.specs.declared.refusal.TreeRefusal.TheVariants.{Memory, RootLimit}
 use Rattle.vdb_tree.specs.Changes.{Changes, IsSwept, Keeps}
-use Rattle.vdb_tree.specs.Field.{write, written}
+use Rattle.vdb_tree.specs.Field.{Field, write, written}
 use Rattle.vdb_node.specs.declared.Entry.TheVariants.{Child, Tile}
 use Rattle.vdb_value.specs.declared.Cell.{Cell}
 use Rattle.vdb_tree.specs.Layout.{Layout, cell_at, field_of, lower_entry, background_cell, root_at, root_entry, upper_entry}
 use Rattle.vdb_tree.specs.Outcome.{IsOutcome}
 use Rattle.vdb_tree.specs.ConstantBlocks.{roots}
 use Rattle.vdb_tree.specs.Sound.{IsSound}
+use Rattle.vdb_tree.specs.internal.Altered.{AreSameCells, IsAlteredIn}
 use Rattle.vdb_tree.specs.Table.{HasCapacity}
 use Rattle.vdb_tree.proofs.Descents.{tile_cell, tile_lower, tile_upper}
 use Rattle.vdb_tree.proofs.Equations.{changes_field, keeps_field, same_field}
 use Rattle.vdb_tree.proofs.Fields.{cell_inside}
 use Rattle.vdb_tree.proofs.Levels.{coord_cases, like_coords, tile_no_child, unlike_coords}
 use Rattle.vdb_tree.proofs.Needed.{absent_entry, is_some_from, some_or_none}
-use Rattle.vdb_tree.proofs.Rooted.{write_exceeds}
+use Rattle.vdb_tree.proofs.Rooted.{altered_exceeds}
 
 not_less : (a b : ℕ) → a ≤ b → (a < b → ⊥) → a ≡ b
 not_less a b h never = elim (less_or a b h) [ inl k ↦ absurd (never k) | inr e ↦ e ]
@@ -32,14 +33,12 @@ not_less a b h never = elim (less_or a b h) [ inl k ↦ absurd (never k) | inr e
     less_or a b h = grind arith
 
 module _ {V : Type 0} (eq : V → V → Bool) (exact : (x y : V) → eq x y ≡ true → x ≡ y) (itself : (x : V) → eq x x ≡ true) (bits : Bits) (configured : AreBits bits) where
-  -- a swept table without capacity is full of roots, and a cell that changes elsewhere makes one more
-  pub exceeds : (t : Layout V) (p : Coord) → IsTrue (is_inside everywhere p) → IsSound bits t → (HasCapacity t (key bits p) → ⊥) → IsSwept bits t → (change : Write V)
-      → written change ((field_of bits t).cell p) ≢ (field_of bits t).cell p → t.limit < roots eq bits (write p change (field_of bits t))
-  exceeds t p inside sound no_room swept change differs =
-      let at = cell_inside t.background (cell_at bits t) p inside in
-      write_exceeds eq exact itself bits configured t p change inside sound swept absent
-      (not_less (length t.root) t.limit sound.limit (λ h. no_room (inr h)))
-      (λ e. differs (ap (written change) at ∙ e ∙ sym at))
+  -- a swept table without capacity is full of roots, and a field that differs in p's root block alone has one more
+  pub exceeds : (t : Layout V) (p : Coord) → IsTrue (is_inside everywhere p) → IsSound bits t → (HasCapacity t (key bits p) → ⊥) → IsSwept bits t → (changed : Field V)
+      → IsAlteredIn bits (key bits p) (field_of bits t) changed → (AreSameCells (field_of bits t) changed → ⊥) → t.limit < roots eq bits changed
+  exceeds t p inside sound no_room swept changed altered differs =
+      altered_exceeds eq exact itself bits configured t p changed altered inside sound swept absent
+      (not_less (length t.root) t.limit sound.limit (λ h. no_room (inr h))) differs
     where
       absent : root_at t.root (key bits p) ≡ None
       absent = elim (some_or_none (root_at t.root (key bits p))) [ inl x ↦ absurd (no_room (inl (is_some_from _ x.0 x.1))) | inr n ↦ n ]
@@ -65,10 +64,15 @@ module _ {V : Type 0} (bits : Bits) where
   written_field old mid new p change keeps changes =
       changes_field bits mid new p change changes ∙ ap (write p change) (keeps_field bits old mid keeps)
 
-  -- `Memory` after steps that kept every cell, where the write would be within the limit
-  pub kept_outcome : (eq : V → V → Bool) (old new : Layout V) (p : Coord) (change : Write V) (result : Result (Unit {0}) TreeRefusal) → result ≡ Err Memory → Keeps bits old new
-      → roots eq bits (write p change (field_of bits old)) ≤ old.limit → IsOutcome eq bits old.limit (field_of bits old) (write p change (field_of bits old)) (field_of bits new) result
-  kept_outcome eq old new p change result memory keeps within = rw memory (keeps_field bits old new keeps, within)
+  -- `Memory` after steps that kept every cell, where the change would be within the limit
+  pub kept_outcome : (eq : V → V → Bool) (old new : Layout V) (changed : Field V) (result : Result (Unit {0}) TreeRefusal) → result ≡ Err Memory → Keeps bits old new
+      → roots eq bits changed ≤ old.limit → IsOutcome eq bits old.limit (field_of bits old) changed (field_of bits new) result
+  kept_outcome eq old new changed result memory keeps within = rw memory (keeps_field bits old new keeps, within)
+
+  -- `RootLimit` after such steps, where it would exceed it
+  pub full_outcome : (eq : V → V → Bool) (old new : Layout V) (changed : Field V) (result : Result (Unit {0}) TreeRefusal) → result ≡ Err RootLimit → Keeps bits old new
+      → old.limit < roots eq bits changed → IsOutcome eq bits old.limit (field_of bits old) changed (field_of bits new) result
+  full_outcome eq old new changed result full keeps exceeds = rw full (keeps_field bits old new keeps, exceeds)
 
   -- the cell of a tile, in the field
   pub tile_field_cell : (t : Layout V) (p : Coord) (cell : Cell V) → IsTrue (is_inside everywhere p) → lower_entry bits t p ≡ Tile cell → (field_of bits t).cell p ≡ cell

@@ -5,6 +5,8 @@ use Rattle.vdb_coord.specs.Faces.{neighbours}
 use Rattle.vdb_coord.specs.Space.{Box, coord_eq, coordinates, everywhere, is_inside}
 use Rattle.vdb_coord.specs.declared.Coord.{Coord}
 use Rattle.vdb_value.specs.declared.Cell.{Cell}
+use Rattle.vdb_tree.specs.declared.pairs.StateRule.{StateRule}
+use Rattle.vdb_tree.specs.declared.pairs.StateRule.TheVariants.{Unite, Subtract, Intersect}
 use Rattle.vdb_tree.specs.declared.Write.{Write}
 use Rattle.vdb_tree.specs.declared.Write.TheVariants.{On, Off, State, Value}
 
@@ -60,6 +62,12 @@ module _ {V : Type 0} where
   -- active where both are
   abbrev pub intersect : {U : Type 0} → Field V → Field U → Field V
   intersect f g = with_states (λ s t. s && t) f g
+
+  -- the states of the two made one by a rule
+  abbrev pub ruled : {U : Type 0} → StateRule → Field V → Field U → Field V
+  ruled Unite f g = unite f g
+  ruled Subtract f g = subtract f g
+  ruled Intersect f g = intersect f g
 
   -- the values of both combined, backgrounds too, active where either is: the maximum by the greater value, the minimum by the lesser
   abbrev pub combine : (V → V → V) → Field V → Field V → Field V

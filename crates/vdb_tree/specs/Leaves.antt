@@ -27,6 +27,10 @@ module _ {V : Type 0} (bits : Bits) where
   with_states_of p mask f = field f.background (λ q.
       if coord_eq (block_number bits Leaf p) (block_number bits Leaf q) then record { value = (f.cell q).value; on = is_on mask (offset bits Leaf q) } else f.cell q)
 
+  -- the field in which p's leaf block has the cells of a leaf
+  abbrev pub with_leaf : Coord → LeafOf V → Field V → Field V
+  with_leaf p leaf f = field f.background (λ q. if coord_eq (block_number bits Leaf p) (block_number bits Leaf q) then cell_in (off f.background) leaf (offset bits Leaf q) else f.cell q)
+
   -- coordinate by coordinate: in p's leaf block the values stay and the states become the mask's, and elsewhere every cell stays
   pub record SetsStates (old new : Field V) (p : Coord) (mask : List Bool) : Type 0 where
     pub here : (q : Coord) → IsTrue (is_inside everywhere q) → block_number bits Leaf q ≡ block_number bits Leaf p → new.cell q ≡ record { value = (old.cell q).value; on = is_on mask (offset bits Leaf q) }

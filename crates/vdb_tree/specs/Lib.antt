@@ -8,6 +8,7 @@ pub mod Paths
 pub mod Pieces
 pub mod Parts
 pub mod Leaves
+pub mod Pairs
 pub mod Outcome
 pub mod SplitBox
 pub mod Capacity

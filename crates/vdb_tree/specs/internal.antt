@@ -7,3 +7,10 @@ pub mod Seeks
 pub mod Paints
 pub mod Voxelised
 pub mod Active
+pub mod Pairing
+pub mod ActiveCapacity
+pub mod Refining
+pub mod StateRuns
+pub mod Ruled
+pub mod PairBlocks
+pub mod Altered

@@ -9,6 +9,7 @@
 //! - `reading`: descents, leaves, paths, the parts of a tree in turn, the one cell of a block.
 //! - `writing`: nodes in place of tiles, a voxel, leaves in place of active tiles.
 //! - `boxes`: a tree split along the edge of a box, and the box painted with one cell.
+//! - `pairs`: two trees of one configuration, their states made one in place and their parts gone through together.
 //! - `pruning`: tiles in place of nodes whose blocks have one cell, and a table without the background's entries.
 #![tactic(auto)]
 
@@ -19,6 +20,7 @@ mod boxes;
 mod keys;
 mod node_counts;
 mod nodes;
+mod pairs;
 mod path;
 mod pruning;
 mod reading;
@@ -29,6 +31,8 @@ mod whole_copy;
 mod writing;
 
 pub use node_counts::NodeCounts;
+pub use pairs::StateRule;
+pub use pairs::joint::{Pair, PairWalk};
 pub use path::{Path, PathOf};
 pub use reading::parts::{Content, Part, Skip, Walk};
 pub use reading::pieces::Piece;

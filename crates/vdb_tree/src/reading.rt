@@ -1,5 +1,6 @@
 //! Calls that read a tree: a voxel, a leaf, the parts in turn, a block's one cell.
 
+pub(crate) mod active_blocks;
 pub(crate) mod block_count;
 pub(crate) mod constant;
 pub(crate) mod descent;

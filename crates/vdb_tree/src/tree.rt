@@ -127,6 +127,11 @@ impl<
         self.limit
     }
 
+    /// The allocator of its nodes and its table.
+    pub fn alloc(&self) -> Global {
+        self.alloc
+    }
+
     /// The bits of its nodes.
     pub fn bits(&self) -> Bits
         ensures value { result ≡ bits_of U L F }

@@ -1,5 +1,6 @@
--- How a count goes over the entries of a node that may hold active voxels. The calls of this crate alone speak of it.
-use Rattle.std.specs.Prelude.{◌≡◌, ◌<◌, ◌≤◌, ℕ, false, Option, Some, None}
+-- Active voxels of a block, and how a call goes over the entries of a node that may hold some. The calls of this crate alone speak
+-- of them.
+use Rattle.std.specs.Prelude.{◌≡◌, ◌<◌, ◌≤◌, ℕ, true, false, Option, Some, None}
 use Rattle.vdb_coord.specs.Blocks.{block_number, entries, offset}
 use Rattle.vdb_coord.specs.declared.Bits.{Bits}
 use Rattle.vdb_coord.specs.declared.Coord.{Coord}
@@ -21,3 +22,15 @@ module _ {V : Type 0} (bits : Bits) (f : Field V) (level : Level) (p : Coord) wh
   abbrev pub IsNextActive : ℕ → Option ℕ → Type 0
   IsNextActive from (Some index) = IsNextActiveAt from index
   IsNextActive from None = IsInactiveFrom from (entries bits level)
+
+  -- a voxel of p's block of the level is active
+  abbrev pub HasActive : Type 0
+  HasActive = (q : Coord) × (block_number bits level q ≡ block_number bits level p) × ((f.cell q).on ≡ true)
+
+  -- none is
+  abbrev pub IsInactive : Type 0
+  IsInactive = (q : Coord) → block_number bits level q ≡ block_number bits level p → (f.cell q).on ≡ false
+
+  -- none is at the entry of this index
+  abbrev pub IsInactiveAt : ℕ → Type 0
+  IsInactiveAt index = (q : Coord) → block_number bits level q ≡ block_number bits level p → offset bits level q ≡ index → (f.cell q).on ≡ false

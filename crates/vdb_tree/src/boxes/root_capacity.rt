@@ -163,6 +163,19 @@ impl<
         ensures memory { IfErr result (λ refusal. refusal ≡ Memory) }
     {
         self.has_capacity_at(bounds, p);
+        self.enter_root_block(p)
+    }
+
+    /// Gives the root block around p an entry.
+    pub(crate) fn enter_root_block(&mut self, p: Coord) -> Result<(), TreeRefusal>
+        requires { HasCapacity self.old (key (bits_of U L F) p) }
+        ensures keeps { Keeps (bits_of U L F) self.old self.new }
+        ensures adds { AddsNodes (bits_of U L F) self.old self.new }
+        ensures same { (q : Coord) → SameDescent (bits_of U L F) self.old self.new q }
+        ensures table { (k : Coord) → k ≢ key (bits_of U L F) p → root_at self.new.root k ≡ root_at self.old.root k }
+        ensures entered { OnOk result (IsSome (root_at self.new.root (key (bits_of U L F) p))) }
+        ensures memory { IfErr result (λ refusal. refusal ≡ Memory) }
+    {
         if self.root.get(self.key(p)).is_some() {
             return Ok(());
         }

@@ -116,7 +116,13 @@ impl<
 
     /// The index, from this one on, of the first entry of the lower node around p that is a child or an active tile; `None`
     /// where there is none.
-    fn next_active_leaf(&self, lower: u32, p: Coord, from: u32, steps: &mut Steps) -> Option<u32>
+    pub(crate) fn next_active_leaf(
+        &self,
+        lower: u32,
+        p: Coord,
+        from: u32,
+        steps: &mut Steps,
+    ) -> Option<u32>
         requires child { upper_entry (bits_of U L F) self.now p ≡ Child lower }
         requires within { from ≤ entries (bits_of U L F) Lower }
         ensures { IsNextActive (bits_of U L F) (field_of (bits_of U L F) self.now) Lower p from result }
@@ -154,7 +160,13 @@ impl<
 
     /// The index, from this one on, of the first entry of the upper node around p that is a child or an active tile; `None`
     /// where there is none.
-    fn next_active_lower(&self, upper: u32, p: Coord, from: u32, steps: &mut Steps) -> Option<u32>
+    pub(crate) fn next_active_lower(
+        &self,
+        upper: u32,
+        p: Coord,
+        from: u32,
+        steps: &mut Steps,
+    ) -> Option<u32>
         requires child { root_entry (bits_of U L F) self.now p ≡ Child upper }
         requires within { from ≤ entries (bits_of U L F) Upper }
         ensures { IsNextActive (bits_of U L F) (field_of (bits_of U L F) self.now) Upper p from result }

@@ -6,11 +6,12 @@ ghost use Rattle.vdb_coord.specs.Space.{everywhere, is_inside};
 ghost use Rattle.vdb_coord.specs.declared.Coord.{Coord};
 ghost use Rattle.vdb_coord.specs.declared.Level.TheVariants.{Leaf as leaf_level};
 ghost use Rattle.vdb_node.specs.declared.Entry.TheVariants.{Child};
-ghost use Rattle.vdb_tree.specs.Changes.{Changes, SameDescent};
+ghost use Rattle.vdb_tree.specs.Changes.{Changes, KeepsUppers, SameDescent};
 ghost use Rattle.vdb_tree.specs.Field.{written};
 ghost use Rattle.vdb_tree.specs.Layout.{bits_of, cell_at, field_of, lower_entry};
 ghost use Rattle.vdb_tree.specs.Leaves.{IsLeafAround, IsVoxelWritten, SetsStates, with_states_of};
 ghost use Rattle.vdb_tree.specs.Nodes.{AreStatesSet};
+ghost use Rattle.vdb_tree.specs.internal.StateRuns.{SetsLeaf};
 ghost use Rattle.vdb_tree.specs.Paths.{in_leaf, IsChildAt, IsWhole, TreePath};
 ghost use Rattle.vdb_tree.specs.ConstantBlocks.{count as active_count};
 
@@ -132,10 +133,18 @@ impl<
     }
 
     /// Gives the voxels of the leaf around p the states of the mask.
-    fn set_leaf_states(&mut self, leaf: u32, p: Coord, states: &Mask<WF>, steps: &mut Steps)
+    pub(crate) fn set_leaf_states(
+        &mut self,
+        leaf: u32,
+        p: Coord,
+        states: &Mask<WF>,
+        steps: &mut Steps,
+    )
         requires { lower_entry (bits_of U L F) self.old p ≡ Child leaf }
         ensures field { field_of (bits_of U L F) self.new ≡ with_states_of (bits_of U L F) p states.now (field_of (bits_of U L F) self.old) }
         ensures alone { AreStatesSet (bits_of U L F) self.old self.new p states.now }
+        ensures sets { SetsLeaf (bits_of U L F) self.old self.new p states.now }
+        ensures above { KeepsUppers self.old self.new }
         ensures limit { self.new.limit ≡ self.old.limit }
         ensures paths { (path : TreePath V) (q : Coord) → IsWhole (bits_of U L F) self.old path q → IsWhole (bits_of U L F) self.new path q }
         ensures steps { steps.new ≤ steps.old + 1 }

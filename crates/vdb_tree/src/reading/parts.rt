@@ -11,6 +11,7 @@ ghost use Rattle.vdb_tree.specs.Layout.{bits_of, entry_over, field_of, backgroun
 ghost use Rattle.vdb_tree.specs.Leaves.{IsLeafAround};
 ghost use Rattle.vdb_tree.specs.Parts.{IsEnd, IsPartAround, IsPartOfLeaf, IsPlace, IsSkipped, IsWalk, OnLeaf, OnTile, Passes, YieldsBox, end_level, is_left, left_count};
 ghost use Rattle.vdb_tree.specs.Paths.{common, ends_in_leaf, in_leaf, Lives};
+ghost use Rattle.vdb_tree.specs.Sound.{IsConfigured};
 
 use crate::reading::ends::End;
 use crate::{PathOf, TreeOf};
@@ -194,6 +195,7 @@ impl<
     /// How many words the masks of its nodes have: of an upper node, of a lower node and of a leaf.
     pub fn mask_words(&self) -> (usize, usize, usize)
         ensures words { result ≡ (WU, WL, WF) }
+        ensures configured { IsConfigured U L F WU WL WF }
         ensures upper { WU ≤ 512 }
         ensures lower { WL ≤ 512 }
         ensures leaf { WF ≤ 512 }
@@ -354,7 +356,8 @@ impl<
         }
     }
 
-    fn is_background(&self, cell: Cell<V>) -> bool
+    /// Whether this is the cell of what was never written.
+    pub(crate) fn is_background(&self, cell: Cell<V>) -> bool
         ensures { IsTrue result → cell ≡ background_cell self.now }
     {
         cell == self.background_cell()

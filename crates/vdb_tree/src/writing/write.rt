@@ -6,7 +6,8 @@ ghost use Rattle.vdb_coord.specs.declared.Coord.{Coord};
 ghost use Rattle.vdb_coord.specs.declared.Level.TheVariants.{Leaf, Lower, Upper};
 ghost use Rattle.vdb_node.specs.declared.Entry.TheVariants.{Child, Tile};
 ghost use Rattle.vdb_tree.specs.Changes.{AddsNodes, IsSwept, Keeps};
-ghost use Rattle.vdb_tree.specs.Field.{write, written};
+ghost use Rattle.vdb_tree.specs.Field.{Field, write, written};
+ghost use Rattle.vdb_tree.specs.internal.Altered.{AreSameCells, IsAlteredIn};
 ghost use Rattle.vdb_tree.specs.internal.Holders.{IsHeldIn, nodes_to};
 ghost use Rattle.vdb_tree.specs.Layout.{bits_of, cell_at, field_of, lower_entry, root_at, root_entry, upper_entry};
 ghost use Rattle.vdb_tree.specs.Nodes.{KeepsAllBut, KeepsElsewhere};
@@ -165,15 +166,16 @@ impl<
     }
 
     /// Does nothing; its contract states a fact of every tree: within its limit are the root blocks of its field that hold
-    /// anything but the background, and those of a write where the table has capacity; a swept table without capacity is full
-    /// of them.
-    fn keeps_to_limit(&self, p: Coord)
+    /// anything but the background, and those of a field that differs in p's root block alone, where the table has capacity;
+    /// a swept table without capacity is full of them.
+    pub(crate) fn keeps_to_limit(&self, p: Coord)
         ensures kept { roots V.eq (bits_of U L F) (field_of (bits_of U L F) self.now) ≤ self.now.limit }
-        ensures within { HasCapacity self.now (key (bits_of U L F) p) → (change : Write V)
-            → roots V.eq (bits_of U L F) (write p change (field_of (bits_of U L F) self.now)) ≤ self.now.limit }
-        ensures full { (HasCapacity self.now (key (bits_of U L F) p) → ⊥) → IsSwept (bits_of U L F) self.now → (change : Write V)
-            → written change ((field_of (bits_of U L F) self.now).cell p) ≢ (field_of (bits_of U L F) self.now).cell p
-            → self.now.limit < roots V.eq (bits_of U L F) (write p change (field_of (bits_of U L F) self.now)) }
+        ensures within { HasCapacity self.now (key (bits_of U L F) p) → (changed : Field V)
+            → IsAlteredIn (bits_of U L F) (key (bits_of U L F) p) (field_of (bits_of U L F) self.now) changed
+            → roots V.eq (bits_of U L F) changed ≤ self.now.limit }
+        ensures full { (HasCapacity self.now (key (bits_of U L F) p) → ⊥) → IsSwept (bits_of U L F) self.now → (changed : Field V)
+            → IsAlteredIn (bits_of U L F) (key (bits_of U L F) p) (field_of (bits_of U L F) self.now) changed
+            → (AreSameCells (field_of (bits_of U L F) self.now) changed → ⊥) → self.now.limit < roots V.eq (bits_of U L F) changed }
     {
         let _ = &self.root;
     }
@@ -187,15 +189,16 @@ impl<
     }
 
     /// Makes sure that p's root block has an entry or that the table has capacity for one, by sweeping background entries out.
-    fn make_capacity(&mut self, p: Coord, steps: &mut Steps) -> Result<(), TreeRefusal>
+    pub(crate) fn make_capacity(&mut self, p: Coord, steps: &mut Steps) -> Result<(), TreeRefusal>
         ensures keeps { Keeps (bits_of U L F) self.old self.new }
         ensures room { OnOk result (HasCapacity self.new (key (bits_of U L F) p)) }
         ensures there { HasCapacity self.old (key (bits_of U L F) p) → IsOk result × (self.new ≡ self.old) × (steps.new ≡ steps.old) }
-        ensures within { OnOk result ((change : Write V)
-            → roots V.eq (bits_of U L F) (write p change (field_of (bits_of U L F) self.old)) ≤ self.old.limit) }
-        ensures full { IfErr result (λ refusal. (refusal ≡ RootLimit) × ((change : Write V)
-            → written change ((field_of (bits_of U L F) self.old).cell p) ≢ (field_of (bits_of U L F) self.old).cell p
-            → self.old.limit < roots V.eq (bits_of U L F) (write p change (field_of (bits_of U L F) self.old)))) }
+        ensures within { OnOk result ((changed : Field V)
+            → IsAlteredIn (bits_of U L F) (key (bits_of U L F) p) (field_of (bits_of U L F) self.old) changed
+            → roots V.eq (bits_of U L F) changed ≤ self.old.limit) }
+        ensures full { IfErr result (λ refusal. (refusal ≡ RootLimit) × ((changed : Field V)
+            → IsAlteredIn (bits_of U L F) (key (bits_of U L F) p) (field_of (bits_of U L F) self.old) changed
+            → (AreSameCells (field_of (bits_of U L F) self.old) changed → ⊥) → self.old.limit < roots V.eq (bits_of U L F) changed)) }
     {
         self.keeps_to_limit(p);
         if self.has_capacity(p) {

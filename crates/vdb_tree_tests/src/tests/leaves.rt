@@ -4,7 +4,7 @@ use super::acts::{Act, run};
 use super::{all, at, expect_cells, nodes, off, on};
 use std::process::Abort;
 use vdb_coord::Coord;
-use vdb_node::Stored;
+use vdb_node::{Leaf, Stored};
 use vdb_pool::Steps;
 use vdb_tree::{Tree, Tree433, TreeOf, TreeRefusal, Write};
 
@@ -276,4 +276,35 @@ fn keys_in_order(rt: HostRuntime) -> Result<(), TreeRefusal> {
         Act::NextKey(Some(at(4, 0, 0)), None),
     ];
     run(&rt, &mut tree, &acts, &mut steps)
+}
+
+// A leaf written where there is none, refused in a second root block, and over that leaf as one cell.
+#[test]
+fn leaves_written_at_once(rt: HostRuntime) -> Result<(), TreeRefusal> {
+    let mut steps = Steps::new(&rt);
+    let mut tree = Tree::new(rt.alloc(), 0i32, 1);
+    let mut leaf: Leaf<i32, 3, 8> = Leaf::new_constant(rt.alloc(), off(0))?;
+    leaf.set(83, on(7));
+    tree.write_leaf(all(15), &leaf, &mut steps)?;
+    let refused = tree.write_leaf(all(-1), &leaf, &mut steps);
+    assert_eq!(rt; refused, Err(TreeRefusal::RootLimit));
+    let cells = [
+        (at(9, 10, 11), on(7)),
+        (all(8), off(0)),
+        (at(1, 2, 3), off(0)),
+        (at(-7, -6, -5), off(0)),
+    ];
+    expect_cells(&rt, &tree, &cells, &mut steps);
+    assert_eq!(rt; tree.node_counts(), nodes(1, 1, 1, 1));
+    let full: Leaf<i32, 3, 8> = Leaf::new_constant(rt.alloc(), on(5))?;
+    tree.write_leaf(all(8), &full, &mut steps)?;
+    let cells = [
+        (all(8), on(5)),
+        (all(15), on(5)),
+        (all(7), off(0)),
+        (all(16), off(0)),
+    ];
+    expect_cells(&rt, &tree, &cells, &mut steps);
+    assert_eq!(rt; tree.node_counts(), nodes(1, 1, 1, 0));
+    Ok(())
 }

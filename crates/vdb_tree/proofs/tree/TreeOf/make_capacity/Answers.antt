@@ -1,5 +1,7 @@
-use Rattle.std.proofs.Common.{◌≡◌, ◌≢◌, ◌≤◌, ◌<◌, sym, subst, refl}
-use Rattle.vdb_tree.specs.Field.{Field, write, written}
+use Rattle.std.proofs.Common.{◌≡◌, ◌≤◌, ◌<◌, sym, subst, refl}
+use Rattle.vdb_coord.specs.Blocks.{key}
+use Rattle.vdb_tree.specs.Field.{Field}
+use Rattle.vdb_tree.specs.internal.Altered.{AreSameCells, IsAlteredIn}
 use Rattle.vdb_tree.specs.Layout.{bits_of, field_of}
 use Rattle.vdb_tree.specs.ConstantBlocks.{roots}
 use Rattle.vdb_tree.proofs.Blocks.{never}
@@ -10,13 +12,13 @@ pub returns-then-has_capacity-clause-within : goal.returns-then-has_capacity-cla
 returns-then-has_capacity-clause-within g c = c.keeps_to_limit.ensures.within (c.has_capacity.ensures.0 c.if-has_capacity.true)
 
 pub returns-then-has_capacity-2-clause-within : goal.returns-then-has_capacity-2-clause-within
-returns-then-has_capacity-2-clause-within g c = λ change.
+returns-then-has_capacity-2-clause-within g c = λ changed altered.
     let bits = bits_of g.row.U g.row.L g.row.F in
     let swept = field_of bits c.erase_background.new.self in
     let same : swept ≡ field_of bits c.args.self.now = keeps_field bits c.args.self.now c.erase_background.new.self c.erase_background.ensures.keeps in
-    let h = c.keeps_to_limit-2.ensures.within (c.has_capacity-2.ensures.0 c.if-has_capacity-2.true) change in
-    subst (λ (f : Field g.row.V.Denot). roots g.V.PartialEq.eq bits (write c.args.p change f) ≤ c.args.self.now.limit) same
-    (subst (λ n. roots g.V.PartialEq.eq bits (write c.args.p change swept) ≤ n) c.erase_background.ensures.keeps.head.limit h)
+    let h = c.keeps_to_limit-2.ensures.within (c.has_capacity-2.ensures.0 c.if-has_capacity-2.true) changed
+    (subst (λ (f : Field g.row.V.Denot). IsAlteredIn bits (key bits c.args.p) f changed) (sym same) altered) in
+    subst (λ n. roots g.V.PartialEq.eq bits changed ≤ n) c.erase_background.ensures.keeps.head.limit h
 
 pub returns-clause-full : goal.returns-clause-full
 returns-clause-full g c =
@@ -24,9 +26,9 @@ returns-clause-full g c =
     let swept = field_of bits c.erase_background.new.self in
     let same : swept ≡ field_of bits c.args.self.now = keeps_field bits c.args.self.now c.erase_background.new.self c.erase_background.ensures.keeps in (
       refl,
-      λ change differs.
-          let h = c.keeps_to_limit-2.ensures.full (λ room. never c.if-has_capacity-2.false (c.has_capacity-2.ensures.1 room)) c.erase_background.ensures.swept change
-          (subst (λ (f : Field g.row.V.Denot). written change (f.cell c.args.p) ≢ f.cell c.args.p) (sym same) differs) in
-          subst (λ (f : Field g.row.V.Denot). c.args.self.now.limit < roots g.V.PartialEq.eq bits (write c.args.p change f)) same
-          (subst (λ n. n < roots g.V.PartialEq.eq bits (write c.args.p change swept)) c.erase_background.ensures.keeps.head.limit h),
+      λ changed altered differs.
+          let h = c.keeps_to_limit-2.ensures.full (λ room. never c.if-has_capacity-2.false (c.has_capacity-2.ensures.1 room)) c.erase_background.ensures.swept changed
+          (subst (λ (f : Field g.row.V.Denot). IsAlteredIn bits (key bits c.args.p) f changed) (sym same) altered)
+          (λ cells. differs (subst (λ (f : Field g.row.V.Denot). AreSameCells f changed) same cells)) in
+          subst (λ n. n < roots g.V.PartialEq.eq bits changed) c.erase_background.ensures.keeps.head.limit h,
     )

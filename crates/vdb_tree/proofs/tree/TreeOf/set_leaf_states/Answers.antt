@@ -1,7 +1,7 @@
-use Rattle.std.proofs.Common.{◌*◌, ◌+◌, ◌∙◌, ap, arith, sym}
+use Rattle.std.proofs.Common.{◌*◌, ◌+◌, ◌∙◌, ap, arith, refl, sym}
 use Rattle.vdb_node.specs.declared.Entry.TheVariants.{Child}
 use Rattle.vdb_node.proofs.Sizes.{up_le}
-use Rattle.vdb_tree.proofs.LeafWrites.{leaf_sound, states_alone, states_field, whole_after}
+use Rattle.vdb_tree.proofs.LeafWrites.{elsewhere, leaf_sound, states_alone, states_field, states_here, whole_after}
 use Rattle.vdb_tree.proofs.Sizes.{leaf_small}
 use Rattle.vdb_tree.proofs.tree.TreeOf.set_leaf_states.Goals as goal
 
@@ -30,3 +30,13 @@ returns-clause-alone g c =
     (states_alone _ _ _ _ _ c.at_mut.ensures.node c.args.p
     ((rw (← c.self.view_is) at c.requires) ∙ ap Child (sym c.held_place-place.ensures.slot))
     _ c.set_states.ensures.values c.set_states.ensures.states)
+
+pub returns-clause-sets : goal.returns-clause-sets
+returns-clause-sets g c =
+    let child = (rw (← c.self.view_is) at c.requires) ∙ ap Child (sym c.held_place-place.ensures.slot) in
+    rw (← c.self.view_is)
+    record {
+      here = states_here _ _ _ _ _ c.at_mut.ensures.node c.args.p child _ c.set_states.ensures.values c.set_states.ensures.states;
+      there = elsewhere _ _ _ _ _ c.at_mut.ensures.node c.args.p child c.self.invariant.1;
+      lowers = refl;
+    }

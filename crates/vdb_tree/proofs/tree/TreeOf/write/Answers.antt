@@ -1,12 +1,13 @@
 use Rattle.std.proofs.Common.{◌≤◌, ◌∙◌, ap, arith, inl, inr, rules, subst, sym}
 use Rattle.vdb_coord.proofs.Meeting.{fits_everywhere}
-use Rattle.vdb_tree.specs.Field.{Field, written}
-use Rattle.vdb_tree.specs.Layout.{bits_of}
+use Rattle.vdb_tree.specs.Field.{Field, write, written}
+use Rattle.vdb_tree.specs.Layout.{bits_of, field_of}
 use Rattle.vdb_tree.specs.Paths.{is_child}
 use Rattle.vdb_tree.specs.ConstantBlocks.{roots}
 use Rattle.vdb_tree.proofs.Blocks.{never}
 use Rattle.vdb_tree.proofs.Equations.{changes_field}
 use Rattle.vdb_tree.proofs.MadeNodes.{elsewhere_itself, elsewhere_same}
+use Rattle.vdb_tree.proofs.Rooted.{write_altered}
 use Rattle.vdb_tree.proofs.Uniform.{cell_exact, cell_same, exact_by}
 use Rattle.vdb_tree.proofs.Writes.{leaf_has_room, standing_field, tile_field_cell}
 use Rattle.vdb_tree.proofs.tree.TreeOf.write.Goals as goal
@@ -15,7 +16,7 @@ pub returns-in-Child-clause-outcome : goal.returns-in-Child-clause-outcome
 returns-in-Child-clause-outcome g c =
     let bits = bits_of g.row.U g.row.L g.row.F in (
       changes_field bits c.args.self.now c.write_voxel.new.self c.args.p c.args.change c.write_voxel.ensures.changes,
-      c.keeps_to_limit.ensures.within (leaf_has_room bits c.args.self.now c.args.p _ (c.held_entry-holder.ensures.value ∙ c.in-Child.is)) c.args.change,
+      c.keeps_to_limit.ensures.within (leaf_has_room bits c.args.self.now c.args.p _ (c.held_entry-holder.ensures.value ∙ c.in-Child.is)) (write c.args.p c.args.change (field_of bits c.args.self.now)) (write_altered c.args.p c.args.change (field_of bits c.args.self.now) bits),
     )
 
 pub returns-then-eq-clause-outcome : goal.returns-then-eq-clause-outcome

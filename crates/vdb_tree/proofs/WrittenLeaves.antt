@@ -1,0 +1,98 @@
+-- What becomes of a field when a leaf block gets the cells of a leaf.
+use Rattle.std.proofs.Common.{◌≡◌, ◌≢◌, ◌<◌, ℕ, true, false, IsTrue, refl, sym, ap, subst, ◌∙◌, inl, inr, length}
+use Rattle.std.proofs.lemmas.List.{get_or_default}
+use Rattle.vdb_coord.specs.Blocks.{block_around, block_number, key, offset, sub_block}
+use Rattle.vdb_coord.specs.Entries.{AreBits}
+use Rattle.vdb_coord.specs.Space.{everywhere, is_inside}
+use Rattle.vdb_coord.specs.declared.Bits.{Bits}
+use Rattle.vdb_coord.specs.declared.Coord.{Coord}
+use Rattle.vdb_coord.specs.declared.Level.{Level}
+use Rattle.vdb_coord.specs.declared.Level.TheVariants.{Leaf, Lower, Upper}
+use Rattle.vdb_coord.proofs.Boxes.{not_true}
+use Rattle.vdb_coord.proofs.InRange.{block_in_range}
+use Rattle.vdb_coord.proofs.Nesting.{corner_of_entry, inside_numbered, lower_from_leaf, number_in_block, upper_from_lower}
+use Rattle.vdb_coord.proofs.Places.{entries_is, offset_below}
+use Rattle.vdb_mask.specs.Mask.{is_on}
+use Rattle.vdb_node.specs.Leaf.{cell_in, IsConstantLeaf, Leaf as LeafOf}
+use Rattle.vdb_node.specs.Nodes.{entry_count}
+use Rattle.vdb_node.specs.declared.Entry.TheVariants.{Child, Tile}
+use Rattle.vdb_value.specs.declared.Cell.{Cell}
+use Rattle.vdb_tree.specs.Field.{Field, fill, off}
+use Rattle.vdb_tree.specs.internal.Altered.{AreSameCells, IsAlteredIn}
+use Rattle.vdb_tree.specs.Layout.{Layout, background_cell, cell_at, entry_over, field_of, lower_entry, root_at}
+use Rattle.vdb_tree.specs.Leaves.{with_leaf}
+use Rattle.vdb_tree.specs.SplitBox.{IsSplit}
+use Rattle.vdb_tree.proofs.Descents.{lower_by_block, tile_cell, tile_lower, tile_upper}
+use Rattle.vdb_tree.proofs.Fields.{cell_inside, same_cells}
+use Rattle.vdb_tree.proofs.Levels.{coord_cases, like_coords, tile_no_child, unlike_coords}
+use Rattle.vdb_tree.proofs.Needed.{absent_entry, is_some_from, some_or_none}
+
+-- the cell at an index of a leaf that has a value there
+default_cell : {V : Type 0} (leaf : LeafOf V) (i : ℕ) (c d : Cell V) → i < length leaf.values → cell_in c leaf i ≡ cell_in d leaf i
+default_cell {V} leaf i c d h = ap (λ (v : V). cell v) (get_or_default leaf.values i c.value d.value h)
+  where
+    cell : V → Cell V
+    cell v = record { value = v; on = is_on leaf.states i }
+
+module _ {V : Type 0} (bits : Bits) (p : Coord) (leaf : LeafOf V) where
+  entry_below : (q : Coord) → offset bits Leaf q < entry_count bits.leaf
+  entry_below q = subst (λ k. offset bits Leaf q < k) (entries_is bits Leaf) (offset_below bits Leaf q)
+
+  module _ (f : Field V) where
+    -- in p's leaf block the cells are the leaf's
+    leaf_here : (q : Coord) → IsTrue (is_inside everywhere q) → block_number bits Leaf q ≡ block_number bits Leaf p
+        → (with_leaf bits p leaf f).cell q ≡ cell_in (off f.background) leaf (offset bits Leaf q)
+    leaf_here q inside e = let same = like_coords (block_number bits Leaf p) (block_number bits Leaf q) (sym e) in rw (inside, same) refl
+
+    -- and elsewhere every cell stays
+    leaf_there : (q : Coord) → IsTrue (is_inside everywhere q) → block_number bits Leaf q ≢ block_number bits Leaf p → (with_leaf bits p leaf f).cell q ≡ f.cell q
+    leaf_there q inside d = let other = unlike_coords (block_number bits Leaf p) (block_number bits Leaf q) (λ e. d (sym e)) in rw (inside, other) refl
+
+    -- so the root block around p is changed alone
+    pub leaf_altered : IsAlteredIn bits (key bits p) f (with_leaf bits p leaf f)
+    leaf_altered = record { background = refl; elsewhere = λ q inside d. leaf_there q inside (λ e. d (upper_from_lower bits q p (lower_from_leaf bits q p e))) }
+
+    -- a leaf of one cell fills the block with it
+    pub leaf_fills : (cell : Cell V) → IsConstantLeaf leaf (entry_count bits.leaf) cell → with_leaf bits p leaf f ≡ fill (block_around bits Leaf p) cell f
+    leaf_fills cell constant = same_cells f.background _ _ (λ q inside. elim (coord_cases (block_number bits Leaf q) (block_number bits Leaf p)) [
+      | inl e ↦
+          let same = like_coords (block_number bits Leaf p) (block_number bits Leaf q) (sym e) in
+          let within : is_inside (block_around bits Leaf p) q ≡ true = inside_numbered bits Leaf (block_number bits Leaf p) q e in
+          rw (same, within) (constant (off f.background) (offset bits Leaf q) (entry_below q))
+      | inr d ↦
+          let other = unlike_coords (block_number bits Leaf p) (block_number bits Leaf q) (λ e. d (sym e)) in
+          let out : is_inside (block_around bits Leaf p) q ≡ false = not_true _ (λ h. d (number_in_block bits Leaf (block_number bits Leaf p) q h)) in
+          rw (other, out) refl
+    ])
+
+  -- a leaf whose cells aren't all one makes another field where its block is a tile
+  pub leaf_differs : AreBits bits → IsTrue (is_inside everywhere p) → (t : Layout V) (tile : Cell V) → lower_entry bits t p ≡ Tile tile
+      → length leaf.values ≡ entry_count bits.leaf → ((cell : Cell V) → IsConstantLeaf leaf (entry_count bits.leaf) cell → ⊥)
+      → AreSameCells (field_of bits t) (with_leaf bits p leaf (field_of bits t)) → ⊥
+  leaf_differs configured inside t tile over size mixed same = mixed tile (λ d i h.
+      let corner = (sub_block bits Leaf (block_around bits Leaf p) i).min in
+      let at = corner_of_entry bits Leaf p i (subst (λ n. i < n) (sym (entries_is bits Leaf)) h) in
+      let range = block_in_range bits Leaf configured p corner inside at.0 in
+      let none = background_cell t in
+      let now : cell_in none leaf i ≡ (field_of bits t).cell corner = ap (cell_in none leaf) (sym at.1) ∙ sym (leaf_here (field_of bits t) corner range at.0) ∙ same corner range in
+      let was : (field_of bits t).cell corner ≡ tile = cell_inside t.background (cell_at bits t) corner range ∙ tile_cell bits t tile corner (lower_by_block bits t corner p at.0 ∙ over) in
+      default_cell leaf i d none (subst (λ n. i < n) (sym size) h) ∙ now ∙ was)
+
+module _ {V : Type 0} (bits : Bits) (t : Layout V) (p : Coord) (slot : ℕ) (child : lower_entry bits t p ≡ Child slot) where
+  child_at : (q : Coord) → IsTrue (is_inside (block_around bits Leaf p) q) → lower_entry bits t q ≡ Child slot
+  child_at q inside = lower_by_block bits t q p (number_in_block bits Leaf (block_number bits Leaf p) q inside) ∙ child
+
+  no_tile : (level : Level) (q : Coord) → IsTrue (is_inside (block_around bits Leaf p) q) → (tile : Cell V) → entry_over bits level t q ≡ Tile tile → ⊥
+  no_tile Leaf q inside tile e = tile_no_child tile slot (sym e ∙ child_at q inside)
+  no_tile Lower q inside tile e = tile_no_child tile slot (sym (tile_lower bits t tile q e) ∙ child_at q inside)
+  no_tile Upper q inside tile e = tile_no_child tile slot (sym (tile_lower bits t tile q (tile_upper bits t tile q e)) ∙ child_at q inside)
+
+  -- a leaf's block can be painted
+  pub leaf_split : (cell : Cell V) → IsSplit bits (block_around bits Leaf p) cell t
+  leaf_split cell = record {
+    tiles = λ level q inside tile e. absurd (no_tile level q inside tile e);
+    entered = λ q inside. elim (some_or_none (root_at t.root (key bits q))) [
+      | inl x ↦ inr (is_some_from _ x.0 x.1)
+      | inr n ↦ absurd (no_tile Upper q inside (background_cell t) (absent_entry bits t q n))
+    ];
+  }

@@ -1,0 +1,18 @@
+use Rattle.std.proofs.Common.{◌≡◌, ◌∙◌, ap, arith, subst, Err}
+use Rattle.std.proofs.lemmas.Grind.{common_steps}
+use Rattle.vdb_coord.specs.Blocks.{block_around}
+use Rattle.vdb_coord.specs.Space.{Box}
+use Rattle.vdb_coord.specs.declared.Bits.{Bits}
+use Rattle.vdb_coord.specs.declared.Level.TheVariants.{Leaf}
+use Rattle.vdb_tree.specs.Field.{fill}
+use Rattle.vdb_tree.specs.Layout.{bits_of, field_of}
+use Rattle.vdb_tree.specs.Outcome.{ObeysLimit}
+use Rattle.vdb_tree.proofs.tree.TreeOf.fill_leaf_block.Goals as goal
+
+pub returns-in_err-split-clause-outcome : goal.returns-in_err-split-clause-outcome
+returns-in_err-split-clause-outcome g c =
+    let bits = bits_of g.row.U g.row.L g.row.F in
+    let block : c.block_in-bounds.result ≡ block_around bits Leaf c.args.p = c.block_in-bounds.ensures ∙ ap (λ (b : Bits). block_around b Leaf c.args.p) c.bits.ensures.value in
+    let refused : c.from_residual.result ≡ Err c.in_err-split.field-0.0 = grind (arith, common_steps, c.from_residual.ensures) in
+    let limit = subst (λ (box : Box). ObeysLimit g.V.PartialEq.eq bits c.args.self.now.limit (fill box c.args.cell (field_of bits c.args.self.now)) (Err c.in_err-split.field-0.0)) block c.in_err-split.ensures.limit in
+    rw refused (c.split.ensures.field, limit)

@@ -1,0 +1,50 @@
+use Rattle.std.proofs.Common.{◌≡◌, ◌<◌, ◌⊎◌, inl, inr, false, rules, subst}
+use Rattle.std.specs.Prelude.{IsSome, None}
+use Rattle.vdb_coord.specs.Blocks.{key}
+use Rattle.vdb_coord.specs.declared.Coord.{Coord}
+use Rattle.vdb_tree.specs.internal.ActiveCapacity.{IsActiveKey}
+use Rattle.vdb_tree.specs.Layout.{bits_of, cell_at, root_at}
+use Rattle.vdb_tree.proofs.ActiveCapacities.{counts_all, counts_full, counts_held, counts_idle, counts_more, counts_none}
+use Rattle.vdb_tree.proofs.KeysPast.{fewer_past}
+use Rattle.vdb_tree.proofs.tree.TreeOf.has_capacity_for_active.Goals as goal
+
+pub keys-init : goal.keys-init
+keys-init g c = rw (c.len.ensures, ← c.self.view_is) (counts_none (bits_of g.row.U g.row.L g.row.F) c.args.other.now _ c.self.invariant.1)
+
+pub keys-smaller : goal.keys-smaller
+keys-smaller g c = fewer_past c.args.other.now.root c.keys.passed c.in-Some.key c.in-Some.ensures.least
+
+pub keys-smaller-else-room-eq0 : goal.keys-smaller-else-room-eq0
+keys-smaller-else-room-eq0 g c = fewer_past c.args.other.now.root c.keys.passed c.in-Some.key c.in-Some.ensures.least
+
+pub keys-preserved-else-room-eq0 : goal.keys-preserved-else-room-eq0
+keys-preserved-else-room-eq0 g c =
+    let bits = bits_of g.row.U g.row.L g.row.F in
+    let t = c.args.self.now in
+    let u = c.args.other.now in
+    let lacks = subst (λ (k : Coord). (root_at t.root k ≡ None) × IsActiveKey bits u k) c.key_corner.ensures.number (c.lacks_entry_for.ensures.lacks c.if-lacks_entry_for.true) in
+    let some : 0 < c.keys.room = search rules in
+    counts_more bits u t c.keys.passed c.keys.room c.keys.invariant c.in-Some.key c.in-Some.ensures.least lacks.0 lacks.1 some
+
+pub keys-preserved : goal.keys-preserved
+keys-preserved g c =
+    let bits = bits_of g.row.U g.row.L g.row.F in
+    let t = c.args.self.now in
+    let u = c.args.other.now in
+    let held = subst (λ (k : Coord). IsSome (root_at t.root k) ⊎ ((q : Coord) → key bits q ≡ k → (cell_at bits u q).on ≡ false)) c.key_corner.ensures.number (c.lacks_entry_for.ensures.held c.if-lacks_entry_for.false) in
+    elim held [
+      | inl entry ↦ counts_held bits u t c.keys.passed c.keys.room c.keys.invariant c.in-Some.key c.in-Some.ensures.least entry
+      | inr idle ↦ counts_idle bits u t c.keys.passed c.keys.room c.keys.invariant c.in-Some.key c.in-Some.ensures.least idle
+    ]
+
+pub returns-then-room-eq0-clause-full : goal.returns-then-room-eq0-clause-full
+returns-then-room-eq0-clause-full g c = λ _.
+    let bits = bits_of g.row.U g.row.L g.row.F in
+    let t = c.args.self.now in
+    let u = c.args.other.now in
+    let lacks = subst (λ (k : Coord). (root_at t.root k ≡ None) × IsActiveKey bits u k) c.key_corner.ensures.number (c.lacks_entry_for.ensures.lacks c.if-lacks_entry_for.true) in
+    counts_full bits u t c.keys.passed c.keys.room c.keys.invariant c.in-Some.key c.in-Some.ensures.least lacks.0 lacks.1 (search rules)
+
+pub returns-clause-room : goal.returns-clause-room
+returns-clause-room g c = λ _.
+    counts_all (bits_of g.row.U g.row.L g.row.F) c.args.other.now c.args.self.now c.keys.passed c.keys.room c.keys.invariant c.in_default.ensures.least

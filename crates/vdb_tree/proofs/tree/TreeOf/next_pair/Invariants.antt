@@ -1,0 +1,17 @@
+use Rattle.std.proofs.Common.{◌≤◌, false}
+use Rattle.vdb_tree.specs.Layout.{bits_of}
+use Rattle.vdb_tree.specs.Pairs.{IsPairWalk, PassesPairs}
+use Rattle.vdb_tree.specs.Parts.{left_count}
+use Rattle.vdb_tree.proofs.tree.TreeOf.next_pair.Given as goal
+
+abbrev pub invariant-places : goal.invariant-places
+invariant-places g l =
+    let bits = bits_of g.row.U g.row.L g.row.F in
+    record {
+      walk : IsPairWalk bits l.self l.other l.walk;
+      passes : PassesPairs bits l.self l.other l.initial.walk l.walk (λ q. false);
+      few : left_count bits l.walk.at ≤ left_count bits l.initial.walk.at;
+    }
+
+abbrev pub decreases-places : goal.decreases-places
+decreases-places g l = left_count (bits_of g.row.U g.row.L g.row.F) l.walk.at

@@ -1,0 +1,24 @@
+use Rattle.std.proofs.Common.{◌∙◌}
+use Rattle.vdb_coord.specs.declared.Level.TheVariants.{Upper}
+use Rattle.vdb_tree.specs.Layout.{bits_of}
+use Rattle.vdb_tree.proofs.Ruled.{idle_block, ready_block, upper_tile_block}
+use Rattle.vdb_tree.proofs.Sweeps.{other_key}
+use Rattle.vdb_tree.proofs.tree.TreeOf.set_root_block.Goals as goal
+
+pub returns-then-is_idle_tile-clause-sets : goal.returns-then-is_idle_tile-clause-sets
+returns-then-is_idle_tile-clause-sets g c =
+    idle_block (bits_of g.row.U g.row.L g.row.F) c.args.rule c.args.other.now Upper c.args.self.now c.args.p c.args.over c.requires.over (c.is_idle_tile.ensures.idle c.if-is_idle_tile.true)
+
+pub returns-in-Tile-over-clause-sets : goal.returns-in-Tile-over-clause-sets
+returns-in-Tile-over-clause-sets g c =
+    let made = c.exchange_root_tile.ensures in
+    let beside = c.in-Tile-over.field-0 in
+    upper_tile_block (bits_of g.row.U g.row.L g.row.F) c.args.rule c.args.other.now c.args.self.now c.exchange_root_tile.new.self c.args.p c.in-Tile.tile beside c.tile_made.result c.tile_made.ensures c.in-Tile.ensures
+    (c.requires.over ∙ c.in-Tile-over.is) (c.is_idle_tile.ensures.acts c.if-is_idle_tile.false beside c.in-Tile-over.is) made.fills made.table made.uppers made.lowers
+
+pub returns-in-Tile-over-clause-table : goal.returns-in-Tile-over-clause-table
+returns-in-Tile-over-clause-table g c = λ k d. other_key c.args.self.now.root c.exchange_root_tile.new.self.root _ k _ c.exchange_root_tile.ensures.table d
+
+pub returns-in_default-clause-sets : goal.returns-in_default-clause-sets
+returns-in_default-clause-sets g c =
+    ready_block (bits_of g.row.U g.row.L g.row.F) c.args.rule c.args.other.now Upper c.args.self.now c.args.p c.in-Tile.tile c.in_default.field-0 c.requires.ready c.in-Tile.ensures (c.requires.over ∙ c.in_default.is)

@@ -1,0 +1,85 @@
+use Rattle.std.proofs.Common.{◌≡◌, ◌∙◌, ap, arith, inl, inr, refl, rules, subst, sym, Err, IsTrue}
+use Rattle.std.specs.Prelude.{None, Option, Some}
+use Rattle.std.proofs.lemmas.Grind.{common_steps}
+use Rattle.vdb_coord.specs.Entries.{AreBits}
+use Rattle.vdb_coord.specs.declared.Bits.{Bits}
+use Rattle.vdb_coord.proofs.Meeting.{fits_everywhere}
+use Rattle.vdb_node.specs.Leaf.{IsConstantLeaf}
+use Rattle.vdb_node.specs.Nodes.{entry_count}
+use Rattle.vdb_value.specs.declared.Cell.{Cell}
+use Rattle.vdb_tree.specs.Field.{Field}
+use Rattle.vdb_tree.specs.Layout.{Layout, bits_of, field_of, lower_entry}
+use Rattle.vdb_tree.specs.Leaves.{with_leaf}
+use Rattle.vdb_tree.specs.Outcome.{IsOutcome}
+use Rattle.vdb_tree.specs.Paths.{in_leaf}
+use Rattle.vdb_tree.specs.declared.refusal.TreeRefusal.TheVariants.{Memory, RootLimit}
+use Rattle.vdb_tree.proofs.Blocks.{never}
+use Rattle.vdb_tree.proofs.Equations.{keeps_field}
+use Rattle.vdb_tree.proofs.Levels.{tile_or_child}
+use Rattle.vdb_tree.proofs.Needed.{child_of}
+use Rattle.vdb_tree.proofs.Splits.{keeps_twice}
+use Rattle.vdb_tree.proofs.Writes.{full_outcome, kept_outcome, leaf_has_room}
+use Rattle.vdb_tree.proofs.WrittenLeaves.{leaf_altered, leaf_differs, leaf_fills}
+use Rattle.vdb_tree.proofs.tree.TreeOf.write_leaf.Goals as goal
+
+none_some : {A : Type 0} (x : A) → ◌≡◌ {A = Option A} None (Some x) → ⊥
+none_some x e = cc
+
+pub returns-in-Some-clause-outcome : goal.returns-in-Some-clause-outcome
+returns-in-Some-clause-outcome g c =
+    let bits = bits_of g.row.U g.row.L g.row.F in
+    let old = field_of bits c.args.self.now in
+    subst (λ (f : Field g.row.V.Denot). IsOutcome g.V.PartialEq.eq bits c.args.self.now.limit old f (field_of bits c.fill_leaf_block.new.self) c.fill_leaf_block.result)
+    (sym (leaf_fills bits c.args.p c.args.leaf.now old c.in-Some.cell ((c.constant.ensures c.in-Some.cell).0 c.in-Some.is)))
+    c.fill_leaf_block.ensures.outcome
+
+pub returns-in_err-make_capacity-clause-outcome : goal.returns-in_err-make_capacity-clause-outcome
+returns-in_err-make_capacity-clause-outcome g c =
+    let bits = bits_of g.row.U g.row.L g.row.F in
+    let t = c.args.self.now in
+    let leaf = c.args.leaf.now in
+    let changed = with_leaf bits c.args.p leaf (field_of bits t) in
+    let inside = fits_everywhere c.args.p (search rules) (search rules) (search rules) in
+    let configured = subst (λ (b : Bits). AreBits b) c.bits.ensures.value c.bits.ensures.configured in
+    let mixed : (cell : Cell g.row.V.Denot) → IsConstantLeaf leaf (entry_count g.row.F) cell → ⊥ = λ cell constant. none_some cell (sym c.in_default.is ∙ (c.constant.ensures cell).1 constant) in
+    let full : c.from_residual.result ≡ Err RootLimit = grind (arith, common_steps, c.from_residual.ensures, c.in_err-make_capacity.ensures.full.0) in
+    full_outcome bits g.V.PartialEq.eq t c.make_capacity.new.self changed _ full c.make_capacity.ensures.keeps
+    (c.in_err-make_capacity.ensures.full.1 changed (leaf_altered bits c.args.p leaf (field_of bits t))
+    (λ same. elim (tile_or_child (lower_entry bits t c.args.p)) [
+      | inl x ↦ leaf_differs bits c.args.p leaf configured inside t x.0 x.1 c.states.ensures.values mixed same
+      | inr x ↦ never refl (c.in_err-make_capacity.ensures.there (leaf_has_room bits t c.args.p x.0 x.1)).0
+    ]))
+
+pub returns-in_err-make_capacity-clause-there : goal.returns-in_err-make_capacity-clause-there
+returns-in_err-make_capacity-clause-there g c = λ h.
+    let bits = bits_of g.row.U g.row.L g.row.F in
+    let t = c.args.self.now in
+    let over = child_of (lower_entry bits t c.args.p) h in
+    absurd (never refl (c.in_err-make_capacity.ensures.there (leaf_has_room bits t c.args.p over.0 over.1)).0)
+
+pub returns-in_err-slot-clause-outcome : goal.returns-in_err-slot-clause-outcome
+returns-in_err-slot-clause-outcome g c =
+    let bits = bits_of g.row.U g.row.L g.row.F in
+    let t = c.args.self.now in
+    let changed = with_leaf bits c.args.p c.args.leaf.now (field_of bits t) in
+    let keeps = keeps_twice bits t c.make_capacity.new.self c.leaf_around.new.self c.make_capacity.ensures.keeps c.leaf_around.ensures.keeps in
+    let memory : c.from_residual-in_err-slot.result ≡ Err Memory = grind (arith, common_steps, c.from_residual-in_err-slot.ensures, c.in_err-slot.ensures.memory) in
+    kept_outcome bits g.V.PartialEq.eq t c.leaf_around.new.self changed _ memory keeps
+    (c.in_ok-make_capacity.ensures.within changed (leaf_altered bits c.args.p c.args.leaf.now (field_of bits t)))
+
+pub returns-in_err-slot-clause-there : goal.returns-in_err-slot-clause-there
+returns-in_err-slot-clause-there g c = λ h.
+    let bits = bits_of g.row.U g.row.L g.row.F in
+    let t = c.args.self.now in
+    let over = child_of (lower_entry bits t c.args.p) h in
+    let same = (c.make_capacity.ensures.there (leaf_has_room bits t c.args.p over.0 over.1)).1 in
+    absurd (never refl (c.in_err-slot.ensures.there (subst (λ (s : Layout g.row.V.Denot). IsTrue (in_leaf bits s c.args.p)) (sym same) h)))
+
+pub returns-clause-outcome : goal.returns-clause-outcome
+returns-clause-outcome g c =
+    let bits = bits_of g.row.U g.row.L g.row.F in
+    let t = c.args.self.now in
+    let keeps = keeps_twice bits t c.make_capacity.new.self c.leaf_around.new.self c.make_capacity.ensures.keeps c.leaf_around.ensures.keeps in (
+      c.copy_leaf.ensures.field ∙ ap (with_leaf bits c.args.p c.args.leaf.now) (keeps_field bits t c.leaf_around.new.self keeps),
+      c.in_ok-make_capacity.ensures.within (with_leaf bits c.args.p c.args.leaf.now (field_of bits t)) (leaf_altered bits c.args.p c.args.leaf.now (field_of bits t)),
+    )
