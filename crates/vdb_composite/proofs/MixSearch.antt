@@ -1,0 +1,77 @@
+-- What is sought in a block, by its tiles or voxel by voxel.
+use Rattle.std.proofs.Common.{◌≡◌, ◌≢◌, ◌⊎◌, inl, inr, refl, sym, ap, ◌∙◌, ℕ, ◌+◌, ◌<◌, ◌≤◌, Bool, true, false, not, arith, IsTrue}
+use Rattle.std.specs.Prelude.{Option, Some, None, IsSome, is_none}
+use Rattle.vdb_coord.specs.Blocks.{block_around, entries, offset}
+use Rattle.vdb_coord.specs.Space.{Box, is_inside}
+use Rattle.vdb_coord.specs.declared.Bits.{Bits}
+use Rattle.vdb_coord.specs.declared.Coord.{Coord}
+use Rattle.vdb_coord.specs.declared.Level.TheVariants.{Leaf}
+use Rattle.vdb_coord.proofs.Loops.{corner}
+use Rattle.vdb_coord.proofs.Nesting.{corner_of_entry}
+use Rattle.vdb_coord.proofs.Places.{offset_below}
+use Rattle.vdb_value.specs.declared.Cell.{Cell}
+use Rattle.vdb_tree.specs.ConstantBlocks.{cell_eq}
+use Rattle.vdb_tree.specs.Field.{Field}
+use Rattle.vdb_composite.specs.Mixes.{Meets, Misses, mixed_cell}
+use Rattle.vdb_value.specs.declared.blend.Blend.{Blend}
+use Rattle.vdb_composite.specs.declared.mix.Mix.{Mix}
+use Rattle.vdb_composite.specs.declared.search.Sought.{Sought}
+use Rattle.vdb_tree.proofs.Blocks.{never}
+use Rattle.vdb_composite.proofs.MixLeaves.{in_leaf_block}
+use Rattle.vdb_composite.proofs.Mixed.{some_same}
+use Rattle.vdb_tree.proofs.Uniform.{cell_exact, cell_itself}
+
+denied : (u : Bool) → not u ≡ false → u ≡ true
+denied true h = refl
+denied false h = cc
+
+-- another cell is found by the test for equal ones
+pub is_other : {V : Type 0} (eq : V → V → Bool) (exact : (x y : V) → eq x y ≡ true → x ≡ y) (itself : (x : V) → eq x x ≡ true) (one cell : Cell V) → not (cell_eq eq one cell) ≡ true
+    → ◌≢◌ {A = Option (Cell V)} (Some one) (Some cell)
+is_other eq exact itself one cell other e =
+    let same = some_same one cell e in
+    never (ap not (ap (cell_eq eq one) (sym same) ∙ cell_itself eq exact itself one)) other
+
+pub is_same : {V : Type 0} (eq : V → V → Bool) (exact : (x y : V) → eq x y ≡ true → x ≡ y) (itself : (x : V) → eq x x ≡ true) (one cell : Cell V) → not (cell_eq eq one cell) ≡ false
+    → ◌≡◌ {A = Option (Cell V)} (Some one) (Some cell)
+is_same eq exact itself one cell same = ap (λ (c : Cell _). Some c) (cell_exact eq exact itself one cell (denied (cell_eq eq one cell) same))
+
+pub is_nothing : {A : Type 0} (o : Option A) → is_none o ≡ true → o ≡ None
+is_nothing (Some x) h = cc
+is_nothing None h = refl
+
+pub is_something : {A : Type 0} (o : Option A) → is_none o ≡ false → IsSome o
+is_something (Some x) h = refl
+is_something None h = cc
+
+earlier_or_here : (a i : ℕ) → a < i + 1 → (a < i) ⊎ (a ≡ i)
+earlier_or_here a i h = grind arith
+
+module _ {V : Type 0} (blend : Blend → V → V → Option V) (bits : Bits) (box : Box) (mix : Mix) (sought : Sought V) (f g : Field V) where
+  -- no voxel of the box at an index below this becomes what is sought
+  abbrev pub MissesBelow : ℕ → Type 0
+  MissesBelow n = (q : Coord) → IsTrue (is_inside box q) → offset bits Leaf q < n → Misses sought (mixed_cell blend mix (f.cell q) (g.cell q))
+
+  pub misses_none : MissesBelow 0
+  misses_none q i h = absurd (below _ h)
+    where
+      below : (n : ℕ) → n < 0 → ⊥
+      below n h = omega (arith, h)
+
+  module _ (n : ℕ) (a b : Cell V) (first : (q : Coord) → IsTrue (is_inside box q) → offset bits Leaf q ≡ n → f.cell q ≡ a) (second : (q : Coord) → IsTrue (is_inside box q) → offset bits Leaf q ≡ n → g.cell q ≡ b) where
+    pub misses_next : MissesBelow n → Misses sought (mixed_cell blend mix a b) → MissesBelow (n + 1)
+    misses_next so_far here q i h =
+        elim (earlier_or_here (offset bits Leaf q) n h) [
+          | inl k ↦ so_far q i k
+          | inr e ↦ rw (first q i e, second q i e) here
+        ]
+
+    pub meets_here : box ≡ block_around bits Leaf box.min → n < entries bits Leaf → Meets sought (mixed_cell blend mix a b) → (q : Coord) × IsTrue (is_inside box q) × Meets sought (mixed_cell blend mix (f.cell q) (g.cell q))
+    meets_here block small here =
+        let q = corner bits Leaf box.min n in
+        let at = corner_of_entry bits Leaf box.min n small in
+        let i = in_leaf_block bits box block q at.0 in
+        (q, i, rw (first q i at.1, second q i at.1) here)
+
+  pub misses_all : (n : ℕ) → entries bits Leaf ≤ n → MissesBelow n → (q : Coord) → IsTrue (is_inside box q) → Misses sought (mixed_cell blend mix (f.cell q) (g.cell q))
+  misses_all n end so_far q i = let k = offset_below bits Leaf q in so_far q i (omega (arith, k, end))

@@ -1,0 +1,3 @@
+-- Two trees made one, coordinate by coordinate.
+pub mod Mixes
+pub mod SumOutcome

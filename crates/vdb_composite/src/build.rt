@@ -1,0 +1,245 @@
+//! The tree that two become, made beside them.
+
+ghost use Rattle.std.specs.Prelude.{◌≡◌, IfNone, IfSome, IsTrue, Some};
+ghost use Rattle.vdb_coord.specs.Blocks.{block_around};
+ghost use Rattle.vdb_coord.specs.Space.{everywhere, is_inside};
+ghost use Rattle.vdb_coord.specs.declared.Coord.{Coord};
+ghost use Rattle.vdb_coord.specs.declared.Level.TheVariants.{Leaf as leaf_level};
+ghost use Rattle.vdb_tree.specs.Field.{new};
+ghost use Rattle.vdb_tree.specs.Layout.{bits_of, field_of};
+ghost use Rattle.vdb_tree.specs.Parts.{IsPartOfLeaf, OnLeaf, OnTile};
+ghost use Rattle.vdb_value.specs.Blends.{blended};
+ghost use Rattle.vdb_composite.specs.Mixes.{Adds, IsMixIn, mixed_value};
+
+use crate::mix::Mix;
+use crate::scratch::{mix_cells, take_cells};
+use vdb_coord::Bounds;
+use vdb_node::{Leaf, Stored};
+use vdb_pool::Steps;
+use vdb_tree::{Content, Pair, TreeOf};
+use vdb_value::Cell;
+
+/// The tree that two become, whose background is this; `None` where two values have no sum, or where a new tree of the first's limit
+/// refuses a write.
+pub(crate) fn built<
+    V: Stored<WU> + Stored<WL> + Stored<WF>,
+    const U: u32,
+    const L: u32,
+    const F: u32,
+    const WU: usize,
+    const WL: usize,
+    const WF: usize,
+>(
+    tree: &TreeOf<V, U, L, F, WU, WL, WF>,
+    other: &TreeOf<V, U, L, F, WU, WL, WF>,
+    mix: Mix,
+    background: V,
+    steps: &mut Steps,
+) -> Option<TreeOf<V, U, L, F, WU, WL, WF>>
+    requires background { mixed_value (blended V.greater V.lesser V.sum_of) mix (field_of (bits_of U L F) tree.now).background (field_of (bits_of U L F) other.now).background ≡ Some background }
+    ensures limit { IfSome result (λ made. made.limit ≡ tree.now.limit) }
+    ensures background { IfSome result (λ made. (field_of (bits_of U L F) made).background ≡ background) }
+    ensures cells { IfSome result (λ made. IsMixIn (blended V.greater V.lesser V.sum_of) mix everywhere (field_of (bits_of U L F) tree.now) (field_of (bits_of U L F) other.now) (field_of (bits_of U L F) made)) }
+{
+    let _ = tree.mask_words(); // the proof learns from it that nodes are small
+    let cell = Cell {
+        value: background,
+        on: false,
+    };
+    let mut scratch = Leaf::new_constant(tree.alloc(), cell).ok()?;
+    let mut made = TreeOf::new(tree.alloc(), background, tree.limit());
+    if add_pairs(&mut made, &mut scratch, tree, other, mix, background, steps) {
+        Some(made)
+    } else {
+        None
+    }
+}
+
+/// Makes of a tree with nothing but a background what two others become: false where two values have no sum, or where a write is
+/// refused.
+fn add_pairs<
+    V: Stored<WU> + Stored<WL> + Stored<WF>,
+    const U: u32,
+    const L: u32,
+    const F: u32,
+    const WU: usize,
+    const WL: usize,
+    const WF: usize,
+>(
+    made: &mut TreeOf<V, U, L, F, WU, WL, WF>,
+    scratch: &mut Leaf<V, F, WF>,
+    tree: &TreeOf<V, U, L, F, WU, WL, WF>,
+    other: &TreeOf<V, U, L, F, WU, WL, WF>,
+    mix: Mix,
+    background: V,
+    steps: &mut Steps,
+) -> bool
+    requires empty { field_of (bits_of U L F) made.old ≡ new background }
+    requires background { mixed_value (blended V.greater V.lesser V.sum_of) mix (field_of (bits_of U L F) tree.now).background (field_of (bits_of U L F) other.now).background ≡ Some background }
+    ensures limit { made.new.limit ≡ made.old.limit }
+    ensures background { IsTrue result → (field_of (bits_of U L F) made.new).background ≡ background }
+    ensures cells { IsTrue result → IsMixIn (blended V.greater V.lesser V.sum_of) mix everywhere (field_of (bits_of U L F) tree.now) (field_of (bits_of U L F) other.now) (field_of (bits_of U L F) made.new) }
+{
+    let _ = tree.mask_words(); // the proof learns from it that nodes are small
+    let _ = background;
+    let mut walk = tree.pairs(other);
+    'pairs: while let Some(pair) = tree.next_pair(other, &mut walk, steps) {
+        let Pair {
+            bounds,
+            first,
+            second,
+        } = pair;
+        if !add_pair(
+            made, scratch, tree, other, bounds, first, second, mix, steps,
+        ) {
+            return false;
+        }
+    }
+    true
+}
+
+/// Gives the block of a pair what both trees become: false where two values have no sum, or where a write is refused.
+fn add_pair<
+    V: Stored<WU> + Stored<WL> + Stored<WF>,
+    const U: u32,
+    const L: u32,
+    const F: u32,
+    const WU: usize,
+    const WL: usize,
+    const WF: usize,
+>(
+    made: &mut TreeOf<V, U, L, F, WU, WL, WF>,
+    scratch: &mut Leaf<V, F, WF>,
+    tree: &TreeOf<V, U, L, F, WU, WL, WF>,
+    other: &TreeOf<V, U, L, F, WU, WL, WF>,
+    bounds: Bounds,
+    first: Content<V, &Leaf<V, F, WF>>,
+    second: Content<V, &Leaf<V, F, WF>>,
+    mix: Mix,
+    steps: &mut Steps,
+) -> bool
+    requires first_tile { OnTile first (λ tile. (q : Coord) → IsTrue (is_inside bounds q) → (field_of (bits_of U L F) tree.now).cell q ≡ tile) }
+    requires first_leaf { OnLeaf first (λ leaf. IsPartOfLeaf (bits_of U L F) (field_of (bits_of U L F) tree.now) bounds leaf.now × (bounds ≡ block_around (bits_of U L F) leaf_level bounds.min)) }
+    requires second_tile { OnTile second (λ tile. (q : Coord) → IsTrue (is_inside bounds q) → (field_of (bits_of U L F) other.now).cell q ≡ tile) }
+    requires second_leaf { OnLeaf second (λ leaf. IsPartOfLeaf (bits_of U L F) (field_of (bits_of U L F) other.now) bounds leaf.now × (bounds ≡ block_around (bits_of U L F) leaf_level bounds.min)) }
+    ensures limit { made.new.limit ≡ made.old.limit }
+    ensures adds { IsTrue result → Adds (blended V.greater V.lesser V.sum_of) mix bounds (field_of (bits_of U L F) tree.now) (field_of (bits_of U L F) other.now) (field_of (bits_of U L F) made.old) (field_of (bits_of U L F) made.new) }
+{
+    match first {
+        Content::Leaf(a) => match second {
+            Content::Leaf(b) => add_leaf(
+                made, scratch, tree, other, bounds, None, a, None, b, mix, steps,
+            ),
+            Content::Tile(b) => add_leaf(
+                made,
+                scratch,
+                tree,
+                other,
+                bounds,
+                None,
+                a,
+                Some(b),
+                a,
+                mix,
+                steps,
+            ),
+        },
+        Content::Tile(a) => match second {
+            Content::Leaf(b) => add_leaf(
+                made,
+                scratch,
+                tree,
+                other,
+                bounds,
+                Some(a),
+                b,
+                None,
+                b,
+                mix,
+                steps,
+            ),
+            Content::Tile(b) => add_tile(made, tree, other, bounds, a, b, mix, steps),
+        },
+    }
+}
+
+/// Gives a leaf block what both trees become, where each has a tile or, where that is `None`, a leaf: false where two values have no
+/// sum, or where the write is refused.
+fn add_leaf<
+    V: Stored<WU> + Stored<WL> + Stored<WF>,
+    const U: u32,
+    const L: u32,
+    const F: u32,
+    const WU: usize,
+    const WL: usize,
+    const WF: usize,
+>(
+    made: &mut TreeOf<V, U, L, F, WU, WL, WF>,
+    scratch: &mut Leaf<V, F, WF>,
+    tree: &TreeOf<V, U, L, F, WU, WL, WF>,
+    other: &TreeOf<V, U, L, F, WU, WL, WF>,
+    bounds: Bounds,
+    tile: Option<Cell<V>>,
+    leaf: &Leaf<V, F, WF>,
+    other_tile: Option<Cell<V>>,
+    other_leaf: &Leaf<V, F, WF>,
+    mix: Mix,
+    steps: &mut Steps,
+) -> bool
+    requires block { bounds ≡ block_around (bits_of U L F) leaf_level bounds.min }
+    requires first_tile { IfSome tile (λ tile. (q : Coord) → IsTrue (is_inside bounds q) → (field_of (bits_of U L F) tree.now).cell q ≡ tile) }
+    requires first_leaf { IfNone tile (IsPartOfLeaf (bits_of U L F) (field_of (bits_of U L F) tree.now) bounds leaf.now) }
+    requires second_tile { IfSome other_tile (λ tile. (q : Coord) → IsTrue (is_inside bounds q) → (field_of (bits_of U L F) other.now).cell q ≡ tile) }
+    requires second_leaf { IfNone other_tile (IsPartOfLeaf (bits_of U L F) (field_of (bits_of U L F) other.now) bounds other_leaf.now) }
+    ensures limit { made.new.limit ≡ made.old.limit }
+    ensures adds { IsTrue result → Adds (blended V.greater V.lesser V.sum_of) mix bounds (field_of (bits_of U L F) tree.now) (field_of (bits_of U L F) other.now) (field_of (bits_of U L F) made.old) (field_of (bits_of U L F) made.new) }
+{
+    let corner = bounds.min();
+    take_cells(scratch, tree, bounds, tile, leaf);
+    if !mix_cells(scratch, other, bounds, other_tile, other_leaf, mix) {
+        return false;
+    }
+    match made.write_leaf(corner, scratch, steps) {
+        Ok(()) => true,
+        Err(_) => false,
+    }
+}
+
+/// Gives a block what two tiles become: false where two values have no sum, or where the write is refused.
+fn add_tile<
+    V: Stored<WU> + Stored<WL> + Stored<WF>,
+    const U: u32,
+    const L: u32,
+    const F: u32,
+    const WU: usize,
+    const WL: usize,
+    const WF: usize,
+>(
+    made: &mut TreeOf<V, U, L, F, WU, WL, WF>,
+    tree: &TreeOf<V, U, L, F, WU, WL, WF>,
+    other: &TreeOf<V, U, L, F, WU, WL, WF>,
+    bounds: Bounds,
+    first: Cell<V>,
+    second: Cell<V>,
+    mix: Mix,
+    steps: &mut Steps,
+) -> bool
+    requires first { (q : Coord) → IsTrue (is_inside bounds q) → (field_of (bits_of U L F) tree.now).cell q ≡ first }
+    requires second { (q : Coord) → IsTrue (is_inside bounds q) → (field_of (bits_of U L F) other.now).cell q ≡ second }
+    ensures limit { made.new.limit ≡ made.old.limit }
+    ensures adds { IsTrue result → Adds (blended V.greater V.lesser V.sum_of) mix bounds (field_of (bits_of U L F) tree.now) (field_of (bits_of U L F) other.now) (field_of (bits_of U L F) made.old) (field_of (bits_of U L F) made.new) }
+{
+    let _ = tree;
+    let _ = other;
+    let _ = bounds.min(); // the proof learns from it that the box lies within the range
+    let Some(cell) = mix.of(first, second) else {
+        return false;
+    };
+    match made.split(bounds, cell, steps) {
+        Ok(()) => {
+            made.paint(bounds, cell, steps);
+            true
+        }
+        Err(_) => false,
+    }
+}

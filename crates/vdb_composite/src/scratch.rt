@@ -1,0 +1,145 @@
+//! One leaf that takes the cells of a tree's block, and then what they become with another's.
+
+ghost use Rattle.std.specs.Prelude.{◌≡◌, IfNone, IfSome, IsTrue, Some};
+ghost use Rattle.vdb_coord.specs.Blocks.{offset};
+ghost use Rattle.vdb_coord.specs.Space.{is_inside};
+ghost use Rattle.vdb_coord.specs.declared.Coord.{Coord};
+ghost use Rattle.vdb_coord.specs.declared.Level.TheVariants.{Leaf as leaf_level};
+ghost use Rattle.vdb_node.specs.Leaf.{cell_in};
+ghost use Rattle.vdb_value.specs.declared.Cell.{Cell};
+ghost use Rattle.vdb_tree.specs.Layout.{bits_of, field_of};
+ghost use Rattle.vdb_tree.specs.Parts.{IsPartOfLeaf};
+ghost use Rattle.vdb_value.specs.Blends.{blended};
+ghost use Rattle.vdb_composite.specs.Mixes.{mixed_cell};
+
+use crate::mix::Mix;
+use vdb_coord::{Bounds, Level};
+use vdb_node::{Leaf, Stored};
+use vdb_tree::TreeOf;
+use vdb_value::Cell;
+
+/// Gives the scratch leaf the cells that a tree has over a leaf block: those of a tile or, where that is `None`, of a leaf.
+pub(crate) fn take_cells<
+    V: Stored<WU> + Stored<WL> + Stored<WF>,
+    const U: u32,
+    const L: u32,
+    const F: u32,
+    const WU: usize,
+    const WL: usize,
+    const WF: usize,
+>(
+    scratch: &mut Leaf<V, F, WF>,
+    tree: &TreeOf<V, U, L, F, WU, WL, WF>,
+    bounds: Bounds,
+    tile: Option<Cell<V>>,
+    leaf: &Leaf<V, F, WF>,
+)
+    requires tile { IfSome tile (λ tile. (q : Coord) → IsTrue (is_inside bounds q) → (field_of (bits_of U L F) tree.now).cell q ≡ tile) }
+    requires leaf { IfNone tile (IsPartOfLeaf (bits_of U L F) (field_of (bits_of U L F) tree.now) bounds leaf.now) }
+    ensures { (d : Cell V) (q : Coord) → IsTrue (is_inside bounds q) → (field_of (bits_of U L F) tree.now).cell q ≡ cell_in d scratch.new (offset (bits_of U L F) leaf_level q) }
+{
+    let _ = tree.mask_words();
+    let count = u32::from(tree.bits().entries(Level::Leaf));
+    match tile {
+        Some(cell) => scratch.fill_run(0, count, cell),
+        None => {
+            let _ = leaf.entry(count - 1); // the proof learns from it that the leaf has all entries
+            scratch.copy_from(leaf);
+        }
+    }
+}
+
+/// Makes of the scratch leaf's cells what they become with those that a tree has over a leaf block, by a tile or, where that is
+/// `None`, a leaf: false where some two values have no sum.
+pub(crate) fn mix_cells<
+    V: Stored<WU> + Stored<WL> + Stored<WF>,
+    const U: u32,
+    const L: u32,
+    const F: u32,
+    const WU: usize,
+    const WL: usize,
+    const WF: usize,
+>(
+    scratch: &mut Leaf<V, F, WF>,
+    other: &TreeOf<V, U, L, F, WU, WL, WF>,
+    bounds: Bounds,
+    tile: Option<Cell<V>>,
+    leaf: &Leaf<V, F, WF>,
+    mix: Mix,
+) -> bool
+    requires tile { IfSome tile (λ tile. (q : Coord) → IsTrue (is_inside bounds q) → (field_of (bits_of U L F) other.now).cell q ≡ tile) }
+    requires leaf { IfNone tile (IsPartOfLeaf (bits_of U L F) (field_of (bits_of U L F) other.now) bounds leaf.now) }
+    ensures { IsTrue result → (d : Cell V) (q : Coord) → IsTrue (is_inside bounds q)
+        → mixed_cell (blended V.greater V.lesser V.sum_of) mix (cell_in d scratch.old (offset (bits_of U L F) leaf_level q)) ((field_of (bits_of U L F) other.now).cell q) ≡ Some (cell_in d scratch.new (offset (bits_of U L F) leaf_level q)) }
+{
+    match tile {
+        Some(cell) => mix_tile(scratch, other, bounds, cell, mix),
+        None => mix_leaf(scratch, other, bounds, leaf, mix),
+    }
+}
+
+/// Makes of the scratch leaf's cells what they become with that of a tile.
+fn mix_tile<
+    V: Stored<WU> + Stored<WL> + Stored<WF>,
+    const U: u32,
+    const L: u32,
+    const F: u32,
+    const WU: usize,
+    const WL: usize,
+    const WF: usize,
+>(
+    scratch: &mut Leaf<V, F, WF>,
+    other: &TreeOf<V, U, L, F, WU, WL, WF>,
+    bounds: Bounds,
+    tile: Cell<V>,
+    mix: Mix,
+) -> bool
+    requires { (q : Coord) → IsTrue (is_inside bounds q) → (field_of (bits_of U L F) other.now).cell q ≡ tile }
+    ensures { IsTrue result → (d : Cell V) (q : Coord) → IsTrue (is_inside bounds q)
+        → mixed_cell (blended V.greater V.lesser V.sum_of) mix (cell_in d scratch.old (offset (bits_of U L F) leaf_level q)) ((field_of (bits_of U L F) other.now).cell q) ≡ Some (cell_in d scratch.new (offset (bits_of U L F) leaf_level q)) }
+{
+    let _ = other.mask_words();
+    let _ = bounds;
+    match mix {
+        Mix::Values(how) => scratch.blend_with(tile, how),
+        Mix::Replace => {
+            if tile.on {
+                scratch.fill_run(0, u32::from(other.bits().entries(Level::Leaf)), tile);
+            }
+            true
+        }
+    }
+}
+
+/// Makes of the scratch leaf's cells what they become with those of a leaf.
+fn mix_leaf<
+    V: Stored<WU> + Stored<WL> + Stored<WF>,
+    const U: u32,
+    const L: u32,
+    const F: u32,
+    const WU: usize,
+    const WL: usize,
+    const WF: usize,
+>(
+    scratch: &mut Leaf<V, F, WF>,
+    other: &TreeOf<V, U, L, F, WU, WL, WF>,
+    bounds: Bounds,
+    leaf: &Leaf<V, F, WF>,
+    mix: Mix,
+) -> bool
+    requires { IsPartOfLeaf (bits_of U L F) (field_of (bits_of U L F) other.now) bounds leaf.now }
+    ensures { IsTrue result → (d : Cell V) (q : Coord) → IsTrue (is_inside bounds q)
+        → mixed_cell (blended V.greater V.lesser V.sum_of) mix (cell_in d scratch.old (offset (bits_of U L F) leaf_level q)) ((field_of (bits_of U L F) other.now).cell q) ≡ Some (cell_in d scratch.new (offset (bits_of U L F) leaf_level q)) }
+{
+    let _ = other.mask_words();
+    let _ = bounds;
+    let count = u32::from(other.bits().entries(Level::Leaf));
+    let _ = leaf.entry(count - 1); // the proof learns from it that the leaf has all entries
+    match mix {
+        Mix::Values(how) => scratch.blend(leaf, how),
+        Mix::Replace => {
+            scratch.take_active(leaf);
+            true
+        }
+    }
+}

@@ -1,0 +1,94 @@
+//! The states of two grids made one: union, difference and intersection of what is active.
+//!
+//! The values of the grid that changes stay, and the other grid stays as it is; the two may be of two types of values. Nodes are
+//! made before the first state changes, so that a refused call leaves every cell as it was.
+#![tactic(auto)]
+
+ghost use Rattle.std.specs.Prelude.{◌≡◌, IfErr};
+ghost use Rattle.vdb_tree.specs.Field.{intersect as intersected, subtract as subtracted, unite as united};
+ghost use Rattle.vdb_tree.specs.Layout.{bits_of, field_of};
+ghost use Rattle.vdb_tree.specs.Outcome.{IsOutcome};
+ghost use Rattle.vdb_tree.specs.declared.refusal.TreeRefusal.TheVariants.{Memory};
+
+use vdb_node::Stored;
+use vdb_pool::Steps;
+use vdb_tree::{StateRule, TreeOf, TreeRefusal};
+
+#[cfg(test)]
+mod tests;
+
+/// Makes each voxel of a tree active that is so in it or in another tree (OpenVDB's `Tree::topologyUnion`).
+///
+/// `RootLimit` says that there would be more root blocks with a cell that isn't the background than the limit, `Memory` that a
+/// growth was refused; both leave every cell as it was.
+pub fn unite<
+    V: Stored<WU> + Stored<WL> + Stored<WF>,
+    X: Stored<WU> + Stored<WL> + Stored<WF>,
+    const U: u32,
+    const L: u32,
+    const F: u32,
+    const WU: usize,
+    const WL: usize,
+    const WF: usize,
+>(
+    tree: &mut TreeOf<V, U, L, F, WU, WL, WF>,
+    other: &TreeOf<X, U, L, F, WU, WL, WF>,
+    steps: &mut Steps,
+) -> Result<(), TreeRefusal>
+    ensures outcome { IsOutcome V.eq (bits_of U L F) tree.old.limit (field_of (bits_of U L F) tree.old)
+        (united (field_of (bits_of U L F) tree.old) (field_of (bits_of U L F) other.now)) (field_of (bits_of U L F) tree.new) result }
+    ensures limit { tree.new.limit ≡ tree.old.limit }
+{
+    tree.combine_states(other, StateRule::Unite, steps)
+}
+
+/// Makes each voxel of a tree inactive that is active in another tree (OpenVDB's `Tree::topologyDifference`).
+///
+/// `Memory` says that a growth was refused, and leaves every cell as it was.
+pub fn subtract<
+    V: Stored<WU> + Stored<WL> + Stored<WF>,
+    X: Stored<WU> + Stored<WL> + Stored<WF>,
+    const U: u32,
+    const L: u32,
+    const F: u32,
+    const WU: usize,
+    const WL: usize,
+    const WF: usize,
+>(
+    tree: &mut TreeOf<V, U, L, F, WU, WL, WF>,
+    other: &TreeOf<X, U, L, F, WU, WL, WF>,
+    steps: &mut Steps,
+) -> Result<(), TreeRefusal>
+    ensures outcome { IsOutcome V.eq (bits_of U L F) tree.old.limit (field_of (bits_of U L F) tree.old)
+        (subtracted (field_of (bits_of U L F) tree.old) (field_of (bits_of U L F) other.now)) (field_of (bits_of U L F) tree.new) result }
+    ensures limit { tree.new.limit ≡ tree.old.limit }
+    ensures memory { IfErr result (λ refusal. refusal ≡ Memory) }
+{
+    tree.combine_states(other, StateRule::Subtract, steps)
+}
+
+/// Makes each voxel of a tree inactive that isn't active in another tree (OpenVDB's `Tree::topologyIntersection`, but that it
+/// keeps the values).
+///
+/// `Memory` says that a growth was refused, and leaves every cell as it was.
+pub fn intersect<
+    V: Stored<WU> + Stored<WL> + Stored<WF>,
+    X: Stored<WU> + Stored<WL> + Stored<WF>,
+    const U: u32,
+    const L: u32,
+    const F: u32,
+    const WU: usize,
+    const WL: usize,
+    const WF: usize,
+>(
+    tree: &mut TreeOf<V, U, L, F, WU, WL, WF>,
+    other: &TreeOf<X, U, L, F, WU, WL, WF>,
+    steps: &mut Steps,
+) -> Result<(), TreeRefusal>
+    ensures outcome { IsOutcome V.eq (bits_of U L F) tree.old.limit (field_of (bits_of U L F) tree.old)
+        (intersected (field_of (bits_of U L F) tree.old) (field_of (bits_of U L F) other.now)) (field_of (bits_of U L F) tree.new) result }
+    ensures limit { tree.new.limit ≡ tree.old.limit }
+    ensures memory { IfErr result (λ refusal. refusal ≡ Memory) }
+{
+    tree.combine_states(other, StateRule::Intersect, steps)
+}

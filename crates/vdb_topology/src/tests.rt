@@ -1,0 +1,274 @@
+//! States of pairs of trees, beside what their cells were before.
+
+ghost use Rattle.std.specs.Prelude.{◌<◌};
+
+use crate::{intersect, subtract, unite};
+use std::process::Abort;
+use vdb_coord::{Bounds, Coord};
+use vdb_node::Stored;
+use vdb_pool::Steps;
+use vdb_tree::{NodeCounts, StateRule, Tree, Tree433, TreeOf, TreeRefusal, Write};
+use vdb_value::Cell;
+
+/// A tree whose blocks span 2, 4 and 8 voxels along each axis.
+type Tiny<V> = TreeOf<V, 1, 1, 1, 1, 1, 1>;
+
+/// Where the boxes lie along each axis.
+const LOW: i32 = -9;
+
+const HIGH: i32 = 12;
+
+fn at(x: i32, y: i32, z: i32) -> Coord {
+    Coord { x, y, z }
+}
+
+/// Knuth's generator of 64 bits.
+#[derive(Drop)]
+struct Draws {
+    state: u64,
+}
+
+impl Draws {
+    // A number below `bound`, by the upper bits.
+    fn below(&mut self, bound: u64) -> u64
+        requires { 0 < bound }
+        ensures { result < bound }
+    {
+        self.state = self
+            .state
+            .wrapping_mul(6364136223846793005)
+            .wrapping_add(1442695040888963407);
+        (self.state >> 33) % bound
+    }
+
+    // Where a box begins and ends along an axis.
+    fn span(&mut self) -> (i32, i32) {
+        let first = LOW.wrapping_add(self.below(22) as i32);
+        let length = self.below(12) as i32;
+        (first, first.wrapping_add(length).min(HIGH))
+    }
+
+    fn bounds(&mut self) -> Option<Bounds> {
+        let (x, y, z) = (self.span(), self.span(), self.span());
+        Bounds::new(at(x.0, y.0, z.0), at(x.1, y.1, z.1))
+    }
+}
+
+// Fills some boxes with this value, active or not, and at times prunes the tree or makes leaves in it.
+fn draw<
+    V: Stored<WU> + Stored<WL> + Stored<WF>,
+    const U: u32,
+    const L: u32,
+    const F: u32,
+    const WU: usize,
+    const WL: usize,
+    const WF: usize,
+>(
+    tree: &mut TreeOf<V, U, L, F, WU, WL, WF>,
+    values: [V; 2],
+    draws: &mut Draws,
+    steps: &mut Steps,
+) -> Result<(), TreeRefusal> {
+    for _ in 0..5u32 {
+        if let Some(bounds) = draws.bounds() {
+            let value = if draws.below(2) == 0 {
+                values[0]
+            } else {
+                values[1]
+            };
+            let on = draws.below(3) > 0;
+            let cell = Cell { value, on };
+            tree.split(bounds, cell, steps)?;
+            tree.paint(bounds, cell, steps);
+            match draws.below(4) {
+                0 => tree.prune(steps),
+                1 => tree.voxelise(bounds, steps)?,
+                _ => {}
+            }
+        }
+    }
+    Ok(())
+}
+
+fn made<V: Copy>(rule: StateRule, first: Cell<V>, second: bool) -> Cell<V> {
+    let on = match rule {
+        StateRule::Unite => first.on || second,
+        StateRule::Subtract => first.on && !second,
+        StateRule::Intersect => first.on && second,
+    };
+    Cell {
+        value: first.value,
+        on,
+    }
+}
+
+// Each coordinate around the boxes, with one voxel more on each side.
+fn expect_around<
+    V: Stored<WU> + Stored<WL> + Stored<WF>,
+    X: Stored<WU> + Stored<WL> + Stored<WF>,
+    const U: u32,
+    const L: u32,
+    const F: u32,
+    const WU: usize,
+    const WL: usize,
+    const WF: usize,
+>(
+    rt: &impl Abort,
+    rule: StateRule,
+    tree: &TreeOf<V, U, L, F, WU, WL, WF>,
+    other: &TreeOf<X, U, L, F, WU, WL, WF>,
+    changed: &TreeOf<V, U, L, F, WU, WL, WF>,
+    steps: &mut Steps,
+) {
+    for x in -10..=13 {
+        for y in -10..=13 {
+            for z in -10..=13 {
+                let p = at(x, y, z);
+                let wanted = made(rule, tree.get(p, steps), other.get(p, steps).on);
+                assert!(rt; changed.get(p, steps) == wanted);
+            }
+        }
+    }
+}
+
+// Makes the states of two trees by each rule, and compares each cell around the boxes, and some far from them.
+fn expect_rules<
+    V: Stored<WU> + Stored<WL> + Stored<WF>,
+    X: Stored<WU> + Stored<WL> + Stored<WF>,
+    const U: u32,
+    const L: u32,
+    const F: u32,
+    const WU: usize,
+    const WL: usize,
+    const WF: usize,
+>(
+    rt: &impl Abort,
+    tree: &TreeOf<V, U, L, F, WU, WL, WF>,
+    other: &TreeOf<X, U, L, F, WU, WL, WF>,
+    steps: &mut Steps,
+) -> Result<(), TreeRefusal> {
+    for rule in [StateRule::Unite, StateRule::Subtract, StateRule::Intersect] {
+        let mut changed = tree.try_copy()?;
+        match rule {
+            StateRule::Unite => unite(&mut changed, other, steps)?,
+            StateRule::Subtract => subtract(&mut changed, other, steps)?,
+            StateRule::Intersect => intersect(&mut changed, other, steps)?,
+        }
+        expect_around(rt, rule, tree, other, &changed, steps);
+        for p in [
+            at(5000, 0, 0),
+            at(i32::MIN, 7, -1),
+            at(i32::MAX, i32::MAX, i32::MAX),
+        ] {
+            assert!(rt; changed.get(p, steps) == made(rule, tree.get(p, steps), false));
+        }
+    }
+    Ok(())
+}
+
+#[test]
+fn random_trees_of_small_nodes(rt: HostRuntime) -> Result<(), TreeRefusal> {
+    let mut steps = Steps::new(&rt);
+    let mut draws = Draws { state: 5 };
+    for _ in 0..40u32 {
+        let mut tree: Tiny<i32> = Tiny::new(rt.alloc(), 3, 4096);
+        let mut other: Tiny<bool> = Tiny::new(rt.alloc(), true, 4096);
+        draw(&mut tree, [3, 4], &mut draws, &mut steps)?;
+        draw(&mut other, [true, false], &mut draws, &mut steps)?;
+        expect_rules(&rt, &tree, &other, &mut steps)?;
+    }
+    Ok(())
+}
+
+#[test]
+fn random_trees_of_large_nodes(rt: HostRuntime) -> Result<(), TreeRefusal> {
+    let mut steps = Steps::new(&rt);
+    let mut draws = Draws { state: 8 };
+    for _ in 0..12u32 {
+        let mut tree: Tree433<bool> = Tree433::new(rt.alloc(), false, 4096);
+        let mut other: Tree433<i64> = Tree433::new(rt.alloc(), -1, 4096);
+        draw(&mut tree, [true, false], &mut draws, &mut steps)?;
+        draw(&mut other, [-1, 9], &mut draws, &mut steps)?;
+        expect_rules(&rt, &tree, &other, &mut steps)?;
+    }
+    Ok(())
+}
+
+// A root block at each key from 0 to `count - 1` along z.
+fn fill_roots(
+    tree: &mut Tree<i32>,
+    count: i32,
+    cell: Cell<i32>,
+    steps: &mut Steps,
+) -> Result<(), TreeRefusal> {
+    let last = count.wrapping_mul(4096).wrapping_sub(1);
+    if let Some(bounds) = Bounds::new(at(0, 0, 0), at(4095, 4095, last)) {
+        tree.split(bounds, cell, steps)?;
+        tree.paint(bounds, cell, steps);
+    }
+    Ok(())
+}
+
+#[test]
+fn the_limit_is_that_of_the_first_tree(rt: HostRuntime) -> Result<(), TreeRefusal> {
+    let mut steps = Steps::new(&rt);
+    let mut tree = Tree::new(rt.alloc(), 0, 3);
+    let mut other = Tree::new(rt.alloc(), false, 100);
+    fill_roots(
+        &mut tree,
+        3,
+        Cell {
+            value: 1,
+            on: false,
+        },
+        &mut steps,
+    )?;
+    other.write(at(-1, 0, 0), Write::On(true), &mut steps)?;
+    assert!(rt; unite(&mut tree, &other, &mut steps) == Err(TreeRefusal::RootLimit));
+    assert!(rt;
+        tree.get(at(-1, 0, 0), &mut steps)
+            == Cell {
+                value: 0,
+                on: false
+            }
+    );
+    assert!(rt; subtract(&mut tree, &other, &mut steps).is_ok());
+    // One of the three blocks becomes background, and its entry stays until the table wants room.
+    let background = Cell {
+        value: 0,
+        on: false,
+    };
+    if let Some(bounds) = Bounds::new(at(0, 0, 0), at(4095, 4095, 4095)) {
+        tree.split(bounds, background, &mut steps)?;
+        tree.paint(bounds, background, &mut steps);
+    }
+    unite(&mut tree, &other, &mut steps)?;
+    assert!(rt; tree.get(at(-1, 0, 0), &mut steps) == Cell { value: 0, on: true });
+    assert!(rt; tree.get(at(-1, 0, 1), &mut steps) == background);
+    assert!(rt;
+        other.get(at(-1, 0, 0), &mut steps)
+            == Cell {
+                value: true,
+                on: true
+            }
+    );
+    Ok(())
+}
+
+#[test]
+fn one_tile_makes_no_node(rt: HostRuntime) -> Result<(), TreeRefusal> {
+    let mut steps = Steps::new(&rt);
+    let mut tree = Tree::new(rt.alloc(), 0, 4096);
+    let mut other = Tree::new(rt.alloc(), 0, 4096);
+    fill_roots(&mut other, 1, Cell { value: 0, on: true }, &mut steps)?;
+    unite(&mut tree, &other, &mut steps)?;
+    let wanted = NodeCounts {
+        entries: 1,
+        upper: 0,
+        lower: 0,
+        leaf: 0,
+    };
+    assert!(rt; tree.node_counts() == wanted);
+    assert!(rt; tree.get(at(9, 9, 9), &mut steps) == Cell { value: 0, on: true });
+    Ok(())
+}
