@@ -1,5 +1,5 @@
 -- What is done to a list of entries is done to the entries with their values made others.
-use Rattle.std.proofs.Common.{◌≡◌, refl, sym, ap, Bool, true, false, cond, List, [], ◌∷◌, map, Option, Some}
+use Rattle.std.proofs.Common.{◌≡◌, refl, sym, ap, subst, rules, Bool, true, false, cond, List, [], ◌∷◌, map, Option, Some, IsSome}
 use Rattle.std.specs.Option.{option_map}
 use Rattle.std.specs.declared.cmp.Ordering.{Ordering}
 use Rattle.std.specs.declared.cmp.Ordering.TheVariants.{Less, Equal, Greater}
@@ -65,3 +65,36 @@ found_or_later false k x w es fs o h e = ap (λ l. (k, x) ∷ l) (h e)
 pub set_value-found : {K X : Type 0} (t : K → Bool) (entries : List (K × X)) (w : X) → lookup t entries ≡ Some w → set_value t entries w ≡ entries
 set_value-found t [] w h = refl
 set_value-found t (e ∷ es) w h = found_or_later (t e.0) e.0 e.1 w es (set_value t es w) (lookup t es) (set_value-found t es w) h
+
+-- ---- one entry changed
+
+module _ {K X : Type 0} (t : K → Bool) where
+  found_step : (b : Bool) (e : K × X) (es : List (K × X)) (w : X) → t e.0 ≡ b → (IsSome (lookup t es) → lookup t (set_value t es w) ≡ Some w) → IsSome (lookup t (e ∷ es)) → lookup t (set_value t (e ∷ es) w) ≡ Some w
+  found_step true e es w p more h = rw p (rw p refl)
+  found_step false e es w p more h = rw p (rw p (more (subst (λ (b : Bool). IsSome (cond b (Some e.1) (lookup t es))) p h)))
+
+  -- the value that was put is found
+  pub put_found : (entries : List (K × X)) (w : X) → IsSome (lookup t entries) → lookup t (set_value t entries w) ≡ Some w
+  put_found [] w h = search rules
+  put_found (e ∷ es) w h = found_step (t e.0) e es w refl (put_found es w) h
+
+  twice_step : (b : Bool) (e : K × X) (es : List (K × X)) (v w : X) → t e.0 ≡ b → set_value t (set_value t es v) w ≡ set_value t es w → set_value t (set_value t (e ∷ es) v) w ≡ set_value t (e ∷ es) w
+  twice_step true e es v w p more = rw p (rw p refl)
+  twice_step false e es v w p more = rw p (rw p (ap (λ rest. e ∷ rest) more))
+
+  -- to put two values is to put the last
+  pub put_twice : (entries : List (K × X)) (v w : X) → set_value t (set_value t entries v) w ≡ set_value t entries w
+  put_twice [] v w = refl
+  put_twice (e ∷ es) v w = twice_step (t e.0) e es v w refl (put_twice es v w)
+
+  module _ (u : K → Bool) (apart : (k : K) → t k ≡ true → u k ≡ true → ⊥) where
+    other_step : (b c : Bool) (e : K × X) (es : List (K × X)) (w : X) → t e.0 ≡ b → u e.0 ≡ c → lookup u (set_value t es w) ≡ lookup u es → lookup u (set_value t (e ∷ es) w) ≡ lookup u (e ∷ es)
+    other_step true true e es w p q more = absurd (apart e.0 p q)
+    other_step true false e es w p q more = rw p (rw q refl)
+    other_step false true e es w p q more = rw p (rw q refl)
+    other_step false false e es w p q more = rw p (rw q more)
+
+    -- what another test finds stays, where no key passes both
+    pub others_found : (entries : List (K × X)) (w : X) → lookup u (set_value t entries w) ≡ lookup u entries
+    others_found [] w = refl
+    others_found (e ∷ es) w = other_step (t e.0) (u e.0) e es w refl refl (others_found es w)

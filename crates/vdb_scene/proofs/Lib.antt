@@ -3,9 +3,12 @@ mod Checks
 pub mod Entries
 pub mod Filling
 pub mod Borrowed
+pub mod Lent
 pub mod Listings
 pub mod Rows
 pub mod Reports
 pub mod Steps
 pub mod Trees
+pub mod TwoGrids
+pub mod TwoNames
 pub mod Writing

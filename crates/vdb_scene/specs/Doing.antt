@@ -1,6 +1,9 @@
 -- What calls that carry out a command give.
-use Rattle.std.specs.Prelude.{◌≡◌, ℕ, List, Some, None, Result, Ok, Err, IsTrue}
-use Rattle.std.specs.Map.{set_value}
+use Rattle.std.specs.Prelude.{◌≡◌, ℕ, List, Option, Some, None, Result, Ok, Err, IsTrue}
+use Rattle.std.specs.Ordering.{nat_cmp}
+use Rattle.std.specs.Cmp.Lexicographic.{slice_cmp}
+use Rattle.std.specs.Map.{remove_entry, set_value}
+use Rattle.std.specs.BTreeMap.{insert_entry}
 use Rattle.vdb_scene.specs.Grids.{IsPruned, IsVoxelised, scene_of}
 use Rattle.vdb_scene.specs.Scene as abstract_scene
 use Rattle.vdb_scene.specs.Scene.{is_named}
@@ -39,24 +42,72 @@ KeepsGrids old new = new.grids.entries ≡ old.grids.entries
 abbrev pub PutsGrid : Scene → List ℕ → AnyGrid → Scene → Type 0
 PutsGrid old name g new = new.grids.entries ≡ set_value (is_named name) old.grids.entries g
 
--- What a command that isn't refused makes of the trees, beside their cells: `prune` leaves its grid pruned, `voxelise` each
--- active voxel of its box in a leaf of its grid, and a command that only answers leaves each grid as it is.
+-- a name that wasn't there stands for this grid, and each other name for the same grid as before
+abbrev pub AddsGrid : Scene → List ℕ → AnyGrid → Scene → Type 0
+AddsGrid old name g new = new.grids.entries ≡ insert_entry (slice_cmp nat_cmp) old.grids.entries name g
+
+-- a name is gone, and each other name stands for the same grid as before
+abbrev pub RemovesGrid : Scene → List ℕ → Scene → Type 0
+RemovesGrid old name new = new.grids.entries ≡ remove_entry (is_named name) old.grids.entries
+
+-- What a command that isn't refused makes of the trees, beside their cells. Each grid stays as it is, but for that which the
+-- command changes, makes or takes away. `prune` leaves its grid pruned, and `voxelise` each active voxel of its box in a leaf of
+-- its grid.
 abbrev pub Shapes : Command → Scene → Scene → Type 0
+Shapes (commands.Grid name kind v) old new = (g : AnyGrid) × AddsGrid old name g new
+Shapes (commands.Drop name) old new = RemovesGrid old name new
+Shapes (commands.Copy from to) old new = (g : AnyGrid) × AddsGrid old to g new
+Shapes (commands.Get name k p) old new = KeepsGrids old new
+Shapes (commands.Set name k p v) old new = (g : AnyGrid) × PutsGrid old name g new
+Shapes (commands.Unset name k p v) old new = (g : AnyGrid) × PutsGrid old name g new
+Shapes (commands.Only name k p v) old new = (g : AnyGrid) × PutsGrid old name g new
+Shapes (commands.State name k p on) old new = (g : AnyGrid) × PutsGrid old name g new
+Shapes (commands.Fill name c v on) old new = (g : AnyGrid) × PutsGrid old name g new
+Shapes (commands.Clip name c) old new = (g : AnyGrid) × PutsGrid old name g new
 Shapes (commands.Prune name) old new = (g : AnyGrid) × PutsGrid old name g new × IsPruned g
 Shapes (commands.Voxelise name c) old new = (g : AnyGrid) × PutsGrid old name g new × IsVoxelised g (box_between c)
-Shapes (commands.Get name k p) old new = KeepsGrids old new
 Shapes (commands.List name c limit) old new = KeepsGrids old new
 Shapes (commands.Slice name z a) old new = KeepsGrids old new
 Shapes (commands.Count name c) old new = KeepsGrids old new
 Shapes (commands.Bounds name) old new = KeepsGrids old new
 Shapes (commands.Census name) old new = KeepsGrids old new
-Shapes _ old new = Unit {0}
+Shapes (commands.Union name other) old new = (g : AnyGrid) × PutsGrid old name g new
+Shapes (commands.Difference name other) old new = (g : AnyGrid) × PutsGrid old name g new
+Shapes (commands.Intersect name other) old new = (g : AnyGrid) × PutsGrid old name g new
+Shapes (commands.Max name other) old new = (g : AnyGrid) × PutsGrid old name g new
+Shapes (commands.Min name other) old new = (g : AnyGrid) × PutsGrid old name g new
+Shapes (commands.Sum name other) old new = (g : AnyGrid) × PutsGrid old name g new
+Shapes (commands.Replace name other) old new = (g : AnyGrid) × PutsGrid old name g new
 
--- What a command makes of the trees, by its answer: one that is refused leaves each grid as it is, but for `RootLimit` and
--- `Memory`, which may come after some nodes were made.
+-- the name whose grid a command changes, if it changes one that is there
+abbrev pub changed_name : Command → Option (List ℕ)
+changed_name (commands.Set name k p v) = Some name
+changed_name (commands.Unset name k p v) = Some name
+changed_name (commands.Only name k p v) = Some name
+changed_name (commands.State name k p on) = Some name
+changed_name (commands.Fill name c v on) = Some name
+changed_name (commands.Clip name c) = Some name
+changed_name (commands.Prune name) = Some name
+changed_name (commands.Voxelise name c) = Some name
+changed_name (commands.Union name other) = Some name
+changed_name (commands.Difference name other) = Some name
+changed_name (commands.Intersect name other) = Some name
+changed_name (commands.Max name other) = Some name
+changed_name (commands.Min name other) = Some name
+changed_name (commands.Sum name other) = Some name
+changed_name (commands.Replace name other) = Some name
+changed_name c = None
+
+-- every grid stays as it is, but for that of this name, if there is a name
+abbrev pub KeepsOthers : Option (List ℕ) → Scene → Scene → Type 0
+KeepsOthers (Some name) old new = (g : AnyGrid) × PutsGrid old name g new
+KeepsOthers None old new = KeepsGrids old new
+
+-- What a command makes of the trees, by its answer: one that is refused leaves each grid as it is. `RootLimit` and `Memory` may
+-- come after some nodes were made, so these leave each other grid as it is, and that which the command changes with its cells.
 abbrev pub LeavesTrees : Command → Answer → Scene → Scene → Type 0
-LeavesTrees c (Refused refusals.RootLimit) old new = Unit {0}
-LeavesTrees c (Refused refusals.Memory) old new = Unit {0}
+LeavesTrees c (Refused refusals.RootLimit) old new = KeepsOthers (changed_name c) old new
+LeavesTrees c (Refused refusals.Memory) old new = KeepsOthers (changed_name c) old new
 LeavesTrees c (Refused r) old new = KeepsGrids old new
 LeavesTrees c answer old new = Shapes c old new
 

@@ -5,6 +5,7 @@ pub mod Scene
 pub mod Places
 pub mod Replies
 pub mod Refusals
+pub mod TwoGrids
 pub mod Step
 pub mod Grids
 pub mod Readers

@@ -2,13 +2,14 @@
 use Rattle.std.specs.Prelude.{ℕ, Bool, not, ◌||◌, if◌then◌else◌, List, [], ◌∷◌, length, Option, Some, None, is_some, is_none, nat_le, nat_lt}
 use Rattle.vdb_coord.specs.Blocks.{vdb}
 use Rattle.vdb_coord.specs.Space.{Box, extent, is_box, volume}
-use Rattle.vdb_tree.specs.Field.{Field}
+use Rattle.vdb_value.specs.Values.{has_sums}
+use Rattle.vdb_tree.specs.Field.{Field, lacks_sum}
 use Rattle.vdb_tree.specs.ConstantBlocks.{roots}
 use Rattle.vdb_tree.specs.declared.refusal.TreeRefusal.{TreeRefusal}
 use Rattle.vdb_tree.specs.declared.refusal.TreeRefusal.TheVariants.{Memory, RootLimit}
 use Rattle.vdb_scene.specs.Places.{are_coords, box_between, is_accessor}
-use Rattle.vdb_scene.specs.Scalars.{scalar_eq}
-use Rattle.vdb_scene.specs.Scene.{Scene, field_at, grid_at, limit_at}
+use Rattle.vdb_scene.specs.Scalars.{kind_eq, kind_of, scalar_eq, scalar_sum}
+use Rattle.vdb_scene.specs.Scene.{Scene, field_at, grid_at, is_named, limit_at}
 use Rattle.vdb_scene.specs.declared.answer.Refusal.{Refusal}
 use Rattle.vdb_scene.specs.declared.answer.Refusal.TheVariants as refusals
 use Rattle.vdb_scene.specs.declared.command.Corners.{Corners}
@@ -23,6 +24,10 @@ of_tree Memory = refusals.Memory
 -- the refusal where a test holds
 abbrev pub refused_if : Bool → Refusal → Option Refusal
 refused_if test r = if test then Some r else None
+
+-- more root blocks of a field than so many hold anything but the background
+abbrev pub beyond_limit : ℕ → Field Scalar → Option Refusal
+beyond_limit limit f = refused_if (nat_lt limit (roots scalar_eq vdb f)) refusals.RootLimit
 
 module _ (s : Scene) where
   -- the grid isn't there
@@ -39,7 +44,7 @@ module _ (s : Scene) where
 
   -- more root blocks than the grid's limit would hold anything but the background after this change
   abbrev pub root_limit : List ℕ → (Field Scalar → Field Scalar) → Option Refusal
-  root_limit name change = refused_if (nat_lt (limit_at s name) (roots scalar_eq vdb (change (field_at s name)))) refusals.RootLimit
+  root_limit name change = beyond_limit (limit_at s name) (change (field_at s name))
 
 -- something has another form than the kind's values
 abbrev pub other_form : Bool → Option Refusal
@@ -69,6 +74,22 @@ too_wide most box = refused_if (nat_lt most (extent box.min.x box.max.x) || nat_
 abbrev pub tried_region : Option Corners → List (Option Refusal)
 tried_region None = []
 tried_region (Some c) = out_of_range (are_coords c) ∷ no_box c ∷ []
+
+-- a command on two grids names one twice
+abbrev pub same_grid : List ℕ → List ℕ → Option Refusal
+same_grid name other = refused_if (is_named name other) refusals.SameGrid
+
+-- two grids are of two kinds
+abbrev pub other_kind : Field Scalar → Field Scalar → Option Refusal
+other_kind f g = refused_if (not (kind_eq (kind_of f.background) (kind_of g.background))) refusals.Kind
+
+-- truth values have no sum
+abbrev pub no_sum : Field Scalar → Option Refusal
+no_sum f = refused_if (not (has_sums (kind_of f.background))) refusals.NoSum
+
+-- at some coordinate, active or not, the sum of two values lies outside the kind
+abbrev pub sum_range : Field Scalar → Field Scalar → Option Refusal
+sum_range f g = refused_if (lacks_sum scalar_sum f g) refusals.SumRange
 
 -- the first refusal of a list, if there is one
 abbrev pub first_of_all : List (Option Refusal) → Option Refusal

@@ -11,10 +11,11 @@ use Rattle.vdb_tree.specs.Field.{Field, as_write_of, clip, fill, write, written}
 use Rattle.vdb_tree.specs.ConstantBlocks.{cell_eq, count, is_constant}
 use Rattle.vdb_walk.specs.Reports.{IsActiveBounds, active, census}
 use Rattle.vdb_scene.specs.Places.{are_coords, box_between, count_of, flat, is_limit, is_coord, coord_of, region}
-use Rattle.vdb_scene.specs.Refusals.{first_of_all, too_many_grids, name_taken, no_accessor, no_box, no_grid, other_form, out_of_range, root_limit, too_large, too_wide, tried_region}
+use Rattle.vdb_scene.specs.Refusals.{first_of_all, too_many_grids, name_taken, no_accessor, no_box, no_grid, other_form, out_of_range, root_limit, same_grid, too_large, too_wide, tried_region}
 use Rattle.vdb_scene.specs.Replies.{Bounds, Census, Count, Done, Refused, Reply, Slice, Value, listing, rows}
 use Rattle.vdb_scene.specs.Scalars.{has_form, has_value, scalar, scalar_eq}
-use Rattle.vdb_scene.specs.Scene.{Grid, Scene, field_at, kind_at, new_grid, the_grid, with_changed, with_grid, without_grid}
+use Rattle.vdb_scene.specs.Scene.{Grid, Scene, field_at, kind_at, limit_at, new_grid, the_grid, with_changed, with_grid, without_grid}
+use Rattle.vdb_scene.specs.TwoGrids.{made_of, tried_of}
 use Rattle.vdb_scene.specs.declared.command.Command.{Command}
 use Rattle.vdb_scene.specs.declared.command.Command.TheVariants as commands
 use Rattle.vdb_scene.specs.declared.command.Literal.{Literal}
@@ -23,6 +24,10 @@ use Rattle.vdb_scene.specs.declared.command.Point.{Point}
 use Rattle.vdb_scene.specs.declared.answer.Refusal.{Refusal}
 use Rattle.vdb_scene.specs.declared.answer.Refusal.TheVariants as refusals
 use Rattle.vdb_scene.specs.declared.scalar.Scalar.{Scalar}
+use Rattle.vdb_scene.specs.declared.two_grids.Operation.{Operation}
+use Rattle.vdb_scene.specs.declared.two_grids.Operation.TheVariants.{States, Values}
+use Rattle.vdb_scene.specs.declared.two_grids.Composite.TheVariants as composites
+use Rattle.vdb_tree.specs.declared.pairs.StateRule.TheVariants as rules
 
 -- ---- writes of voxels
 
@@ -91,6 +96,15 @@ meaning_of_write s name k p w = record {
   after = after_write s name p w;
   IsReply = only Done;
   takes_memory = line_takes_memory s name p w;
+}
+
+-- an operation on two grids
+abbrev pub meaning_of_two : Operation → Scene → List ℕ → List ℕ → Meaning
+meaning_of_two o s name other = record {
+  tried = no_grid s name ∷ no_grid s other ∷ same_grid name other ∷ tried_of o (limit_at s name) (field_at s name) (field_at s other);
+  after = changed s name (λ f. made_of o f (field_at s other));
+  IsReply = only Done;
+  takes_memory = true;
 }
 
 -- what each command means
@@ -192,6 +206,14 @@ meaning s (commands.Census name) = record {
   IsReply = only (Census (census scalar_eq vdb (field_at s name)));
   takes_memory = false;
 }
+-- the seven operations on two grids, of which the first changes
+meaning s (commands.Union name other) = meaning_of_two (States rules.Unite) s name other
+meaning s (commands.Difference name other) = meaning_of_two (States rules.Subtract) s name other
+meaning s (commands.Intersect name other) = meaning_of_two (States rules.Intersect) s name other
+meaning s (commands.Max name other) = meaning_of_two (Values composites.Maximum) s name other
+meaning s (commands.Min name other) = meaning_of_two (Values composites.Minimum) s name other
+meaning s (commands.Sum name other) = meaning_of_two (Values composites.Sum) s name other
+meaning s (commands.Replace name other) = meaning_of_two (Values composites.Replace) s name other
 
 -- what a command may be refused for, in order
 abbrev pub tried : Scene → Command → List (Option Refusal)

@@ -11,8 +11,10 @@ ghost use Rattle.vdb_walk.specs.Reports.{IsActiveBounds, census as census_of};
 ghost use Rattle.vdb_scene.specs.Scalars.{is_of, kind_of, scalar_eq};
 ghost use Rattle.vdb_scene.specs.Grids.{IsPruned, IsVoxelised, grid_field, grid_limit};
 ghost use Rattle.vdb_scene.specs.Step.{passes, write_takes_memory};
+ghost use Rattle.vdb_scene.specs.TwoGrids.{IsMade, StaysBut};
 
-use crate::{Scalar, grid_tree};
+use crate::two_grids::Operation;
+use crate::{Refusal, Scalar, grid_pair, grid_tree};
 use std::alloc::Global;
 use vdb_coord::{Bounds, Coord};
 use vdb_pool::Steps;
@@ -116,6 +118,27 @@ impl AnyGrid {
             AnyGrid::Bool(tree) => grid_tree::clip(tree, bounds, steps),
             AnyGrid::I32(tree) => grid_tree::clip(tree, bounds, steps),
             AnyGrid::I64(tree) => grid_tree::clip(tree, bounds, steps),
+        }
+    }
+
+    /// Makes of this grid and of another one what the operation says; the other stays. `Kind` refuses grids of two kinds where
+    /// values are made of values, `NoSum` a sum of truth values, `SumRange` one that lies outside the kind at some coordinate;
+    /// `RootLimit` says that too many root blocks would have a cell that isn't the background, inactive, and `Memory` that a
+    /// growth was refused. Each leaves every cell and the background as they were.
+    pub(crate) fn combine(
+        &mut self,
+        operation: Operation,
+        other: &AnyGrid,
+        steps: &mut Steps,
+    ) -> Result<(), Refusal>
+        ensures kept { IfErr result (λ refusal. StaysBut refusal self.old self.new) }
+        ensures outcome { IsMade operation (grid_limit self.old) (grid_field self.old) (grid_field other.now) (grid_field self.new) result }
+        ensures limit { grid_limit self.new ≡ grid_limit self.old }
+    {
+        match self {
+            AnyGrid::Bool(tree) => grid_pair::combine(tree, operation, other, steps),
+            AnyGrid::I32(tree) => grid_pair::combine(tree, operation, other, steps),
+            AnyGrid::I64(tree) => grid_pair::combine(tree, operation, other, steps),
         }
     }
 

@@ -14,13 +14,14 @@ ghost use Rattle.vdb_tree.specs.Field.{as_write_of};
 ghost use Rattle.vdb_scene.specs.declared.command.Command.TheVariants as commands;
 
 use crate::slice::numbers;
+use crate::two_grids::{Composite, Operation};
 use crate::{
     Answer, AnyGrid, Area, Command, Corners, Literal, Name, Num, Point, ROOT_LIMIT, Refusal,
     Scalar, Scene, Slice, Voxels,
 };
 use vdb_coord::{Bounds, Coord};
 use vdb_pool::Steps;
-use vdb_tree::Write;
+use vdb_tree::{StateRule, Write};
 use vdb_value::{Cell, Kind};
 
 /// The most voxels of a box that is voxelised at once.
@@ -433,6 +434,39 @@ impl Scene {
             Command::Count { name, corners } => self.count(name, corners, steps),
             Command::Bounds { name } => self.bounds(name, steps),
             Command::Census { name } => self.census(name, steps),
+            Command::Union { name, other } => self.combine(
+                Operation::States(StateRule::Unite),
+                name,
+                other,
+                steps,
+            ),
+            Command::Difference { name, other } => {
+                self.combine(Operation::States(StateRule::Subtract), name, other, steps)
+            }
+            Command::Intersect { name, other } => {
+                self.combine(Operation::States(StateRule::Intersect), name, other, steps)
+            }
+            Command::Max { name, other } => self.combine(
+                Operation::Values(Composite::Maximum),
+                name,
+                other,
+                steps,
+            ),
+            Command::Min { name, other } => self.combine(
+                Operation::Values(Composite::Minimum),
+                name,
+                other,
+                steps,
+            ),
+            Command::Sum { name, other } => self.combine(
+                Operation::Values(Composite::Sum),
+                name,
+                other,
+                steps,
+            ),
+            Command::Replace { name, other } => {
+                self.combine(Operation::Values(Composite::Replace), name, other, steps)
+            }
         }
     }
 }

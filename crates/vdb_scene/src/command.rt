@@ -141,4 +141,39 @@ pub enum Command {
     Census {
         name: Name,
     },
+    /// Makes each voxel of a grid active that is so in the grid or in another. No value changes.
+    Union {
+        name: Name,
+        other: Name,
+    },
+    /// Makes each voxel of a grid inactive that is active in another. No value changes.
+    Difference {
+        name: Name,
+        other: Name,
+    },
+    /// Makes each voxel of a grid inactive that isn't active in another. No value changes.
+    Intersect {
+        name: Name,
+        other: Name,
+    },
+    /// Gives a grid the greater of its values and of another's everywhere, active where either is.
+    Max {
+        name: Name,
+        other: Name,
+    },
+    /// Gives a grid the lesser of its values and of another's everywhere, active where either is.
+    Min {
+        name: Name,
+        other: Name,
+    },
+    /// Gives a grid the sum of its values and of another's everywhere, active where either is.
+    Sum {
+        name: Name,
+        other: Name,
+    },
+    /// Gives a grid the cells of another where those are active.
+    Replace {
+        name: Name,
+        other: Name,
+    },
 }

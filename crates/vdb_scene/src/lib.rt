@@ -5,6 +5,7 @@ mod answer;
 mod any_grid;
 mod carry_out;
 mod command;
+mod grid_pair;
 mod grid_reports;
 mod grid_tree;
 mod name;
@@ -12,6 +13,7 @@ mod reader;
 mod scalar;
 mod scene;
 mod slice;
+mod two_grids;
 mod voxels;
 mod watched;
 

@@ -1,12 +1,18 @@
 //! Values of any kind.
 
 ghost use Rattle.std.specs.Option.{option_map};
-ghost use Rattle.std.specs.Prelude.{◌≡◌, refl};
-ghost use Rattle.vdb_scene.specs.Scalars.{kind_of, scalar_bytes, scalar_eq, scalar_greater, scalar_lesser, scalar_sum};
+ghost use Rattle.std.specs.Prelude.{◌≡◌, refl, false, IfNone, IfSome};
+ghost use Rattle.vdb_coord.specs.Blocks.{vdb};
+ghost use Rattle.vdb_tree.specs.Field.{as_field_of};
+ghost use Rattle.vdb_tree.specs.Layout.{field_of};
+ghost use Rattle.vdb_scene.specs.Grids.{grid_field};
+ghost use Rattle.vdb_scene.specs.Scalars.{kind_eq, kind_of, scalar_bytes, scalar_eq, scalar_greater, scalar_lesser, scalar_sum};
 ghost use Rattle.vdb_scene.specs.declared.scalar.Scalar.{Scalar};
 ghost use Rattle.vdb_scene.specs.declared.scalar.Scalar.TheVariants as scalars;
 
+use crate::AnyGrid;
 use vdb_node::Stored;
+use vdb_tree::Tree;
 
 /// A value of one of the three kinds.
 #[derive(Clone, Copy, Debug, PartialEq, Eq)]
@@ -29,6 +35,11 @@ pub trait GridValue: Stored<512> + Stored<64> + Stored<8> {
     fn from_scalar(scalar: Scalar) -> Self
         requires { kind_of scalar ≡ Self.KIND }
         ensures { as_scalar result ≡ scalar };
+
+    /// The tree of a grid of the type's kind; `None` for one of another kind.
+    fn tree_in(grid: &AnyGrid) -> Option<&Tree<Self>>
+        ensures some { IfSome result (λ tree. grid_field grid.now ≡ as_field_of as_scalar (field_of vdb tree.now)) }
+        ensures none { IfNone result (kind_eq Self.KIND (kind_of (grid_field grid.now).background) ≡ false) };
 
     /// All values of the type are of its kind.
     ghost same_kind: { (x : Self) → kind_of (as_scalar x) ≡ Self.KIND };
@@ -60,6 +71,13 @@ impl GridValue for bool {
         }
     }
 
+    fn tree_in(grid: &AnyGrid) -> Option<&Tree<bool>> {
+        match grid {
+            AnyGrid::Bool(tree) => Some(tree),
+            _ => None,
+        }
+    }
+
     ghost same_kind = { λ x. refl };
 
     ghost same_eq = { λ x y. refl };
@@ -87,6 +105,13 @@ impl GridValue for i32 {
         }
     }
 
+    fn tree_in(grid: &AnyGrid) -> Option<&Tree<i32>> {
+        match grid {
+            AnyGrid::I32(tree) => Some(tree),
+            _ => None,
+        }
+    }
+
     ghost same_kind = { λ x. refl };
 
     ghost same_eq = { λ x y. refl };
@@ -111,6 +136,13 @@ impl GridValue for i64 {
         match scalar {
             Scalar::I64(value) => value,
             _ => unreachable!(),
+        }
+    }
+
+    fn tree_in(grid: &AnyGrid) -> Option<&Tree<i64>> {
+        match grid {
+            AnyGrid::I64(tree) => Some(tree),
+            _ => None,
         }
     }
 

@@ -4,6 +4,7 @@ ghost use Rattle.std.specs.Cmp.Lexicographic.{slice_cmp};
 ghost use Rattle.std.specs.List.Sorted.{IsStrictlySortedBy};
 ghost use Rattle.std.specs.Option.{option_map};
 ghost use Rattle.std.specs.Ordering.{nat_cmp};
+ghost use Rattle.vdb_scene.specs.Doing.{AddsGrid, KeepsGrids};
 ghost use Rattle.vdb_scene.specs.Grids.{grid_of, scene_of};
 ghost use Rattle.vdb_scene.specs.Scene.{grid_at, with_grid};
 ghost use Rattle.vdb_scene.specs.Step.{Inserts};
@@ -85,6 +86,8 @@ impl Scene {
         ensures ok { OnOk result (scene_of self.new ≡ with_grid (scene_of self.old) name (grid_of grid)) }
         ensures err { OnErr result (scene_of self.new ≡ scene_of self.old) }
         ensures memory { IfErr result (λ refusal. refusal ≡ Refusal.Memory) }
+        ensures added { OnOk result (AddsGrid self.old name grid self.new) }
+        ensures kept { OnErr result (KeepsGrids self.old self.new) }
     {
         match self.grids.insert(name, grid) {
             Ok(_) => Ok(()),

@@ -245,6 +245,13 @@ census = do
   name ← one name_of
   give (commands.Census name)
 
+-- NAME OTHER, behind the word of a command on two grids, of which the first changes
+abbrev pub two_grids : (List ℕ → List ℕ → Command) → Form Command
+two_grids make = do
+  name ← one name_of
+  other ← one name_of
+  give (make name other)
+
 -- ---- the commands
 
 -- each command's word, and the form of what comes behind it
@@ -252,7 +259,8 @@ abbrev pub command_forms : List (List ℕ × Form Command)
 command_forms =
     (codes "grid", grid) ∷ (codes "drop", drop) ∷ (codes "copy", copy) ∷ (codes "get", get) ∷ (codes "set", set) ∷ (codes "unset", unset) ∷ (codes "only", only) ∷ (codes "state", state)
     ∷ (codes "fill", fill) ∷ (codes "clip", clip) ∷ (codes "prune", prune) ∷ (codes "voxelise", voxelise) ∷ (codes "list", list) ∷ (codes "slice", slice) ∷ (codes "count", count) ∷ (codes "bounds", bounds)
-    ∷ (codes "census", census) ∷ []
+    ∷ (codes "census", census) ∷ (codes "union", two_grids commands.Union) ∷ (codes "difference", two_grids commands.Difference) ∷ (codes "intersect", two_grids commands.Intersect)
+    ∷ (codes "max", two_grids commands.Max) ∷ (codes "min", two_grids commands.Min) ∷ (codes "sum", two_grids commands.Sum) ∷ (codes "replace", two_grids commands.Replace) ∷ []
 
 -- a command with no token left, or a syntax error
 abbrev pub whole : Option (Command × List (List ℕ)) → Result (Option Command) Refusal

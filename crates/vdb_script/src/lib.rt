@@ -12,6 +12,7 @@ mod reports;
 mod slices;
 mod source;
 mod tokens;
+mod two_grids;
 
 pub use line_text::LINE_LIMIT;
 pub use lines::{Line, Lines, read_line};

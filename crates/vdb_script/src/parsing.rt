@@ -9,12 +9,16 @@ ghost use Rattle.vdb_script.specs.Grammar.{name_of, kind_named, state_of, litera
 
 use crate::numbers::number_of;
 use crate::tokens::{first_token, split_tokens};
+use crate::two_grids::{
+    difference_command, intersect_command, max_command, min_command, replace_command, sum_command,
+    union_command,
+};
 use std::alloc::Global;
 use vdb_scene::{Area, Command, Corners, Literal, Name, Num, Point, Refusal};
 use vdb_value::Kind;
 
 /// The name that a token is.
-fn name_of(token: &[u8]) -> Option<Name>
+pub(crate) fn name_of(token: &[u8]) -> Option<Name>
     ensures { result ≡ name_of token.now }
 {
     Name::new(token)
@@ -390,6 +394,20 @@ fn command_of(word: &[u8], tokens: &[&[u8]]) -> Option<Command>
         bounds_command(tokens)
     } else if is_word(word, b"census") {
         census_command(tokens)
+    } else if is_word(word, b"union") {
+        union_command(tokens)
+    } else if is_word(word, b"difference") {
+        difference_command(tokens)
+    } else if is_word(word, b"intersect") {
+        intersect_command(tokens)
+    } else if is_word(word, b"max") {
+        max_command(tokens)
+    } else if is_word(word, b"min") {
+        min_command(tokens)
+    } else if is_word(word, b"sum") {
+        sum_command(tokens)
+    } else if is_word(word, b"replace") {
+        replace_command(tokens)
     } else {
         None
     }

@@ -169,6 +169,25 @@ fn commands_are_read(rt: HostRuntime) {
         (b"copy a b".as_slice(), Command::Copy { from: a, to: b }),
         (b"copy b a".as_slice(), Command::Copy { from: b, to: a }),
         (
+            b"union a b".as_slice(),
+            Command::Union { name: a, other: b },
+        ),
+        (
+            b"difference a b".as_slice(),
+            Command::Difference { name: a, other: b },
+        ),
+        (
+            b"intersect b a".as_slice(),
+            Command::Intersect { name: b, other: a },
+        ),
+        (b"max a b".as_slice(), Command::Max { name: a, other: b }),
+        (b"min b a".as_slice(), Command::Min { name: b, other: a }),
+        (b"sum a a".as_slice(), Command::Sum { name: a, other: a }),
+        (
+            b"replace a b".as_slice(),
+            Command::Replace { name: a, other: b },
+        ),
+        (
             b"voxelise a -1 0 2147483648 0 0 0".as_slice(),
             Command::Voxelise {
                 name: a,
@@ -269,6 +288,10 @@ fn other_lines_are_no_commands(rt: HostRuntime) {
         b"copy a b c".as_slice(),
         b"copy a B".as_slice(),
         b"copy - b".as_slice(),
+        b"union a".as_slice(),
+        b"max a b c".as_slice(),
+        b"sum a 1".as_slice(),
+        b"replace A b".as_slice(),
         b"voxelise a 0 0 0 0 0".as_slice(),
         b"voxelise a 0 0 0 0 0 0 0".as_slice(),
         b"voxelise a - 0 0 0 0 0".as_slice(),

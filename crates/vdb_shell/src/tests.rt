@@ -6,6 +6,7 @@ mod layouts;
 mod lists;
 mod random;
 mod slices;
+mod two_grids;
 
 use super::*;
 use std::alloc::AllocError;

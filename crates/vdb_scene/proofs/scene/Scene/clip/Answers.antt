@@ -8,7 +8,7 @@ use Rattle.vdb_scene.proofs.Borrowed.{changed_field, found, kept, missing, uncha
 use Rattle.vdb_scene.proofs.Steps.{corners_first, refused}
 use Rattle.vdb_scene.specs.Grids.{grid_field, grid_limit, scene_of}
 use Rattle.vdb_scene.specs.declared.command.Command.TheVariants as commands
-use Rattle.vdb_scene.proofs.Trees.{refused_leaves, same_back}
+use Rattle.vdb_scene.proofs.Trees.{refused_leaves, tree_refused_leaves}
 use Rattle.vdb_scene.proofs.scene.Scene.clip.Goals as goal
 
 pub returns-in_default-clause-step : goal.returns-in_default-clause-step
@@ -53,4 +53,12 @@ returns-clause-step c =
 pub returns-in_err-bounds-clause-trees : goal.returns-in_err-bounds-clause-trees
 returns-in_err-bounds-clause-trees c =
     let exit = err_from_is_err_and c.from_residual.result c.from_residual.ensures.1 in
-    rw exit.1 (refused_leaves c.args.self.now (record c.args.self.now { grids = c.get_mut.follows.lender c.in-Some.grid.now }) (commands.Clip c.args.name.now c.args.corners.now) _ (same_back c.args.self.now.grids.entries _ c.args.name.now c.in-Some.grid.now (sym c.in-Some.ensures.value) (c.get_mut.follows.holds c.in-Some.grid.now).0))
+    rw exit.1 (refused_leaves c.args.self.now (record c.args.self.now { grids = c.get_mut.follows.lender c.in-Some.grid.now }) (commands.Clip c.args.name.now c.args.corners.now) c.args.name.now refl c.in-Some.grid.now (c.get_mut.follows.holds c.in-Some.grid.now).0 _ (sym c.in-Some.ensures.value))
+
+pub returns-in_err-clip-clause-trees : goal.returns-in_err-clip-clause-trees
+returns-in_err-clip-clause-trees c =
+    let exit = err_from_is_err_and c.from_residual-in_err-clip.result c.from_residual-in_err-clip.ensures.1 in
+    rw (exit.1, exit.2) (tree_refused_leaves c.args.self.now (record c.args.self.now { grids = c.get_mut.follows.lender c.clip.new.self }) (commands.Clip c.args.name.now c.args.corners.now) c.args.name.now refl c.clip.new.self (c.get_mut.follows.holds c.clip.new.self).0 c.in_err-clip.field-0.0)
+
+pub returns-clause-trees : goal.returns-clause-trees
+returns-clause-trees c = (c.clip.new.self, (c.get_mut.follows.holds c.clip.new.self).0)

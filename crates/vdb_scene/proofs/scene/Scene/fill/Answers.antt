@@ -5,7 +5,7 @@ use Rattle.vdb_tree.specs.Field.{fill}
 use Rattle.vdb_scene.specs.Grids.{grid_field, grid_limit}
 use Rattle.vdb_scene.proofs.Borrowed.{changed_field, kept, unchanged}
 use Rattle.vdb_scene.proofs.Filling.{fill_corners_refused, fill_done, fill_missing, fill_refused, fill_value_refused}
-use Rattle.vdb_scene.proofs.Trees.{refused_leaves, same_back}
+use Rattle.vdb_scene.proofs.Trees.{refused_leaves, tree_refused_leaves}
 use Rattle.vdb_scene.specs.declared.command.Command.TheVariants as commands
 use Rattle.vdb_scene.proofs.scene.Scene.fill.Goals as goal
 
@@ -57,9 +57,17 @@ returns-clause-step c =
 pub returns-in_err-value-clause-trees : goal.returns-in_err-value-clause-trees
 returns-in_err-value-clause-trees c =
     let exit = err_from_is_err_and c.from_residual.result c.from_residual.ensures.1 in
-    rw exit.1 (refused_leaves c.args.self.now (record c.args.self.now { grids = c.get_mut.follows.lender c.in-Some.grid.now }) (commands.Fill c.args.name.now c.args.corners.now c.args.value c.args.on) _ (same_back c.args.self.now.grids.entries _ c.args.name.now c.in-Some.grid.now (sym c.in-Some.ensures.value) (c.get_mut.follows.holds c.in-Some.grid.now).0))
+    rw exit.1 (refused_leaves c.args.self.now (record c.args.self.now { grids = c.get_mut.follows.lender c.in-Some.grid.now }) (commands.Fill c.args.name.now c.args.corners.now c.args.value c.args.on) c.args.name.now refl c.in-Some.grid.now (c.get_mut.follows.holds c.in-Some.grid.now).0 _ (sym c.in-Some.ensures.value))
 
 pub returns-in_err-bounds-clause-trees : goal.returns-in_err-bounds-clause-trees
 returns-in_err-bounds-clause-trees c =
     let exit = err_from_is_err_and c.from_residual-in_err-bounds.result c.from_residual-in_err-bounds.ensures.1 in
-    rw exit.1 (refused_leaves c.args.self.now (record c.args.self.now { grids = c.get_mut.follows.lender c.in-Some.grid.now }) (commands.Fill c.args.name.now c.args.corners.now c.args.value c.args.on) _ (same_back c.args.self.now.grids.entries _ c.args.name.now c.in-Some.grid.now (sym c.in-Some.ensures.value) (c.get_mut.follows.holds c.in-Some.grid.now).0))
+    rw exit.1 (refused_leaves c.args.self.now (record c.args.self.now { grids = c.get_mut.follows.lender c.in-Some.grid.now }) (commands.Fill c.args.name.now c.args.corners.now c.args.value c.args.on) c.args.name.now refl c.in-Some.grid.now (c.get_mut.follows.holds c.in-Some.grid.now).0 _ (sym c.in-Some.ensures.value))
+
+pub returns-in_err-fill-clause-trees : goal.returns-in_err-fill-clause-trees
+returns-in_err-fill-clause-trees c =
+    let exit = err_from_is_err_and c.from_residual-in_err-fill.result c.from_residual-in_err-fill.ensures.1 in
+    rw (exit.1, exit.2) (tree_refused_leaves c.args.self.now (record c.args.self.now { grids = c.get_mut.follows.lender c.fill.new.self }) (commands.Fill c.args.name.now c.args.corners.now c.args.value c.args.on) c.args.name.now refl c.fill.new.self (c.get_mut.follows.holds c.fill.new.self).0 c.in_err-fill.field-0.0)
+
+pub returns-clause-trees : goal.returns-clause-trees
+returns-clause-trees c = (c.fill.new.self, (c.get_mut.follows.holds c.fill.new.self).0)

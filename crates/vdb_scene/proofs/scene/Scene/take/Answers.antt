@@ -31,3 +31,6 @@ pub returns-then-is_none-clause-trees : goal.returns-then-is_none-clause-trees
 returns-then-is_none-clause-trees c =
     let none : c.remove.result ≡ None = none_from c.remove.result (search rules) in
     rw none at c.remove.ensures.unchanged
+
+pub returns-clause-trees : goal.returns-clause-trees
+returns-clause-trees c = c.remove.ensures.entries

@@ -9,7 +9,7 @@ use Rattle.vdb_scene.proofs.Borrowed.{found, missing, unchanged}
 use Rattle.vdb_scene.proofs.Steps.{corners_first, refused}
 use Rattle.vdb_scene.specs.Grids.{IsVoxelised, scene_of}
 use Rattle.vdb_scene.specs.declared.command.Command.TheVariants as commands
-use Rattle.vdb_scene.proofs.Trees.{refused_leaves, same_back}
+use Rattle.vdb_scene.proofs.Trees.{refused_leaves, same_back, tree_refused_leaves}
 use Rattle.vdb_scene.proofs.scene.Scene.voxelise.Goals as goal
 
 pub returns-in_default-clause-step : goal.returns-in_default-clause-step
@@ -64,10 +64,15 @@ returns-clause-step c =
 pub returns-in_err-bounds-clause-trees : goal.returns-in_err-bounds-clause-trees
 returns-in_err-bounds-clause-trees c =
     let exit = err_from_is_err_and c.from_residual.result c.from_residual.ensures.1 in
-    rw exit.1 (refused_leaves c.args.self.now (record c.args.self.now { grids = c.get_mut.follows.lender c.in-Some.grid.now }) (commands.Voxelise c.args.name.now c.args.corners.now) _ (same_back c.args.self.now.grids.entries _ c.args.name.now c.in-Some.grid.now (sym c.in-Some.ensures.value) (c.get_mut.follows.holds c.in-Some.grid.now).0))
+    rw exit.1 (refused_leaves c.args.self.now (record c.args.self.now { grids = c.get_mut.follows.lender c.in-Some.grid.now }) (commands.Voxelise c.args.name.now c.args.corners.now) c.args.name.now refl c.in-Some.grid.now (c.get_mut.follows.holds c.in-Some.grid.now).0 _ (sym c.in-Some.ensures.value))
 
 pub returns-then-volume-gt-VOXELISE_LIMIT-clause-trees : goal.returns-then-volume-gt-VOXELISE_LIMIT-clause-trees
 returns-then-volume-gt-VOXELISE_LIMIT-clause-trees c = same_back c.args.self.now.grids.entries _ c.args.name.now c.in-Some.grid.now (sym c.in-Some.ensures.value) (c.get_mut.follows.holds c.in-Some.grid.now).0
 
 pub returns-clause-trees : goal.returns-clause-trees
 returns-clause-trees c = (c.voxelise.new.self, (c.get_mut.follows.holds c.voxelise.new.self).0, subst (IsVoxelised c.voxelise.new.self) c.in_ok-bounds.ensures.bounds c.in_ok-voxelise.ensures.leaves)
+
+pub returns-in_err-voxelise-clause-trees : goal.returns-in_err-voxelise-clause-trees
+returns-in_err-voxelise-clause-trees c =
+    let exit = err_from_is_err_and c.from_residual-in_err-voxelise.result c.from_residual-in_err-voxelise.ensures.1 in
+    rw (exit.1, exit.2) (tree_refused_leaves c.args.self.now (record c.args.self.now { grids = c.get_mut.follows.lender c.voxelise.new.self }) (commands.Voxelise c.args.name.now c.args.corners.now) c.args.name.now refl c.voxelise.new.self (c.get_mut.follows.holds c.voxelise.new.self).0 c.in_err-voxelise.field-0.0)

@@ -6,7 +6,7 @@ use Rattle.vdb_scene.specs.Grids.{grid_field, grid_limit}
 use Rattle.vdb_scene.proofs.Borrowed.{changed_field, kept, unchanged}
 use Rattle.vdb_scene.proofs.Steps.{test_fails, test_passes}
 use Rattle.vdb_scene.proofs.Writing.{write_accessor_refused, write_done, write_missing, write_place_refused, write_refused, write_value_refused}
-use Rattle.vdb_scene.proofs.Trees.{refused_leaves, same_back, write_leaves}
+use Rattle.vdb_scene.proofs.Trees.{refused_leaves, same_back, tree_refused_leaves, write_changes, write_leaves}
 use Rattle.vdb_scene.specs.Step.{write_command}
 use Rattle.vdb_scene.proofs.scene.Scene.write.Goals as goal
 
@@ -68,7 +68,7 @@ returns-clause-step c =
 pub returns-in_err-change-clause-trees : goal.returns-in_err-change-clause-trees
 returns-in_err-change-clause-trees c =
     let exit = err_from_is_err_and c.from_residual.result c.from_residual.ensures.1 in
-    rw exit.1 (refused_leaves c.args.self.now (record c.args.self.now { grids = c.get_mut.follows.lender c.in-Some.grid.now }) (write_command c.args.name.now c.args.accessor c.args.at.now c.args.change) _ (same_back c.args.self.now.grids.entries _ c.args.name.now c.in-Some.grid.now (sym c.in-Some.ensures.value) (c.get_mut.follows.holds c.in-Some.grid.now).0))
+    rw exit.1 (refused_leaves c.args.self.now (record c.args.self.now { grids = c.get_mut.follows.lender c.in-Some.grid.now }) (write_command c.args.name.now c.args.accessor c.args.at.now c.args.change) c.args.name.now (write_changes c.args.name.now c.args.accessor c.args.at.now c.args.change) c.in-Some.grid.now (c.get_mut.follows.holds c.in-Some.grid.now).0 _ (sym c.in-Some.ensures.value))
 
 pub returns-in_default-place_of-clause-trees : goal.returns-in_default-place_of-clause-trees
 returns-in_default-place_of-clause-trees c = same_back c.args.self.now.grids.entries _ c.args.name.now c.in-Some.grid.now (sym c.in-Some.ensures.value) (c.get_mut.follows.holds c.in-Some.grid.now).0
@@ -78,3 +78,9 @@ returns-then-not-names_accessor-clause-trees c = same_back c.args.self.now.grids
 
 pub returns-clause-trees : goal.returns-clause-trees
 returns-clause-trees c = write_leaves c.args.self.now (record c.args.self.now { grids = c.get_mut.follows.lender c.write.new.self }) c.args.name.now c.args.accessor c.args.at.now c.args.change
+    c.write.new.self (c.get_mut.follows.holds c.write.new.self).0
+
+pub returns-in_err-write-clause-trees : goal.returns-in_err-write-clause-trees
+returns-in_err-write-clause-trees c =
+    let exit = err_from_is_err_and c.from_residual-in_err-write.result c.from_residual-in_err-write.ensures.1 in
+    rw (exit.1, exit.2) (tree_refused_leaves c.args.self.now (record c.args.self.now { grids = c.get_mut.follows.lender c.write.new.self }) (write_command c.args.name.now c.args.accessor c.args.at.now c.args.change) c.args.name.now (write_changes c.args.name.now c.args.accessor c.args.at.now c.args.change) c.write.new.self (c.get_mut.follows.holds c.write.new.self).0 c.in_err-write.field-0.0)
