@@ -132,19 +132,10 @@ fn expect_around<
 }
 
 // Makes the states of two trees by each rule, and compares each cell around the boxes, and some far from them.
-fn expect_rules<
-    V: Stored<WU> + Stored<WL> + Stored<WF>,
-    X: Stored<WU> + Stored<WL> + Stored<WF>,
-    const U: u32,
-    const L: u32,
-    const F: u32,
-    const WU: usize,
-    const WL: usize,
-    const WF: usize,
->(
+fn expect_rules(
     rt: &impl Abort,
-    tree: &TreeOf<V, U, L, F, WU, WL, WF>,
-    other: &TreeOf<X, U, L, F, WU, WL, WF>,
+    tree: &Tiny<i32>,
+    other: &Tiny<bool>,
     steps: &mut Steps,
 ) -> Result<(), TreeRefusal> {
     for rule in [StateRule::Unite, StateRule::Subtract, StateRule::Intersect] {
@@ -189,7 +180,9 @@ fn random_trees_of_large_nodes(rt: HostRuntime) -> Result<(), TreeRefusal> {
         let mut other: Tree433<i64> = Tree433::new(rt.alloc(), -1, 4096);
         draw(&mut tree, [true, false], &mut draws, &mut steps)?;
         draw(&mut other, [-1, 9], &mut draws, &mut steps)?;
-        expect_rules(&rt, &tree, &other, &mut steps)?;
+        let mut united = tree.try_copy()?;
+        unite(&mut united, &other, &mut steps)?;
+        expect_around(&rt, StateRule::Unite, &tree, &other, &united, &mut steps);
     }
     Ok(())
 }
