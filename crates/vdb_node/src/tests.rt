@@ -3,12 +3,14 @@
 ghost use Rattle.std.specs.Prelude.{◌≡◌, ◌*◌, ◌<◌, ◌≤◌};
 ghost use Rattle.vdb_node.specs.Nodes.{entry_count};
 
+mod blends;
+
 use crate::{Entry, Internal, Leaf, Stored};
 use std::alloc::{AllocError, Global};
 use std::mem::size_of;
 use std::process::Abort;
 use vdb_mask::Mask;
-use vdb_value::{Blend, Cell};
+use vdb_value::Cell;
 
 #[test]
 fn a_voxel_changes_and_changes_back(rt: HostRuntime) -> Result<(), AllocError> {
@@ -332,175 +334,6 @@ fn runs_of_every_kind(rt: HostRuntime) -> Result<(), AllocError> {
     try_runs(&rt, rt.alloc(), true, false)?;
     try_runs(&rt, rt.alloc(), 3, i32::MIN)?;
     try_runs(&rt, rt.alloc(), 3, i64::MIN)
-}
-
-// Two leaves of 512 entries, of which one is blended into the other: the cells at 3 and 500 differ from
-// the rest. What comes of the first value and of the two cells is told, and how many are on.
-fn try_blend<V: Stored<8>>(
-    rt: &impl Abort,
-    alloc: Global,
-    how: Blend,
-    [one, other]: [V; 2],
-    [rest, here]: [V; 2],
-) -> Result<(), AllocError> {
-    let mut leaf: Leaf<V, 3, 8> = Leaf::new_constant(alloc, off(one))?;
-    leaf.set(3, on(other));
-    leaf.set(500, off(other));
-    let mut with: Leaf<V, 3, 8> = Leaf::new_constant(alloc, off(one))?;
-    with.set(4, on(one));
-    with.set(500, on(one));
-    assert!(rt; leaf.blend(&with, how));
-    expect_leaf(rt, &leaf, 0, off(rest), false, 3);
-    expect_leaf(rt, &leaf, 3, on(here), false, 3);
-    expect_leaf(rt, &leaf, 4, on(rest), false, 3);
-    expect_leaf(rt, &leaf, 500, on(here), false, 3);
-    expect_leaf(rt, &leaf, 511, off(rest), false, 3);
-    expect_leaf(rt, &with, 500, on(one), false, 2);
-    Ok(())
-}
-
-// The same leaf, blended with one cell that is off, and then with one that is on.
-fn try_blend_with<V: Stored<8>>(
-    rt: &impl Abort,
-    alloc: Global,
-    how: Blend,
-    [one, other]: [V; 2],
-    [rest, here]: [V; 2],
-) -> Result<(), AllocError> {
-    let mut leaf: Leaf<V, 3, 8> = Leaf::new_constant(alloc, off(one))?;
-    leaf.set(3, on(other));
-    leaf.set(511, off(other));
-    let mut twin = leaf.try_copy(alloc)?;
-    assert!(rt; leaf.blend_with(off(one), how));
-    expect_leaf(rt, &leaf, 0, off(rest), false, 1);
-    expect_leaf(rt, &leaf, 3, on(here), false, 1);
-    expect_leaf(rt, &leaf, 511, off(here), false, 1);
-    let alike = rest == here;
-    assert!(rt; twin.blend_with(on(one), how));
-    expect_leaf(rt, &twin, 0, on(rest), alike, 512);
-    expect_leaf(rt, &twin, 3, on(here), alike, 512);
-    expect_leaf(rt, &twin, 511, on(here), alike, 512);
-    Ok(())
-}
-
-// Each is blended with the first value: what the rest and the other value become.
-#[test]
-fn leaves_blended(rt: HostRuntime) -> Result<(), AllocError> {
-    let numbers = [
-        (Blend::Greatest, [-2, 5], [-2, 5]),
-        (Blend::Greatest, [-2, -7], [-2, -2]),
-        (Blend::Least, [-2, 5], [-2, -2]),
-        (Blend::Least, [-2, -7], [-2, -7]),
-        (Blend::Sum, [-2, 5], [-4, 3]),
-        (
-            Blend::Sum,
-            [i32::MAX / 2, 5],
-            [i32::MAX - 1, i32::MAX / 2 + 5],
-        ),
-    ];
-    for (how, values, results) in numbers {
-        try_blend(&rt, rt.alloc(), how, values, results)?;
-        try_blend_with(&rt, rt.alloc(), how, values, results)?;
-        let [values, results] = [values, results].map(|pair| pair.map(i64::from));
-        try_blend(&rt, rt.alloc(), how, values, results)?;
-        try_blend_with(&rt, rt.alloc(), how, values, results)?;
-    }
-    let truths = [
-        (Blend::Greatest, [false, true], [false, true]),
-        (Blend::Greatest, [true, false], [true, true]),
-        (Blend::Least, [false, true], [false, false]),
-        (Blend::Least, [true, false], [true, false]),
-    ];
-    for (how, values, results) in truths {
-        try_blend(&rt, rt.alloc(), how, values, results)?;
-        try_blend_with(&rt, rt.alloc(), how, values, results)?;
-    }
-    Ok(())
-}
-
-#[test]
-fn sums_that_no_value_is(rt: HostRuntime) -> Result<(), AllocError> {
-    let mut leaf: Leaf<i32, 3, 8> = Leaf::new_constant(rt.alloc(), on(1))?;
-    let mut with: Leaf<i32, 3, 8> = Leaf::new_constant(rt.alloc(), off(-1))?;
-    assert!(rt; leaf.blend(&with, Blend::Sum));
-    assert_eq!(rt; leaf.constant(), Some(on(0)));
-    with.set(511, off(i32::MIN));
-    assert!(rt; leaf.blend(&with, Blend::Sum));
-    assert_eq!(rt; leaf.entry(511), on(i32::MIN));
-    with.set(511, off(-1));
-    assert!(rt; !leaf.blend(&with, Blend::Sum), "the last sum is too small");
-    assert!(rt;
-        !with.blend_with(on(i32::MIN), Blend::Sum),
-        "each sum is too small"
-    );
-    assert!(rt; leaf.blend(&with, Blend::Least), "each two have a lesser");
-    let mut wide: Leaf<i64, 3, 8> = Leaf::new_constant(rt.alloc(), on(i64::MAX))?;
-    assert!(rt; wide.blend_with(on(0), Blend::Sum));
-    assert_eq!(rt; wide.constant(), Some(on(i64::MAX)));
-    assert!(rt;
-        !wide.blend_with(on(1), Blend::Sum),
-        "each sum is too large"
-    );
-    let mut truths: Leaf<bool, 3, 8> = Leaf::new_constant(rt.alloc(), on(false))?;
-    let others: Leaf<bool, 3, 8> = Leaf::new_constant(rt.alloc(), on(false))?;
-    assert!(rt;
-        !truths.blend(&others, Blend::Sum),
-        "truth values have no sum"
-    );
-    assert!(rt;
-        !truths.blend_with(on(false), Blend::Sum),
-        "truth values have no sum"
-    );
-    Ok(())
-}
-
-// A leaf whose values are all `one` takes the active cells of one whose values are all `other`: those in
-// a run across words, one by itself, and the last.
-fn try_take_active<V: Stored<8>>(
-    rt: &impl Abort,
-    alloc: Global,
-    one: V,
-    other: V,
-) -> Result<(), AllocError> {
-    let mut leaf: Leaf<V, 3, 8> = Leaf::new_constant(alloc, off(one))?;
-    leaf.set(7, on(one));
-    let mut from: Leaf<V, 3, 8> = Leaf::new_constant(alloc, off(other))?;
-    leaf.take_active(&from);
-    expect_leaf(rt, &leaf, 0, off(one), false, 1);
-    from.fill_run(60, 130, on(other));
-    from.set(200, on(other));
-    from.set(511, on(other));
-    leaf.take_active(&from);
-    let cells = [
-        (0, off(one)),
-        (7, on(one)),
-        (59, off(one)),
-        (60, on(other)),
-        (63, on(other)),
-        (64, on(other)),
-        (129, on(other)),
-        (130, off(one)),
-        (199, off(one)),
-        (200, on(other)),
-        (201, off(one)),
-        (510, off(one)),
-        (511, on(other)),
-    ];
-    for (i, cell) in cells {
-        expect_leaf(rt, &leaf, i, cell, false, 73);
-    }
-    from.set_states(&Mask::filled(true));
-    leaf.take_active(&from);
-    expect_leaf(rt, &leaf, 0, on(other), true, 512);
-    Ok(())
-}
-
-#[test]
-fn active_cells_taken(rt: HostRuntime) -> Result<(), AllocError> {
-    try_take_active(&rt, rt.alloc(), false, true)?;
-    try_take_active(&rt, rt.alloc(), true, false)?;
-    try_take_active(&rt, rt.alloc(), 3, i32::MIN)?;
-    try_take_active(&rt, rt.alloc(), 3, i64::MIN)
 }
 
 // A leaf of truth values is made and copied with no memory: that neither can fail is proved here, and

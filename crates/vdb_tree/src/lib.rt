@@ -7,7 +7,7 @@
 //! - `refusal`, `path`, `node_counts`: what calls give back.
 //! - `root`, `tree`, `nodes`, `keys`, `whole_copy`: the root table, the type with its pools of nodes, and whole copies.
 //! - `reading`: descents, leaves, paths, the parts of a tree in turn, the one cell of a block.
-//! - `writing`: nodes in place of tiles, a voxel, leaves in place of active tiles.
+//! - `writing`: nodes in place of tiles, a voxel, a whole leaf, leaves in place of active tiles.
 //! - `boxes`: a tree split along the edge of a box, and the box painted with one cell.
 //! - `pairs`: two trees of one configuration, their states made one in place and their parts gone through together.
 //! - `pruning`: tiles in place of nodes whose blocks have one cell, and a table without the background's entries.
