@@ -8,7 +8,7 @@ use Rattle.vdb_scene.specs.Names.{is_name}
 use Rattle.vdb_scene.specs.Scene.{Scene, field_at, new_grid}
 use Rattle.vdb_scene.specs.Refusals.{first_of_all}
 use Rattle.vdb_scene.specs.Replies.{Refused}
-use Rattle.vdb_scene.specs.Step.{Step, after, refusal, takes_memory, tried}
+use Rattle.vdb_scene.specs.Step.{Step, after, first_refusal, refusal, takes_memory, tried}
 use Rattle.vdb_scene.specs.declared.answer.Refusal.TheVariants as refusals
 use Rattle.vdb_scene.specs.declared.scalar.Scalar.{Scalar}
 use Rattle.vdb_scene.specs.declared.scalar.Scalar.TheVariants.{Bool as truth, I32}
@@ -151,6 +151,41 @@ bounds_of_none = refl
 census_of_none : refusal [] (commands.Census a) ≡ Some refusals.NoGrid
 census_of_none = refl
 
+-- a dilation and an erosion have 1 to 16 turns
+dilate_of_none : refusal [] (commands.Dilate a (Near (pos 17))) ≡ Some refusals.NoGrid
+dilate_of_none = refl
+
+dilate_by_no_turn : refusal with_a (commands.Dilate a (Near (pos 0))) ≡ Some refusals.ValueRange
+dilate_by_no_turn = refl
+
+dilate_by_seventeen : refusal with_a (commands.Dilate a (Near (pos 17))) ≡ Some refusals.ValueRange
+dilate_by_seventeen = refl
+
+dilate_by_far_more : refusal with_a (commands.Dilate a Far) ≡ Some refusals.ValueRange
+dilate_by_far_more = refl
+
+dilate_by_sixteen : first_of_all (take 2 (tried with_a (commands.Dilate a (Near (pos 16))))) ≡ None
+dilate_by_sixteen = refl
+
+erode_of_none : refusal [] (commands.Erode a (Near (pos 17))) ≡ Some refusals.NoGrid
+erode_of_none = refl
+
+erode_by_less_than_none : refusal with_a (commands.Erode a (Near (negsuc 0))) ≡ Some refusals.ValueRange
+erode_by_less_than_none = refl
+
+erode_by_seventeen : refusal with_a (commands.Erode a (Near (pos 17))) ≡ Some refusals.ValueRange
+erode_by_seventeen = refl
+
+erode_by_sixteen : refusal with_a (commands.Erode a (Near (pos 16))) ≡ None
+erode_by_sixteen = refl
+
+-- memory may be lacking for an erosion that isn't refused, and for a dilation before its root limit
+dilate_before_the_limit : first_refusal with_a (commands.Dilate a (Near (pos 16))) ≡ None
+dilate_before_the_limit = refl
+
+dilate_out_of_range_first : first_refusal with_a (commands.Dilate a (Near (pos 17))) ≡ Some refusals.ValueRange
+dilate_out_of_range_first = refl
+
 -- a sixty-fifth grid, of a name that is taken and of one that is free
 abbrev crowd : Scene
 crowd = map (λ k. (97 ∷ (97 + k) ∷ [], new_grid (truth false))) (range_with_len 0 64)
@@ -214,6 +249,31 @@ kept_by_the_clip = refl
 
 cleared_by_the_clip : cell_in clipped (negsuc 0) ≡ record { value = I32 (pos 0); on = false }
 cleared_by_the_clip = refl
+
+-- two turns reach two voxels far by faces, and one turn of erosion takes the outermost away
+abbrev dilated : Scene
+dilated = after (after with_a set_seven) (commands.Dilate a (Near (pos 2)))
+
+abbrev eroded : Scene
+eroded = after dilated (commands.Erode a (Near (pos 1)))
+
+abbrev cell_of : Scene → ℤ → ℤ → Cell Scalar
+cell_of s x y = (field_at s a).cell (coord x y (negsuc 0))
+
+kept_by_the_dilation : cell_of dilated (negsuc 0) (negsuc 0) ≡ record { value = I32 (pos 7); on = true }
+kept_by_the_dilation = refl
+
+two_away : cell_of dilated (pos 0) (pos 0) ≡ record { value = I32 (pos 0); on = true }
+two_away = refl
+
+three_away : cell_of dilated (pos 1) (pos 0) ≡ record { value = I32 (pos 0); on = false }
+three_away = refl
+
+inside_before_the_erosion : cell_of eroded (pos 0) (negsuc 0) ≡ record { value = I32 (pos 0); on = true }
+inside_before_the_erosion = refl
+
+outermost_before_the_erosion : cell_of eroded (pos 0) (pos 0) ≡ record { value = I32 (pos 0); on = false }
+outermost_before_the_erosion = refl
 
 -- a step that is refused
 stays : Step with_a make_a (Refused refusals.NameTaken) with_a

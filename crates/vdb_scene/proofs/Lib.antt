@@ -1,5 +1,6 @@
 -- Lemmas on the step of a scene, and worked examples.
 mod Checks
+pub mod AsTurned
 pub mod Entries
 pub mod Filling
 pub mod Borrowed
@@ -9,6 +10,7 @@ pub mod Rows
 pub mod Reports
 pub mod Steps
 pub mod Trees
+pub mod Turning
 pub mod TwoGrids
 pub mod TwoNames
 pub mod Writing

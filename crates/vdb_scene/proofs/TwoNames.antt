@@ -9,7 +9,7 @@ use Rattle.vdb_scene.specs.Refusals.{first_of_all, no_grid, of_tree, same_grid}
 use Rattle.vdb_scene.specs.Replies as replies
 use Rattle.vdb_scene.specs.Scene as abstract_scene
 use Rattle.vdb_scene.specs.Scene.{field_at, grid_at, is_named, limit_at, with_changed}
-use Rattle.vdb_scene.specs.Step.{IsReply, after, changed, refusal, takes_memory, tried}
+use Rattle.vdb_scene.specs.Step.{IsReply, after, changed, first_refusal, refusal, takes_memory, tried}
 use Rattle.vdb_tree.specs.Field.{ruled}
 use Rattle.vdb_scene.specs.TwoGrids.{Gives, IsMade, StaysBut, command_of, made_of, tried_of}
 use Rattle.vdb_scene.specs.declared.any_grid.AnyGrid.{AnyGrid}
@@ -63,6 +63,16 @@ module _ (s : abstract_scene.Scene) (name other : List ℕ) where
   may_take (Values Minimum) = refl
   may_take (Values Sum) = refl
   may_take (Values Replace) = refl
+
+  -- nothing but a lack of memory comes after the refusals
+  first_is : (o : Operation) → first_refusal s (command_of o name other) ≡ refusal s (command_of o name other)
+  first_is (States Unite) = refl
+  first_is (States Subtract) = refl
+  first_is (States Intersect) = refl
+  first_is (Values Maximum) = refl
+  first_is (Values Minimum) = refl
+  first_is (Values Sum) = refl
+  first_is (Values Replace) = refl
 
 -- the trees after it
 pub done_leaves : (o : Operation) (old new : Scene) (name other : List ℕ) (g : AnyGrid) → PutsGrid old name g new → LeavesTrees (command_of o name other) Done old new
@@ -120,7 +130,7 @@ module _ (grids after_grids : List (List ℕ × AnyGrid)) (name other : List ℕ
 
   -- it is refused
   pub two_refused : (r : Refusal) → IsMade o (grid_limit was) (grid_field was) (grid_field given) (grid_field grid) (Err r) → CarriesOut scene (command_of o name other) (Err r) (scene_over after_grids)
-  two_refused refusals.Memory h = (refusal_is ∙ h.0, may_take scene name other o, same h.1)
+  two_refused refusals.Memory h = (first_is scene name other o ∙ refusal_is ∙ h.0, may_take scene name other o, same h.1)
   two_refused r h = (refusal_is ∙ h.0, same h.1)
 
 -- the grid that it changes

@@ -19,7 +19,7 @@ use Rattle.vdb_scene.specs.Scene.{Grid, Scene, field_at, grid_at, is_named, kind
 use Rattle.vdb_scene.specs.Replies as replies
 use Rattle.vdb_scene.specs.Places.{is_accessor, is_coord, coord_of}
 use Rattle.vdb_scene.specs.Refusals.{first_of_all, of_tree, other_form, out_of_range, refused_if}
-use Rattle.vdb_scene.specs.Step.{IsReply, after, after_write, changed, line_takes_memory, passes, refusal, takes_memory, tried_write, write_at, write_command, write_takes_memory}
+use Rattle.vdb_scene.specs.Step.{IsReply, after, after_write, changed, first_refusal, line_takes_memory, passes, refusal, takes_memory, tried_write, write_at, write_command, write_takes_memory}
 use Rattle.vdb_scene.specs.declared.any_grid.AnyGrid.{AnyGrid}
 use Rattle.vdb_scene.specs.declared.answer.Answer.TheVariants.{Done}
 use Rattle.vdb_scene.specs.declared.answer.Refusal.{Refusal}
@@ -58,6 +58,13 @@ module _ (s : Scene) (name : List ℕ) (k : Option Num) (p : Point) where
   memory_for (writes.Off v) = refl
   memory_for (writes.State on) = refl
   memory_for (writes.Value v) = refl
+
+  -- nothing but a lack of memory comes after the refusals
+  first_for : (w : Write Literal) → first_refusal s (write_command name k p w) ≡ refusal s (write_command name k p w)
+  first_for (writes.On v) = refl
+  first_for (writes.Off v) = refl
+  first_for (writes.State on) = refl
+  first_for (writes.Value v) = refl
 
 -- ---- the first of five refusals
 
@@ -198,4 +205,4 @@ module _ (grids : List (List ℕ × AnyGrid)) (name : List ℕ) (k : Option Num)
               ∙ first_over absent fits in_range (is_accessor k) over is_there fits_here (both (is_coord p) _ at value_here) accessor (over_is ∙ lt-ltb _ _ h.1),
           same,
         )
-        write_refused Memory after h free same = (accepted h.1, subst IsTrue (sym memory_is) (not_free _ free), same)
+        write_refused Memory after h free same = (first_for scene name k p w ∙ accepted h.1, subst IsTrue (sym memory_is) (not_free _ free), same)

@@ -10,7 +10,7 @@ use Rattle.vdb_scene.specs.Scene.{is_named}
 use Rattle.vdb_scene.specs.Shown.{Shows}
 use Rattle.vdb_scene.specs.Places.{box_between}
 use Rattle.vdb_scene.specs.Replies.{Reply}
-use Rattle.vdb_scene.specs.Step.{IsReply, Step, after, refusal, takes_memory}
+use Rattle.vdb_scene.specs.Step.{IsReply, Step, after, first_refusal, refusal, takes_memory}
 use Rattle.vdb_scene.specs.declared.any_grid.AnyGrid.{AnyGrid}
 use Rattle.vdb_scene.specs.declared.command.Command.{Command}
 use Rattle.vdb_scene.specs.declared.command.Command.TheVariants as commands
@@ -25,7 +25,7 @@ use Rattle.vdb_scene.specs.declared.scene.Scene.{Scene}
 -- an answer and the scene after the command; or its refusal, or the refusal `Memory`, and the scene before it
 abbrev pub CarriesOut : abstract_scene.Scene → Command → Result Answer Refusal → abstract_scene.Scene → Type 0
 CarriesOut s c (Ok answer) next = (refusal s c ≡ None) × ((reply : Reply) × Shows answer reply × IsReply s c reply) × (next ≡ after s c)
-CarriesOut s c (Err refusals.Memory) next = (refusal s c ≡ None) × IsTrue (takes_memory s c) × (next ≡ s)
+CarriesOut s c (Err refusals.Memory) next = (first_refusal s c ≡ None) × IsTrue (takes_memory s c) × (next ≡ s)
 CarriesOut s c (Err r) next = (refusal s c ≡ Some r) × (next ≡ s)
 
 -- the answer shows that of a step of the scene
@@ -78,6 +78,8 @@ Shapes (commands.Max name other) old new = (g : AnyGrid) × PutsGrid old name g 
 Shapes (commands.Min name other) old new = (g : AnyGrid) × PutsGrid old name g new
 Shapes (commands.Sum name other) old new = (g : AnyGrid) × PutsGrid old name g new
 Shapes (commands.Replace name other) old new = (g : AnyGrid) × PutsGrid old name g new
+Shapes (commands.Dilate name n) old new = (g : AnyGrid) × PutsGrid old name g new
+Shapes (commands.Erode name n) old new = (g : AnyGrid) × PutsGrid old name g new
 
 -- the name whose grid a command changes, if it changes one that is there
 abbrev pub changed_name : Command → Option (List ℕ)
@@ -96,6 +98,8 @@ changed_name (commands.Max name other) = Some name
 changed_name (commands.Min name other) = Some name
 changed_name (commands.Sum name other) = Some name
 changed_name (commands.Replace name other) = Some name
+changed_name (commands.Dilate name n) = Some name
+changed_name (commands.Erode name n) = Some name
 changed_name c = None
 
 -- every grid stays as it is, but for that of this name, if there is a name

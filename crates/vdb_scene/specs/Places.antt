@@ -1,4 +1,4 @@
--- The places, accessors and limits that the numbers of a line name.
+-- The places, accessors, limits and turns that the numbers of a line name.
 use Rattle.std.specs.Prelude.{ℕ, ℤ, pos, Bool, true, ◌&&◌, Option, Some, None, unsigned_abs}
 use Rattle.vdb_coord.specs.Space.{Box, coord, everywhere, is_between}
 use Rattle.vdb_coord.specs.declared.Coord.{Coord}
@@ -49,6 +49,10 @@ is_accessor (Some k) = is_from (pos 0) (pos 7) k
 -- whether a line names a limit of a listing, 1 to 4,096
 abbrev pub is_limit : Num → Bool
 is_limit n = is_from (pos 1) (pos 4096) n
+
+-- whether a line names a number of turns, 1 to 16
+abbrev pub is_turn_count : Num → Bool
+is_turn_count n = is_from (pos 1) (pos 16) n
 
 -- the number of a line as a count
 abbrev pub count_of : Num → ℕ

@@ -7,10 +7,10 @@ use Rattle.vdb_coord.specs.declared.Coord.{Coord}
 use Rattle.vdb_value.specs.declared.Cell.{Cell}
 use Rattle.vdb_tree.specs.declared.Write.{Write}
 use Rattle.vdb_tree.specs.declared.Write.TheVariants as writes
-use Rattle.vdb_tree.specs.Field.{Field, as_write_of, clip, fill, write, written}
+use Rattle.vdb_tree.specs.Field.{Field, as_write_of, clip, dilate, erode, fill, turns, write, written}
 use Rattle.vdb_tree.specs.ConstantBlocks.{cell_eq, count, is_constant}
 use Rattle.vdb_walk.specs.Reports.{IsActiveBounds, active, census}
-use Rattle.vdb_scene.specs.Places.{are_coords, box_between, count_of, flat, is_limit, is_coord, coord_of, region}
+use Rattle.vdb_scene.specs.Places.{are_coords, box_between, count_of, flat, is_limit, is_coord, is_turn_count, coord_of, region}
 use Rattle.vdb_scene.specs.Refusals.{first_of_all, too_many_grids, name_taken, no_accessor, no_box, no_grid, other_form, out_of_range, root_limit, same_grid, too_large, too_wide, tried_region}
 use Rattle.vdb_scene.specs.Replies.{Bounds, Census, Count, Done, Refused, Reply, Slice, Value, listing, rows}
 use Rattle.vdb_scene.specs.Scalars.{has_form, has_value, scalar, scalar_eq}
@@ -214,6 +214,20 @@ meaning s (commands.Max name other) = meaning_of_two (Values composites.Maximum)
 meaning s (commands.Min name other) = meaning_of_two (Values composites.Minimum) s name other
 meaning s (commands.Sum name other) = meaning_of_two (Values composites.Sum) s name other
 meaning s (commands.Replace name other) = meaning_of_two (Values composites.Replace) s name other
+-- in each of so many turns each voxel becomes active that has an active face neighbour
+meaning s (commands.Dilate name n) = record {
+  tried = no_grid s name ∷ out_of_range (is_turn_count n) ∷ root_limit s name (turns (count_of n) dilate) ∷ [];
+  after = changed s name (turns (count_of n) dilate);
+  IsReply = only Done;
+  takes_memory = true;
+}
+-- in each of so many turns each voxel becomes inactive that has an inactive face neighbour
+meaning s (commands.Erode name n) = record {
+  tried = no_grid s name ∷ out_of_range (is_turn_count n) ∷ [];
+  after = changed s name (turns (count_of n) erode);
+  IsReply = only Done;
+  takes_memory = true;
+}
 
 -- what a command may be refused for, in order
 abbrev pub tried : Scene → Command → List (Option Refusal)
@@ -222,6 +236,12 @@ tried s c = (meaning s c).tried
 -- why a command is refused, if it is
 abbrev pub refusal : Scene → Command → Option Refusal
 refusal s c = first_of_all (tried s c)
+
+-- Why a command is refused before memory may be lacking, if it is. A dilation meets the root limit as it grows, and memory may
+-- be lacking before it does; every other refusal of any command comes first.
+abbrev pub first_refusal : Scene → Command → Option Refusal
+first_refusal s (commands.Dilate name n) = first_of_all (no_grid s name ∷ out_of_range (is_turn_count n) ∷ [])
+first_refusal s c = refusal s c
 
 -- the scene after a command that isn't refused
 abbrev pub after : Scene → Command → Scene
@@ -237,13 +257,13 @@ takes_memory s c = (meaning s c).takes_memory
 
 -- ---- one step
 
--- Either the command is refused and the scene stays; or it isn't, and answer and scene are as said; or it takes memory,
--- of which there is too little, and the scene stays.
+-- Either the command is refused and the scene stays; or it isn't, and answer and scene are as said; or it isn't refused before
+-- it takes memory, of which there is too little, and the scene stays.
 abbrev pub Step : Scene → Command → Reply → Scene → Type 0
 Step s c reply next =
     ((r : Refusal) × (refusal s c ≡ Some r) × (reply ≡ Refused r) × (next ≡ s))
     ⊎ ((refusal s c ≡ None) × IsReply s c reply × (next ≡ after s c))
-    ⊎ ((refusal s c ≡ None) × IsTrue (takes_memory s c) × (reply ≡ Refused refusals.Memory) × (next ≡ s))
+    ⊎ ((first_refusal s c ≡ None) × IsTrue (takes_memory s c) × (reply ≡ Refused refusals.Memory) × (next ≡ s))
 
 -- ---- a grid that is handed in
 

@@ -3,10 +3,11 @@ ghost use Rattle.std.specs.Prelude.{◌≡◌, ◌+◌, ◌≤◌, false, IfErr,
 ghost use Rattle.std.specs.Option.{unwrap_or};
 ghost use Rattle.vdb_coord.specs.Blocks.{vdb};
 ghost use Rattle.vdb_coord.specs.Space.{everywhere};
-ghost use Rattle.vdb_tree.specs.Field.{clip as clipped, fill as filled, new, write};
+ghost use Rattle.vdb_tree.specs.Field.{clip as clipped, dilate as dilation, erode as erosion, fill as filled, new, turns as turned, write};
 ghost use Rattle.vdb_tree.specs.Outcome.{IsOutcome};
 ghost use Rattle.vdb_tree.specs.ConstantBlocks.{count as active_count};
 ghost use Rattle.vdb_tree.specs.declared.refusal.TreeRefusal.TheVariants.{Memory};
+ghost use Rattle.vdb_morph.specs.Growth.{IsGrowth};
 ghost use Rattle.vdb_walk.specs.Reports.{IsActiveBounds, census as census_of};
 ghost use Rattle.vdb_scene.specs.Scalars.{is_of, kind_of, scalar_eq};
 ghost use Rattle.vdb_scene.specs.Grids.{IsPruned, IsVoxelised, grid_field, grid_limit};
@@ -118,6 +119,38 @@ impl AnyGrid {
             AnyGrid::Bool(tree) => grid_tree::clip(tree, bounds, steps),
             AnyGrid::I32(tree) => grid_tree::clip(tree, bounds, steps),
             AnyGrid::I64(tree) => grid_tree::clip(tree, bounds, steps),
+        }
+    }
+
+    /// Makes each voxel active, in each of so many turns, that has an active face neighbour, and keeps the values. There are 1
+    /// to 16 turns. `RootLimit` says that too many root blocks would have a cell that isn't the background, inactive; `Memory`
+    /// that a growth was refused, which may also come where there would be too many root blocks. Both leave every cell as it was.
+    pub fn dilate(&mut self, turns: u32, steps: &mut Steps) -> Result<(), TreeRefusal>
+        requires some { 1 ≤ turns }
+        requires few { turns ≤ 16 }
+        ensures outcome { IsGrowth scalar_eq vdb (grid_limit self.old) (grid_field self.old) (turned turns dilation (grid_field self.old)) (grid_field self.new) result }
+        ensures limit { grid_limit self.new ≡ grid_limit self.old }
+    {
+        match self {
+            AnyGrid::Bool(tree) => grid_tree::dilate(tree, turns, steps),
+            AnyGrid::I32(tree) => grid_tree::dilate(tree, turns, steps),
+            AnyGrid::I64(tree) => grid_tree::dilate(tree, turns, steps),
+        }
+    }
+
+    /// Makes each voxel inactive, in each of so many turns, that has an inactive face neighbour, and keeps the values. There are
+    /// 1 to 16 turns. `Memory` says that a growth was refused, and leaves every cell as it was.
+    pub fn erode(&mut self, turns: u32, steps: &mut Steps) -> Result<(), TreeRefusal>
+        requires some { 1 ≤ turns }
+        requires few { turns ≤ 16 }
+        ensures outcome { IsOutcome scalar_eq vdb (grid_limit self.old) (grid_field self.old) (turned turns erosion (grid_field self.old)) (grid_field self.new) result }
+        ensures limit { grid_limit self.new ≡ grid_limit self.old }
+        ensures memory { IfErr result (λ refusal. refusal ≡ Memory) }
+    {
+        match self {
+            AnyGrid::Bool(tree) => grid_tree::erode(tree, turns, steps),
+            AnyGrid::I32(tree) => grid_tree::erode(tree, turns, steps),
+            AnyGrid::I64(tree) => grid_tree::erode(tree, turns, steps),
         }
     }
 

@@ -369,7 +369,7 @@ impl Scene {
 
     /// Carries out a command and answers it. Refusals are tried in their one order, the first that applies is answered, and
     /// then the scene is as it was. It is also as it was where the answer is `Memory`, which comes in place of no other
-    /// refusal.
+    /// refusal but `RootLimit` of a dilation.
     pub fn apply(&mut self, command: &Command, steps: &mut Steps) -> Answer<'_>
         ensures* step { sem 𝓛 (Rests the_row self.entry (λ new. AppliesTo self.old command.now result new)) }
     {
@@ -467,6 +467,8 @@ impl Scene {
             Command::Replace { name, other } => {
                 self.combine(Operation::Values(Composite::Replace), name, other, steps)
             }
+            Command::Dilate { name, turns } => self.dilate(name, *turns, steps),
+            Command::Erode { name, turns } => self.erode(name, *turns, steps),
         }
     }
 }

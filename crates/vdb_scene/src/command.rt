@@ -176,4 +176,14 @@ pub enum Command {
         name: Name,
         other: Name,
     },
+    /// Makes each voxel of a grid active, in each of so many turns, that has an active face neighbour. No value changes.
+    Dilate {
+        name: Name,
+        turns: Num,
+    },
+    /// Makes each voxel of a grid inactive, in each of so many turns, that has an inactive face neighbour. No value changes.
+    Erode {
+        name: Name,
+        turns: Num,
+    },
 }

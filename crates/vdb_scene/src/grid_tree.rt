@@ -4,11 +4,12 @@ ghost use Rattle.std.specs.Prelude.{◌≡◌, ◌+◌, ◌≤◌, false, IfErr,
 ghost use Rattle.std.specs.Option.{unwrap_or};
 ghost use Rattle.vdb_coord.specs.Blocks.{vdb};
 ghost use Rattle.vdb_coord.specs.Space.{everywhere};
-ghost use Rattle.vdb_tree.specs.Field.{as_cell_of, as_field_of, as_write_of, clip as clipped, fill as filled, write};
+ghost use Rattle.vdb_tree.specs.Field.{as_cell_of, as_field_of, as_write_of, clip as clipped, dilate as dilation, erode as erosion, fill as filled, turns as turned, write};
 ghost use Rattle.vdb_tree.specs.Layout.{field_of};
 ghost use Rattle.vdb_tree.specs.Outcome.{IsOutcome};
 ghost use Rattle.vdb_tree.specs.ConstantBlocks.{count as active_count};
 ghost use Rattle.vdb_tree.specs.declared.refusal.TreeRefusal.TheVariants.{Memory};
+ghost use Rattle.vdb_morph.specs.Growth.{IsGrowth};
 ghost use Rattle.vdb_scene.specs.Scalars.{is_of, scalar_eq};
 ghost use Rattle.vdb_scene.specs.Step.{passes, write_takes_memory};
 ghost use Rattle.vdb_walk.specs.Reports.{IsActiveBounds, census as census_of};
@@ -76,6 +77,37 @@ pub fn clip<V: GridValue>(
     ensures memory { IfErr result (λ refusal. refusal ≡ Memory) }
 {
     vdb_region::clip(tree, bounds, steps)
+}
+
+/// Makes each voxel active, in each of 1 to 16 turns, that has an active face neighbour.
+pub fn dilate<V: GridValue>(
+    tree: &mut Tree<V>,
+    turns: u32,
+    steps: &mut Steps,
+) -> Result<(), TreeRefusal>
+    requires some { 1 ≤ turns }
+    requires few { turns ≤ 16 }
+    ensures outcome { IsGrowth scalar_eq vdb tree.old.limit (as_field_of V.as_scalar (field_of vdb tree.old))
+        (turned turns dilation (as_field_of V.as_scalar (field_of vdb tree.old))) (as_field_of V.as_scalar (field_of vdb tree.new)) result }
+    ensures limit { tree.new.limit ≡ tree.old.limit }
+{
+    vdb_morph::dilate(tree, turns, steps)
+}
+
+/// Makes each voxel inactive, in each of 1 to 16 turns, that has an inactive face neighbour.
+pub fn erode<V: GridValue>(
+    tree: &mut Tree<V>,
+    turns: u32,
+    steps: &mut Steps,
+) -> Result<(), TreeRefusal>
+    requires some { 1 ≤ turns }
+    requires few { turns ≤ 16 }
+    ensures outcome { IsOutcome scalar_eq vdb tree.old.limit (as_field_of V.as_scalar (field_of vdb tree.old))
+        (turned turns erosion (as_field_of V.as_scalar (field_of vdb tree.old))) (as_field_of V.as_scalar (field_of vdb tree.new)) result }
+    ensures limit { tree.new.limit ≡ tree.old.limit }
+    ensures memory { IfErr result (λ refusal. refusal ≡ Memory) }
+{
+    vdb_morph::erode(tree, turns, steps)
 }
 
 /// How many voxels of the box, or of all, are active.

@@ -13,6 +13,7 @@ mod reader;
 mod scalar;
 mod scene;
 mod slice;
+mod turns;
 mod two_grids;
 mod voxels;
 mod watched;

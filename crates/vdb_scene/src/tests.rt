@@ -4,6 +4,7 @@ mod boxes;
 mod reports;
 mod scattered;
 mod slices;
+mod turns;
 
 use super::*;
 use std::process::Abort;

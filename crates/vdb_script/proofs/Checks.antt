@@ -184,6 +184,18 @@ bounds_read = refl
 census_read : parse (codes "census a") ≡ Ok (Some (commands.Census (codes "a")))
 census_read = refl
 
+dilate_read : parse (codes "dilate a 3") ≡ Ok (Some (commands.Dilate (codes "a") (Near (pos 3))))
+dilate_read = refl
+
+erode_read : parse (codes "erode a -3") ≡ Ok (Some (commands.Erode (codes "a") (Near (negsuc 2))))
+erode_read = refl
+
+erode_without_turns : parse (codes "erode a") ≡ Err refusals.Syntax
+erode_without_turns = refl
+
+dilate_by_a_grid : parse (codes "dilate a b") ≡ Err refusals.Syntax
+dilate_by_a_grid = refl
+
 bounds_of_all : parse (codes "bounds a all") ≡ Err refusals.Syntax
 bounds_of_all = refl
 

@@ -10,7 +10,7 @@ use Rattle.vdb_scene.specs.declared.command.Num.{Num}
 use Rattle.vdb_scene.specs.declared.command.Point.{Point}
 use Rattle.vdb_scene.specs.declared.answer.Refusal.TheVariants as refusals
 use Rattle.vdb_script.specs.Lines.{tokens}
-use Rattle.vdb_script.specs.Grammar.{Form, ◌>>=◌, give, one, point, corners, grid, drop, copy, get, voxel_value, two_grids, state, fill, clip, prune, voxelise, all_of, count_box, count_all, count, bounds, census, or_else, list, slice, whole, command_forms, command_of, word_of, is_comment, meaning, parse, name_of, kind_named, state_of, literal_of, accessor_of, number_of}
+use Rattle.vdb_script.specs.Grammar.{Form, ◌>>=◌, give, one, point, corners, grid, drop, copy, get, voxel_value, two_grids, state, fill, clip, prune, voxelise, all_of, count_box, count_all, count, bounds, census, or_else, list, slice, turns, whole, command_forms, command_of, word_of, is_comment, meaning, parse, name_of, kind_named, state_of, literal_of, accessor_of, number_of}
 
 -- where a form is there, it takes so many tokens
 pub record Takes {A : Type 0} (n : ℕ) (form : Form A) : Type 0 where
@@ -101,6 +101,10 @@ grid_takes = then_takes 1 2 _ _ (one_takes name_of) (λ name. then_takes 1 1 _ _
 -- NAME OTHER
 pub two_grids_takes : (make : List ℕ → List ℕ → Command) → Takes 2 (two_grids make)
 two_grids_takes make = then_takes 1 1 _ _ (one_takes name_of) (λ name. then_takes 1 0 _ _ (one_takes name_of) (λ other. give_takes _))
+
+-- NAME TURNS
+pub turns_takes : (make : List ℕ → Num → Command) → Takes 2 (turns make)
+turns_takes make = then_takes 1 1 _ _ (one_takes name_of) (λ name. then_takes 1 0 _ _ (one_takes number_of) (λ n. give_takes _))
 
 -- get NAME ACCESSOR X Y Z
 pub get_takes : Takes 5 get
@@ -241,7 +245,7 @@ commands_take_few = (
                   few 9 (omega arith) fill_takes,
                   (
                     few 7 (omega arith) clip_takes,
-                    (few 1 (omega arith) prune_takes, (few 7 (omega arith) voxelise_takes, (few 8 (omega arith) list_takes, (few 6 (omega arith) slice_takes, (count_takes_few, (few 1 (omega arith) bounds_takes, (few 1 (omega arith) census_takes, (few 2 (omega arith) (two_grids_takes commands.Union), (few 2 (omega arith) (two_grids_takes commands.Difference), (few 2 (omega arith) (two_grids_takes commands.Intersect), (few 2 (omega arith) (two_grids_takes commands.Max), (few 2 (omega arith) (two_grids_takes commands.Min), (few 2 (omega arith) (two_grids_takes commands.Sum), (few 2 (omega arith) (two_grids_takes commands.Replace), tt)))))))))))))),
+                    (few 1 (omega arith) prune_takes, (few 7 (omega arith) voxelise_takes, (few 8 (omega arith) list_takes, (few 6 (omega arith) slice_takes, (count_takes_few, (few 1 (omega arith) bounds_takes, (few 1 (omega arith) census_takes, (few 2 (omega arith) (two_grids_takes commands.Union), (few 2 (omega arith) (two_grids_takes commands.Difference), (few 2 (omega arith) (two_grids_takes commands.Intersect), (few 2 (omega arith) (two_grids_takes commands.Max), (few 2 (omega arith) (two_grids_takes commands.Min), (few 2 (omega arith) (two_grids_takes commands.Sum), (few 2 (omega arith) (two_grids_takes commands.Replace), (few 2 (omega arith) (turns_takes commands.Dilate), (few 2 (omega arith) (turns_takes commands.Erode), tt)))))))))))))))),
                   ),
                 ),
               ),

@@ -252,6 +252,13 @@ two_grids make = do
   other ← one name_of
   give (make name other)
 
+-- NAME TURNS, behind the word of a command that changes a grid turn by turn
+abbrev pub turns : (List ℕ → Num → Command) → Form Command
+turns make = do
+  name ← one name_of
+  n ← one number_of
+  give (make name n)
+
 -- ---- the commands
 
 -- each command's word, and the form of what comes behind it
@@ -260,7 +267,8 @@ command_forms =
     (codes "grid", grid) ∷ (codes "drop", drop) ∷ (codes "copy", copy) ∷ (codes "get", get) ∷ (codes "set", set) ∷ (codes "unset", unset) ∷ (codes "only", only) ∷ (codes "state", state)
     ∷ (codes "fill", fill) ∷ (codes "clip", clip) ∷ (codes "prune", prune) ∷ (codes "voxelise", voxelise) ∷ (codes "list", list) ∷ (codes "slice", slice) ∷ (codes "count", count) ∷ (codes "bounds", bounds)
     ∷ (codes "census", census) ∷ (codes "union", two_grids commands.Union) ∷ (codes "difference", two_grids commands.Difference) ∷ (codes "intersect", two_grids commands.Intersect)
-    ∷ (codes "max", two_grids commands.Max) ∷ (codes "min", two_grids commands.Min) ∷ (codes "sum", two_grids commands.Sum) ∷ (codes "replace", two_grids commands.Replace) ∷ []
+    ∷ (codes "max", two_grids commands.Max) ∷ (codes "min", two_grids commands.Min) ∷ (codes "sum", two_grids commands.Sum) ∷ (codes "replace", two_grids commands.Replace)
+    ∷ (codes "dilate", turns commands.Dilate) ∷ (codes "erode", turns commands.Erode) ∷ []
 
 -- a command with no token left, or a syntax error
 abbrev pub whole : Option (Command × List (List ℕ)) → Result (Option Command) Refusal

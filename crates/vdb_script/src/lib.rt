@@ -12,6 +12,7 @@ mod reports;
 mod slices;
 mod source;
 mod tokens;
+mod turns;
 mod two_grids;
 
 pub use line_text::LINE_LIMIT;

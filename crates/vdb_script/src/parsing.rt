@@ -9,6 +9,7 @@ ghost use Rattle.vdb_script.specs.Grammar.{name_of, kind_named, state_of, litera
 
 use crate::numbers::number_of;
 use crate::tokens::{first_token, split_tokens};
+use crate::turns::{dilate_command, erode_command};
 use crate::two_grids::{
     difference_command, intersect_command, max_command, min_command, replace_command, sum_command,
     union_command,
@@ -408,6 +409,10 @@ fn command_of(word: &[u8], tokens: &[&[u8]]) -> Option<Command>
         sum_command(tokens)
     } else if is_word(word, b"replace") {
         replace_command(tokens)
+    } else if is_word(word, b"dilate") {
+        dilate_command(tokens)
+    } else if is_word(word, b"erode") {
+        erode_command(tokens)
     } else {
         None
     }

@@ -188,6 +188,20 @@ fn commands_are_read(rt: HostRuntime) {
             Command::Replace { name: a, other: b },
         ),
         (
+            b"dilate a 16".as_slice(),
+            Command::Dilate {
+                name: a,
+                turns: Num::Near(16),
+            },
+        ),
+        (
+            b"erode b 9223372036854775808".as_slice(),
+            Command::Erode {
+                name: b,
+                turns: Num::Far,
+            },
+        ),
+        (
             b"voxelise a -1 0 2147483648 0 0 0".as_slice(),
             Command::Voxelise {
                 name: a,
@@ -292,6 +306,12 @@ fn other_lines_are_no_commands(rt: HostRuntime) {
         b"max a b c".as_slice(),
         b"sum a 1".as_slice(),
         b"replace A b".as_slice(),
+        b"dilate a".as_slice(),
+        b"dilate 1 a".as_slice(),
+        b"dilate a 01".as_slice(),
+        b"erode a 1 1".as_slice(),
+        b"erode a -".as_slice(),
+        b"erode a b".as_slice(),
         b"voxelise a 0 0 0 0 0".as_slice(),
         b"voxelise a 0 0 0 0 0 0 0".as_slice(),
         b"voxelise a - 0 0 0 0 0".as_slice(),

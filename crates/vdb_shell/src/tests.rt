@@ -6,6 +6,7 @@ mod layouts;
 mod lists;
 mod random;
 mod slices;
+mod turns;
 mod two_grids;
 
 use super::*;

@@ -1,0 +1,128 @@
+-- Erosion face by face, in a leaf block and at a voxel.
+use Rattle.std.proofs.Common.{◌≡◌, refl, sym, ap, ◌∙◌, ℕ, ◌+◌, ◌<◌, Bool, true, false, cond, List, [], ◌∷◌, take, get_or, inl, inr, IsTrue}
+use Rattle.std.specs.Prelude.{◌&&◌, if◌then◌else◌, Some, None}
+use Rattle.std.specs.List.{filter_map, list_all}
+use Rattle.std.proofs.Math.Bool.{and-true}
+use Rattle.std.proofs.lemmas.List.Folds.{list_all_at, list_all_more}
+use Rattle.std.proofs.lemmas.Option.{same_Some}
+use Rattle.vdb_coord.specs.Blocks.{block_number, block_numbers, offset}
+use Rattle.vdb_coord.specs.Entries.{AreBits}
+use Rattle.vdb_coord.specs.Faces.{faces, neighbour, toward}
+use Rattle.vdb_coord.specs.Space.{everywhere, is_inside}
+use Rattle.vdb_coord.specs.declared.Bits.{Bits}
+use Rattle.vdb_coord.specs.declared.Coord.{Coord}
+use Rattle.vdb_coord.specs.declared.Level.TheVariants.{Leaf}
+use Rattle.vdb_coord.specs.declared.face.Face.{Face}
+use Rattle.vdb_coord.proofs.InRange.{block_in_range, number_in_range}
+use Rattle.vdb_mask.specs.Mask.{is_on}
+use Rattle.vdb_tree.specs.Field.{Field, erode}
+use Rattle.vdb_tree.proofs.Levels.{bool_cases}
+use Rattle.vdb_morph.specs.internal.Behind.{state_beside}
+use Rattle.vdb_morph.specs.internal.BlockStates.{HasStates, HasStatesBehind, state_behind}
+use Rattle.vdb_morph.specs.internal.Turning.{is_around}
+use Rattle.vdb_morph.proofs.BlockStates.{around_number, number_around}
+use Rattle.vdb_morph.proofs.Crossings.{crosses}
+
+kept : (s : Coord → Bool) (q : Coord) (xs : List Face)
+    → list_all s (filter_map (λ face. neighbour face q) xs) ≡ list_all (λ face. if is_inside everywhere (toward face q) then s (toward face q) else true) xs
+kept s q [] = refl
+kept s q (face ∷ xs) =
+    elim (bool_cases (is_inside everywhere (toward face q))) [
+      | inl e ↦ rw (e, kept s q xs) refl
+      | inr e ↦ rw (e, kept s q xs) refl
+    ]
+
+module _ {V : Type 0} (f : Field V) where
+  -- whether a voxel is active and so is what lies behind each of these faces
+  abbrev pub stays_by : List Face → Coord → Bool
+  stays_by xs q = (f.cell q).on && list_all (λ face. state_behind f face q) xs
+
+  -- a voxel stays active by its six faces
+  pub eroded_is : (q : Coord) → IsTrue (is_inside everywhere q) → stays_by faces q ≡ ((erode f).cell q).on
+  eroded_is q inside = rw inside (ap (λ b. (f.cell q).on && b) (sym (kept (λ r. (f.cell r).on) q faces)))
+
+  and_more : (a b c : Bool) → ((a && b) && c) ≡ (a && (b && c))
+  and_more true b c = refl
+  and_more false b c = refl
+
+  -- by no face
+  pub stays_first : (q : Coord) → (f.cell q).on ≡ stays_by [] q
+  stays_first q = sym (and-true (f.cell q).on)
+
+  -- by one face more
+  pub stays_more : (i : ℕ) (face : Face) (q : Coord) → i < 6 → (stays_by (take i faces) q && state_behind f (get_or faces i face) q) ≡ stays_by (take (i + 1) faces) q
+  stays_more i face q few =
+      and_more (f.cell q).on (list_all (λ x. state_behind f x q) (take i faces)) (state_behind f (get_or faces i face) q)
+      ∙ ap (λ b. (f.cell q).on && b) (sym (list_all_more (λ x. state_behind f x q) faces i face few))
+
+  -- all of the first faces' voxels are active, and so is one more
+  pub behind_more : (i : ℕ) (face : Face) (q : Coord) → i < 6 → list_all (λ x. state_behind f x q) (take i faces) ≡ true → state_behind f (get_or faces i face) q ≡ true
+      → list_all (λ x. state_behind f x q) (take (i + 1) faces) ≡ true
+  behind_more i face q few before here = list_all_more (λ x. state_behind f x q) faces i face few ∙ rw (before, here) refl
+
+  -- one of them is inactive
+  pub behind_off : (i : ℕ) (face : Face) (q : Coord) → IsTrue (is_inside everywhere q) → i < 6 → state_behind f (get_or faces i face) q ≡ false → ((erode f).cell q).on ≡ false
+  behind_off i face q inside few here =
+      sym (eroded_is q inside) ∙ ap (λ b. (f.cell q).on && b) (list_all_at (λ x. state_behind f x q) faces i face few here) ∙ and_false (f.cell q).on
+    where
+      and_false : (b : Bool) → (b && false) ≡ false
+      and_false true = refl
+      and_false false = refl
+
+  -- none is
+  pub behind_on : (q : Coord) → IsTrue (is_inside everywhere q) → list_all (λ x. state_behind f x q) faces ≡ true → (f.cell q).on ≡ ((erode f).cell q).on
+  behind_on q inside all = sym (and-true (f.cell q).on) ∙ ap (λ b. (f.cell q).on && b) (sym all) ∙ eroded_is q inside
+
+  -- the neighbour behind a face
+  pub neighbour_state : (face : Face) (q r : Coord) → neighbour face q ≡ Some r → (f.cell r).on ≡ state_behind f face q
+  neighbour_state face q r h = let e = chosen (is_inside everywhere (toward face q)) (toward face q) r h in rw e.0 (ap (λ (x : Coord). (f.cell x).on) (sym e.1))
+    where
+      chosen : (b : Bool) (x y : Coord) → cond b (Some x) None ≡ Some y → (b ≡ true) × (x ≡ y)
+      chosen true x y h = (refl, same_Some x y h)
+      chosen false x y h = cc
+
+  -- an inactive voxel stays so
+  pub off_eroded : (q : Coord) → IsTrue (is_inside everywhere q) → (f.cell q).on ≡ false → ((erode f).cell q).on ≡ false
+  off_eroded q inside e = sym (eroded_is q inside) ∙ ap (λ b. b && list_all (λ face. state_behind f face q) faces) e
+
+module _ {V : Type 0} (bits : Bits) (configured : AreBits bits) (f : Field V) (face : Face) (p : Coord) where
+  -- what lies behind the face of a voxel of p's block, past that block, lies in the one behind the block's face
+  next_block : (q : Coord) → IsTrue (is_around bits p q) → is_around bits q (toward face q) ≡ false → block_number bits Leaf (toward face q) ≡ toward face (block_number bits Leaf p)
+  next_block q around past =
+      elim (crosses bits face q) [
+        | inl e ↦ absurd (unlike past (number_around bits q (toward face q) e))
+        | inr e ↦ e ∙ ap (toward face) (around_number bits p q around)
+      ]
+    where
+      unlike : {b : Bool} → b ≡ false → b ≡ true → ⊥
+      unlike n y = let never : false ≡ true = sym n ∙ y in cc
+
+  -- so that block has its state
+  pub there_behind : (r : Coord) (mask : List Bool) → IsTrue (is_inside everywhere r) → block_number bits Leaf r ≡ toward face (block_number bits Leaf p) → HasStates bits f r mask → HasStatesBehind bits f face p mask
+  there_behind r mask inside_r behind has q inside around past =
+      let e : block_number bits Leaf (toward face q) ≡ block_number bits Leaf r = next_block q around past ∙ sym behind in
+      let inside_there = block_in_range bits Leaf configured r (toward face q) inside_r e in
+      rw inside_there (has (toward face q) inside_there (number_around bits r (toward face q) e))
+
+  -- and where there is none, the voxel behind lies past the range
+  pub nowhere_behind : (mask : List Bool) → ((q : Coord) → is_on mask (offset bits Leaf q) ≡ true) → is_inside (block_numbers bits Leaf) (toward face (block_number bits Leaf p)) ≡ false
+      → HasStatesBehind bits f face p mask
+  nowhere_behind mask on nowhere q inside around past =
+      elim (bool_cases (is_inside everywhere (toward face q))) [
+        | inl e ↦
+            let within : is_inside (block_numbers bits Leaf) (block_number bits Leaf (toward face q)) ≡ true = number_in_range bits Leaf (toward face q) e in
+            let never : false ≡ true = sym nowhere ∙ ap (is_inside (block_numbers bits Leaf)) (sym (next_block q around past)) ∙ within in cc
+        | inr e ↦ rw e (on (toward face q))
+      ]
+
+  -- the state behind a face of a voxel, from the masks of both blocks
+  pub beside_behind : IsTrue (is_inside everywhere p) → (own other : List Bool) → HasStates bits f p own → HasStatesBehind bits f face p other
+      → (q : Coord) → IsTrue (is_inside everywhere q) → IsTrue (is_around bits p q) → state_beside bits own other face q ≡ state_behind f face q
+  beside_behind inside_p own other has behind q inside around =
+      elim (bool_cases (is_around bits q (toward face q))) [
+        | inl e ↦
+            let same = around_number bits q (toward face q) e ∙ around_number bits p q around in
+            let inside_there = block_in_range bits Leaf configured p (toward face q) inside_p same in
+            rw (e, inside_there) (has (toward face q) inside_there (number_around bits p (toward face q) same))
+        | inr e ↦ rw e (behind q inside around e)
+      ]

@@ -1,0 +1,19 @@
+-- Lemmas on what lies behind faces, on marks in trees of states, and on the states of leaf blocks.
+pub mod Layers
+pub mod Crossings
+pub mod Marks
+pub mod SpreadBoxes
+pub mod ShiftedWords
+pub mod LeafWords
+pub mod BesideStates
+pub mod BlockStates
+pub mod ErodedBlocks
+pub mod VoxelWrites
+pub mod Eroding
+pub mod Settling
+pub mod Activating
+pub mod Spreads
+pub mod Neighbours
+pub mod TurnLaws
+pub mod Spreading
+pub mod TreeSizes

@@ -1,0 +1,3 @@
+-- Dilation and erosion by faces, turn by turn.
+pub mod Growth
+pub mod internal

@@ -1,0 +1,7 @@
+-- Words of private functions and of proofs alone: no public contract needs them.
+pub mod Turning
+pub mod Behind
+pub mod Beside
+pub mod BlockStates
+pub mod Eroding
+pub mod Spreading

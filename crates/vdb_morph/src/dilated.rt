@@ -1,0 +1,214 @@
+//! One turn of dilation.
+
+ghost use Rattle.std.specs.Prelude.{◌≡◌, ◌&&◌, false, true, IfOk, IsOk, IsTrue};
+ghost use Rattle.vdb_coord.specs.Blocks.{offset};
+ghost use Rattle.vdb_coord.specs.Space.{everywhere, is_inside};
+ghost use Rattle.vdb_coord.specs.declared.Coord.{Coord};
+ghost use Rattle.vdb_coord.specs.declared.Level.TheVariants.{Leaf as leaf_level};
+ghost use Rattle.vdb_mask.specs.Mask.{is_on};
+ghost use Rattle.vdb_tree.specs.Field.{dilate};
+ghost use Rattle.vdb_tree.specs.Layout.{bits_of, field_of};
+ghost use Rattle.vdb_tree.specs.Parts.{IsWalk};
+ghost use Rattle.vdb_morph.specs.internal.Behind.{is_behind_any};
+ghost use Rattle.vdb_morph.specs.internal.Turning.{is_around, spread, topology, with_active};
+
+use crate::faces::behind;
+use crate::spread_block::spread_block;
+use crate::states::topology_of;
+use vdb_coord::{Bounds, Coord, Face, Level};
+use vdb_mask::Mask;
+use vdb_node::{Internal, Leaf, Stored};
+use vdb_pool::Steps;
+use vdb_region::fill;
+use vdb_tree::{Content, Part, Skip, TreeOf, TreeRefusal, Walk};
+use vdb_value::Cell;
+
+/// The states of a tree after one turn of dilation. The error says that a growth was refused.
+pub(crate) fn dilated<
+    V: Stored<WU> + Stored<WL> + Stored<WF>,
+    const U: u32,
+    const L: u32,
+    const F: u32,
+    const WU: usize,
+    const WL: usize,
+    const WF: usize,
+>(
+    tree: &TreeOf<V, U, L, F, WU, WL, WF>,
+    steps: &mut Steps,
+) -> Result<TreeOf<bool, U, L, F, WU, WL, WF>, TreeRefusal>
+    ensures { IfOk result (λ states. field_of (bits_of U L F) states ≡ topology (dilate (field_of (bits_of U L F) tree.now))) }
+{
+    let _ = tree.mask_words(); // no nodes are too great
+    let mut states = topology_of(tree, steps)?;
+    let mut walk = tree.parts(Bounds::all(), Skip::Inactive);
+    'parts: while let Some(part) = tree.next_part(&mut walk, steps) {
+        let Part { bounds, content } = part;
+        match content {
+            Content::Tile(cell) => spread_tile(&mut states, cell.on, bounds, steps)?,
+            Content::Leaf(_) => spread_leaf(tree, &walk, bounds.min(), &mut states, steps)?,
+        }
+    }
+    Ok(states)
+}
+
+/// Makes the face neighbours of the voxels of a tile active, where the tile is active, in a tree whose values are all false. The
+/// error says that a growth was refused.
+fn spread_tile<
+    const U: u32,
+    const L: u32,
+    const F: u32,
+    const WU: usize,
+    const WL: usize,
+    const WF: usize,
+>(
+    states: &mut TreeOf<bool, U, L, F, WU, WL, WF>,
+    on: bool,
+    bounds: Bounds,
+    steps: &mut Steps,
+) -> Result<(), TreeRefusal>
+    requires on { IsTrue on → (q : Coord) → IsTrue (is_inside bounds q) → ((field_of (bits_of U L F) states.old).cell q).on ≡ true }
+    requires values { (q : Coord) → ((field_of (bits_of U L F) states.old).cell q).value ≡ false }
+    ensures { IsOk result → field_of (bits_of U L F) states.new ≡ spread (λ q. on && is_inside bounds q) (field_of (bits_of U L F) states.old) }
+{
+    if on {
+        spread_voxels(states, bounds, steps)
+    } else {
+        Ok(())
+    }
+}
+
+/// Makes the face neighbours of the voxels of a box active, which are active themselves, in a tree whose values are all false: by
+/// words where the box is a leaf block. The error says that a growth was refused.
+fn spread_voxels<
+    const U: u32,
+    const L: u32,
+    const F: u32,
+    const WU: usize,
+    const WL: usize,
+    const WF: usize,
+>(
+    states: &mut TreeOf<bool, U, L, F, WU, WL, WF>,
+    bounds: Bounds,
+    steps: &mut Steps,
+) -> Result<(), TreeRefusal>
+    requires on { (q : Coord) → IsTrue (is_inside bounds q) → ((field_of (bits_of U L F) states.old).cell q).on ≡ true }
+    requires values { (q : Coord) → ((field_of (bits_of U L F) states.old).cell q).value ≡ false }
+    ensures { IsOk result → field_of (bits_of U L F) states.new ≡ spread (is_inside bounds) (field_of (bits_of U L F) states.old) }
+{
+    let bits = states.bits();
+    let corner = bounds.min();
+    if bounds != corner.block_in(bits, Level::Leaf) {
+        return spread_box(states, bounds, steps);
+    }
+    states.has_leaf_words();
+    let marks = Mask::filled(true);
+    spread_block(states, corner, &marks, steps)
+}
+
+/// Makes the face neighbours of the active voxels of p's leaf block active. The walk is one over the tree: where it is in that leaf,
+/// the leaf is found by one visit. The error says that a growth was refused.
+fn spread_leaf<
+    V: Stored<WU> + Stored<WL> + Stored<WF>,
+    const U: u32,
+    const L: u32,
+    const F: u32,
+    const WU: usize,
+    const WL: usize,
+    const WF: usize,
+>(
+    tree: &TreeOf<V, U, L, F, WU, WL, WF>,
+    walk: &Walk<Internal<V, U, WU>, Internal<V, L, WL>, Leaf<V, F, WF>>,
+    p: Coord,
+    states: &mut TreeOf<bool, U, L, F, WU, WL, WF>,
+    steps: &mut Steps,
+) -> Result<(), TreeRefusal>
+    requires { IsWalk (bits_of U L F) tree.now walk.now }
+    ensures { IsOk result → field_of (bits_of U L F) states.new
+        ≡ spread (λ q. is_around (bits_of U L F) p q && ((field_of (bits_of U L F) tree.now).cell q).on) (field_of (bits_of U L F) states.old) }
+{
+    let marks = block_states(tree, walk, p, steps);
+    spread_block(states, p, &marks, steps)
+}
+
+/// The states of the voxels of p's leaf block, at their entries. The walk is one over the tree.
+fn block_states<
+    V: Stored<WU> + Stored<WL> + Stored<WF>,
+    const U: u32,
+    const L: u32,
+    const F: u32,
+    const WU: usize,
+    const WL: usize,
+    const WF: usize,
+>(
+    tree: &TreeOf<V, U, L, F, WU, WL, WF>,
+    walk: &Walk<Internal<V, U, WU>, Internal<V, L, WL>, Leaf<V, F, WF>>,
+    p: Coord,
+    steps: &mut Steps,
+) -> Mask<WF>
+    requires { IsWalk (bits_of U L F) tree.now walk.now }
+    ensures { (q : Coord) → IsTrue (is_inside everywhere q) → IsTrue (is_around (bits_of U L F) p q) → is_on result (offset (bits_of U L F) leaf_level q) ≡ ((field_of (bits_of U L F) tree.now).cell q).on }
+{
+    tree.has_leaf_words();
+    match tree.leaf_of(walk, p, steps) {
+        Some(leaf) => leaf.states().copied(),
+        None => Mask::filled(tree.get(p, steps).on),
+    }
+}
+
+/// Makes the face neighbours of the voxels of a box active, which are active themselves, in a tree whose values are all false. The
+/// error says that a growth was refused.
+fn spread_box<
+    const U: u32,
+    const L: u32,
+    const F: u32,
+    const WU: usize,
+    const WL: usize,
+    const WF: usize,
+>(
+    states: &mut TreeOf<bool, U, L, F, WU, WL, WF>,
+    bounds: Bounds,
+    steps: &mut Steps,
+) -> Result<(), TreeRefusal>
+    requires on { (q : Coord) → IsTrue (is_inside bounds q) → ((field_of (bits_of U L F) states.old).cell q).on ≡ true }
+    requires values { (q : Coord) → ((field_of (bits_of U L F) states.old).cell q).value ≡ false }
+    ensures { IsOk result → field_of (bits_of U L F) states.new ≡ spread (is_inside bounds) (field_of (bits_of U L F) states.old) }
+{
+    let _ = bounds.min(); // the proof learns from it that the box lies in the range
+    fill_behind(states, bounds, &Face::ALL, steps)
+}
+
+/// Makes the voxels right behind these faces of a box active, in a tree whose values are all false. The error says that a growth
+/// was refused.
+fn fill_behind<
+    const U: u32,
+    const L: u32,
+    const F: u32,
+    const WU: usize,
+    const WL: usize,
+    const WF: usize,
+>(
+    states: &mut TreeOf<bool, U, L, F, WU, WL, WF>,
+    bounds: Bounds,
+    faces: &[Face],
+    steps: &mut Steps,
+) -> Result<(), TreeRefusal>
+    requires { (q : Coord) → ((field_of (bits_of U L F) states.old).cell q).value ≡ false }
+    ensures { IsOk result → field_of (bits_of U L F) states.new ≡ with_active (is_behind_any faces.now bounds) (field_of (bits_of U L F) states.old) }
+{
+    match faces.split_first() {
+        None => Ok(()),
+        Some((face, rest)) => {
+            fill_behind(states, bounds, rest, steps)?;
+            match behind(bounds, *face) {
+                Some(slab) => {
+                    let cell = Cell {
+                        value: false,
+                        on: true,
+                    };
+                    fill(states, slab, cell, steps)
+                }
+                None => Ok(()),
+            }
+        }
+    }
+}

@@ -1,0 +1,219 @@
+//! One turn of erosion.
+
+ghost use Rattle.std.specs.Prelude.{◌≡◌, true, IfOk, IsOk, IsTrue};
+ghost use Rattle.vdb_coord.specs.Space.{is_inside};
+ghost use Rattle.vdb_coord.specs.declared.Coord.{Coord};
+ghost use Rattle.vdb_tree.specs.Field.{erode};
+ghost use Rattle.vdb_tree.specs.Layout.{bits_of, field_of};
+ghost use Rattle.vdb_tree.specs.Parts.{IsPartOfLeaf, OnLeaf, OnTile};
+ghost use Rattle.vdb_morph.specs.internal.Eroding.{Erodes, IsEither, IsEroded, IsSettled};
+ghost use Rattle.vdb_morph.specs.internal.Turning.{topology};
+
+use crate::erode_block::erode_block;
+use crate::faces::{behind, opposite};
+use crate::states::topology_of;
+use vdb_coord::{Bounds, Face, Level};
+use vdb_node::{Leaf, Stored};
+use vdb_pool::Steps;
+use vdb_tree::{Content, Part, Skip, TreeOf, TreeRefusal};
+use vdb_value::Cell;
+use vdb_walk::count;
+
+/// The states of a tree after one turn of erosion. The error says that a growth was refused.
+pub(crate) fn eroded<
+    V: Stored<WU> + Stored<WL> + Stored<WF>,
+    const U: u32,
+    const L: u32,
+    const F: u32,
+    const WU: usize,
+    const WL: usize,
+    const WF: usize,
+>(
+    tree: &TreeOf<V, U, L, F, WU, WL, WF>,
+    steps: &mut Steps,
+) -> Result<TreeOf<bool, U, L, F, WU, WL, WF>, TreeRefusal>
+    ensures { IfOk result (λ states. field_of (bits_of U L F) states ≡ topology (erode (field_of (bits_of U L F) tree.now))) }
+{
+    let _ = tree.mask_words(); // no nodes are too great
+    let mut states = topology_of(tree, steps)?;
+    let mut walk = tree.parts(Bounds::all(), Skip::Inactive);
+    'parts: while let Some(part) = tree.next_part(&mut walk, steps) {
+        erode_part(tree, &mut states, part, steps)?;
+    }
+    Ok(states)
+}
+
+/// Gives the voxels of a part of the tree the states that they have there after one turn of erosion, where they have those from
+/// before it or after it, and no other voxel another state than that. The error says that a growth was refused.
+fn erode_part<
+    V: Stored<WU> + Stored<WL> + Stored<WF>,
+    const U: u32,
+    const L: u32,
+    const F: u32,
+    const WU: usize,
+    const WL: usize,
+    const WF: usize,
+>(
+    tree: &TreeOf<V, U, L, F, WU, WL, WF>,
+    states: &mut TreeOf<bool, U, L, F, WU, WL, WF>,
+    part: Part<V, &Leaf<V, F, WF>>,
+    steps: &mut Steps,
+) -> Result<(), TreeRefusal>
+    requires tile { OnTile part.content (λ cell. (q : Coord) → IsTrue (is_inside part.bounds q) → (field_of (bits_of U L F) tree.now).cell q ≡ cell) }
+    requires leaf { OnLeaf part.content (λ leaf. IsPartOfLeaf (bits_of U L F) (field_of (bits_of U L F) tree.now) part.bounds leaf.now) }
+    ensures here { IsOk result → (q : Coord) → IsTrue (is_inside part.entry.bounds q) → IsEither (field_of (bits_of U L F) tree.now) (field_of (bits_of U L F) states.old) q → IsEroded (field_of (bits_of U L F) tree.now) (field_of (bits_of U L F) states.new) q }
+    ensures erodes { IsOk result → Erodes (field_of (bits_of U L F) tree.now) (field_of (bits_of U L F) states.old) (field_of (bits_of U L F) states.new) }
+{
+    let Part { bounds, content } = part;
+    match content {
+        Content::Tile(cell) => erode_tile(tree, states, cell, bounds, steps),
+        Content::Leaf(leaf) => erode_leaf(tree, states, leaf, bounds, steps),
+    }
+}
+
+/// Gives the voxels of a part of a leaf, and the others of its leaf block, the states that they have in the tree after one turn of
+/// erosion. The error says that a growth was refused.
+fn erode_leaf<
+    V: Stored<WU> + Stored<WL> + Stored<WF>,
+    const U: u32,
+    const L: u32,
+    const F: u32,
+    const WU: usize,
+    const WL: usize,
+    const WF: usize,
+>(
+    tree: &TreeOf<V, U, L, F, WU, WL, WF>,
+    states: &mut TreeOf<bool, U, L, F, WU, WL, WF>,
+    leaf: &Leaf<V, F, WF>,
+    part: Bounds,
+    steps: &mut Steps,
+) -> Result<(), TreeRefusal>
+    requires { IsPartOfLeaf (bits_of U L F) (field_of (bits_of U L F) tree.now) part leaf.now }
+    ensures here { IsOk result → (q : Coord) → IsTrue (is_inside part q) → IsEroded (field_of (bits_of U L F) tree.now) (field_of (bits_of U L F) states.new) q }
+    ensures erodes { IsOk result → Erodes (field_of (bits_of U L F) tree.now) (field_of (bits_of U L F) states.old) (field_of (bits_of U L F) states.new) }
+{
+    let _ = leaf;
+    erode_block(tree, states, part.min(), steps)
+}
+
+/// Gives the voxels of a box, which all have this cell in the tree, the states that they have there after one turn of erosion,
+/// where they have those from before it or after it, and no other voxel another state than that. The error says that a growth was
+/// refused.
+fn erode_tile<
+    V: Stored<WU> + Stored<WL> + Stored<WF>,
+    const U: u32,
+    const L: u32,
+    const F: u32,
+    const WU: usize,
+    const WL: usize,
+    const WF: usize,
+>(
+    tree: &TreeOf<V, U, L, F, WU, WL, WF>,
+    states: &mut TreeOf<bool, U, L, F, WU, WL, WF>,
+    cell: Cell<V>,
+    bounds: Bounds,
+    steps: &mut Steps,
+) -> Result<(), TreeRefusal>
+    requires { (q : Coord) → IsTrue (is_inside bounds q) → (field_of (bits_of U L F) tree.now).cell q ≡ cell }
+    ensures here { IsOk result → (q : Coord) → IsTrue (is_inside bounds q) → IsEither (field_of (bits_of U L F) tree.now) (field_of (bits_of U L F) states.old) q → IsEroded (field_of (bits_of U L F) tree.now) (field_of (bits_of U L F) states.new) q }
+    ensures erodes { IsOk result → Erodes (field_of (bits_of U L F) tree.now) (field_of (bits_of U L F) states.old) (field_of (bits_of U L F) states.new) }
+{
+    if !cell.on {
+        return Ok(());
+    }
+    let corner = bounds.min();
+    if bounds != corner.block_in(tree.bits(), Level::Leaf) {
+        return erode_box(tree, states, bounds, steps);
+    }
+    erode_block(tree, states, corner, steps)
+}
+
+/// Gives the voxels of a box, which are all active in the tree, the states that they have there after one turn of erosion, where
+/// they have those from before it or after it, and no other voxel another state than that. The error says that a growth was
+/// refused.
+fn erode_box<
+    V: Stored<WU> + Stored<WL> + Stored<WF>,
+    const U: u32,
+    const L: u32,
+    const F: u32,
+    const WU: usize,
+    const WL: usize,
+    const WF: usize,
+>(
+    tree: &TreeOf<V, U, L, F, WU, WL, WF>,
+    states: &mut TreeOf<bool, U, L, F, WU, WL, WF>,
+    bounds: Bounds,
+    steps: &mut Steps,
+) -> Result<(), TreeRefusal>
+    requires { (q : Coord) → IsTrue (is_inside bounds q) → ((field_of (bits_of U L F) tree.now).cell q).on ≡ true }
+    ensures here { IsOk result → (q : Coord) → IsTrue (is_inside bounds q) → IsEither (field_of (bits_of U L F) tree.now) (field_of (bits_of U L F) states.old) q → IsEroded (field_of (bits_of U L F) tree.now) (field_of (bits_of U L F) states.new) q }
+    ensures erodes { IsOk result → Erodes (field_of (bits_of U L F) tree.now) (field_of (bits_of U L F) states.old) (field_of (bits_of U L F) states.new) }
+{
+    for face in Face::ALL {
+        erode_face(tree, states, bounds, face, steps)?;
+    }
+    Ok(())
+}
+
+/// Gives the voxels along a face of a box, which are all active in the tree, the states that they have there after one turn of
+/// erosion, unless all that lies behind that face is active, and no other voxel another state than that. The error says that a
+/// growth was refused.
+fn erode_face<
+    V: Stored<WU> + Stored<WL> + Stored<WF>,
+    const U: u32,
+    const L: u32,
+    const F: u32,
+    const WU: usize,
+    const WL: usize,
+    const WF: usize,
+>(
+    tree: &TreeOf<V, U, L, F, WU, WL, WF>,
+    states: &mut TreeOf<bool, U, L, F, WU, WL, WF>,
+    bounds: Bounds,
+    face: Face,
+    steps: &mut Steps,
+) -> Result<(), TreeRefusal>
+    requires { (q : Coord) → IsTrue (is_inside bounds q) → ((field_of (bits_of U L F) tree.now).cell q).on ≡ true }
+    ensures settled { IsOk result → (q : Coord) → IsTrue (is_inside bounds q) → IsSettled (field_of (bits_of U L F) tree.now) (field_of (bits_of U L F) states.new) face q }
+    ensures erodes { IsOk result → Erodes (field_of (bits_of U L F) tree.now) (field_of (bits_of U L F) states.old) (field_of (bits_of U L F) states.new) }
+{
+    let _ = bounds.min(); // the proof learns from it that the box lies within the range
+    let Some(slab) = behind(bounds, face) else {
+        return Ok(());
+    };
+    if count(tree, Some(slab), steps) == slab.volume() {
+        return Ok(());
+    }
+    match behind(slab, opposite(face)) {
+        Some(layer) => erode_blocks(tree, states, layer, steps),
+        None => Ok(()),
+    }
+}
+
+/// Gives each leaf block that meets a box the states that it has in the tree after one turn of erosion. The error says that a
+/// growth was refused.
+fn erode_blocks<
+    V: Stored<WU> + Stored<WL> + Stored<WF>,
+    const U: u32,
+    const L: u32,
+    const F: u32,
+    const WU: usize,
+    const WL: usize,
+    const WF: usize,
+>(
+    tree: &TreeOf<V, U, L, F, WU, WL, WF>,
+    states: &mut TreeOf<bool, U, L, F, WU, WL, WF>,
+    bounds: Bounds,
+    steps: &mut Steps,
+) -> Result<(), TreeRefusal>
+    ensures here { IsOk result → (q : Coord) → IsTrue (is_inside bounds q) → IsEroded (field_of (bits_of U L F) tree.now) (field_of (bits_of U L F) states.new) q }
+    ensures erodes { IsOk result → Erodes (field_of (bits_of U L F) tree.now) (field_of (bits_of U L F) states.old) (field_of (bits_of U L F) states.new) }
+{
+    let bits = tree.bits();
+    let mut at = Some(bounds.min());
+    'places: while let Some(p) = at {
+        erode_block(tree, states, p, steps)?;
+        at = bounds.next_place_in(bits, Level::Leaf, p);
+    }
+    Ok(())
+}

@@ -1,0 +1,124 @@
+//! Dilation and erosion of a tree by some turns.
+
+ghost use Rattle.std.specs.Prelude.{◌≡◌, ◌≤◌, IfErr, IfSome};
+ghost use Rattle.vdb_tree.specs.Field.{dilate as dilation, erode as erosion, turns as turned};
+ghost use Rattle.vdb_tree.specs.Layout.{bits_of, field_of};
+ghost use Rattle.vdb_tree.specs.Outcome.{IsOutcome};
+ghost use Rattle.vdb_tree.specs.declared.refusal.TreeRefusal.TheVariants.{Memory};
+ghost use Rattle.vdb_morph.specs.Growth.{IsGrowth};
+ghost use Rattle.vdb_morph.specs.internal.Turning.{topology};
+
+use crate::dilated::dilated;
+use crate::eroded::eroded;
+use vdb_node::Stored;
+use vdb_pool::Steps;
+use vdb_topology::{intersect, unite};
+use vdb_tree::{TreeOf, TreeRefusal};
+
+/// Makes each voxel active, in each of so many turns, that has an active face neighbour, and keeps the values (OpenVDB's
+/// `tools::dilateActiveValues` with `NN_FACE`). A turn reads the states from before it. There are 1 to 16 turns.
+///
+/// `RootLimit` says that there would be more root blocks with a cell that isn't the background than the limit, `Memory` that a
+/// growth was refused, which may also come where there would be too many root blocks; both leave every cell as it was.
+pub fn dilate<
+    V: Stored<WU> + Stored<WL> + Stored<WF>,
+    const U: u32,
+    const L: u32,
+    const F: u32,
+    const WU: usize,
+    const WL: usize,
+    const WF: usize,
+>(
+    tree: &mut TreeOf<V, U, L, F, WU, WL, WF>,
+    turns: u32,
+    steps: &mut Steps,
+) -> Result<(), TreeRefusal>
+    requires some { 1 ≤ turns }
+    requires few { turns ≤ 16 }
+    ensures outcome { IsGrowth V.eq (bits_of U L F) tree.old.limit (field_of (bits_of U L F) tree.old)
+        (turned turns dilation (field_of (bits_of U L F) tree.old)) (field_of (bits_of U L F) tree.new) result }
+    ensures limit { tree.new.limit ≡ tree.old.limit }
+{
+    let _ = tree.mask_words(); // no nodes are too great
+    match dilated_states(tree, turns, steps) {
+        Some(states) => unite(tree, &states, steps),
+        None => Err(TreeRefusal::Memory),
+    }
+}
+
+/// Makes each voxel inactive, in each of so many turns, that has an inactive face neighbour, and keeps the values (OpenVDB's
+/// `tools::erodeActiveValues` with `NN_FACE`). A turn reads the states from before it. There are 1 to 16 turns.
+///
+/// `Memory` says that a growth was refused, and leaves every cell as it was.
+pub fn erode<
+    V: Stored<WU> + Stored<WL> + Stored<WF>,
+    const U: u32,
+    const L: u32,
+    const F: u32,
+    const WU: usize,
+    const WL: usize,
+    const WF: usize,
+>(
+    tree: &mut TreeOf<V, U, L, F, WU, WL, WF>,
+    turns: u32,
+    steps: &mut Steps,
+) -> Result<(), TreeRefusal>
+    requires some { 1 ≤ turns }
+    requires few { turns ≤ 16 }
+    ensures outcome { IsOutcome V.eq (bits_of U L F) tree.old.limit (field_of (bits_of U L F) tree.old)
+        (turned turns erosion (field_of (bits_of U L F) tree.old)) (field_of (bits_of U L F) tree.new) result }
+    ensures limit { tree.new.limit ≡ tree.old.limit }
+    ensures memory { IfErr result (λ refusal. refusal ≡ Memory) }
+{
+    let _ = (tree.limit(), tree.mask_words()); // the tree keeps to the limit, and no nodes are too great
+    match eroded_states(tree, turns, steps) {
+        Some(states) => intersect(tree, &states, steps),
+        None => Err(TreeRefusal::Memory),
+    }
+}
+
+/// The states of a tree after some turns of dilation: `None` where a growth was refused.
+fn dilated_states<
+    V: Stored<WU> + Stored<WL> + Stored<WF>,
+    const U: u32,
+    const L: u32,
+    const F: u32,
+    const WU: usize,
+    const WL: usize,
+    const WF: usize,
+>(
+    tree: &TreeOf<V, U, L, F, WU, WL, WF>,
+    turns: u32,
+    steps: &mut Steps,
+) -> Option<TreeOf<bool, U, L, F, WU, WL, WF>>
+    ensures { 1 ≤ turns → IfSome result (λ states. field_of (bits_of U L F) states ≡ topology (turned turns dilation (field_of (bits_of U L F) tree.now))) }
+{
+    let mut states = dilated(tree, steps).ok()?;
+    for _ in 1..turns {
+        states = dilated(&states, steps).ok()?;
+    }
+    Some(states)
+}
+
+/// The states of a tree after some turns of erosion: `None` where a growth was refused.
+fn eroded_states<
+    V: Stored<WU> + Stored<WL> + Stored<WF>,
+    const U: u32,
+    const L: u32,
+    const F: u32,
+    const WU: usize,
+    const WL: usize,
+    const WF: usize,
+>(
+    tree: &TreeOf<V, U, L, F, WU, WL, WF>,
+    turns: u32,
+    steps: &mut Steps,
+) -> Option<TreeOf<bool, U, L, F, WU, WL, WF>>
+    ensures { 1 ≤ turns → IfSome result (λ states. field_of (bits_of U L F) states ≡ topology (turned turns erosion (field_of (bits_of U L F) tree.now))) }
+{
+    let mut states = eroded(tree, steps).ok()?;
+    for _ in 1..turns {
+        states = eroded(&states, steps).ok()?;
+    }
+    Some(states)
+}

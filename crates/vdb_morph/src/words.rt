@@ -1,0 +1,120 @@
+//! The states behind the faces of the voxels of a leaf of 3 bits. A word has the states of one x: a byte for each y, a bit for each
+//! z.
+
+ghost use Rattle.std.specs.Prelude.{◌≡◌, ◌+◌, ◌*◌, ◌<◌, ◌≤◌, ◌&&◌, ℕ};
+ghost use Rattle.std.specs.List.{list_any};
+ghost use Rattle.vdb_coord.specs.Blocks.{offset};
+ghost use Rattle.vdb_coord.specs.Faces.{faces, toward};
+ghost use Rattle.vdb_coord.specs.declared.Coord.{Coord};
+ghost use Rattle.vdb_coord.specs.declared.Level.TheVariants.{Leaf as leaf_level};
+ghost use Rattle.vdb_mask.specs.Mask.{has_bit, is_on};
+ghost use Rattle.vdb_tree.specs.Layout.{bits_of};
+ghost use Rattle.vdb_morph.specs.internal.Behind.{state_beside};
+ghost use Rattle.vdb_morph.specs.internal.Beside.{bit_after, bit_before, bit_beside, is_on_beside};
+ghost use Rattle.vdb_morph.specs.internal.Turning.{is_around};
+
+use vdb_coord::Face;
+use vdb_mask::Mask;
+
+/// At the entry of each voxel the state behind its face, from the states of its own leaf block and of the block behind that face of
+/// it.
+pub(crate) fn beside<const W: usize>(own: &Mask<W>, other: &Mask<W>, face: Face) -> Mask<W>
+    requires { 8 ≤ W }
+    ensures { (u l : ℕ) (q : Coord) → is_on result (offset (bits_of u l 3) leaf_level q) ≡ state_beside (bits_of u l 3) own.now other.now face q }
+{
+    let mut result = Mask::off();
+    for k in 0..8 {
+        result.set_word(k, word_beside(own, other, face, k));
+    }
+    result
+}
+
+/// At the entry of each voxel whether a voxel behind one of its faces lies in the same leaf block and is on.
+pub(crate) fn beside_any<const W: usize>(own: &Mask<W>) -> Mask<W>
+    requires { 8 ≤ W }
+    ensures { (u l : ℕ) (q : Coord) → is_on result (offset (bits_of u l 3) leaf_level q) ≡ list_any (λ face. is_around (bits_of u l 3) q (toward face q) && is_on own.now (offset (bits_of u l 3) leaf_level (toward face q))) faces }
+{
+    let mut result = Mask::off();
+    for k in 0..8 {
+        result.set_word(k, word_beside_any(own, k));
+    }
+    result
+}
+
+/// Word k of the states behind a face, from the states of the own leaf block and of the block behind that face.
+#[inline]
+fn word_beside<const W: usize>(own: &Mask<W>, other: &Mask<W>, face: Face, k: u32) -> u64
+    requires words { 8 ≤ W }
+    requires within { k < 8 }
+    ensures { (j : ℕ) → j < 64 → bit_beside face (is_on own.now) (is_on other.now) (64 * k + j) ≡ has_bit result j }
+{
+    match face {
+        Face::MinusX => {
+            if k == 0 {
+                other.word(7)
+            } else {
+                own.word(k - 1)
+            }
+        }
+        Face::PlusX => {
+            if k == 7 {
+                other.word(0)
+            } else {
+                own.word(k + 1)
+            }
+        }
+        Face::MinusY => before_y(own.word(k), other.word(k)),
+        Face::PlusY => after_y(own.word(k), other.word(k)),
+        Face::MinusZ => before_z(own.word(k), other.word(k)),
+        Face::PlusZ => after_z(own.word(k), other.word(k)),
+    }
+}
+
+/// Word k of the voxels that have one behind a face that lies in the same leaf block and is on.
+#[inline]
+fn word_beside_any<const W: usize>(own: &Mask<W>, k: u32) -> u64
+    requires words { 8 ≤ W }
+    requires within { k < 8 }
+    ensures { (j : ℕ) → j < 64 → is_on_beside own.now (64 * k + j) ≡ has_bit result j }
+{
+    let word = own.word(k);
+    let minus_x = if k == 0 { 0 } else { own.word(k - 1) };
+    let plus_x = if k == 7 { 0 } else { own.word(k + 1) };
+    let minus_y = before_y(word, 0);
+    let plus_y = after_y(word, 0);
+    let minus_z = before_z(word, 0);
+    let plus_z = after_z(word, 0);
+    minus_x | plus_x | minus_y | plus_y | minus_z | plus_z
+}
+
+/// At each bit of a word the bit before it along y, where the other word is that of the block before.
+#[inline]
+fn before_y(own: u64, other: u64) -> u64
+    ensures { (j : ℕ) → j < 64 → has_bit result j ≡ bit_before 8 (has_bit own) (has_bit other) j }
+{
+    own << 8 | other >> 56
+}
+
+/// At each bit of a word the bit after it along y, where the other word is that of the block after.
+#[inline]
+fn after_y(own: u64, other: u64) -> u64
+    ensures { (j : ℕ) → j < 64 → has_bit result j ≡ bit_after 8 (has_bit own) (has_bit other) j }
+{
+    own >> 8 | other << 56
+}
+
+/// At each bit of a word the bit before it along z, where the other word is that of the block before.
+#[inline]
+fn before_z(own: u64, other: u64) -> u64
+    ensures { (j : ℕ) → j < 64 → has_bit result j ≡ bit_before 1 (has_bit own) (has_bit other) j }
+{
+    own << 1 & 0xfefe_fefe_fefe_fefe | other >> 7 & 0x0101_0101_0101_0101
+}
+
+/// At each bit of a word the bit after it along z, where the other word is that of the block after.
+#[inline]
+fn after_z(own: u64, other: u64) -> u64
+    ensures { (j : ℕ) → j < 64 → has_bit result j ≡ bit_after 1 (has_bit own) (has_bit other) j }
+{
+    own >> 1 & 0x7f7f_7f7f_7f7f_7f7f | other << 7 & 0x8080_8080_8080_8080
+}

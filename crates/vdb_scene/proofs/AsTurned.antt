@@ -1,0 +1,88 @@
+-- Turns of dilation and of erosion, before and after each value of a field is made another.
+use Rattle.std.proofs.Common.{◌≡◌, refl, sym, ap, subst, ◌∙◌, ℕ, zero, suc, ◌<◌, ◌≤◌, Bool, ◌&&◌, ◌||◌, Result, Ok, Err}
+use Rattle.std.specs.List.{list_all, list_any}
+use Rattle.std.proofs.Math.Path.{fun_ext}
+use Rattle.vdb_coord.specs.Faces.{neighbours}
+use Rattle.vdb_coord.specs.declared.Bits.{Bits}
+use Rattle.vdb_coord.specs.declared.Coord.{Coord}
+use Rattle.vdb_value.specs.declared.Cell.{Cell}
+use Rattle.vdb_tree.specs.ConstantBlocks.{roots}
+use Rattle.vdb_tree.specs.Field.{Field, as_field_of, dilate, erode, field, turns}
+use Rattle.vdb_tree.specs.Outcome.{IsOutcome}
+use Rattle.vdb_tree.specs.declared.refusal.TreeRefusal.{TreeRefusal}
+use Rattle.vdb_tree.specs.declared.refusal.TreeRefusal.TheVariants.{Memory, RootLimit}
+use Rattle.vdb_tree.proofs.AsFieldOf.{as_field_of_cell, as_field_of_roots}
+use Rattle.vdb_tree.proofs.Fields.{same_cells}
+use Rattle.vdb_morph.specs.Growth.{IsGrowth}
+
+module _ {V U : Type 0} (make : V → U) where
+  -- ---- one turn
+
+  module _ (background : V) (cells : Coord → Cell V) where
+    abbrev before : Field V
+    before = field background cells
+
+    -- the same coordinates are active
+    same_on : ◌≡◌ {A = Coord → Bool} (λ q. (before.cell q).on) (λ q. ((as_field_of make before).cell q).on)
+    same_on = fun_ext (λ q. sym (ap (λ (c : Cell U). c.on) (as_field_of_cell make background cells q)))
+
+    as_field_of_dilate : as_field_of make (dilate before) ≡ dilate (as_field_of make before)
+    as_field_of_dilate = same_cells _ _ _ (λ p inside.
+        rw inside (ap (λ (on : Coord → Bool). record { value = make (cells p).value; on = (cells p).on || list_any on (neighbours p) }) same_on))
+
+    as_field_of_erode : as_field_of make (erode before) ≡ erode (as_field_of make before)
+    as_field_of_erode = same_cells _ _ _ (λ p inside.
+        rw inside (ap (λ (on : Coord → Bool). record { value = make (cells p).value; on = (cells p).on && list_all on (neighbours p) }) same_on))
+
+  -- ---- n turns
+
+  -- a turn of a field, and the same of the field with each value made another
+  pub record IsTurn (turn : Field V → Field V) (made_turn : Field U → Field U) : Type 0 where
+    pub next : Field V → Coord → Cell V
+    pub is : (f : Field V) → turn f ≡ field f.background (next f)
+    pub made : (background : V) (cells : Coord → Cell V) → as_field_of make (turn (field background cells)) ≡ made_turn (as_field_of make (field background cells))
+
+  pub dilate_made : IsTurn dilate dilate
+  dilate_made = record { next = λ f p. record { value = (f.cell p).value; on = (f.cell p).on || list_any (λ q. (f.cell q).on) (neighbours p) }; is = λ f. refl; made = as_field_of_dilate }
+
+  pub erode_made : IsTurn erode erode
+  erode_made = record { next = λ f p. record { value = (f.cell p).value; on = (f.cell p).on && list_all (λ q. (f.cell q).on) (neighbours p) }; is = λ f. refl; made = as_field_of_erode }
+
+  module _ (turn : Field V → Field V) (made_turn : Field U → Field U) (t : IsTurn turn made_turn) where
+    -- what holds of each field of cells holds after some turns of one
+    of_turns : (P : Field V → Type 0) → ((background : V) (cells : Coord → Cell V) → P (field background cells)) → (n : ℕ) (background : V) (cells : Coord → Cell V) → P (turns n turn (field background cells))
+    of_turns P h zero background cells = h background cells
+    of_turns P h (suc n) background cells = subst (λ f. P (turns n turn f)) (sym (t.is (field background cells))) (of_turns P h n background (t.next (field background cells)))
+
+    as_field_of_turns : (n : ℕ) (background : V) (cells : Coord → Cell V) → as_field_of make (turns n turn (field background cells)) ≡ turns n made_turn (as_field_of make (field background cells))
+    as_field_of_turns zero background cells = refl
+    as_field_of_turns (suc n) background cells =
+        ap (λ f. as_field_of make (turns n turn f)) (t.is (field background cells)) ∙ as_field_of_turns n background (t.next (field background cells))
+        ∙ ap (λ f. turns n made_turn (as_field_of make f)) (sym (t.is (field background cells))) ∙ ap (turns n made_turn) (t.made background cells)
+
+    module _ (eq : V → V → Bool) (made_eq : U → U → Bool) (same : (v w : V) → made_eq (make v) (make w) ≡ eq v w) (bits : Bits) (limit n : ℕ) (background : V) (cells : Coord → Cell V) (after : Field V) where
+      abbrev old : Field V
+      old = field background cells
+
+      abbrev pub changed : Field U
+      changed = turns n made_turn (as_field_of make old)
+
+      is_changed : as_field_of make (turns n turn old) ≡ changed
+      is_changed = as_field_of_turns n background cells
+
+      same_roots : roots eq bits (turns n turn old) ≡ roots made_eq bits changed
+      same_roots =
+          sym (of_turns (λ f. roots made_eq bits (as_field_of make f) ≡ roots eq bits f) (λ b c. as_field_of_roots make b c eq made_eq same bits) n background cells)
+          ∙ ap (roots made_eq bits) is_changed
+
+      -- the outcome of some turns of dilation
+      pub as_growth_of_turns : (result : Result (Unit {0}) TreeRefusal) → IsGrowth eq bits limit old (turns n turn old) after result → IsGrowth made_eq bits limit (as_field_of make old) changed (as_field_of make after) result
+      as_growth_of_turns (Ok u) h = (ap (as_field_of make) h.0 ∙ is_changed, subst (λ (k : ℕ). k ≤ limit) same_roots h.1)
+      as_growth_of_turns (Err RootLimit) h = (ap (as_field_of make) h.0, subst (λ (k : ℕ). limit < k) same_roots h.1)
+      as_growth_of_turns (Err Memory) h = (ap (as_field_of make) h.0, tt)
+
+      -- and of erosion
+      pub as_outcome_of_turns : (result : Result (Unit {0}) TreeRefusal) → IsOutcome eq bits limit old (turns n turn old) after result → IsOutcome made_eq bits limit (as_field_of make old) changed (as_field_of make after) result
+      as_outcome_of_turns (Ok u) h = (ap (as_field_of make) h.0 ∙ is_changed, subst (λ (k : ℕ). k ≤ limit) same_roots h.1)
+      as_outcome_of_turns (Err RootLimit) h = (ap (as_field_of make) h.0, subst (λ (k : ℕ). limit < k) same_roots h.1)
+      as_outcome_of_turns (Err Memory) h = (ap (as_field_of make) h.0, subst (λ (k : ℕ). k ≤ limit) same_roots h.1)

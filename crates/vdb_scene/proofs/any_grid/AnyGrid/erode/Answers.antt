@@ -1,0 +1,10 @@
+use Rattle.vdb_scene.proofs.any_grid.AnyGrid.erode.Goals as goal
+
+pub returns-in-Bool-clause-outcome : goal.returns-in-Bool-clause-outcome
+returns-in-Bool-clause-outcome c = rw c.in-Bool.is c.erode.ensures.outcome
+
+pub returns-in-I32-clause-outcome : goal.returns-in-I32-clause-outcome
+returns-in-I32-clause-outcome c = rw c.in-I32.is c.erode-in-I32.ensures.outcome
+
+pub returns-in-I64-clause-outcome : goal.returns-in-I64-clause-outcome
+returns-in-I64-clause-outcome c = rw c.in-I64.is c.erode-in-I64.ensures.outcome

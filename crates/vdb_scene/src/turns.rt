@@ -1,0 +1,73 @@
+//! Commands that dilate or erode a grid.
+
+ghost use Rattle.std.specs.Prelude.{◌≡◌, ◌≤◌, if◌then◌else◌, IfSome, None, Some};
+ghost use Rattle.vdb_scene.specs.Doing.{CarriesOut, LeavesTrees, answer_of};
+ghost use Rattle.vdb_scene.specs.Grids.{scene_of};
+ghost use Rattle.vdb_scene.specs.Places.{count_of, is_turn_count};
+ghost use Rattle.vdb_scene.specs.declared.command.Command.TheVariants as commands;
+
+use crate::{Answer, Name, Num, Refusal, Scene};
+use vdb_pool::Steps;
+
+/// The most turns that a grid is dilated or eroded by at once.
+const TURN_LIMIT: i64 = 16;
+
+/// The number of turns that a line names, if it is one of 1 to `TURN_LIMIT`.
+fn turns_of(turns: Num) -> Option<u32>
+    ensures turns { result ≡ (if is_turn_count turns then Some (count_of turns) else None) }
+    ensures some { IfSome result (λ count. 1 ≤ count) }
+    ensures few { IfSome result (λ count. count ≤ 16) }
+{
+    match turns {
+        Num::Near(value) => {
+            if 1 <= value && value <= TURN_LIMIT {
+                Some(value as u32)
+            } else {
+                None
+            }
+        }
+        Num::Far => None,
+    }
+}
+
+impl Scene {
+    /// Carries out a command that dilates a grid.
+    pub(crate) fn dilate(
+        &mut self,
+        name: &Name,
+        turns: Num,
+        steps: &mut Steps,
+    ) -> Result<Answer<'static>, Refusal>
+        ensures step { CarriesOut (scene_of self.old) (commands.Dilate name.now turns) result (scene_of self.new) }
+        ensures trees { LeavesTrees (commands.Dilate name.now turns) (answer_of result) self.old self.new }
+    {
+        let Some(grid) = self.grids.get_mut(name) else {
+            return Err(Refusal::NoGrid);
+        };
+        let Some(count) = turns_of(turns) else {
+            return Err(Refusal::ValueRange);
+        };
+        grid.dilate(count, steps)?;
+        Ok(Answer::Done)
+    }
+
+    /// Carries out a command that erodes a grid.
+    pub(crate) fn erode(
+        &mut self,
+        name: &Name,
+        turns: Num,
+        steps: &mut Steps,
+    ) -> Result<Answer<'static>, Refusal>
+        ensures step { CarriesOut (scene_of self.old) (commands.Erode name.now turns) result (scene_of self.new) }
+        ensures trees { LeavesTrees (commands.Erode name.now turns) (answer_of result) self.old self.new }
+    {
+        let Some(grid) = self.grids.get_mut(name) else {
+            return Err(Refusal::NoGrid);
+        };
+        let Some(count) = turns_of(turns) else {
+            return Err(Refusal::ValueRange);
+        };
+        grid.erode(count, steps)?;
+        Ok(Answer::Done)
+    }
+}

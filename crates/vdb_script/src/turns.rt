@@ -1,0 +1,38 @@
+//! The commands that lines stand for, of which each changes a grid turn by turn.
+
+ghost use Rattle.std.specs.Prelude.{◌≡◌, List, ℕ, Some, map, option_map};
+ghost use Rattle.std.specs.Option.{ok_or};
+ghost use Rattle.vdb_scene.specs.declared.command.Command.{Command};
+ghost use Rattle.vdb_scene.specs.declared.command.Command.TheVariants as commands;
+ghost use Rattle.vdb_scene.specs.declared.command.Num.{Num};
+ghost use Rattle.vdb_script.specs.Grammar.{turns, whole};
+
+use crate::numbers::number_of;
+use crate::parsing::name_of;
+use vdb_scene::{Command, Name, Num, Refusal};
+
+/// The parts `NAME TURNS` of a command that changes a grid turn by turn.
+fn name_and_turns(tokens: &[&[u8]]) -> Option<(Name, Num)>
+    ensures { (make : List ℕ → Num → Command) → ok_or (option_map (λ parts. Some (make parts.0 parts.1)) result) Refusal.Syntax ≡ whole (turns make (map (λ t. t.now) tokens.now)) }
+{
+    match tokens {
+        [name, turns] => Some((name_of(name)?, number_of(turns)?)),
+        _ => None,
+    }
+}
+
+/// The command `dilate NAME TURNS`, from the tokens behind its word.
+pub(crate) fn dilate_command(tokens: &[&[u8]]) -> Option<Command>
+    ensures { ok_or (option_map Some result) Refusal.Syntax ≡ whole (turns commands.Dilate (map (λ t. t.now) tokens.now)) }
+{
+    let (name, turns) = name_and_turns(tokens)?;
+    Some(Command::Dilate { name, turns })
+}
+
+/// The command `erode NAME TURNS`, from the tokens behind its word.
+pub(crate) fn erode_command(tokens: &[&[u8]]) -> Option<Command>
+    ensures { ok_or (option_map Some result) Refusal.Syntax ≡ whole (turns commands.Erode (map (λ t. t.now) tokens.now)) }
+{
+    let (name, turns) = name_and_turns(tokens)?;
+    Some(Command::Erode { name, turns })
+}
