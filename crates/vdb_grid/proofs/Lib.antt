@@ -1,0 +1,2 @@
+pub mod EachAccessor
+pub mod NearLeaves

@@ -1,0 +1,248 @@
+//! What changes a grid beyond a voxel: each call makes the change on the tree, and then traces the path of each accessor anew.
+
+ghost use Rattle.std.specs.Prelude.{◌≡◌, ◌≤◌, Err, IfErr, OnErr, OnOk, true};
+ghost use Rattle.vdb_coord.specs.Blocks.{vdb};
+ghost use Rattle.vdb_tree.specs.Field.{clip as clipped, combine, dilate as dilation, erode as erosion, fill as filled, intersect as intersected, replace as replaced, subtract as subtracted, turns as turned, unite as united};
+ghost use Rattle.vdb_tree.specs.Layout.{field_of};
+ghost use Rattle.vdb_tree.specs.Leaves.{HasLeaves};
+ghost use Rattle.vdb_tree.specs.Outcome.{IsOutcome};
+ghost use Rattle.vdb_tree.specs.Smallest.{IsLeast};
+ghost use Rattle.vdb_tree.specs.declared.refusal.TreeRefusal.TheVariants.{Memory};
+ghost use Rattle.vdb_composite.specs.SumOutcome.{IsSumOutcome};
+ghost use Rattle.vdb_morph.specs.Growth.{IsGrowth};
+ghost use Rattle.vdb_grid.specs.Grid.{KeepsLast};
+
+use crate::Grid;
+use crate::accessors::retrace;
+use vdb_coord::Bounds;
+use vdb_composite::SumRefusal;
+use vdb_node::Stored;
+use vdb_pool::Steps;
+use vdb_tree::{Tree, TreeRefusal};
+use vdb_value::Cell;
+
+impl<V: Stored<512> + Stored<64> + Stored<8>, const K: usize> Grid<V, K> {
+    /// Gives each coordinate of the box this cell, as `vdb_region::fill` does.
+    pub fn fill(
+        &mut self,
+        bounds: Bounds,
+        cell: Cell<V>,
+        steps: &mut Steps,
+    ) -> Result<(), TreeRefusal>
+        ensures outcome { IsOutcome V.eq vdb self.old.tree.limit (field_of vdb self.old.tree)
+            (filled bounds cell (field_of vdb self.old.tree)) (field_of vdb self.new.tree) result }
+        ensures limit { self.new.tree.limit ≡ self.old.tree.limit }
+        ensures last { KeepsLast self.old.accessors self.new.accessors }
+        ensures given_back { result ≡ Err Memory → IsLeast V.eq vdb self.new.tree }
+    {
+        let outcome = vdb_region::fill(&mut self.tree, bounds, cell, steps);
+        retrace(&self.tree, &mut self.accessors, steps);
+        outcome
+    }
+
+    /// Makes each coordinate outside the box the background, inactive, as `vdb_region::clip` does.
+    pub fn clip(
+        &mut self,
+        bounds: Bounds,
+        steps: &mut Steps,
+    ) -> Result<(), TreeRefusal>
+        ensures outcome { IsOutcome V.eq vdb self.old.tree.limit (field_of vdb self.old.tree)
+            (clipped bounds (field_of vdb self.old.tree)) (field_of vdb self.new.tree) result }
+        ensures limit { self.new.tree.limit ≡ self.old.tree.limit }
+        ensures last { KeepsLast self.old.accessors self.new.accessors }
+        ensures memory { IfErr result (λ refusal. refusal ≡ Memory) }
+        ensures given_back { result ≡ Err Memory → IsLeast V.eq vdb self.new.tree }
+    {
+        let outcome = vdb_region::clip(&mut self.tree, bounds, steps);
+        retrace(&self.tree, &mut self.accessors, steps);
+        outcome
+    }
+
+    /// Replaces each node whose cells are all equal by a tile, as the tree's `prune` does.
+    pub fn prune(
+        &mut self,
+        steps: &mut Steps,
+    )
+        ensures field { field_of vdb self.new.tree ≡ field_of vdb self.old.tree }
+        ensures limit { self.new.tree.limit ≡ self.old.tree.limit }
+        ensures last { KeepsLast self.old.accessors self.new.accessors }
+        ensures least { IsLeast V.eq vdb self.new.tree }
+    {
+        self.tree.prune(steps);
+        retrace(&self.tree, &mut self.accessors, steps);
+    }
+
+    /// Puts each active voxel of the box in a leaf, as the tree's `voxelise` does.
+    pub fn voxelise(
+        &mut self,
+        bounds: Bounds,
+        steps: &mut Steps,
+    ) -> Result<(), TreeRefusal>
+        ensures field { field_of vdb self.new.tree ≡ field_of vdb self.old.tree }
+        ensures limit { self.new.tree.limit ≡ self.old.tree.limit }
+        ensures last { KeepsLast self.old.accessors self.new.accessors }
+        ensures leaves { OnOk result (HasLeaves vdb self.new.tree bounds) }
+        ensures memory { IfErr result (λ refusal. refusal ≡ Memory) }
+        ensures given_back { IfErr result (λ _. IsLeast V.eq vdb self.new.tree) }
+    {
+        let outcome = self.tree.voxelise(bounds, steps);
+        retrace(&self.tree, &mut self.accessors, steps);
+        outcome
+    }
+
+    /// Makes each voxel active that is so in the other tree, as `vdb_topology::unite` does.
+    pub fn unite<X: Stored<512> + Stored<64> + Stored<8>>(
+        &mut self,
+        other: &Tree<X>,
+        steps: &mut Steps,
+    ) -> Result<(), TreeRefusal>
+        ensures outcome { IsOutcome V.eq vdb self.old.tree.limit (field_of vdb self.old.tree)
+            (united (field_of vdb self.old.tree) (field_of vdb other.now)) (field_of vdb self.new.tree) result }
+        ensures limit { self.new.tree.limit ≡ self.old.tree.limit }
+        ensures last { KeepsLast self.old.accessors self.new.accessors }
+    {
+        let outcome = vdb_topology::unite(&mut self.tree, other, steps);
+        retrace(&self.tree, &mut self.accessors, steps);
+        outcome
+    }
+
+    /// Makes each voxel inactive that is active in the other tree, as `vdb_topology::subtract` does.
+    pub fn subtract<X: Stored<512> + Stored<64> + Stored<8>>(
+        &mut self,
+        other: &Tree<X>,
+        steps: &mut Steps,
+    ) -> Result<(), TreeRefusal>
+        ensures outcome { IsOutcome V.eq vdb self.old.tree.limit (field_of vdb self.old.tree)
+            (subtracted (field_of vdb self.old.tree) (field_of vdb other.now)) (field_of vdb self.new.tree) result }
+        ensures limit { self.new.tree.limit ≡ self.old.tree.limit }
+        ensures last { KeepsLast self.old.accessors self.new.accessors }
+        ensures memory { IfErr result (λ refusal. refusal ≡ Memory) }
+    {
+        let outcome = vdb_topology::subtract(&mut self.tree, other, steps);
+        retrace(&self.tree, &mut self.accessors, steps);
+        outcome
+    }
+
+    /// Makes each voxel inactive that isn't active in the other tree, as `vdb_topology::intersect` does.
+    pub fn intersect<X: Stored<512> + Stored<64> + Stored<8>>(
+        &mut self,
+        other: &Tree<X>,
+        steps: &mut Steps,
+    ) -> Result<(), TreeRefusal>
+        ensures outcome { IsOutcome V.eq vdb self.old.tree.limit (field_of vdb self.old.tree)
+            (intersected (field_of vdb self.old.tree) (field_of vdb other.now)) (field_of vdb self.new.tree) result }
+        ensures limit { self.new.tree.limit ≡ self.old.tree.limit }
+        ensures last { KeepsLast self.old.accessors self.new.accessors }
+        ensures memory { IfErr result (λ refusal. refusal ≡ Memory) }
+    {
+        let outcome = vdb_topology::intersect(&mut self.tree, other, steps);
+        retrace(&self.tree, &mut self.accessors, steps);
+        outcome
+    }
+
+    /// Takes the greater value of the two trees, as `vdb_composite::maximum` does.
+    pub fn maximum(
+        &mut self,
+        other: &Tree<V>,
+        steps: &mut Steps,
+    ) -> Result<(), TreeRefusal>
+        ensures outcome { IsOutcome V.eq vdb self.old.tree.limit (field_of vdb self.old.tree)
+            (combine V.greater (field_of vdb self.old.tree) (field_of vdb other.now)) (field_of vdb self.new.tree) result }
+        ensures limit { self.new.tree.limit ≡ self.old.tree.limit }
+        ensures last { KeepsLast self.old.accessors self.new.accessors }
+        ensures kept { OnErr result (self.new.tree ≡ self.old.tree) }
+    {
+        let outcome = vdb_composite::maximum(&mut self.tree, other, steps);
+        retrace(&self.tree, &mut self.accessors, steps);
+        outcome
+    }
+
+    /// Takes the lesser value of the two trees, as `vdb_composite::minimum` does.
+    pub fn minimum(
+        &mut self,
+        other: &Tree<V>,
+        steps: &mut Steps,
+    ) -> Result<(), TreeRefusal>
+        ensures outcome { IsOutcome V.eq vdb self.old.tree.limit (field_of vdb self.old.tree)
+            (combine V.lesser (field_of vdb self.old.tree) (field_of vdb other.now)) (field_of vdb self.new.tree) result }
+        ensures limit { self.new.tree.limit ≡ self.old.tree.limit }
+        ensures last { KeepsLast self.old.accessors self.new.accessors }
+        ensures kept { OnErr result (self.new.tree ≡ self.old.tree) }
+    {
+        let outcome = vdb_composite::minimum(&mut self.tree, other, steps);
+        retrace(&self.tree, &mut self.accessors, steps);
+        outcome
+    }
+
+    /// Takes the other tree's cell where that is active, as `vdb_composite::replace` does.
+    pub fn replace(
+        &mut self,
+        other: &Tree<V>,
+        steps: &mut Steps,
+    ) -> Result<(), TreeRefusal>
+        ensures outcome { IsOutcome V.eq vdb self.old.tree.limit (field_of vdb self.old.tree)
+            (replaced (field_of vdb self.old.tree) (field_of vdb other.now)) (field_of vdb self.new.tree) result }
+        ensures limit { self.new.tree.limit ≡ self.old.tree.limit }
+        ensures last { KeepsLast self.old.accessors self.new.accessors }
+        ensures kept { OnErr result (self.new.tree ≡ self.old.tree) }
+    {
+        let outcome = vdb_composite::replace(&mut self.tree, other, steps);
+        retrace(&self.tree, &mut self.accessors, steps);
+        outcome
+    }
+
+    /// Gives each coordinate the sum of its two values, as `vdb_composite::sum` does. Truth values have no sums.
+    pub fn sum(
+        &mut self,
+        other: &Tree<V>,
+        steps: &mut Steps,
+    ) -> Result<(), SumRefusal>
+        requires { V.SUMS ≡ true }
+        ensures outcome { IsSumOutcome V.eq V.sum_of vdb self.old.tree.limit (field_of vdb self.old.tree)
+            (field_of vdb other.now) (field_of vdb self.new.tree) result }
+        ensures limit { self.new.tree.limit ≡ self.old.tree.limit }
+        ensures last { KeepsLast self.old.accessors self.new.accessors }
+        ensures kept { OnErr result (self.new.tree ≡ self.old.tree) }
+    {
+        let outcome = vdb_composite::sum(&mut self.tree, other, steps);
+        retrace(&self.tree, &mut self.accessors, steps);
+        outcome
+    }
+
+    /// Makes each voxel active, in each of 1 to 16 turns, that has an active face neighbour, as `vdb_morph::dilate` does.
+    pub fn dilate(
+        &mut self,
+        turns: u32,
+        steps: &mut Steps,
+    ) -> Result<(), TreeRefusal>
+        requires some { 1 ≤ turns }
+        requires few { turns ≤ 16 }
+        ensures outcome { IsGrowth V.eq vdb self.old.tree.limit (field_of vdb self.old.tree)
+            (turned turns dilation (field_of vdb self.old.tree)) (field_of vdb self.new.tree) result }
+        ensures limit { self.new.tree.limit ≡ self.old.tree.limit }
+        ensures last { KeepsLast self.old.accessors self.new.accessors }
+    {
+        let outcome = vdb_morph::dilate(&mut self.tree, turns, steps);
+        retrace(&self.tree, &mut self.accessors, steps);
+        outcome
+    }
+
+    /// Makes each voxel inactive, in each of 1 to 16 turns, that has an inactive face neighbour, as `vdb_morph::erode` does.
+    pub fn erode(
+        &mut self,
+        turns: u32,
+        steps: &mut Steps,
+    ) -> Result<(), TreeRefusal>
+        requires some { 1 ≤ turns }
+        requires few { turns ≤ 16 }
+        ensures outcome { IsOutcome V.eq vdb self.old.tree.limit (field_of vdb self.old.tree)
+            (turned turns erosion (field_of vdb self.old.tree)) (field_of vdb self.new.tree) result }
+        ensures limit { self.new.tree.limit ≡ self.old.tree.limit }
+        ensures last { KeepsLast self.old.accessors self.new.accessors }
+        ensures memory { IfErr result (λ refusal. refusal ≡ Memory) }
+    {
+        let outcome = vdb_morph::erode(&mut self.tree, turns, steps);
+        retrace(&self.tree, &mut self.accessors, steps);
+        outcome
+    }
+}
