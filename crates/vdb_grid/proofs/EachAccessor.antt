@@ -37,14 +37,14 @@ module _ {V : Type 0} where
   pub whole_set : (t : Layout V) (cached : List (Accessor V)) (k : ℕ) (p : Coord) (path : TreePath V) → ArePathsWhole t cached → IsWhole vdb t path p → ArePathsWhole t (slice_set cached k (Some (p, path)))
   whole_set t cached k p path h w j q other e =
       elim (eqb_tells j k) [
-        inl s ↦ elim (below_or k (length cached)) [
-          inl b ↦
-            let f = get_or-set_same cached k (Some (p, path)) None b in
-            let g = pair_parts p q path other (sym f ∙ sym (ap (accessor (slice_set cached k (Some (p, path)))) s.1) ∙ e) in
-            whole_as t p q path other g.0 g.1 w
+        | inl s ↦ elim (below_or k (length cached)) [
+          | inl b ↦
+              let f = get_or-set_same cached k (Some (p, path)) None b in
+              let g = pair_parts p q path other (sym f ∙ sym (ap (accessor (slice_set cached k (Some (p, path)))) s.1) ∙ e) in
+              whole_as t p q path other g.0 g.1 w
           | inr b ↦
-            let f = get_or_past (slice_set cached k (Some (p, path))) j None (omega (arith, s.1, length_set cached k (Some (p, path)))) in
-            absurd (some_apart q other (sym f ∙ e))
+              let f = get_or_past (slice_set cached k (Some (p, path))) j None (omega (arith, s.1, length_set cached k (Some (p, path)))) in
+              absurd (some_apart q other (sym f ∙ e))
         ]
         | inr s ↦ h j q other (sym (get_or-set_other cached k j (Some (p, path)) None s.1) ∙ e)
       ]
@@ -75,28 +75,28 @@ module _ {V : Type 0} where
   pub whole_next : (t : Layout V) (cached : List (Accessor V)) (i : ℕ) (o : Accessor V) → i < length cached → AreWholeBelow t cached i → ((p : Coord) (path : TreePath V) → o ≡ Some (p, path) → IsWhole vdb t path p) → AreWholeBelow t (slice_set cached i o) (i + 1)
   whole_next t cached i o b h w k p path l e =
       elim (eqb_tells k i) [
-        inl s ↦ w p path (sym (get_or-set_same cached i o None b) ∙ sym (ap (accessor (slice_set cached i o)) s.1) ∙ e)
+        | inl s ↦ w p path (sym (get_or-set_same cached i o None b) ∙ sym (ap (accessor (slice_set cached i o)) s.1) ∙ e)
         | inr s ↦ h k p path (omega (arith, s.1, l)) (sym (get_or-set_other cached i k o None s.1) ∙ e)
       ]
 
   pub last_next : (cached : List (Accessor V)) (i : ℕ) (o : Accessor V) → i < length cached → option_map (λ a. a.0) o ≡ last cached i → KeepsLast cached (slice_set cached i o)
   last_next cached i o b h k =
       elim (eqb_tells k i) [
-        inl s ↦ let f = get_or-set_same cached i o None b in rw (s.1, f) h
+        | inl s ↦ let f = get_or-set_same cached i o None b in rw (s.1, f) h
         | inr s ↦ ap (option_map (λ (a : Coord × TreePath V). a.0)) (get_or-set_other cached i k o None s.1)
       ]
 
   pub whole_all : (t : Layout V) (cached : List (Accessor V)) → AreWholeBelow t cached (length cached) → ArePathsWhole t cached
   whole_all t cached h k p path e =
       elim (below_or k (length cached)) [
-        inl b ↦ h k p path b e
+        | inl b ↦ h k p path b e
         | inr b ↦ absurd (some_apart p path (sym (get_or_past cached k None b) ∙ e))
       ]
 
 pub nothing_cached : (V : Type 0) (n k : ℕ) → accessor {V = V} (replicate n None) k ≡ None
 nothing_cached V n k =
     elim (below_or k n) [
-      inl h ↦ get_or-replicate n k None None h
+      | inl h ↦ get_or-replicate n k None None h
       | inr h ↦ get_or_past (replicate n None) k None (rw length-replicate h)
     ]
 

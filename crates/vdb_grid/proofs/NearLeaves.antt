@@ -78,7 +78,7 @@ module _ {V : Type 0} (q p : Coord) where
   near_block (ToLower u l) e = absurd (apart (sym e ∙ no_leaf_lower u l))
   near_block (ToLeaf u l f) e =
       elim (bool_cases (coord_eq (block_number vdb Leaf q) (block_number vdb Leaf p))) [
-        inl s ↦ coord_exact _ _ s
+        | inl s ↦ coord_exact _ _ s
         | inr s ↦ let h = rw s at e in absurd (apart (sym h ∙ no_leaf_lower u l))
       ]
 

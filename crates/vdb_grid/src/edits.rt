@@ -14,8 +14,8 @@ ghost use Rattle.vdb_grid.specs.Grid.{KeepsLast};
 
 use crate::Grid;
 use crate::accessors::retrace;
-use vdb_coord::Bounds;
 use vdb_composite::SumRefusal;
+use vdb_coord::Bounds;
 use vdb_node::Stored;
 use vdb_pool::Steps;
 use vdb_tree::{Tree, TreeRefusal};
@@ -41,11 +41,7 @@ impl<V: Stored<512> + Stored<64> + Stored<8>, const K: usize> Grid<V, K> {
     }
 
     /// Makes each coordinate outside the box the background, inactive, as `vdb_region::clip` does.
-    pub fn clip(
-        &mut self,
-        bounds: Bounds,
-        steps: &mut Steps,
-    ) -> Result<(), TreeRefusal>
+    pub fn clip(&mut self, bounds: Bounds, steps: &mut Steps) -> Result<(), TreeRefusal>
         ensures outcome { IsOutcome V.eq vdb self.old.tree.limit (field_of vdb self.old.tree)
             (clipped bounds (field_of vdb self.old.tree)) (field_of vdb self.new.tree) result }
         ensures limit { self.new.tree.limit ≡ self.old.tree.limit }
@@ -59,10 +55,7 @@ impl<V: Stored<512> + Stored<64> + Stored<8>, const K: usize> Grid<V, K> {
     }
 
     /// Replaces each node whose cells are all equal by a tile, as the tree's `prune` does.
-    pub fn prune(
-        &mut self,
-        steps: &mut Steps,
-    )
+    pub fn prune(&mut self, steps: &mut Steps)
         ensures field { field_of vdb self.new.tree ≡ field_of vdb self.old.tree }
         ensures limit { self.new.tree.limit ≡ self.old.tree.limit }
         ensures last { KeepsLast self.old.accessors self.new.accessors }
@@ -73,11 +66,7 @@ impl<V: Stored<512> + Stored<64> + Stored<8>, const K: usize> Grid<V, K> {
     }
 
     /// Puts each active voxel of the box in a leaf, as the tree's `voxelise` does.
-    pub fn voxelise(
-        &mut self,
-        bounds: Bounds,
-        steps: &mut Steps,
-    ) -> Result<(), TreeRefusal>
+    pub fn voxelise(&mut self, bounds: Bounds, steps: &mut Steps) -> Result<(), TreeRefusal>
         ensures field { field_of vdb self.new.tree ≡ field_of vdb self.old.tree }
         ensures limit { self.new.tree.limit ≡ self.old.tree.limit }
         ensures last { KeepsLast self.old.accessors self.new.accessors }
@@ -141,11 +130,7 @@ impl<V: Stored<512> + Stored<64> + Stored<8>, const K: usize> Grid<V, K> {
     }
 
     /// Takes the greater value of the two trees, as `vdb_composite::maximum` does.
-    pub fn maximum(
-        &mut self,
-        other: &Tree<V>,
-        steps: &mut Steps,
-    ) -> Result<(), TreeRefusal>
+    pub fn maximum(&mut self, other: &Tree<V>, steps: &mut Steps) -> Result<(), TreeRefusal>
         ensures outcome { IsOutcome V.eq vdb self.old.tree.limit (field_of vdb self.old.tree)
             (combine V.greater (field_of vdb self.old.tree) (field_of vdb other.now)) (field_of vdb self.new.tree) result }
         ensures limit { self.new.tree.limit ≡ self.old.tree.limit }
@@ -158,11 +143,7 @@ impl<V: Stored<512> + Stored<64> + Stored<8>, const K: usize> Grid<V, K> {
     }
 
     /// Takes the lesser value of the two trees, as `vdb_composite::minimum` does.
-    pub fn minimum(
-        &mut self,
-        other: &Tree<V>,
-        steps: &mut Steps,
-    ) -> Result<(), TreeRefusal>
+    pub fn minimum(&mut self, other: &Tree<V>, steps: &mut Steps) -> Result<(), TreeRefusal>
         ensures outcome { IsOutcome V.eq vdb self.old.tree.limit (field_of vdb self.old.tree)
             (combine V.lesser (field_of vdb self.old.tree) (field_of vdb other.now)) (field_of vdb self.new.tree) result }
         ensures limit { self.new.tree.limit ≡ self.old.tree.limit }
@@ -175,11 +156,7 @@ impl<V: Stored<512> + Stored<64> + Stored<8>, const K: usize> Grid<V, K> {
     }
 
     /// Takes the other tree's cell where that is active, as `vdb_composite::replace` does.
-    pub fn replace(
-        &mut self,
-        other: &Tree<V>,
-        steps: &mut Steps,
-    ) -> Result<(), TreeRefusal>
+    pub fn replace(&mut self, other: &Tree<V>, steps: &mut Steps) -> Result<(), TreeRefusal>
         ensures outcome { IsOutcome V.eq vdb self.old.tree.limit (field_of vdb self.old.tree)
             (replaced (field_of vdb self.old.tree) (field_of vdb other.now)) (field_of vdb self.new.tree) result }
         ensures limit { self.new.tree.limit ≡ self.old.tree.limit }
@@ -192,11 +169,7 @@ impl<V: Stored<512> + Stored<64> + Stored<8>, const K: usize> Grid<V, K> {
     }
 
     /// Gives each coordinate the sum of its two values, as `vdb_composite::sum` does. Truth values have no sums.
-    pub fn sum(
-        &mut self,
-        other: &Tree<V>,
-        steps: &mut Steps,
-    ) -> Result<(), SumRefusal>
+    pub fn sum(&mut self, other: &Tree<V>, steps: &mut Steps) -> Result<(), SumRefusal>
         requires { V.SUMS ≡ true }
         ensures outcome { IsSumOutcome V.eq V.sum_of vdb self.old.tree.limit (field_of vdb self.old.tree)
             (field_of vdb other.now) (field_of vdb self.new.tree) result }
@@ -210,11 +183,7 @@ impl<V: Stored<512> + Stored<64> + Stored<8>, const K: usize> Grid<V, K> {
     }
 
     /// Makes each voxel active, in each of 1 to 16 turns, that has an active face neighbour, as `vdb_morph::dilate` does.
-    pub fn dilate(
-        &mut self,
-        turns: u32,
-        steps: &mut Steps,
-    ) -> Result<(), TreeRefusal>
+    pub fn dilate(&mut self, turns: u32, steps: &mut Steps) -> Result<(), TreeRefusal>
         requires some { 1 ≤ turns }
         requires few { turns ≤ 16 }
         ensures outcome { IsGrowth V.eq vdb self.old.tree.limit (field_of vdb self.old.tree)
@@ -228,11 +197,7 @@ impl<V: Stored<512> + Stored<64> + Stored<8>, const K: usize> Grid<V, K> {
     }
 
     /// Makes each voxel inactive, in each of 1 to 16 turns, that has an inactive face neighbour, as `vdb_morph::erode` does.
-    pub fn erode(
-        &mut self,
-        turns: u32,
-        steps: &mut Steps,
-    ) -> Result<(), TreeRefusal>
+    pub fn erode(&mut self, turns: u32, steps: &mut Steps) -> Result<(), TreeRefusal>
         requires some { 1 ≤ turns }
         requires few { turns ≤ 16 }
         ensures outcome { IsOutcome V.eq vdb self.old.tree.limit (field_of vdb self.old.tree)

@@ -12,5 +12,7 @@
 mod accessors;
 mod edits;
 mod grid;
+#[cfg(test)]
+mod tests;
 
 pub use grid::Grid;

@@ -7,5 +7,5 @@ abbrev pub invariant-loop-i : goal.invariant-loop-i
 invariant-loop-i g l = record {
   whole : AreWholeBelow l.tree l.accessors l.i;
   last : KeepsLast l.initial.accessors l.accessors;
-  steps : l.steps ≤ l.initial.steps + 3 * l.i
+  steps : l.steps ≤ l.initial.steps + 3 * l.i;
 }

@@ -3,7 +3,6 @@ use Rattle.vdb_grid.specs.Grid.{GridOf}
 use Rattle.vdb_grid.proofs.EachAccessor.{last_apart, last_set, whole_set}
 use Rattle.vdb_grid.proofs.grid.Grid.write_beyond.Goals as goal
 
-
 pub invariant_of-self : goal.invariant_of-self
 invariant_of-self g c =
     let e = ap (λ (it : GridOf g.row.V.Denot). it.tree) (c.self-2.view_is ∙ c.write_near.ensures.untouched c.if-write_near.false ∙ sym c.self.view_is) in
