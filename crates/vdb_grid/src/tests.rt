@@ -58,7 +58,7 @@ impl Trial {
     }
 }
 
-fn trial(rt: &HostRuntime, limit: u32) -> Trial {
+fn fresh(rt: &HostRuntime, limit: u32) -> Trial {
     Trial {
         grid: Grid::new(rt.alloc(), 0, limit),
         steps: Steps::new(rt),
@@ -68,7 +68,7 @@ fn trial(rt: &HostRuntime, limit: u32) -> Trial {
 // A write, then probes far from and near to what was cached.
 #[test]
 fn near_probes_visit_one_node(rt: HostRuntime) -> Result<(), TreeRefusal> {
-    let mut it = trial(&rt, 4);
+    let mut it = fresh(&rt, 4);
     it.writes(&rt, 0, at(0, 0, 0), 1, 24 + 4 * 8)?;
     it.probes(&rt, 1, at(0, 0, 0), on(1), 3);
     it.probes(&rt, 0, at(0, 0, 7), off(0), 1);
@@ -83,7 +83,7 @@ fn near_probes_visit_one_node(rt: HostRuntime) -> Result<(), TreeRefusal> {
 // A copy has the cells, and accessors of its own.
 #[test]
 fn a_copy_caches_nothing(rt: HostRuntime) -> Result<(), TreeRefusal> {
-    let mut it = trial(&rt, 4);
+    let mut it = fresh(&rt, 4);
     it.writes(&rt, 0, at(5, 5, 5), 9, 24 + 4 * 8)?;
     let mut copy = it.grid.try_copy()?;
     assert_eq!(rt; copy.cached(0), None);
@@ -95,7 +95,7 @@ fn a_copy_caches_nothing(rt: HostRuntime) -> Result<(), TreeRefusal> {
 // Accessors of a leaf that becomes a tile, and of one whose slot is used again.
 #[test]
 fn pruned_leaves_are_forgotten(rt: HostRuntime) -> Result<(), TreeRefusal> {
-    let mut it = trial(&rt, 4);
+    let mut it = fresh(&rt, 4);
     for z in 0..8 {
         it.grid.write(at(0, 0, z), Write::On(3), &mut it.steps)?;
     }
@@ -113,7 +113,7 @@ fn pruned_leaves_are_forgotten(rt: HostRuntime) -> Result<(), TreeRefusal> {
 // A refused fill leaves each accessor within one visit of what it was given.
 #[test]
 fn refused_calls_keep_paths(rt: HostRuntime) -> Result<(), TreeRefusal> {
-    let mut it = trial(&rt, 2);
+    let mut it = fresh(&rt, 2);
     it.writes(&rt, 0, at(0, 0, 0), 1, 24 + 4 * 8)?;
     it.writes(&rt, 1, at(200, 0, 0), 2, 24 + 4 * 8)?;
     it.probes(&rt, 2, at(-9, 9, 9), off(0), 3);
@@ -133,7 +133,7 @@ fn refused_calls_keep_paths(rt: HostRuntime) -> Result<(), TreeRefusal> {
 // A full table sweeps out the root block that an accessor's path leads to.
 #[test]
 fn swept_nodes_are_forgotten(rt: HostRuntime) -> Result<(), TreeRefusal> {
-    let mut it = trial(&rt, 1);
+    let mut it = fresh(&rt, 1);
     it.writes(&rt, 0, at(0, 0, 0), 1, 24 + 4 * 8)?;
     it.grid
         .write_by(0, at(0, 0, 0), Write::Off(0), &mut it.steps)?;
