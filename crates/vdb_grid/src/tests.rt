@@ -1,5 +1,7 @@
 //! Accessors beside the tree itself, and how many nodes they visit.
 
+mod random;
+
 use crate::Grid;
 use std::process::Abort;
 use vdb_coord::{Bounds, Coord};
