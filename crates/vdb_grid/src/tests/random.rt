@@ -140,7 +140,7 @@ fn random_calls(rt: HostRuntime) -> Result<(), TreeRefusal> {
     let mut it = fresh(&rt, 5);
     let other = boxed(&rt, &mut it.steps)?;
     let mut draws = Draws { state: 21 };
-    for _ in 0..20_000 {
+    for _ in 0..100_000 {
         turn(&rt, &mut it, &other, &mut draws);
     }
     Ok(())
