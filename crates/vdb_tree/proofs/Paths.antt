@@ -1,5 +1,5 @@
 -- Paths that are shared by coordinates of one block.
-use Rattle.std.proofs.Common.{◌≡◌, sym, ◌∙◌, inl, inr}
+use Rattle.std.proofs.Common.{◌≡◌, false, true, refl, sym, ◌∙◌, inl, inr}
 use Rattle.vdb_coord.specs.Blocks.{block_number}
 use Rattle.vdb_coord.specs.Space.{coord_eq}
 use Rattle.vdb_coord.specs.declared.Bits.{Bits}
@@ -9,12 +9,13 @@ use Rattle.vdb_coord.proofs.Members.{coord_exact}
 use Rattle.vdb_coord.proofs.Nesting.{lower_from_leaf, upper_from_lower}
 use Rattle.vdb_node.specs.Leaf.{Leaf as LeafOf}
 use Rattle.vdb_node.specs.declared.Entry.{Entry}
+use Rattle.vdb_node.specs.declared.Entry.TheVariants.{Child}
 use Rattle.vdb_pool.specs.Contents.{Contents}
 use Rattle.vdb_pool.specs.declared.place.Place.{Place}
 use Rattle.std.specs.Prelude.{List}
 use Rattle.vdb_tree.specs.declared.path.PathOf.TheVariants.{Empty, ToUpper, ToLower, ToLeaf}
 use Rattle.vdb_tree.specs.Layout.{Layout, lower_entry, root_entry, upper_entry}
-use Rattle.vdb_tree.specs.Paths.{IsChildAt, Lives, TreePath, common, common_lower, common_upper}
+use Rattle.vdb_tree.specs.Paths.{IsChildAt, Lives, TreePath, common, common_lower, common_upper, ends_in_leaf}
 use Rattle.vdb_tree.proofs.Descents.{lower_by_block, root_by_block, upper_by_block}
 use Rattle.vdb_tree.proofs.Levels.{bool_cases}
 
@@ -31,6 +32,10 @@ module _ {V : Type 0} (bits : Bits) (t : Layout V) (q p : Coord) where
 
   leaf_child : (f : Place (LeafOf V)) → block_number bits Leaf q ≡ block_number bits Leaf p → IsChildAt t.leaves (lower_entry bits t q) f → IsChildAt t.leaves (lower_entry bits t p) f
   leaf_child f e h = child_as t.leaves (lower_entry bits t q) (lower_entry bits t p) f (lower_by_block bits t q p e) h
+
+  -- the leaf that a path to q ends in holds p where one block holds both
+  pub leaf_slot : (u l : Place (List (Entry V))) (f : Place (LeafOf V)) → Lives bits t (ToLeaf u l f) q → coord_eq (block_number bits Leaf q) (block_number bits Leaf p) ≡ true → lower_entry bits t p ≡ Child f.slot
+  leaf_slot u l f h e = (leaf_child f (coord_exact _ _ e) h.2).child
 
   upper_lives : (u : Place (List (Entry V))) → Lives bits t (ToUpper u) q → Lives bits t (common_upper bits q p u) p
   upper_lives u h =
@@ -60,4 +65,17 @@ module _ {V : Type 0} (bits : Bits) (t : Layout V) (q p : Coord) where
             let r = lower_from_leaf bits q p s in
             rw e (upper_child u (upper_from_lower bits q p r) h.0, lower_child l r h.1, leaf_child f s h.2)
         | inr e ↦ rw e (lower_lives u l (h.0, h.1))
+      ]
+
+module _ {V : Type 0} (bits : Bits) (q p : Coord) where
+  pub no_leaf_upper : (u : Place (List (Entry V))) → ends_in_leaf {A = List (Entry V)} {B = List (Entry V)} {C = LeafOf V} (common_upper bits q p u) ≡ false
+  no_leaf_upper u =
+      elim (bool_cases (coord_eq (block_number bits Upper q) (block_number bits Upper p))) [ inl e ↦ rw e refl | inr e ↦ rw e refl ]
+
+  -- above the leaf, what two coordinates share ends in no leaf
+  pub no_leaf_lower : (u l : Place (List (Entry V))) → ends_in_leaf {A = List (Entry V)} {B = List (Entry V)} {C = LeafOf V} (common_lower bits q p u l) ≡ false
+  no_leaf_lower u l =
+      elim (bool_cases (coord_eq (block_number bits Lower q) (block_number bits Lower p))) [
+        | inl e ↦ rw e refl
+        | inr e ↦ rw e (no_leaf_upper u)
       ]

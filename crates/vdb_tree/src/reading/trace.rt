@@ -1,6 +1,7 @@
 //! Paths of nodes, and cells by the paths that earlier calls left.
 
-ghost use Rattle.std.specs.Prelude.{◌≡◌, ◌+◌, ◌-◌, ◌≤◌, false, if◌then◌else◌, IsTrue};
+ghost use Rattle.std.specs.Option.{is_some};
+ghost use Rattle.std.specs.Prelude.{◌≡◌, ◌+◌, ◌-◌, ◌≤◌, false, if◌then◌else◌, IfSome, IsTrue};
 ghost use Rattle.vdb_coord.specs.Blocks.{block_number};
 ghost use Rattle.vdb_coord.specs.Space.{coord_eq};
 ghost use Rattle.vdb_coord.specs.declared.Coord.{Coord};
@@ -85,12 +86,55 @@ impl<
         ensures paths { (other : TreePath V) (r : Coord) → IsWhole (bits_of U L F) self.old other r → IsWhole (bits_of U L F) self.new other r }
         ensures steps { steps.new ≤ steps.old + (if result then 1 else 0) }
     {
-        match self.shared(*path, q, p) {
-            PathOf::ToLeaf(_, _, leaf) => {
-                self.write_voxel(leaf.slot(), p, change, steps);
+        match self.near_leaf(path, q, p) {
+            Some(slot) => {
+                self.write_voxel(slot, p, change, steps);
                 true
             }
-            _ => false,
+            None => false,
+        }
+    }
+
+    /// The cell at `p` where the path to `q` ends in a leaf that contains `p`, by one visit. Elsewhere it is `None`, and no node
+    /// is visited (OpenVDB's `ValueAccessor::getValue` in its cached leaf).
+    pub fn cell_near(
+        &self,
+        path: &PathOf<Internal<V, U, WU>, Internal<V, L, WL>, Leaf<V, F, WF>>,
+        q: Coord,
+        p: Coord,
+        steps: &mut Steps,
+    ) -> Option<Cell<V>>
+        requires { Lives (bits_of U L F) self.now path.now q }
+        ensures answer { is_some result ≡ ends_in_leaf (common (bits_of U L F) q p path.now) }
+        ensures cell { IfSome result (λ cell. cell ≡ (field_of (bits_of U L F) self.now).cell p) }
+        ensures steps { steps.new ≤ steps.old + (if is_some result then 1 else 0) }
+    {
+        let slot = self.near_leaf(path, q, p)?;
+        Some(self.voxel(slot, p, steps))
+    }
+
+    /// The slot of the leaf that the path to `q` ends in, where it contains `p`.
+    fn near_leaf(
+        &self,
+        path: &PathOf<Internal<V, U, WU>, Internal<V, L, WL>, Leaf<V, F, WF>>,
+        q: Coord,
+        p: Coord,
+    ) -> Option<u32>
+        requires { Lives (bits_of U L F) self.now path.now q }
+        ensures answer { is_some result ≡ ends_in_leaf (common (bits_of U L F) q p path.now) }
+        ensures leaf { IfSome result (λ slot. lower_entry (bits_of U L F) self.now p ≡ Child slot) }
+    {
+        match path {
+            PathOf::ToLeaf(_, _, leaf) => {
+                if self.is_same_block(q, p, Level::Leaf) {
+                    Some(leaf.slot())
+                } else {
+                    None
+                }
+            }
+            PathOf::ToLower(_, _) => None,
+            PathOf::ToUpper(_) => None,
+            PathOf::Empty => None,
         }
     }
 
