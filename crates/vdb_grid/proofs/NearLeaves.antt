@@ -16,7 +16,7 @@ use Rattle.vdb_tree.specs.Layout.{Layout}
 use Rattle.vdb_tree.specs.Paths.{IsWhole, Lives, TreePath, common, common_lower, common_upper, depth, down_count, ends_in_leaf}
 use Rattle.vdb_tree.proofs.Descents.{lower_by_block, root_by_block, upper_by_block}
 use Rattle.vdb_tree.proofs.Levels.{bool_cases}
-use Rattle.vdb_tree.proofs.Paths.{common_lives}
+use Rattle.vdb_tree.proofs.Paths.{common_lives, no_leaf_lower, no_leaf_upper}
 use Rattle.vdb_grid.specs.Grid.{Accessor, ArePathsWhole}
 use Rattle.vdb_grid.proofs.EachAccessor.{entry_of, whole_set}
 
@@ -65,21 +65,15 @@ module _ {V : Type 0} (t : Layout V) (q p : Coord) where
   }
 
 module _ {V : Type 0} (q p : Coord) where
-  no_leaf_upper : (u : Place (List (Entry V))) → ends_in_leaf {A = List (Entry V)} {B = List (Entry V)} {C = LeafOf V} (common_upper vdb q p u) ≡ false
-  no_leaf_upper u = elim (bool_cases (coord_eq (block_number vdb Upper q) (block_number vdb Upper p))) [ inl e ↦ rw e refl | inr e ↦ rw e refl ]
-
-  no_leaf_lower : (u l : Place (List (Entry V))) → ends_in_leaf {A = List (Entry V)} {B = List (Entry V)} {C = LeafOf V} (common_lower vdb q p u l) ≡ false
-  no_leaf_lower u l = elim (bool_cases (coord_eq (block_number vdb Lower q) (block_number vdb Lower p))) [ inl e ↦ rw e refl | inr e ↦ rw e (no_leaf_upper u) ]
-
   -- a path that shares a leaf with p is one to a coordinate of p's leaf block
   pub near_block : (path : TreePath V) → ends_in_leaf (common vdb q p path) ≡ true → block_number vdb Leaf q ≡ block_number vdb Leaf p
   near_block Empty e = absurd (apart (sym e))
-  near_block (ToUpper u) e = absurd (apart (sym e ∙ no_leaf_upper u))
-  near_block (ToLower u l) e = absurd (apart (sym e ∙ no_leaf_lower u l))
+  near_block (ToUpper u) e = absurd (apart (sym e ∙ no_leaf_upper vdb q p u))
+  near_block (ToLower u l) e = absurd (apart (sym e ∙ no_leaf_lower vdb q p u l))
   near_block (ToLeaf u l f) e =
       elim (bool_cases (coord_eq (block_number vdb Leaf q) (block_number vdb Leaf p))) [
         | inl s ↦ coord_exact _ _ s
-        | inr s ↦ let h = rw s at e in absurd (apart (sym h ∙ no_leaf_lower u l))
+        | inr s ↦ let h = rw s at e in absurd (apart (sym h ∙ no_leaf_lower vdb q p u l))
       ]
 
 -- an accessor that was last in p's leaf block reaches p by one visit
@@ -105,8 +99,8 @@ whole_of_leaf t (ToLeaf u l f) p e h = record {
 -- a path that shares a leaf with p ends in one
 pub shares_leaf : {V : Type 0} (q p : Coord) (path : TreePath V) → ends_in_leaf (common vdb q p path) ≡ true → ends_in_leaf path ≡ true
 shares_leaf q p Empty e = e
-shares_leaf q p (ToUpper u) e = absurd (apart (sym e ∙ no_leaf_upper q p u))
-shares_leaf q p (ToLower u l) e = absurd (apart (sym e ∙ no_leaf_lower q p u l))
+shares_leaf q p (ToUpper u) e = absurd (apart (sym e ∙ no_leaf_upper vdb q p u))
+shares_leaf q p (ToLower u l) e = absurd (apart (sym e ∙ no_leaf_lower vdb q p u l))
 shares_leaf q p (ToLeaf u l f) e = refl
 
 -- after a write in the leaf that the path ends in
