@@ -1,14 +1,12 @@
 -- Paths within one leaf block.
-use Rattle.std.proofs.Common.{◌≡◌, ℕ, ◌+◌, ◌-◌, ◌≤◌, Bool, true, false, refl, sym, ap, ◌∙◌, arith, inl, inr, List}
-use Rattle.std.specs.Prelude.{Some, None, slice_set, if◌then◌else◌}
-use Rattle.std.specs.Option.{option_map, unwrap_or}
+use Rattle.std.proofs.Common.{◌≡◌, ℕ, ◌+◌, ◌-◌, ◌≤◌, true, false, refl, sym, ap, subst, ◌∙◌, arith, inl, inr, List}
+use Rattle.std.specs.Prelude.{Option, Some, None, IfSome, is_some, slice_set}
 use Rattle.vdb_coord.specs.Blocks.{block_number, vdb}
 use Rattle.vdb_coord.specs.Space.{coord_eq}
 use Rattle.vdb_coord.specs.declared.Coord.{Coord}
 use Rattle.vdb_coord.specs.declared.Level.TheVariants.{Leaf, Lower, Upper}
 use Rattle.vdb_coord.proofs.Members.{coord_equiv, coord_exact}
 use Rattle.vdb_coord.proofs.Nesting.{lower_from_leaf, upper_from_lower}
-use Rattle.vdb_node.specs.Leaf.{Leaf as LeafOf}
 use Rattle.vdb_node.specs.declared.Entry.{Entry}
 use Rattle.vdb_pool.specs.declared.place.Place.{Place}
 use Rattle.vdb_tree.specs.declared.path.PathOf.TheVariants.{Empty, ToUpper, ToLower, ToLeaf}
@@ -17,8 +15,8 @@ use Rattle.vdb_tree.specs.Paths.{IsWhole, Lives, TreePath, common, common_lower,
 use Rattle.vdb_tree.proofs.Descents.{lower_by_block, root_by_block, upper_by_block}
 use Rattle.vdb_tree.proofs.Levels.{bool_cases}
 use Rattle.vdb_tree.proofs.Paths.{common_lives, no_leaf_lower, no_leaf_upper}
-use Rattle.vdb_grid.specs.Grid.{Accessor, ArePathsWhole}
-use Rattle.vdb_grid.proofs.EachAccessor.{entry_of, whole_set}
+use Rattle.vdb_grid.specs.Grid.{ArePathsWhole, has_leaf, last, path}
+use Rattle.vdb_grid.proofs.EachAccessor.{whole_moved}
 
 coord_self : (a b : Coord) → a ≡ b → coord_eq a b ≡ true
 coord_self a b e = rw e (coord_equiv.refl b)
@@ -76,13 +74,6 @@ module _ {V : Type 0} (q p : Coord) where
         | inr s ↦ let h = rw s at e in absurd (apart (sym h ∙ no_leaf_lower vdb q p u l))
       ]
 
--- an accessor that was last in p's leaf block reaches p by one visit
-pub start_near : {V : Type 0} (t : Layout V) (o : Accessor V) (p q : Coord) → ((r : Coord) (path : TreePath V) → o ≡ Some (r, path) → IsWhole vdb t path r) → option_map (λ a. a.0) o ≡ Some q → block_number vdb Leaf q ≡ block_number vdb Leaf p
-    → down_count vdb t p - (depth (common vdb (unwrap_or o (p, Empty)).0 p (unwrap_or o (p, Empty)).1) - 1) ≤ 1
-start_near t o p q h e b =
-    let s = entry_of o (p, Empty) q e in
-    rw s.2 (near_visits t q p s.0 b (h q s.0 s.1))
-
 pub one_visit : (new old visits : ℕ) → new ≤ old + visits → visits ≤ 1 → new ≤ old + 1
 one_visit new old visits h few = omega (arith, h, few)
 
@@ -103,11 +94,45 @@ shares_leaf q p (ToUpper u) e = absurd (apart (sym e ∙ no_leaf_upper vdb q p u
 shares_leaf q p (ToLower u l) e = absurd (apart (sym e ∙ no_leaf_lower vdb q p u l))
 shares_leaf q p (ToLeaf u l f) e = refl
 
--- after a write in the leaf that the path ends in
-pub whole_near : {V : Type 0} (old new : Layout V) (cached : List (Accessor V)) (k : ℕ) (q p : Coord) (path : TreePath V)
-    → ArePathsWhole old cached → Lives vdb old path q → ends_in_leaf (common vdb q p path) ≡ true
+module _ {V : Type 0} (t : Layout V) (q p : Coord) (path : TreePath V) where
+  leaf_depth : (other : TreePath V) → ends_in_leaf other ≡ true → depth other ≡ 3
+  leaf_depth Empty e = absurd (apart (sym e))
+  leaf_depth (ToUpper u) e = absurd (apart (sym e))
+  leaf_depth (ToLower u l) e = absurd (apart (sym e))
+  leaf_depth (ToLeaf u l f) e = refl
+
+  -- a whole path to q that ends in a leaf that holds p is one to p
+  pub whole_here : ends_in_leaf (common vdb q p path) ≡ true → IsWhole vdb t path q → IsWhole vdb t path p
+  whole_here e h = whole_same t q p path (near_block q p path e) h
+
+  -- and it is one visit from there to p
+  pub leaf_visit : ends_in_leaf (common vdb q p path) ≡ true → IsWhole vdb t path q → 1 ≤ down_count vdb t p - (depth (common vdb q p path) - 1)
+  leaf_visit e h =
+      let w = whole_of_leaf t (common vdb q p path) p e (common_lives vdb t q p path h.lives) in
+      let a = w.whole in
+      let b = leaf_depth (common vdb q p path) e in
+      omega (arith, a, b)
+
+-- an accessor's path is whole for each coordinate of the leaf that it ends in
+pub near_whole : {V X : Type 0} (t : Layout V) (coords : List (Option Coord)) (paths : List (TreePath V)) (k : ℕ) (q p : Coord) (found : Option X)
+    → ArePathsWhole t coords paths → last coords k ≡ Some q → is_some found ≡ ends_in_leaf (common vdb q p (path paths k))
+    → IfSome found (λ _. IsWhole vdb t (path paths k) p)
+near_whole t coords paths k q p None h s e = tt
+near_whole t coords paths k q p (Some x) h s e = whole_here t q p (path paths k) (sym e) (h k q s)
+
+-- where that leaf holds p, one visit is what lies below the lowest cached node
+pub near_below : {V : Type 0} (t : Layout V) (coords : List (Option Coord)) (paths : List (TreePath V)) (k : ℕ) (q p : Coord) (old new : ℕ)
+    → ArePathsWhole t coords paths → last coords k ≡ Some q → has_leaf (last coords k) (path paths k) p ≡ true → new ≤ old + 1
+    → new ≤ old + (down_count vdb t p - (depth (common vdb q p (path paths k)) - 1))
+near_below t coords paths k q p old new h s e few =
+    let ends = subst (λ (o : Option Coord). has_leaf o (path paths k) p ≡ true) s e in
+    let below = leaf_visit t q p (path paths k) ends (h k q s) in
+    omega (arith, few, below)
+
+-- the paths of accessors after a write in the leaf that one of them ends in
+pub whole_near : {V : Type 0} (old new : Layout V) (coords : List (Option Coord)) (paths : List (TreePath V)) (k : ℕ) (q p : Coord)
+    → ArePathsWhole old coords paths → last coords k ≡ Some q → ends_in_leaf (common vdb q p (path paths k)) ≡ true
     → ((other : TreePath V) (r : Coord) → IsWhole vdb old other r → IsWhole vdb new other r)
-    → ArePathsWhole new (slice_set cached k (Some (p, path)))
-whole_near old new cached k q p path h lives e keeps =
-    let w = whole_of_leaf old path q (shares_leaf q p path e) lives in
-    whole_set new cached k p path (λ j r other s. keeps other r (h j r other s)) (keeps path p (whole_same old q p path (near_block q p path e) w))
+    → ArePathsWhole new (slice_set coords k (Some p)) paths
+whole_near old new coords paths k q p h s e keeps =
+    whole_moved new coords paths k p (λ j r f. keeps (path paths j) r (h j r f)) (keeps (path paths k) p (whole_here old q p (path paths k) e (h k q s)))

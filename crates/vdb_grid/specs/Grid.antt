@@ -1,33 +1,31 @@
--- Grids: a tree with the paths that its accessors cache.
-use Rattle.std.specs.Prelude.{◌≡◌, ℕ, List, Option, Some, None, slice_index_or}
-use Rattle.std.specs.Option.{option_map}
+-- Grids: a tree with accessors, each of which caches the path to the coordinate that it was last given.
+use Rattle.std.specs.Prelude.{◌≡◌, ℕ, Bool, false, List, Option, Some, None, slice_index_or}
 use Rattle.vdb_coord.specs.Blocks.{vdb}
 use Rattle.vdb_coord.specs.declared.Coord.{Coord}
 use Rattle.vdb_tree.specs.Layout.{Layout}
-use Rattle.vdb_tree.specs.Paths.{IsWhole, TreePath}
+use Rattle.vdb_tree.specs.Paths.{IsWhole, TreePath, common, ends_in_leaf}
+use Rattle.vdb_tree.specs.declared.path.PathOf.TheVariants.{Empty}
 
--- an accessor: the coordinate that it was last given, with a path to it
-abbrev pub Accessor : Type 0 → Type 0
-Accessor V = Option (Coord × TreePath V)
-
--- a grid: a tree of the standard configuration, and its accessors
+-- a grid: a tree of the standard configuration, and for each accessor the coordinate that it was last given and a path
 pub record GridOf (V : Type 0) : Type 0 where
   pub tree : Layout V
-  pub accessors : List (Accessor V)
+  pub coords : List (Option Coord)
+  pub paths : List (TreePath V)
+
+-- the coordinate that an accessor was last given
+abbrev pub last : List (Option Coord) → ℕ → Option Coord
+last coords k = slice_index_or coords k None
 
 module _ {V : Type 0} where
-  -- the accessor of a number
-  abbrev pub accessor : List (Accessor V) → ℕ → Accessor V
-  accessor accessors k = slice_index_or accessors k None
-
-  -- the coordinate that it was last given
-  abbrev pub last : List (Accessor V) → ℕ → Option Coord
-  last accessors k = option_map (λ a. a.0) (accessor accessors k)
+  -- the path that an accessor caches
+  abbrev pub path : List (TreePath V) → ℕ → TreePath V
+  path paths k = slice_index_or paths k Empty
 
   -- each accessor's path has all nodes of the tree that the descent to its coordinate meets, each live
-  abbrev pub ArePathsWhole : Layout V → List (Accessor V) → Type 0
-  ArePathsWhole tree accessors = (k : ℕ) (p : Coord) (path : TreePath V) → accessor accessors k ≡ Some (p, path) → IsWhole vdb tree path p
+  abbrev pub ArePathsWhole : Layout V → List (Option Coord) → List (TreePath V) → Type 0
+  ArePathsWhole tree coords paths = (k : ℕ) (p : Coord) → last coords k ≡ Some p → IsWhole vdb tree (path paths k) p
 
-  -- each accessor keeps its coordinate
-  abbrev pub KeepsLast : List (Accessor V) → List (Accessor V) → Type 0
-  KeepsLast old new = (k : ℕ) → last new k ≡ last old k
+  -- whether the path that an accessor caches to this coordinate ends in a leaf that holds p
+  abbrev pub has_leaf : Option Coord → TreePath V → Coord → Bool
+  has_leaf None cached p = false
+  has_leaf (Some q) cached p = ends_in_leaf (common vdb q p cached)

@@ -2,15 +2,20 @@
 
 ghost use Rattle.std.specs.Prelude.{◌≡◌, ◌≤◌, Err, IfErr, OnErr, OnOk, true};
 ghost use Rattle.vdb_coord.specs.Blocks.{vdb};
+ghost use Rattle.vdb_coord.specs.declared.Coord.{Coord};
+ghost use Rattle.vdb_coord.specs.declared.Level.{Level};
+ghost use Rattle.vdb_node.specs.declared.Entry.TheVariants.{Tile};
+ghost use Rattle.vdb_tree.specs.Changes.{AddsNodes};
 ghost use Rattle.vdb_tree.specs.Field.{clip as clipped, combine, dilate as dilation, erode as erosion, fill as filled, intersect as intersected, replace as replaced, subtract as subtracted, turns as turned, unite as united};
-ghost use Rattle.vdb_tree.specs.Layout.{field_of};
+ghost use Rattle.vdb_tree.specs.Layout.{entry_over, field_of};
 ghost use Rattle.vdb_tree.specs.Leaves.{HasLeaves};
+ghost use Rattle.vdb_tree.specs.Nodes.{IsActiveIn, MakesNoKey, MakesOnly};
 ghost use Rattle.vdb_tree.specs.Outcome.{IsOutcome};
 ghost use Rattle.vdb_tree.specs.Smallest.{IsLeast};
+ghost use Rattle.vdb_tree.specs.SplitBox.{IsCovered};
 ghost use Rattle.vdb_tree.specs.declared.refusal.TreeRefusal.TheVariants.{Memory};
 ghost use Rattle.vdb_composite.specs.SumOutcome.{IsSumOutcome};
 ghost use Rattle.vdb_morph.specs.Growth.{IsGrowth};
-ghost use Rattle.vdb_grid.specs.Grid.{KeepsLast};
 
 use crate::Grid;
 use crate::accessors::retrace;
@@ -32,11 +37,12 @@ impl<V: Stored<512> + Stored<64> + Stored<8>, const K: usize> Grid<V, K> {
         ensures outcome { IsOutcome V.eq vdb self.old.tree.limit (field_of vdb self.old.tree)
             (filled bounds cell (field_of vdb self.old.tree)) (field_of vdb self.new.tree) result }
         ensures limit { self.new.tree.limit ≡ self.old.tree.limit }
-        ensures last { KeepsLast self.old.accessors self.new.accessors }
+        ensures tiles { OnOk result ((level : Level) (p : Coord) → IsCovered vdb bounds level p → entry_over vdb level self.new.tree p ≡ Tile cell) }
+        ensures last { self.new.coords ≡ self.old.coords }
         ensures given_back { result ≡ Err Memory → IsLeast V.eq vdb self.new.tree }
     {
         let outcome = vdb_region::fill(&mut self.tree, bounds, cell, steps);
-        retrace(&self.tree, &mut self.accessors, steps);
+        retrace(&self.tree, &self.coords, &mut self.paths, steps);
         outcome
     }
 
@@ -45,12 +51,12 @@ impl<V: Stored<512> + Stored<64> + Stored<8>, const K: usize> Grid<V, K> {
         ensures outcome { IsOutcome V.eq vdb self.old.tree.limit (field_of vdb self.old.tree)
             (clipped bounds (field_of vdb self.old.tree)) (field_of vdb self.new.tree) result }
         ensures limit { self.new.tree.limit ≡ self.old.tree.limit }
-        ensures last { KeepsLast self.old.accessors self.new.accessors }
+        ensures last { self.new.coords ≡ self.old.coords }
         ensures memory { IfErr result (λ refusal. refusal ≡ Memory) }
         ensures given_back { result ≡ Err Memory → IsLeast V.eq vdb self.new.tree }
     {
         let outcome = vdb_region::clip(&mut self.tree, bounds, steps);
-        retrace(&self.tree, &mut self.accessors, steps);
+        retrace(&self.tree, &self.coords, &mut self.paths, steps);
         outcome
     }
 
@@ -58,24 +64,27 @@ impl<V: Stored<512> + Stored<64> + Stored<8>, const K: usize> Grid<V, K> {
     pub fn prune(&mut self, steps: &mut Steps)
         ensures field { field_of vdb self.new.tree ≡ field_of vdb self.old.tree }
         ensures limit { self.new.tree.limit ≡ self.old.tree.limit }
-        ensures last { KeepsLast self.old.accessors self.new.accessors }
+        ensures last { self.new.coords ≡ self.old.coords }
         ensures least { IsLeast V.eq vdb self.new.tree }
     {
         self.tree.prune(steps);
-        retrace(&self.tree, &mut self.accessors, steps);
+        retrace(&self.tree, &self.coords, &mut self.paths, steps);
     }
 
     /// Puts each active voxel of the box in a leaf, as the tree's `voxelise` does.
     pub fn voxelise(&mut self, bounds: Bounds, steps: &mut Steps) -> Result<(), TreeRefusal>
         ensures field { field_of vdb self.new.tree ≡ field_of vdb self.old.tree }
         ensures limit { self.new.tree.limit ≡ self.old.tree.limit }
-        ensures last { KeepsLast self.old.accessors self.new.accessors }
+        ensures last { self.new.coords ≡ self.old.coords }
         ensures leaves { OnOk result (HasLeaves vdb self.new.tree bounds) }
+        ensures made { OnOk result (MakesOnly vdb (IsActiveIn vdb bounds) self.old.tree self.new.tree) }
+        ensures adds { OnOk result (AddsNodes vdb self.old.tree self.new.tree) }
+        ensures keys { OnOk result (MakesNoKey self.old.tree self.new.tree) }
         ensures memory { IfErr result (λ refusal. refusal ≡ Memory) }
         ensures given_back { IfErr result (λ _. IsLeast V.eq vdb self.new.tree) }
     {
         let outcome = self.tree.voxelise(bounds, steps);
-        retrace(&self.tree, &mut self.accessors, steps);
+        retrace(&self.tree, &self.coords, &mut self.paths, steps);
         outcome
     }
 
@@ -88,10 +97,10 @@ impl<V: Stored<512> + Stored<64> + Stored<8>, const K: usize> Grid<V, K> {
         ensures outcome { IsOutcome V.eq vdb self.old.tree.limit (field_of vdb self.old.tree)
             (united (field_of vdb self.old.tree) (field_of vdb other.now)) (field_of vdb self.new.tree) result }
         ensures limit { self.new.tree.limit ≡ self.old.tree.limit }
-        ensures last { KeepsLast self.old.accessors self.new.accessors }
+        ensures last { self.new.coords ≡ self.old.coords }
     {
         let outcome = vdb_topology::unite(&mut self.tree, other, steps);
-        retrace(&self.tree, &mut self.accessors, steps);
+        retrace(&self.tree, &self.coords, &mut self.paths, steps);
         outcome
     }
 
@@ -104,11 +113,11 @@ impl<V: Stored<512> + Stored<64> + Stored<8>, const K: usize> Grid<V, K> {
         ensures outcome { IsOutcome V.eq vdb self.old.tree.limit (field_of vdb self.old.tree)
             (subtracted (field_of vdb self.old.tree) (field_of vdb other.now)) (field_of vdb self.new.tree) result }
         ensures limit { self.new.tree.limit ≡ self.old.tree.limit }
-        ensures last { KeepsLast self.old.accessors self.new.accessors }
+        ensures last { self.new.coords ≡ self.old.coords }
         ensures memory { IfErr result (λ refusal. refusal ≡ Memory) }
     {
         let outcome = vdb_topology::subtract(&mut self.tree, other, steps);
-        retrace(&self.tree, &mut self.accessors, steps);
+        retrace(&self.tree, &self.coords, &mut self.paths, steps);
         outcome
     }
 
@@ -121,11 +130,11 @@ impl<V: Stored<512> + Stored<64> + Stored<8>, const K: usize> Grid<V, K> {
         ensures outcome { IsOutcome V.eq vdb self.old.tree.limit (field_of vdb self.old.tree)
             (intersected (field_of vdb self.old.tree) (field_of vdb other.now)) (field_of vdb self.new.tree) result }
         ensures limit { self.new.tree.limit ≡ self.old.tree.limit }
-        ensures last { KeepsLast self.old.accessors self.new.accessors }
+        ensures last { self.new.coords ≡ self.old.coords }
         ensures memory { IfErr result (λ refusal. refusal ≡ Memory) }
     {
         let outcome = vdb_topology::intersect(&mut self.tree, other, steps);
-        retrace(&self.tree, &mut self.accessors, steps);
+        retrace(&self.tree, &self.coords, &mut self.paths, steps);
         outcome
     }
 
@@ -134,12 +143,12 @@ impl<V: Stored<512> + Stored<64> + Stored<8>, const K: usize> Grid<V, K> {
         ensures outcome { IsOutcome V.eq vdb self.old.tree.limit (field_of vdb self.old.tree)
             (combine V.greater (field_of vdb self.old.tree) (field_of vdb other.now)) (field_of vdb self.new.tree) result }
         ensures limit { self.new.tree.limit ≡ self.old.tree.limit }
-        ensures last { KeepsLast self.old.accessors self.new.accessors }
-        ensures kept { OnErr result (self.new.tree ≡ self.old.tree) }
+        ensures last { self.new.coords ≡ self.old.coords }
+        ensures kept { OnErr result (self.new ≡ self.old) }
     {
-        let outcome = vdb_composite::maximum(&mut self.tree, other, steps);
-        retrace(&self.tree, &mut self.accessors, steps);
-        outcome
+        vdb_composite::maximum(&mut self.tree, other, steps)?;
+        retrace(&self.tree, &self.coords, &mut self.paths, steps);
+        Ok(())
     }
 
     /// Takes the lesser value of the two trees, as `vdb_composite::minimum` does.
@@ -147,12 +156,12 @@ impl<V: Stored<512> + Stored<64> + Stored<8>, const K: usize> Grid<V, K> {
         ensures outcome { IsOutcome V.eq vdb self.old.tree.limit (field_of vdb self.old.tree)
             (combine V.lesser (field_of vdb self.old.tree) (field_of vdb other.now)) (field_of vdb self.new.tree) result }
         ensures limit { self.new.tree.limit ≡ self.old.tree.limit }
-        ensures last { KeepsLast self.old.accessors self.new.accessors }
-        ensures kept { OnErr result (self.new.tree ≡ self.old.tree) }
+        ensures last { self.new.coords ≡ self.old.coords }
+        ensures kept { OnErr result (self.new ≡ self.old) }
     {
-        let outcome = vdb_composite::minimum(&mut self.tree, other, steps);
-        retrace(&self.tree, &mut self.accessors, steps);
-        outcome
+        vdb_composite::minimum(&mut self.tree, other, steps)?;
+        retrace(&self.tree, &self.coords, &mut self.paths, steps);
+        Ok(())
     }
 
     /// Takes the other tree's cell where that is active, as `vdb_composite::replace` does.
@@ -160,12 +169,12 @@ impl<V: Stored<512> + Stored<64> + Stored<8>, const K: usize> Grid<V, K> {
         ensures outcome { IsOutcome V.eq vdb self.old.tree.limit (field_of vdb self.old.tree)
             (replaced (field_of vdb self.old.tree) (field_of vdb other.now)) (field_of vdb self.new.tree) result }
         ensures limit { self.new.tree.limit ≡ self.old.tree.limit }
-        ensures last { KeepsLast self.old.accessors self.new.accessors }
-        ensures kept { OnErr result (self.new.tree ≡ self.old.tree) }
+        ensures last { self.new.coords ≡ self.old.coords }
+        ensures kept { OnErr result (self.new ≡ self.old) }
     {
-        let outcome = vdb_composite::replace(&mut self.tree, other, steps);
-        retrace(&self.tree, &mut self.accessors, steps);
-        outcome
+        vdb_composite::replace(&mut self.tree, other, steps)?;
+        retrace(&self.tree, &self.coords, &mut self.paths, steps);
+        Ok(())
     }
 
     /// Gives each coordinate the sum of its two values, as `vdb_composite::sum` does. Truth values have no sums.
@@ -174,12 +183,12 @@ impl<V: Stored<512> + Stored<64> + Stored<8>, const K: usize> Grid<V, K> {
         ensures outcome { IsSumOutcome V.eq V.sum_of vdb self.old.tree.limit (field_of vdb self.old.tree)
             (field_of vdb other.now) (field_of vdb self.new.tree) result }
         ensures limit { self.new.tree.limit ≡ self.old.tree.limit }
-        ensures last { KeepsLast self.old.accessors self.new.accessors }
-        ensures kept { OnErr result (self.new.tree ≡ self.old.tree) }
+        ensures last { self.new.coords ≡ self.old.coords }
+        ensures kept { OnErr result (self.new ≡ self.old) }
     {
-        let outcome = vdb_composite::sum(&mut self.tree, other, steps);
-        retrace(&self.tree, &mut self.accessors, steps);
-        outcome
+        vdb_composite::sum(&mut self.tree, other, steps)?;
+        retrace(&self.tree, &self.coords, &mut self.paths, steps);
+        Ok(())
     }
 
     /// Makes each voxel active, in each of 1 to 16 turns, that has an active face neighbour, as `vdb_morph::dilate` does.
@@ -189,10 +198,10 @@ impl<V: Stored<512> + Stored<64> + Stored<8>, const K: usize> Grid<V, K> {
         ensures outcome { IsGrowth V.eq vdb self.old.tree.limit (field_of vdb self.old.tree)
             (turned turns dilation (field_of vdb self.old.tree)) (field_of vdb self.new.tree) result }
         ensures limit { self.new.tree.limit ≡ self.old.tree.limit }
-        ensures last { KeepsLast self.old.accessors self.new.accessors }
+        ensures last { self.new.coords ≡ self.old.coords }
     {
         let outcome = vdb_morph::dilate(&mut self.tree, turns, steps);
-        retrace(&self.tree, &mut self.accessors, steps);
+        retrace(&self.tree, &self.coords, &mut self.paths, steps);
         outcome
     }
 
@@ -203,11 +212,11 @@ impl<V: Stored<512> + Stored<64> + Stored<8>, const K: usize> Grid<V, K> {
         ensures outcome { IsOutcome V.eq vdb self.old.tree.limit (field_of vdb self.old.tree)
             (turned turns erosion (field_of vdb self.old.tree)) (field_of vdb self.new.tree) result }
         ensures limit { self.new.tree.limit ≡ self.old.tree.limit }
-        ensures last { KeepsLast self.old.accessors self.new.accessors }
+        ensures last { self.new.coords ≡ self.old.coords }
         ensures memory { IfErr result (λ refusal. refusal ≡ Memory) }
     {
         let outcome = vdb_morph::erode(&mut self.tree, turns, steps);
-        retrace(&self.tree, &mut self.accessors, steps);
+        retrace(&self.tree, &self.coords, &mut self.paths, steps);
         outcome
     }
 }

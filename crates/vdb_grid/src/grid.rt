@@ -1,24 +1,21 @@
 //! The grid: its tree, its probes and its writes.
 
-ghost use Rattle.std.specs.Prelude.{◌≡◌, ◌≢◌, ◌+◌, ◌-◌, ◌*◌, ◌<◌, ◌≤◌, ◌⊎◌, false, if◌then◌else◌, IfErr, IfOk, IsOk, IsTrue, None, Ok, Some, ℕ};
-ghost use Rattle.std.specs.Option.{unwrap_or};
+ghost use Rattle.std.specs.Prelude.{◌≡◌, ◌≢◌, ◌+◌, ◌-◌, ◌*◌, ◌<◌, ◌≤◌, ◌⊎◌, false, if◌then◌else◌, is_some, IfErr, IfOk, IfSome, IsOk, IsTrue, None, Ok, slice_set, Some, ℕ};
 ghost use Rattle.vdb_coord.specs.Blocks.{block_around, block_number, key, vdb};
 ghost use Rattle.vdb_coord.specs.declared.Coord.{Coord};
-ghost use Rattle.vdb_coord.specs.declared.Level.TheVariants.{Leaf, Lower, Upper};
-ghost use Rattle.vdb_pool.specs.declared.place.Place.{Place};
+ghost use Rattle.vdb_coord.specs.declared.Level.TheVariants.{Leaf};
 ghost use Rattle.vdb_tree.specs.ConstantBlocks.{is_constant};
 ghost use Rattle.vdb_tree.specs.Field.{new, write, written};
 ghost use Rattle.vdb_tree.specs.Layout.{field_of};
 ghost use Rattle.vdb_tree.specs.Leaves.{IsVoxelWritten};
-ghost use Rattle.vdb_tree.specs.Nodes.{IsSameTree};
+ghost use Rattle.vdb_tree.specs.Nodes.{IsSameTree, KeepsElsewhere};
 ghost use Rattle.vdb_tree.specs.Outcome.{IsOutcome};
-ghost use Rattle.vdb_tree.specs.Paths.{common, depth, down_count, ends_in_leaf, in_leaf, Lives, TreePath};
+ghost use Rattle.vdb_tree.specs.Paths.{common, depth, down_count, in_leaf, IsWhole, Lives};
 ghost use Rattle.vdb_tree.specs.Table.{HasCapacity};
-ghost use Rattle.vdb_tree.specs.declared.path.PathOf.TheVariants.{Empty};
 ghost use Rattle.vdb_tree.specs.declared.refusal.TreeRefusal.TheVariants.{Memory};
-ghost use Rattle.vdb_grid.specs.Grid.{accessor, last, KeepsLast};
+ghost use Rattle.vdb_grid.specs.Grid.{has_leaf, last, path};
 
-use crate::accessors::{Accessor, retrace};
+use crate::accessors::retrace;
 use std::alloc::Global;
 use std::marker::Model;
 use vdb_coord::Coord;
@@ -31,7 +28,10 @@ use vdb_value::Cell;
 #[derive(Drop)]
 pub struct Grid<V: Stored<512> + Stored<64> + Stored<8>, const K: usize> {
     pub(crate) tree: Tree<V>,
-    pub(crate) accessors: [Accessor<V>; K],
+    // The coordinate that each accessor was last given.
+    pub(crate) coords: [Option<Coord>; K],
+    // The path to it; any path where there is none.
+    pub(crate) paths: [Path<V>; K],
 }
 
 impl<V: Stored<512> + Stored<64> + Stored<8>, const K: usize> Model for Grid<V, K> {
@@ -41,10 +41,11 @@ impl<V: Stored<512> + Stored<64> + Stored<8>, const K: usize> Model for Grid<V, 
 
     ghost view = { λ g. record {
       tree = g.tree;
-      accessors = g.accessors;
+      coords = g.coords;
+      paths = g.paths;
     } };
 
-    ghost invariant = { λ g. ArePathsWhole g.tree g.accessors };
+    ghost invariant = { λ g. ArePathsWhole g.tree g.coords g.paths };
 }
 
 impl<V: Stored<512> + Stored<64> + Stored<8>, const K: usize> Grid<V, K> {
@@ -53,11 +54,12 @@ impl<V: Stored<512> + Stored<64> + Stored<8>, const K: usize> Grid<V, K> {
     pub fn new(alloc: Global, background: V, limit: u32) -> Self
         ensures field { field_of vdb result.tree ≡ new background }
         ensures limit { result.tree.limit ≡ limit }
-        ensures last { (k : ℕ) → last result.accessors k ≡ None }
+        ensures last { (k : ℕ) → last result.coords k ≡ None }
     {
         Grid {
             tree: Tree::new(alloc, background, limit),
-            accessors: [None; K],
+            coords: [None; K],
+            paths: [Path::Empty; K],
         }
     }
 
@@ -71,9 +73,9 @@ impl<V: Stored<512> + Stored<64> + Stored<8>, const K: usize> Grid<V, K> {
     /// The coordinate that an accessor was last given, by a probe or by a write through it.
     pub fn cached(&self, k: usize) -> Option<Coord>
         requires { k < K }
-        ensures { result ≡ last self.now.accessors k }
+        ensures { result ≡ last self.now.coords k }
     {
-        self.accessors[k].map(|(p, _)| p)
+        self.coords[k]
     }
 
     /// The cell of a voxel through an accessor: by the descent from the lowest node that the accessor caches and that contains
@@ -82,17 +84,53 @@ impl<V: Stored<512> + Stored<64> + Stored<8>, const K: usize> Grid<V, K> {
         requires { k < K }
         ensures cell { result ≡ (field_of vdb self.old.tree).cell p }
         ensures tree { self.new.tree ≡ self.old.tree }
-        ensures last { last self.new.accessors k ≡ Some p }
-        ensures others { (j : ℕ) → j ≢ k → accessor self.new.accessors j ≡ accessor self.old.accessors j }
-        ensures below { (q : Coord) (path : TreePath V) → accessor self.old.accessors k ≡ Some (q, path)
-            → steps.new ≤ steps.old + (down_count vdb self.old.tree p - (depth (common vdb q p path) - 1)) }
-        ensures near { (q : Coord) → last self.old.accessors k ≡ Some q → block_number vdb Leaf q ≡ block_number vdb Leaf p
+        ensures last { self.new.coords ≡ slice_set self.old.coords k (Some p) }
+        ensures others { (j : ℕ) → j ≢ k → path self.new.paths j ≡ path self.old.paths j }
+        ensures below { (q : Coord) → last self.old.coords k ≡ Some q
+            → steps.new ≤ steps.old + (down_count vdb self.old.tree p - (depth (common vdb q p (path self.old.paths k)) - 1)) }
+        ensures near { (q : Coord) → last self.old.coords k ≡ Some q → block_number vdb Leaf q ≡ block_number vdb Leaf p
+            → steps.new ≤ steps.old + 1 }
+        ensures steps { steps.new ≤ steps.old + 3 }
+    {
+        match self.near_cell(k, p, steps) {
+            Some(cell) => {
+                self.coords[k] = Some(p);
+                cell
+            }
+            None => self.go_to(k, p, steps),
+        }
+    }
+
+    /// The cell of a voxel in the leaf that the accessor's path ends in, where that holds it.
+    fn near_cell(&self, k: usize, p: Coord, steps: &mut Steps) -> Option<Cell<V>>
+        requires { k < K }
+        ensures answer { is_some result ≡ has_leaf (last self.now.coords k) (path self.now.paths k) p }
+        ensures cell { IfSome result (λ cell. cell ≡ (field_of vdb self.now.tree).cell p) }
+        ensures whole { IfSome result (λ _. IsWhole vdb self.now.tree (path self.now.paths k) p) }
+        ensures steps { steps.new ≤ steps.old + (if is_some result then 1 else 0) }
+    {
+        let q = self.coords[k]?;
+        self.tree.cell_near(&self.paths[k], q, p, steps)
+    }
+
+    /// The cell of a voxel by the descent from the lowest node of the accessor's path that contains it. The accessor then
+    /// caches the path to the voxel.
+    fn go_to(&mut self, k: usize, p: Coord, steps: &mut Steps) -> Cell<V>
+        requires { k < K }
+        ensures cell { result ≡ (field_of vdb self.old.tree).cell p }
+        ensures tree { self.new.tree ≡ self.old.tree }
+        ensures last { self.new.coords ≡ slice_set self.old.coords k (Some p) }
+        ensures others { (j : ℕ) → j ≢ k → path self.new.paths j ≡ path self.old.paths j }
+        ensures below { (q : Coord) → last self.old.coords k ≡ Some q
+            → steps.new ≤ steps.old + (down_count vdb self.old.tree p - (depth (common vdb q p (path self.old.paths k)) - 1)) }
+        ensures near { (q : Coord) → last self.old.coords k ≡ Some q → block_number vdb Leaf q ≡ block_number vdb Leaf p
             → steps.new ≤ steps.old + 1 }
         ensures steps { steps.new ≤ steps.old + 3 }
     {
         let (q, mut path) = self.start(k, p);
         let cell = self.tree.descend(&mut path, q, p, steps);
-        self.accessors[k] = Some((p, path));
+        self.coords[k] = Some(p);
+        self.paths[k] = path;
         cell
     }
 
@@ -100,10 +138,13 @@ impl<V: Stored<512> + Stored<64> + Stored<8>, const K: usize> Grid<V, K> {
     /// without a node.
     fn start(&self, k: usize, p: Coord) -> (Coord, Path<V>)
         requires { k < K }
-        ensures value { result ≡ unwrap_or (accessor self.now.accessors k) (p, Empty) }
+        ensures value { (q : Coord) → last self.now.coords k ≡ Some q → result ≡ (q, path self.now.paths k) }
         ensures lives { Lives vdb self.now.tree result.1 result.0 }
     {
-        self.accessors[k].unwrap_or((p, Path::Empty))
+        match self.coords[k] {
+            Some(q) => (q, self.paths[k]),
+            None => (p, Path::Empty),
+        }
     }
 
     /// Writes a voxel, as the tree's `write` does, and traces the path of each accessor anew.
@@ -116,16 +157,17 @@ impl<V: Stored<512> + Stored<64> + Stored<8>, const K: usize> Grid<V, K> {
         ensures outcome { IsOutcome V.eq vdb self.old.tree.limit (field_of vdb self.old.tree)
             (write p change (field_of vdb self.old.tree)) (field_of vdb self.new.tree) result }
         ensures limit { self.new.tree.limit ≡ self.old.tree.limit }
-        ensures last { KeepsLast self.old.accessors self.new.accessors }
+        ensures last { self.new.coords ≡ self.old.coords }
         ensures unchanged { written change ((field_of vdb self.old.tree).cell p) ≡ (field_of vdb self.old.tree).cell p → IsOk result }
         ensures leaf { IsTrue (in_leaf vdb self.old.tree p) → IsOk result }
         ensures non_constant { is_constant V.eq (field_of vdb self.old.tree) (block_around vdb Leaf p) ≡ false → IsOk result }
+        ensures elsewhere { HasCapacity self.old.tree (key vdb p) → KeepsElsewhere vdb self.old.tree self.new.tree p }
         ensures steps { HasCapacity self.old.tree (key vdb p)
             ⊎ (written change ((field_of vdb self.old.tree).cell p) ≡ (field_of vdb self.old.tree).cell p)
             → steps.new ≤ steps.old + (5 + 3 * K) }
     {
         let outcome = self.tree.write(p, change, steps);
-        retrace(&self.tree, &mut self.accessors, steps);
+        retrace(&self.tree, &self.coords, &mut self.paths, steps);
         outcome
     }
 
@@ -143,9 +185,8 @@ impl<V: Stored<512> + Stored<64> + Stored<8>, const K: usize> Grid<V, K> {
         ensures outcome { IsOutcome V.eq vdb self.old.tree.limit (field_of vdb self.old.tree)
             (write p change (field_of vdb self.old.tree)) (field_of vdb self.new.tree) result }
         ensures limit { self.new.tree.limit ≡ self.old.tree.limit }
-        ensures last { last self.new.accessors k ≡ Some p }
-        ensures others { (j : ℕ) → j ≢ k → last self.new.accessors j ≡ last self.old.accessors j }
-        ensures near { (q : Coord) (path : TreePath V) → accessor self.old.accessors k ≡ Some (q, path) → IsTrue (ends_in_leaf (common vdb q p path))
+        ensures last { self.new.coords ≡ slice_set self.old.coords k (Some p) }
+        ensures near { IsTrue (has_leaf (last self.old.coords k) (path self.old.paths k) p)
             → IsOk result × IsVoxelWritten vdb self.old.tree self.new.tree p (written change ((field_of vdb self.old.tree).cell p)) × (steps.new ≤ steps.old + 1) }
         ensures unchanged { written change ((field_of vdb self.old.tree).cell p) ≡ (field_of vdb self.old.tree).cell p → IsOk result }
         ensures leaf { IsTrue (in_leaf vdb self.old.tree p) → IsOk result }
@@ -154,75 +195,39 @@ impl<V: Stored<512> + Stored<64> + Stored<8>, const K: usize> Grid<V, K> {
             ⊎ (written change ((field_of vdb self.old.tree).cell p) ≡ (field_of vdb self.old.tree).cell p)
             → steps.new ≤ steps.old + (8 + 3 * K) }
     {
-        let (q, path) = self.start(k, p);
-        if self.write_near(k, q, path, p, change, steps) {
+        if self.write_near(k, p, change, steps) {
             return Ok(());
         }
-        self.write_beyond(k, q, path, p, change, steps)
+        let _ = self.go_to(k, p, steps);
+        if self.write_near(k, p, change, steps) {
+            return Ok(());
+        }
+        self.write(p, change, steps)
     }
 
-    /// Writes a voxel in the leaf that the path to `q` ends in, where that holds the voxel, and caches the path for it. The answer
-    /// says whether it does; where it doesn't, nothing changes.
-    fn write_near(
-        &mut self,
-        k: usize,
-        q: Coord,
-        path: Path<V>,
-        p: Coord,
-        change: Write<V>,
-        steps: &mut Steps,
-    ) -> bool
-        requires within { k < K }
-        requires lives { Lives vdb self.old.tree path q }
-        ensures answer { result ≡ ends_in_leaf (common vdb q p path) }
+    /// Writes a voxel in the leaf that the accessor's path ends in, where that holds the voxel, by one visit. The answer says
+    /// whether it does; where it doesn't, nothing changes.
+    fn write_near(&mut self, k: usize, p: Coord, change: Write<V>, steps: &mut Steps) -> bool
+        requires { k < K }
+        ensures answer { result ≡ has_leaf (last self.old.coords k) (path self.old.paths k) p }
         ensures outcome { IsTrue result → IsOutcome V.eq vdb self.old.tree.limit (field_of vdb self.old.tree)
             (write p change (field_of vdb self.old.tree)) (field_of vdb self.new.tree) (Ok tt) }
         ensures limit { self.new.tree.limit ≡ self.old.tree.limit }
         ensures alone { IsTrue result → IsVoxelWritten vdb self.old.tree self.new.tree p (written change ((field_of vdb self.old.tree).cell p)) }
-        ensures last { IsTrue result → last self.new.accessors k ≡ Some p }
-        ensures others { (j : ℕ) → j ≢ k → accessor self.new.accessors j ≡ accessor self.old.accessors j }
+        ensures last { IsTrue result → self.new.coords ≡ slice_set self.old.coords k (Some p) }
         ensures untouched { result ≡ false → self.new ≡ self.old }
         ensures steps { steps.new ≤ steps.old + (if result then 1 else 0) }
     {
+        let Some(q) = self.coords[k] else {
+            return false;
+        };
+        let path = self.paths[k];
         if !self.tree.write_near(&path, q, p, change, steps) {
             return false;
         }
         let _ = self.tree.limit(); // no more root blocks than the limit hold anything but the background
-        self.accessors[k] = Some((p, path));
+        self.coords[k] = Some(p);
         true
-    }
-
-    /// Writes a voxel that the leaf of the cached path doesn't hold.
-    fn write_beyond(
-        &mut self,
-        k: usize,
-        q: Coord,
-        path: Path<V>,
-        p: Coord,
-        change: Write<V>,
-        steps: &mut Steps,
-    ) -> Result<(), TreeRefusal>
-        requires within { k < K }
-        requires lives { Lives vdb self.old.tree path q }
-        ensures outcome { IsOutcome V.eq vdb self.old.tree.limit (field_of vdb self.old.tree)
-            (write p change (field_of vdb self.old.tree)) (field_of vdb self.new.tree) result }
-        ensures limit { self.new.tree.limit ≡ self.old.tree.limit }
-        ensures last { last self.new.accessors k ≡ Some p }
-        ensures others { (j : ℕ) → j ≢ k → last self.new.accessors j ≡ last self.old.accessors j }
-        ensures unchanged { written change ((field_of vdb self.old.tree).cell p) ≡ (field_of vdb self.old.tree).cell p → IsOk result }
-        ensures leaf { IsTrue (in_leaf vdb self.old.tree p) → IsOk result }
-        ensures non_constant { is_constant V.eq (field_of vdb self.old.tree) (block_around vdb Leaf p) ≡ false → IsOk result }
-        ensures steps { HasCapacity self.old.tree (key vdb p)
-            ⊎ (written change ((field_of vdb self.old.tree).cell p) ≡ (field_of vdb self.old.tree).cell p)
-            → steps.new ≤ steps.old + (8 + 3 * K) }
-    {
-        let mut path = path;
-        let _ = self.tree.descend(&mut path, q, p, steps);
-        if self.write_near(k, p, path, p, change, steps) {
-            return Ok(());
-        }
-        self.accessors[k] = Some((p, path));
-        self.write(p, change, steps)
     }
 
     /// A grid with the same cells, tiles, nodes, background and limit, and with accessors that were given no coordinate.
@@ -231,13 +236,14 @@ impl<V: Stored<512> + Stored<64> + Stored<8>, const K: usize> Grid<V, K> {
         ensures field { IfOk result (λ copy. field_of vdb copy.tree ≡ field_of vdb self.now.tree) }
         ensures limit { IfOk result (λ copy. copy.tree.limit ≡ self.now.tree.limit) }
         ensures same { IfOk result (λ copy. IsSameTree vdb self.now.tree copy.tree) }
-        ensures last { IfOk result (λ copy. (k : ℕ) → last copy.accessors k ≡ None) }
+        ensures last { IfOk result (λ copy. (k : ℕ) → last copy.coords k ≡ None) }
         ensures memory { IfErr result (λ refusal. refusal ≡ Memory) }
     {
         let tree = self.tree.try_copy()?;
         Ok(Grid {
             tree,
-            accessors: [None; K],
+            coords: [None; K],
+            paths: [Path::Empty; K],
         })
     }
 }

@@ -10,15 +10,18 @@ use Rattle.vdb_tree.specs.declared.refusal.TreeRefusal.TheVariants.{Memory, Root
 use Rattle.vdb_scene.specs.Grids.{grid_field, grid_limit, grid_of, scene_over}
 use Rattle.vdb_scene.specs.Scalars.{scalar_eq}
 use Rattle.vdb_scene.specs.Scene.{Grid, grid_at, is_named}
-use Rattle.vdb_scene.specs.Step.{changed}
+use Rattle.vdb_scene.specs.Metas.{Pairs}
+use Rattle.vdb_scene.specs.Step.{changed, with_pairs}
 use Rattle.vdb_scene.specs.declared.scalar.Scalar.{Scalar}
 use Rattle.vdb_scene.specs.declared.any_grid.AnyGrid.{AnyGrid}
+use Rattle.vdb_scene.specs.declared.grid_entry.GridEntry.{GridEntry}
 use Rattle.vdb_scene.proofs.Entries.{lookup-over, set_value-found, set_value-over}
 use Rattle.vdb_scene.proofs.Steps.{grid_found}
 
--- a grid of this field and this limit
-one_grid : (given : AnyGrid) (f : Field Scalar) (limit : ℕ) → grid_field given ≡ f → grid_limit given ≡ limit → grid_of given ≡ record { field = f; limit = limit }
-one_grid given f limit field is = λ i. record { field = field i; limit = is i }
+-- an entry with a grid of this field and this limit
+one_grid : (entry : GridEntry) (given : AnyGrid) (f : Field Scalar) (limit : ℕ) → grid_field given ≡ f → grid_limit given ≡ limit
+    → grid_of (record entry { grid = given }) ≡ record { field = f; limit = limit; pairs = entry.metas }
+one_grid entry given f limit field is = λ i. record { field = field i; limit = is i; pairs = entry.metas }
 
 -- a refused change leaves the field as it was
 pub kept : (e : TreeRefusal) (limit : ℕ) (old changed new : Field Scalar) → IsOutcome scalar_eq vdb limit old changed new (Err e) → new ≡ old
@@ -29,7 +32,7 @@ none_map : {X Y : Type 0} (f : X → Y) (o : Option X) → is_none (option_map f
 none_map f None = refl
 none_map f (Some x) = refl
 
-module _ (grids : List (List ℕ × AnyGrid)) (name : List ℕ) where
+module _ (grids : List (List ℕ × GridEntry)) (name : List ℕ) where
   -- a name that no grid has
   pub missing : lookup (is_named name) grids ≡ None → grid_at (scene_over grids) name ≡ None
   missing none = lookup-over grid_of (is_named name) grids ∙ ap (option_map grid_of) none
@@ -39,22 +42,36 @@ module _ (grids : List (List ℕ × AnyGrid)) (name : List ℕ) where
   absent_is = ap is_none (lookup-over grid_of (is_named name) grids) ∙ none_map grid_of (lookup (is_named name) grids)
 
   -- a name that a grid has
-  pub found : (grid : AnyGrid) → lookup (is_named name) grids ≡ Some grid → grid_at (scene_over grids) name ≡ Some (grid_of grid)
-  found grid there = lookup-over grid_of (is_named name) grids ∙ ap (option_map grid_of) there
+  pub found : (entry : GridEntry) → lookup (is_named name) grids ≡ Some entry → grid_at (scene_over grids) name ≡ Some (grid_of entry)
+  found entry there = lookup-over grid_of (is_named name) grids ∙ ap (option_map grid_of) there
 
-  module _ (after : List (List ℕ × AnyGrid)) (grid given : AnyGrid) (there : lookup (is_named name) grids ≡ Some grid) (back : after ≡ set_value (is_named name) grids given) where
-    back_over : scene_over after ≡ set_value (is_named name) (scene_over grids) (grid_of given)
-    back_over = ap scene_over back ∙ sym (set_value-over grid_of (is_named name) grids given)
-
+  module _ (after : List (List ℕ × GridEntry)) (entry : GridEntry) (there : lookup (is_named name) grids ≡ Some entry) where
     -- it is as it was
-    pub unchanged : grid_field given ≡ grid_field grid → grid_limit given ≡ grid_limit grid → scene_over after ≡ scene_over grids
-    unchanged field limit =
-        back_over ∙ ap (set_value (is_named name) (scene_over grids)) (one_grid given (grid_field grid) (grid_limit grid) field limit)
-        ∙ set_value-found (is_named name) (scene_over grids) (grid_of grid) (found grid there)
+    pub same_scene : after ≡ set_value (is_named name) grids entry → scene_over after ≡ scene_over grids
+    same_scene back = ap scene_over (back ∙ set_value-found (is_named name) grids entry there)
 
-    -- its field was changed
-    pub changed_field : (change : Field Scalar → Field Scalar) → grid_field given ≡ change (grid_field grid) → grid_limit given ≡ grid_limit grid → scene_over after ≡ changed (scene_over grids) name change
-    changed_field change field limit =
-        back_over ∙ ap (set_value (is_named name) (scene_over grids)) (one_grid given (change (grid_field grid)) (grid_limit grid) field limit)
-        ∙ ap (λ (g : Grid). set_value (is_named name) (scene_over grids) (record { field = change g.field; limit = g.limit }))
-        (sym (grid_found (scene_over grids) name (grid_of grid) (found grid there)))
+    module _ (given : AnyGrid) (back : after ≡ set_value (is_named name) grids (record entry { grid = given })) where
+      back_over : scene_over after ≡ set_value (is_named name) (scene_over grids) (grid_of (record entry { grid = given }))
+      back_over = ap scene_over back ∙ sym (set_value-over grid_of (is_named name) grids (record entry { grid = given }))
+
+      -- its cells are as they were
+      pub unchanged : grid_field given ≡ grid_field entry.grid → grid_limit given ≡ grid_limit entry.grid → scene_over after ≡ scene_over grids
+      unchanged field limit =
+          back_over ∙ ap (set_value (is_named name) (scene_over grids)) (one_grid entry given (grid_field entry.grid) (grid_limit entry.grid) field limit)
+          ∙ set_value-found (is_named name) (scene_over grids) (grid_of entry) (found entry there)
+
+      -- its field was changed
+      pub changed_field : (change : Field Scalar → Field Scalar) → grid_field given ≡ change (grid_field entry.grid) → grid_limit given ≡ grid_limit entry.grid → scene_over after ≡ changed (scene_over grids) name change
+      changed_field change field limit =
+          back_over ∙ ap (set_value (is_named name) (scene_over grids)) (one_grid entry given (change (grid_field entry.grid)) (grid_limit entry.grid) field limit)
+          ∙ ap (λ (g : Grid). set_value (is_named name) (scene_over grids) (record g { field = change g.field }))
+          (sym (grid_found (scene_over grids) name (grid_of entry) (found entry there)))
+
+    -- its pairs were changed
+    pub changed_pairs : (metas : Pairs) (change : Pairs → Pairs) → after ≡ set_value (is_named name) grids (record entry { metas = metas }) → metas ≡ change entry.metas
+        → scene_over after ≡ with_pairs (scene_over grids) name change
+    changed_pairs metas change back is =
+        ap scene_over back ∙ sym (set_value-over grid_of (is_named name) grids (record entry { metas = metas }))
+        ∙ ap (λ (m : Pairs). set_value (is_named name) (scene_over grids) (grid_of (record entry { metas = m }))) is
+        ∙ ap (λ (g : Grid). set_value (is_named name) (scene_over grids) (record g { pairs = change g.pairs }))
+        (sym (grid_found (scene_over grids) name (grid_of entry) (found entry there)))

@@ -46,21 +46,21 @@ abbrev a : List ℕ
 a = codes "a"
 
 abbrev make_a : Command
-make_a = commands.Grid a kinds.I32 (near (pos 0))
+make_a = commands.Grid a kinds.I32 (near (pos 0)) None
 
 abbrev with_a : Scene
 with_a = after [] make_a
 
-background_out_of_range : refusal [] (commands.Grid a kinds.I32 (near (pos 2147483648))) ≡ Some refusals.ValueRange
+background_out_of_range : refusal [] (commands.Grid a kinds.I32 (near (pos 2147483648)) None) ≡ Some refusals.ValueRange
 background_out_of_range = refl
 
-background_of_another_kind : refusal [] (commands.Grid a kinds.I32 (Truth true)) ≡ Some refusals.Kind
+background_of_another_kind : refusal [] (commands.Grid a kinds.I32 (Truth true) None) ≡ Some refusals.Kind
 background_of_another_kind = refl
 
 accepted : refusal [] make_a ≡ None
 accepted = refl
 
-taken : refusal with_a (commands.Grid a kinds.Bool (near (pos 0))) ≡ Some refusals.NameTaken
+taken : refusal with_a (commands.Grid a kinds.Bool (near (pos 0)) None) ≡ Some refusals.NameTaken
 taken = refl
 
 eighth_accessor : refusal with_a (commands.Set a (Some (Near (pos 8))) (point (pos 0) (pos 0) (pos 0)) (near (pos 1))) ≡ Some refusals.NoAccessor
@@ -188,12 +188,12 @@ dilate_out_of_range_first = refl
 
 -- a sixty-fifth grid, of a name that is taken and of one that is free
 abbrev crowd : Scene
-crowd = map (λ k. (97 ∷ (97 + k) ∷ [], new_grid (truth false))) (range_with_len 0 64)
+crowd = map (λ k. (97 ∷ (97 + k) ∷ [], new_grid (truth false) 4096)) (range_with_len 0 64)
 
 one_too_many : refusal crowd make_a ≡ Some refusals.GridLimit
 one_too_many = refl
 
-taken_first : refusal crowd (commands.Grid (codes "ab") kinds.I32 (near (pos 0))) ≡ Some refusals.NameTaken
+taken_first : refusal crowd (commands.Grid (codes "ab") kinds.I32 (near (pos 0)) None) ≡ Some refusals.NameTaken
 taken_first = refl
 
 -- a copy of a grid that isn't there, to a name that is taken, and to a free name, where there are 64 grids

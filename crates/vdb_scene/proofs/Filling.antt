@@ -18,7 +18,7 @@ use Rattle.vdb_scene.specs.Replies as replies
 use Rattle.vdb_scene.specs.Places.{are_coords, box_between}
 use Rattle.vdb_scene.specs.Refusals.{first_of_all, no_box, of_tree, other_form, out_of_range, refused_if}
 use Rattle.vdb_scene.specs.Step.{after, changed, refusal}
-use Rattle.vdb_scene.specs.declared.any_grid.AnyGrid.{AnyGrid}
+use Rattle.vdb_scene.specs.declared.grid_entry.GridEntry.{GridEntry}
 use Rattle.vdb_scene.specs.declared.answer.Answer.TheVariants.{Done}
 use Rattle.vdb_scene.specs.declared.answer.Refusal.{Refusal}
 use Rattle.vdb_scene.specs.declared.answer.Refusal.TheVariants as refusals
@@ -50,7 +50,7 @@ kind_passed fits rest f = rw f refl
 
 -- ---- the box
 
-module _ (grids : List (List ℕ × AnyGrid)) (name : List ℕ) (c : Corners) (v : Literal) (on : Bool) (next : Scene) where
+module _ (grids : List (List ℕ × GridEntry)) (name : List ℕ) (c : Corners) (v : Literal) (on : Bool) (next : Scene) where
   abbrev scene : Scene
   scene = scene_over grids
 
@@ -61,19 +61,19 @@ module _ (grids : List (List ℕ × AnyGrid)) (name : List ℕ) (c : Corners) (v
   pub fill_missing : lookup (is_named name) grids ≡ None → next ≡ scene → CarriesOut scene command (Err refusals.NoGrid) next
   fill_missing none same = (rw (missing grids name none) refl, same)
 
-  module _ (grid : AnyGrid) (there : lookup (is_named name) grids ≡ Some grid) (kind : Kind) (is_kind : kind ≡ kind_of (grid_field grid).background) where
+  module _ (entry : GridEntry) (there : lookup (is_named name) grids ≡ Some entry) (kind : Kind) (is_kind : kind ≡ kind_of (grid_field entry.grid).background) where
     abbrev over : Bool
-    over = nat_lt (grid_limit grid) (roots scalar_eq vdb (fill (box_between c) (record { value = scalar kind v; on = on }) (grid_field grid)))
+    over = nat_lt (grid_limit entry.grid) (roots scalar_eq vdb (fill (box_between c) (record { value = scalar kind v; on = on }) (grid_field entry.grid)))
 
     -- what is said of the scene's grid is said of the one that was found
     refusal_is : refusal scene command ≡ first_of_all (tests (has_form kind v) (are_coords c) (has_value kind v) (is_box (box_between c)) over)
     refusal_is =
-        passed_over _ _ (ap is_none (found grids name grid there))
+        passed_over _ _ (ap is_none (found grids name entry there))
         ∙ ap (λ (g : Grid). first_of_all (tests (has_form (kind_of g.field.background) v) (are_coords c) (has_value (kind_of g.field.background) v) (is_box (box_between c))
         (nat_lt g.limit (roots scalar_eq vdb (fill (box_between c) (record { value = scalar (kind_of g.field.background) v; on = on }) g.field)))))
-        (grid_found scene name (grid_of grid) (found grids name grid there))
+        (grid_found scene name (grid_of entry) (found grids name entry there))
         ∙ ap (λ k. first_of_all (tests (has_form k v) (are_coords c) (has_value k v) (is_box (box_between c))
-        (nat_lt (grid_limit grid) (roots scalar_eq vdb (fill (box_between c) (record { value = scalar k v; on = on }) (grid_field grid))))))
+        (nat_lt (grid_limit entry.grid) (roots scalar_eq vdb (fill (box_between c) (record { value = scalar k v; on = on }) (grid_field entry.grid))))))
         (sym is_kind)
 
     -- a value that the kind doesn't have
@@ -92,27 +92,27 @@ module _ (grids : List (List ℕ × AnyGrid)) (name : List ℕ) (c : Corners) (v
       module _ (placed : are_coords c ≡ true) (ordered : is_box (box_between c) ≡ true) (box : Box) (is_bounds : box ≡ box_between c) (x : Scalar) (is_x : x ≡ scalar kind v) where
         -- the grid's field after the fill
         abbrev filled : Field Scalar
-        filled = fill box (record { value = x; on = on }) (grid_field grid)
+        filled = fill box (record { value = x; on = on }) (grid_field entry.grid)
 
-        over_is : over ≡ nat_lt (grid_limit grid) (roots scalar_eq vdb filled)
+        over_is : over ≡ nat_lt (grid_limit entry.grid) (roots scalar_eq vdb filled)
         over_is =
-            ap (λ b. nat_lt (grid_limit grid) (roots scalar_eq vdb (fill b (record { value = scalar kind v; on = on }) (grid_field grid)))) (sym is_bounds)
-            ∙ ap (λ y. nat_lt (grid_limit grid) (roots scalar_eq vdb (fill box (record { value = y; on = on }) (grid_field grid)))) (sym is_x)
+            ap (λ b. nat_lt (grid_limit entry.grid) (roots scalar_eq vdb (fill b (record { value = scalar kind v; on = on }) (grid_field entry.grid)))) (sym is_bounds)
+            ∙ ap (λ y. nat_lt (grid_limit entry.grid) (roots scalar_eq vdb (fill box (record { value = y; on = on }) (grid_field entry.grid)))) (sym is_x)
 
-        accepted : roots scalar_eq vdb filled ≤ grid_limit grid → refusal scene command ≡ None
+        accepted : roots scalar_eq vdb filled ≤ grid_limit entry.grid → refusal scene command ≡ None
         accepted few = refusal_is ∙ none_left _ _ _ _ over form placed value ordered (over_is ∙ le-ltb _ _ few)
 
         -- the box is filled
-        pub fill_done : roots scalar_eq vdb filled ≤ grid_limit grid → next ≡ changed scene name (fill box (record { value = x; on = on })) → CarriesOut scene command (Ok Done) next
+        pub fill_done : roots scalar_eq vdb filled ≤ grid_limit entry.grid → next ≡ changed scene name (fill box (record { value = x; on = on })) → CarriesOut scene command (Ok Done) next
         fill_done few is = (
           accepted few,
           (replies.Done, refl, refl),
           is ∙ ap (λ b. changed scene name (fill b (record { value = x; on = on }))) is_bounds
               ∙ ap (λ y. changed scene name (fill (box_between c) (record { value = y; on = on })))
-              (is_x ∙ ap (λ k. scalar k v) (is_kind ∙ sym (kind_found scene name (grid_of grid) (found grids name grid there)))),
+              (is_x ∙ ap (λ k. scalar k v) (is_kind ∙ sym (kind_found scene name (grid_of entry) (found grids name entry there)))),
         )
 
         -- the grid's tree refuses it
-        pub fill_refused : (e : TreeRefusal) (after : Field Scalar) → IsOutcome scalar_eq vdb (grid_limit grid) (grid_field grid) filled after (Err e) → next ≡ scene → CarriesOut scene command (Err (of_tree e)) next
+        pub fill_refused : (e : TreeRefusal) (after : Field Scalar) → IsOutcome scalar_eq vdb (grid_limit entry.grid) (grid_field entry.grid) filled after (Err e) → next ≡ scene → CarriesOut scene command (Err (of_tree e)) next
         fill_refused RootLimit after h same = (refusal_is ∙ limit_left _ _ _ _ over form placed value ordered (over_is ∙ lt-ltb _ _ h.1), same)
         fill_refused Memory after h same = (accepted h.1, refl, same)

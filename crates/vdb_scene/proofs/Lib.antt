@@ -1,12 +1,16 @@
 -- Lemmas on the step of a scene, and worked examples.
 mod Checks
+mod MetaChecks
+pub mod Copying
 pub mod AsTurned
 pub mod Entries
 pub mod Filling
 pub mod Borrowed
 pub mod Lent
 pub mod Listings
+pub mod Lookups
 pub mod Rows
+pub mod PairSteps
 pub mod Reports
 pub mod Steps
 pub mod Trees

@@ -30,7 +30,7 @@ test_passes false x y h = absurd (none_some y h)
 module _ (s : Scene) (name : List ℕ) (g : Grid) (found : grid_at s name ≡ Some g) where
   -- a grid that was found
   pub grid_found : the_grid s name ≡ g
-  grid_found = ap (λ (o : Option Grid). unwrap_or o (new_grid (truth false))) found
+  grid_found = ap (λ (o : Option Grid). unwrap_or o (new_grid (truth false) 0)) found
 
   pub field_found : field_at s name ≡ g.field
   field_found = ap (λ (h : Grid). h.field) grid_found

@@ -18,6 +18,7 @@ use Rattle.vdb_scene.specs.Scalars.{scalar_eq}
 use Rattle.vdb_scene.specs.Scene.{Grid, Scene, is_named}
 use Rattle.vdb_scene.specs.Step.{changed, first_refusal, refusal}
 use Rattle.vdb_scene.specs.declared.any_grid.AnyGrid.{AnyGrid}
+use Rattle.vdb_scene.specs.declared.grid_entry.GridEntry.{GridEntry}
 use Rattle.vdb_scene.specs.declared.answer.Answer.TheVariants.{Done}
 use Rattle.vdb_scene.specs.declared.answer.Refusal.TheVariants as refusals
 use Rattle.vdb_scene.specs.declared.command.Command.TheVariants as commands
@@ -28,19 +29,19 @@ use Rattle.vdb_scene.proofs.Steps.{grid_found}
 
 -- ---- a grid that isn't there, or a number of turns that is none
 
-module _ (grids : List (List ℕ × AnyGrid)) (name : List ℕ) (n : Num) (next : Scene) (same : next ≡ scene_over grids) where
+module _ (grids : List (List ℕ × GridEntry)) (name : List ℕ) (n : Num) (next : Scene) (same : next ≡ scene_over grids) where
   pub dilate_missing : lookup (is_named name) grids ≡ None → CarriesOut (scene_over grids) (commands.Dilate name n) (Err refusals.NoGrid) next
   dilate_missing none = (rw (missing grids name none) refl, same)
 
   pub erode_missing : lookup (is_named name) grids ≡ None → CarriesOut (scene_over grids) (commands.Erode name n) (Err refusals.NoGrid) next
   erode_missing none = (rw (missing grids name none) refl, same)
 
-  module _ (grid : AnyGrid) (there : lookup (is_named name) grids ≡ Some grid) (other : is_turn_count n ≡ false) where
+  module _ (entry : GridEntry) (there : lookup (is_named name) grids ≡ Some entry) (other : is_turn_count n ≡ false) where
     pub dilate_out_of_range : CarriesOut (scene_over grids) (commands.Dilate name n) (Err refusals.ValueRange) next
-    dilate_out_of_range = (rw (found grids name grid there, other) refl, same)
+    dilate_out_of_range = (rw (found grids name entry there, other) refl, same)
 
     pub erode_out_of_range : CarriesOut (scene_over grids) (commands.Erode name n) (Err refusals.ValueRange) next
-    erode_out_of_range = (rw (found grids name grid there, other) refl, same)
+    erode_out_of_range = (rw (found grids name entry there, other) refl, same)
 
 -- ---- turns of a grid that is there
 
@@ -50,41 +51,41 @@ over_limit b h = rw h refl
 within_limit : (b : Bool) → b ≡ false → first_of_all (refused_if b refusals.RootLimit ∷ []) ≡ None
 within_limit b h = rw h refl
 
-module _ (grids after : List (List ℕ × AnyGrid)) (name : List ℕ) (n : Num) (was grid : AnyGrid) (there : lookup (is_named name) grids ≡ Some was)
-    (back : after ≡ set_value (is_named name) grids grid) (limit : grid_limit grid ≡ grid_limit was) (fits : is_turn_count n ≡ true) (k : ℕ) (is : count_of n ≡ k) where
+module _ (grids after : List (List ℕ × GridEntry)) (name : List ℕ) (n : Num) (was : GridEntry) (grid : AnyGrid) (there : lookup (is_named name) grids ≡ Some was)
+    (back : after ≡ set_value (is_named name) grids (record was { grid = grid })) (limit : grid_limit grid ≡ grid_limit was.grid) (fits : is_turn_count n ≡ true) (k : ℕ) (is : count_of n ≡ k) where
   abbrev scene : Scene
   scene = scene_over grids
 
   -- the grid is as it was
-  same_scene : grid_field grid ≡ grid_field was → scene_over after ≡ scene
-  same_scene h = unchanged grids name after was grid there back h limit
+  same_scene : grid_field grid ≡ grid_field was.grid → scene_over after ≡ scene
+  same_scene h = unchanged grids name after was there grid back h limit
 
   -- its field was changed by so many turns
-  turned : (turn : Field Scalar → Field Scalar) → grid_field grid ≡ turns k turn (grid_field was) → scene_over after ≡ changed scene name (turns (count_of n) turn)
-  turned turn h = changed_field grids name after was grid there back (turns k turn) h limit ∙ ap (λ m. changed scene name (turns m turn)) (sym is)
+  turned : (turn : Field Scalar → Field Scalar) → grid_field grid ≡ turns k turn (grid_field was.grid) → scene_over after ≡ changed scene name (turns (count_of n) turn)
+  turned turn h = changed_field grids name after was there grid back (turns k turn) h limit ∙ ap (λ m. changed scene name (turns m turn)) (sym is)
 
   abbrev pub dilated : Field Scalar
-  dilated = turns k dilate (grid_field was)
+  dilated = turns k dilate (grid_field was.grid)
 
   -- nothing but the root limit refuses a dilation
-  limit_left : refusal scene (commands.Dilate name n) ≡ first_of_all (beyond_limit (grid_limit was) dilated ∷ [])
+  limit_left : refusal scene (commands.Dilate name n) ≡ first_of_all (beyond_limit (grid_limit was.grid) dilated ∷ [])
   limit_left = rw (found grids name was there, fits) (
       ap (λ (g : Grid). first_of_all (beyond_limit g.limit (turns (count_of n) dilate g.field) ∷ [])) (grid_found scene name (grid_of was) (found grids name was there))
-      ∙ ap (λ m. first_of_all (beyond_limit (grid_limit was) (turns m dilate (grid_field was)) ∷ [])) is)
+      ∙ ap (λ m. first_of_all (beyond_limit (grid_limit was.grid) (turns m dilate (grid_field was.grid)) ∷ [])) is)
 
-  pub dilate_done : (u : Unit {0}) → IsGrowth scalar_eq vdb (grid_limit was) (grid_field was) dilated (grid_field grid) (Ok u) → CarriesOut scene (commands.Dilate name n) (Ok Done) (scene_over after)
+  pub dilate_done : (u : Unit {0}) → IsGrowth scalar_eq vdb (grid_limit was.grid) (grid_field was.grid) dilated (grid_field grid) (Ok u) → CarriesOut scene (commands.Dilate name n) (Ok Done) (scene_over after)
   dilate_done u h = (limit_left ∙ within_limit _ (le-ltb _ _ h.1), (replies.Done, refl, refl), turned dilate h.0)
 
-  pub dilate_refused : (e : TreeRefusal) → IsGrowth scalar_eq vdb (grid_limit was) (grid_field was) dilated (grid_field grid) (Err e) → CarriesOut scene (commands.Dilate name n) (Err (of_tree e)) (scene_over after)
+  pub dilate_refused : (e : TreeRefusal) → IsGrowth scalar_eq vdb (grid_limit was.grid) (grid_field was.grid) dilated (grid_field grid) (Err e) → CarriesOut scene (commands.Dilate name n) (Err (of_tree e)) (scene_over after)
   dilate_refused RootLimit h = (limit_left ∙ over_limit _ (lt-ltb _ _ h.1), same_scene h.0)
   dilate_refused Memory h = (rw (found grids name was there, fits) refl, refl, same_scene h.0)
 
   abbrev pub eroded : Field Scalar
-  eroded = turns k erode (grid_field was)
+  eroded = turns k erode (grid_field was.grid)
 
-  pub erode_done : (u : Unit {0}) → IsOutcome scalar_eq vdb (grid_limit was) (grid_field was) eroded (grid_field grid) (Ok u) → CarriesOut scene (commands.Erode name n) (Ok Done) (scene_over after)
+  pub erode_done : (u : Unit {0}) → IsOutcome scalar_eq vdb (grid_limit was.grid) (grid_field was.grid) eroded (grid_field grid) (Ok u) → CarriesOut scene (commands.Erode name n) (Ok Done) (scene_over after)
   erode_done u h = (rw (found grids name was there, fits) refl, (replies.Done, refl, refl), turned erode h.0)
 
-  pub erode_refused : (e : TreeRefusal) → e ≡ Memory → IsOutcome scalar_eq vdb (grid_limit was) (grid_field was) eroded (grid_field grid) (Err e) → CarriesOut scene (commands.Erode name n) (Err (of_tree e)) (scene_over after)
+  pub erode_refused : (e : TreeRefusal) → e ≡ Memory → IsOutcome scalar_eq vdb (grid_limit was.grid) (grid_field was.grid) eroded (grid_field grid) (Err e) → CarriesOut scene (commands.Erode name n) (Err (of_tree e)) (scene_over after)
   erode_refused RootLimit is h = cc
   erode_refused Memory is h = (rw (found grids name was there, fits) refl, refl, same_scene h.0)

@@ -13,6 +13,7 @@ use Rattle.vdb_scene.specs.Step.{IsReply, after, changed, first_refusal, refusal
 use Rattle.vdb_tree.specs.Field.{ruled}
 use Rattle.vdb_scene.specs.TwoGrids.{Gives, IsMade, StaysBut, command_of, made_of, tried_of}
 use Rattle.vdb_scene.specs.declared.any_grid.AnyGrid.{AnyGrid}
+use Rattle.vdb_scene.specs.declared.grid_entry.GridEntry.{GridEntry}
 use Rattle.vdb_scene.specs.declared.answer.Answer.TheVariants.{Done, Refused}
 use Rattle.vdb_scene.specs.declared.answer.Refusal.{Refusal}
 use Rattle.vdb_scene.specs.declared.answer.Refusal.TheVariants as refusals
@@ -75,7 +76,7 @@ module _ (s : abstract_scene.Scene) (name other : List ℕ) where
   first_is (Values Replace) = refl
 
 -- the trees after it
-pub done_leaves : (o : Operation) (old new : Scene) (name other : List ℕ) (g : AnyGrid) → PutsGrid old name g new → LeavesTrees (command_of o name other) Done old new
+pub done_leaves : (o : Operation) (old new : Scene) (name other : List ℕ) (g : GridEntry) → PutsGrid old name g new → LeavesTrees (command_of o name other) Done old new
 done_leaves (States Unite) old new name other g h = (g, h)
 done_leaves (States Subtract) old new name other g h = (g, h)
 done_leaves (States Intersect) old new name other g h = (g, h)
@@ -104,32 +105,32 @@ twice_refused s name other o h k e = ap first_of_all (tried_is s name other o) �
 
 -- ---- two grids that are there
 
-module _ (grids after_grids : List (List ℕ × AnyGrid)) (name other : List ℕ) (was given grid : AnyGrid) (o : Operation)
+module _ (grids after_grids : List (List ℕ × GridEntry)) (name other : List ℕ) (was given : GridEntry) (grid : AnyGrid) (o : Operation)
     (there : lookup (is_named name) grids ≡ Some was) (there_too : lookup (is_named other) grids ≡ Some given) (apart : is_named name other ≡ false)
-    (back : after_grids ≡ set_value (is_named name) grids grid) (limit : grid_limit grid ≡ grid_limit was) where
+    (back : after_grids ≡ set_value (is_named name) grids (record was { grid = grid })) (limit : grid_limit grid ≡ grid_limit was.grid) where
   abbrev scene : abstract_scene.Scene
   scene = scene_over grids
 
-  refusal_is : refusal scene (command_of o name other) ≡ first_of_all (tried_of o (grid_limit was) (grid_field was) (grid_field given))
+  refusal_is : refusal scene (command_of o name other) ≡ first_of_all (tried_of o (grid_limit was.grid) (grid_field was.grid) (grid_field given.grid))
   refusal_is = ap first_of_all (tried_is scene name other o) ∙ rw (found grids name was there, found grids other given there_too, apart) (
       ap (λ (x : abstract_scene.Grid). first_of_all (tried_of o x.limit x.field (field_at scene other))) (grid_found scene name (grid_of was) (found grids name was there))
-      ∙ ap (λ (x : abstract_scene.Grid). first_of_all (tried_of o (grid_limit was) (grid_field was) x.field)) (grid_found scene other (grid_of given) (found grids other given there_too)))
+      ∙ ap (λ (x : abstract_scene.Grid). first_of_all (tried_of o (grid_limit was.grid) (grid_field was.grid) x.field)) (grid_found scene other (grid_of given) (found grids other given there_too)))
 
   -- it is carried out
-  pub two_done : (u : Unit {0}) → IsMade o (grid_limit was) (grid_field was) (grid_field given) (grid_field grid) (Ok u) → CarriesOut scene (command_of o name other) (Ok Done) (scene_over after_grids)
+  pub two_done : (u : Unit {0}) → IsMade o (grid_limit was.grid) (grid_field was.grid) (grid_field given.grid) (grid_field grid) (Ok u) → CarriesOut scene (command_of o name other) (Ok Done) (scene_over after_grids)
   two_done u h = (
     refusal_is ∙ h.0,
     (replies.Done, refl, done_is scene name other o),
-    changed_field grids name after_grids was grid there back (λ f. made_of o f (grid_field given)) h.1 limit
+    changed_field grids name after_grids was there grid back (λ f. made_of o f (grid_field given.grid)) h.1 limit
         ∙ ap (λ g. changed scene name (λ f. made_of o f g)) (sym (field_found scene other (grid_of given) (found grids other given there_too)))
         ∙ sym (after_is scene name other o),
   )
 
-  same : grid_field grid ≡ grid_field was → scene_over after_grids ≡ scene
-  same h = unchanged grids name after_grids was grid there back h limit
+  same : grid_field grid ≡ grid_field was.grid → scene_over after_grids ≡ scene
+  same h = unchanged grids name after_grids was there grid back h limit
 
   -- it is refused
-  pub two_refused : (r : Refusal) → IsMade o (grid_limit was) (grid_field was) (grid_field given) (grid_field grid) (Err r) → CarriesOut scene (command_of o name other) (Err r) (scene_over after_grids)
+  pub two_refused : (r : Refusal) → IsMade o (grid_limit was.grid) (grid_field was.grid) (grid_field given.grid) (grid_field grid) (Err r) → CarriesOut scene (command_of o name other) (Err r) (scene_over after_grids)
   two_refused refusals.Memory h = (first_is scene name other o ∙ refusal_is ∙ h.0, may_take scene name other o, same h.1)
   two_refused r h = (refusal_is ∙ h.0, same h.1)
 
@@ -144,17 +145,17 @@ first_changes (Values Sum) name other = refl
 first_changes (Values Replace) name other = refl
 
 -- the trees after a refusal
-pub refused_trees : (o : Operation) (old new : Scene) (name other : List ℕ) (was grid : AnyGrid) (r : Refusal) → lookup (is_named name) old.grids.entries ≡ Some was
-    → PutsGrid old name grid new → StaysBut r was grid → LeavesTrees (command_of o name other) (Refused r) old new
-refused_trees o old new name other was grid refusals.RootLimit there puts stays = rw (first_changes o name other) (grid, puts)
-refused_trees o old new name other was grid refusals.Memory there puts stays = rw (first_changes o name other) (grid, puts)
+pub refused_trees : (o : Operation) (old new : Scene) (name other : List ℕ) (was : GridEntry) (grid : AnyGrid) (r : Refusal) → lookup (is_named name) old.grids.entries ≡ Some was
+    → PutsGrid old name (record was { grid = grid }) new → StaysBut r was.grid grid → LeavesTrees (command_of o name other) (Refused r) old new
+refused_trees o old new name other was grid refusals.RootLimit there puts stays = rw (first_changes o name other) (record was { grid = grid }, puts)
+refused_trees o old new name other was grid refusals.Memory there puts stays = rw (first_changes o name other) (record was { grid = grid }, puts)
 refused_trees o old new name other was grid r there puts stays =
-    puts ∙ ap (λ (g : AnyGrid). set_value (is_named name) old.grids.entries g) stays ∙ set_value-found (is_named name) old.grids.entries was there
+    puts ∙ ap (λ (g : AnyGrid). set_value (is_named name) old.grids.entries (record was { grid = g })) stays ∙ set_value-found (is_named name) old.grids.entries was there
 
 -- a name that is found in the abstract is found
-pub is_there : (grids : List (List ℕ × AnyGrid)) (name : List ℕ) → true ≡ is_some (grid_at (scene_over grids) name) → IsSome (lookup (is_named name) grids)
+pub is_there : (grids : List (List ℕ × GridEntry)) (name : List ℕ) → true ≡ is_some (grid_at (scene_over grids) name) → IsSome (lookup (is_named name) grids)
 is_there grids name h = some_there (lookup (is_named name) grids) (sym (absent_is grids name) ∙ there_is (grid_at (scene_over grids) name) h)
   where
-    some_there : (o : Option AnyGrid) → is_none o ≡ false → IsSome o
+    some_there : (o : Option GridEntry) → is_none o ≡ false → IsSome o
     some_there None e = cc
     some_there (Some a) e = search rules

@@ -20,7 +20,7 @@ use Rattle.vdb_scene.specs.Replies as replies
 use Rattle.vdb_scene.specs.Places.{is_accessor, is_coord, coord_of}
 use Rattle.vdb_scene.specs.Refusals.{first_of_all, of_tree, other_form, out_of_range, refused_if}
 use Rattle.vdb_scene.specs.Step.{IsReply, after, after_write, changed, first_refusal, line_takes_memory, passes, refusal, takes_memory, tried_write, write_at, write_command, write_takes_memory}
-use Rattle.vdb_scene.specs.declared.any_grid.AnyGrid.{AnyGrid}
+use Rattle.vdb_scene.specs.declared.grid_entry.GridEntry.{GridEntry}
 use Rattle.vdb_scene.specs.declared.answer.Answer.TheVariants.{Done}
 use Rattle.vdb_scene.specs.declared.answer.Refusal.{Refusal}
 use Rattle.vdb_scene.specs.declared.answer.Refusal.TheVariants as refusals
@@ -111,7 +111,7 @@ no_memory false constant h = inr h
 
 -- ---- the write
 
-module _ (grids : List (List ℕ × AnyGrid)) (name : List ℕ) (k : Option Num) (p : Point) (w : Write Literal) (next : Scene) where
+module _ (grids : List (List ℕ × GridEntry)) (name : List ℕ) (k : Option Num) (p : Point) (w : Write Literal) (next : Scene) where
   abbrev scene : Scene
   scene = scene_over grids
 
@@ -134,12 +134,12 @@ module _ (grids : List (List ℕ × AnyGrid)) (name : List ℕ) (k : Option Num)
   pub write_missing : lookup (is_named name) grids ≡ None → next ≡ scene → CarriesOut scene command (Err refusals.NoGrid) next
   write_missing none same = (tried_for scene name k p w ∙ first_absent absent fits in_range (is_accessor k) over (ap is_none (missing grids name none)), same)
 
-  module _ (grid : AnyGrid) (there : lookup (is_named name) grids ≡ Some grid) (kind : Kind) (is_kind : kind ≡ kind_of (grid_field grid).background) where
+  module _ (entry : GridEntry) (there : lookup (is_named name) grids ≡ Some entry) (kind : Kind) (is_kind : kind ≡ kind_of (grid_field entry.grid).background) where
     is_there : absent ≡ false
-    is_there = ap is_none (found grids name grid there)
+    is_there = ap is_none (found grids name entry there)
 
     kind_here : kind ≡ kind_at scene name
-    kind_here = is_kind ∙ sym (kind_found scene name (grid_of grid) (found grids name grid there))
+    kind_here = is_kind ∙ sym (kind_found scene name (grid_of entry) (found grids name entry there))
 
     -- a value that the kind doesn't have
     pub write_value_refused : (r : Refusal) → first_of_all (other_form (passes (has_form kind) w) ∷ out_of_range (passes (has_value kind) w) ∷ []) ≡ Some r → next ≡ scene
@@ -171,26 +171,26 @@ module _ (grids : List (List ℕ × AnyGrid)) (name : List ℕ) (k : Option Num)
         change_here = ap (λ h. as_write_of (scalar h) w) (sym kind_here) ∙ sym is_change
 
         -- what is said of the scene's grid is said of the one that was found
-        over_is : over ≡ nat_lt (grid_limit grid) (roots scalar_eq vdb (write q change (grid_field grid)))
+        over_is : over ≡ nat_lt (grid_limit entry.grid) (roots scalar_eq vdb (write q change (grid_field entry.grid)))
         over_is =
-            ap (λ (g : Grid). nat_lt g.limit (roots scalar_eq vdb (write (coord_of p) (write_at scene name w) g.field))) (grid_found scene name (grid_of grid) (found grids name grid there))
-            ∙ ap (λ r. nat_lt (grid_limit grid) (roots scalar_eq vdb (write r (write_at scene name w) (grid_field grid)))) is_q
-            ∙ ap (λ c. nat_lt (grid_limit grid) (roots scalar_eq vdb (write q c (grid_field grid)))) change_here
+            ap (λ (g : Grid). nat_lt g.limit (roots scalar_eq vdb (write (coord_of p) (write_at scene name w) g.field))) (grid_found scene name (grid_of entry) (found grids name entry there))
+            ∙ ap (λ r. nat_lt (grid_limit entry.grid) (roots scalar_eq vdb (write r (write_at scene name w) (grid_field entry.grid)))) is_q
+            ∙ ap (λ c. nat_lt (grid_limit entry.grid) (roots scalar_eq vdb (write q c (grid_field entry.grid)))) change_here
 
-        memory_is : takes_memory scene command ≡ write_takes_memory (grid_field grid) q change
+        memory_is : takes_memory scene command ≡ write_takes_memory (grid_field entry.grid) q change
         memory_is =
             memory_for scene name k p w
-            ∙ ap (λ (g : Grid). write_takes_memory g.field (coord_of p) (write_at scene name w)) (grid_found scene name (grid_of grid) (found grids name grid there))
-            ∙ ap (λ r. write_takes_memory (grid_field grid) r (write_at scene name w)) is_q
-            ∙ ap (λ c. write_takes_memory (grid_field grid) q c) change_here
+            ∙ ap (λ (g : Grid). write_takes_memory g.field (coord_of p) (write_at scene name w)) (grid_found scene name (grid_of entry) (found grids name entry there))
+            ∙ ap (λ r. write_takes_memory (grid_field entry.grid) r (write_at scene name w)) is_q
+            ∙ ap (λ c. write_takes_memory (grid_field entry.grid) q c) change_here
 
-        accepted : roots scalar_eq vdb (write q change (grid_field grid)) ≤ grid_limit grid → refusal scene command ≡ None
+        accepted : roots scalar_eq vdb (write q change (grid_field entry.grid)) ≤ grid_limit entry.grid → refusal scene command ≡ None
         accepted few =
             tried_for scene name k p w
             ∙ first_none absent fits in_range (is_accessor k) over is_there fits_here (both (is_coord p) _ at value_here) accessor (over_is ∙ le-ltb _ _ few)
 
         -- the voxel is written
-        pub write_done : roots scalar_eq vdb (write q change (grid_field grid)) ≤ grid_limit grid → next ≡ changed scene name (write q change) → CarriesOut scene command (Ok Done) next
+        pub write_done : roots scalar_eq vdb (write q change (grid_field entry.grid)) ≤ grid_limit entry.grid → next ≡ changed scene name (write q change) → CarriesOut scene command (Ok Done) next
         write_done few is = (
           accepted few,
           (replies.Done, refl, answer_for scene name k p w),
@@ -198,8 +198,8 @@ module _ (grids : List (List ℕ × AnyGrid)) (name : List ℕ) (k : Option Num)
         )
 
         -- the grid's tree refuses it
-        pub write_refused : (e : TreeRefusal) (after : Field Scalar) → IsOutcome scalar_eq vdb (grid_limit grid) (grid_field grid) (write q change (grid_field grid)) after (Err e)
-            → (write_takes_memory (grid_field grid) q change ≡ false → IsOk {T = Unit {0}} (Err e)) → next ≡ scene → CarriesOut scene command (Err (of_tree e)) next
+        pub write_refused : (e : TreeRefusal) (after : Field Scalar) → IsOutcome scalar_eq vdb (grid_limit entry.grid) (grid_field entry.grid) (write q change (grid_field entry.grid)) after (Err e)
+            → (write_takes_memory (grid_field entry.grid) q change ≡ false → IsOk {T = Unit {0}} (Err e)) → next ≡ scene → CarriesOut scene command (Err (of_tree e)) next
         write_refused RootLimit after h free same = (
           tried_for scene name k p w
               ∙ first_over absent fits in_range (is_accessor k) over is_there fits_here (both (is_coord p) _ at value_here) accessor (over_is ∙ lt-ltb _ _ h.1),

@@ -2,20 +2,23 @@
 use Rattle.std.specs.Prelude.{◌≡◌, ℕ, List, Option, Some, None, Result, Ok, Err, IsTrue}
 use Rattle.std.specs.Ordering.{nat_cmp}
 use Rattle.std.specs.Cmp.Lexicographic.{slice_cmp}
-use Rattle.std.specs.Map.{remove_entry, set_value}
+use Rattle.std.specs.Map.{lookup, remove_entry, set_value}
 use Rattle.std.specs.BTreeMap.{insert_entry}
-use Rattle.vdb_scene.specs.Grids.{IsPruned, IsVoxelised, scene_of}
+use Rattle.vdb_scene.specs.Grids.{HasSameTree, IsPruned, IsVoxelised, coords_after, grid_coords, scene_of}
 use Rattle.vdb_scene.specs.Scene as abstract_scene
 use Rattle.vdb_scene.specs.Scene.{is_named}
 use Rattle.vdb_scene.specs.Shown.{Shows}
-use Rattle.vdb_scene.specs.Places.{box_between}
+use Rattle.vdb_scene.specs.Metas.{Pairs}
+use Rattle.vdb_scene.specs.Places.{accessor_of, box_between, coord_of}
 use Rattle.vdb_scene.specs.Replies.{Reply}
 use Rattle.vdb_scene.specs.Step.{IsReply, Step, after, first_refusal, refusal, takes_memory}
-use Rattle.vdb_scene.specs.declared.any_grid.AnyGrid.{AnyGrid}
+use Rattle.vdb_scene.specs.declared.grid_entry.GridEntry.{GridEntry}
 use Rattle.vdb_scene.specs.declared.command.Command.{Command}
 use Rattle.vdb_scene.specs.declared.command.Command.TheVariants as commands
+use Rattle.vdb_scene.specs.declared.command.Num.{Num}
+use Rattle.vdb_scene.specs.declared.command.Point.{Point}
 use Rattle.vdb_scene.specs.declared.answer.Answer.{Answer}
-use Rattle.vdb_scene.specs.declared.answer.Answer.TheVariants.{Refused}
+use Rattle.vdb_scene.specs.declared.answer.Answer.TheVariants.{Done, Refused}
 use Rattle.vdb_scene.specs.declared.answer.Refusal.{Refusal}
 use Rattle.vdb_scene.specs.declared.answer.Refusal.TheVariants as refusals
 use Rattle.vdb_scene.specs.declared.scene.Scene.{Scene}
@@ -28,6 +31,12 @@ CarriesOut s c (Ok answer) next = (refusal s c ≡ None) × ((reply : Reply) × 
 CarriesOut s c (Err refusals.Memory) next = (first_refusal s c ≡ None) × IsTrue (takes_memory s c) × (next ≡ s)
 CarriesOut s c (Err r) next = (refusal s c ≡ Some r) × (next ≡ s)
 
+-- the same of a command that answers `Done`, without the answer
+abbrev pub Does : abstract_scene.Scene → Command → Result (Unit {0}) Refusal → abstract_scene.Scene → Type 0
+Does s c (Ok _) next = (refusal s c ≡ None) × (next ≡ after s c)
+Does s c (Err refusals.Memory) next = (first_refusal s c ≡ None) × IsTrue (takes_memory s c) × (next ≡ s)
+Does s c (Err r) next = (refusal s c ≡ Some r) × (next ≡ s)
+
 -- the answer shows that of a step of the scene
 abbrev pub ShowsStep : abstract_scene.Scene → Command → Answer → abstract_scene.Scene → Type 0
 ShowsStep s c answer next = (reply : Reply) × Shows answer reply × Step s c reply next
@@ -39,47 +48,59 @@ abbrev pub KeepsGrids : Scene → Scene → Type 0
 KeepsGrids old new = new.grids.entries ≡ old.grids.entries
 
 -- a name that was there stands for this grid, and each other name for the same grid as before
-abbrev pub PutsGrid : Scene → List ℕ → AnyGrid → Scene → Type 0
-PutsGrid old name g new = new.grids.entries ≡ set_value (is_named name) old.grids.entries g
+abbrev pub PutsGrid : Scene → List ℕ → GridEntry → Scene → Type 0
+PutsGrid old name e new = new.grids.entries ≡ set_value (is_named name) old.grids.entries e
 
 -- a name that wasn't there stands for this grid, and each other name for the same grid as before
-abbrev pub AddsGrid : Scene → List ℕ → AnyGrid → Scene → Type 0
-AddsGrid old name g new = new.grids.entries ≡ insert_entry (slice_cmp nat_cmp) old.grids.entries name g
+abbrev pub AddsGrid : Scene → List ℕ → GridEntry → Scene → Type 0
+AddsGrid old name e new = new.grids.entries ≡ insert_entry (slice_cmp nat_cmp) old.grids.entries name e
 
 -- a name is gone, and each other name stands for the same grid as before
 abbrev pub RemovesGrid : Scene → List ℕ → Scene → Type 0
 RemovesGrid old name new = new.grids.entries ≡ remove_entry (is_named name) old.grids.entries
 
+-- a name that was there stands for another grid, whose accessors were given coordinates as by a call at p through k
+abbrev pub PutsAccessed : Scene → List ℕ → Option Num → Point → GridEntry → GridEntry → Scene → Type 0
+PutsAccessed old name k p was e new =
+    (lookup (is_named name) old.grids.entries ≡ Some was) × PutsGrid old name e new × (grid_coords e.grid ≡ coords_after (accessor_of k) (coord_of p) (grid_coords was.grid))
+
+-- a name that was there stands for the same grid with other metadata
+abbrev pub PutsMetas : Scene → List ℕ → Scene → Type 0
+PutsMetas old name new = (was : GridEntry) × (metas : Pairs) × (lookup (is_named name) old.grids.entries ≡ Some was) × PutsGrid old name (record was { metas = metas }) new
+
 -- What a command that isn't refused makes of the trees, beside their cells. Each grid stays as it is, but for that which the
--- command changes, makes or takes away. `prune` leaves its grid pruned, and `voxelise` each active voxel of its box in a leaf of
--- its grid.
+-- command changes, makes or takes away. `get` and the writes of a voxel move the accessor that they name, and `get` nothing else.
+-- `prune` leaves its grid pruned, and `voxelise` each active voxel of its box in a leaf of its grid.
 abbrev pub Shapes : Command → Scene → Scene → Type 0
-Shapes (commands.Grid name kind v) old new = (g : AnyGrid) × AddsGrid old name g new
+Shapes (commands.Grid name kind v limit) old new = (e : GridEntry) × AddsGrid old name e new
 Shapes (commands.Drop name) old new = RemovesGrid old name new
-Shapes (commands.Copy from to) old new = (g : AnyGrid) × AddsGrid old to g new
-Shapes (commands.Get name k p) old new = KeepsGrids old new
-Shapes (commands.Set name k p v) old new = (g : AnyGrid) × PutsGrid old name g new
-Shapes (commands.Unset name k p v) old new = (g : AnyGrid) × PutsGrid old name g new
-Shapes (commands.Only name k p v) old new = (g : AnyGrid) × PutsGrid old name g new
-Shapes (commands.State name k p on) old new = (g : AnyGrid) × PutsGrid old name g new
-Shapes (commands.Fill name c v on) old new = (g : AnyGrid) × PutsGrid old name g new
-Shapes (commands.Clip name c) old new = (g : AnyGrid) × PutsGrid old name g new
-Shapes (commands.Prune name) old new = (g : AnyGrid) × PutsGrid old name g new × IsPruned g
-Shapes (commands.Voxelise name c) old new = (g : AnyGrid) × PutsGrid old name g new × IsVoxelised g (box_between c)
+Shapes (commands.Copy from to) old new = (e : GridEntry) × AddsGrid old to e new
+Shapes (commands.Get name k p) old new = (was : GridEntry) × (e : GridEntry) × PutsAccessed old name k p was e new × HasSameTree was.grid e.grid
+Shapes (commands.Set name k p v) old new = (was : GridEntry) × (e : GridEntry) × PutsAccessed old name k p was e new
+Shapes (commands.Unset name k p v) old new = (was : GridEntry) × (e : GridEntry) × PutsAccessed old name k p was e new
+Shapes (commands.Only name k p v) old new = (was : GridEntry) × (e : GridEntry) × PutsAccessed old name k p was e new
+Shapes (commands.State name k p on) old new = (was : GridEntry) × (e : GridEntry) × PutsAccessed old name k p was e new
+Shapes (commands.Fill name c v on) old new = (e : GridEntry) × PutsGrid old name e new
+Shapes (commands.Clip name c) old new = (e : GridEntry) × PutsGrid old name e new
+Shapes (commands.Prune name) old new = (e : GridEntry) × PutsGrid old name e new × IsPruned e.grid
+Shapes (commands.Voxelise name c) old new = (e : GridEntry) × PutsGrid old name e new × IsVoxelised e.grid (box_between c)
 Shapes (commands.List name c limit) old new = KeepsGrids old new
 Shapes (commands.Slice name z a) old new = KeepsGrids old new
 Shapes (commands.Count name c) old new = KeepsGrids old new
 Shapes (commands.Bounds name) old new = KeepsGrids old new
 Shapes (commands.Census name) old new = KeepsGrids old new
-Shapes (commands.Union name other) old new = (g : AnyGrid) × PutsGrid old name g new
-Shapes (commands.Difference name other) old new = (g : AnyGrid) × PutsGrid old name g new
-Shapes (commands.Intersect name other) old new = (g : AnyGrid) × PutsGrid old name g new
-Shapes (commands.Max name other) old new = (g : AnyGrid) × PutsGrid old name g new
-Shapes (commands.Min name other) old new = (g : AnyGrid) × PutsGrid old name g new
-Shapes (commands.Sum name other) old new = (g : AnyGrid) × PutsGrid old name g new
-Shapes (commands.Replace name other) old new = (g : AnyGrid) × PutsGrid old name g new
-Shapes (commands.Dilate name n) old new = (g : AnyGrid) × PutsGrid old name g new
-Shapes (commands.Erode name n) old new = (g : AnyGrid) × PutsGrid old name g new
+Shapes (commands.Union name other) old new = (e : GridEntry) × PutsGrid old name e new
+Shapes (commands.Difference name other) old new = (e : GridEntry) × PutsGrid old name e new
+Shapes (commands.Intersect name other) old new = (e : GridEntry) × PutsGrid old name e new
+Shapes (commands.Max name other) old new = (e : GridEntry) × PutsGrid old name e new
+Shapes (commands.Min name other) old new = (e : GridEntry) × PutsGrid old name e new
+Shapes (commands.Sum name other) old new = (e : GridEntry) × PutsGrid old name e new
+Shapes (commands.Replace name other) old new = (e : GridEntry) × PutsGrid old name e new
+Shapes (commands.Dilate name n) old new = (e : GridEntry) × PutsGrid old name e new
+Shapes (commands.Erode name n) old new = (e : GridEntry) × PutsGrid old name e new
+Shapes (commands.Meta name key text) old new = PutsMetas old name new
+Shapes (commands.Unmeta name key) old new = PutsMetas old name new
+Shapes (commands.Metas name) old new = KeepsGrids old new
 
 -- the name whose grid a command changes, if it changes one that is there
 abbrev pub changed_name : Command → Option (List ℕ)
@@ -104,7 +125,7 @@ changed_name c = None
 
 -- every grid stays as it is, but for that of this name, if there is a name
 abbrev pub KeepsOthers : Option (List ℕ) → Scene → Scene → Type 0
-KeepsOthers (Some name) old new = (g : AnyGrid) × PutsGrid old name g new
+KeepsOthers (Some name) old new = (e : GridEntry) × PutsGrid old name e new
 KeepsOthers None old new = KeepsGrids old new
 
 -- What a command makes of the trees, by its answer: one that is refused leaves each grid as it is. `RootLimit` and `Memory` may
@@ -119,6 +140,11 @@ LeavesTrees c answer old new = Shapes c old new
 abbrev pub answer_of : Result Answer Refusal → Answer
 answer_of (Ok answer) = answer
 answer_of (Err r) = Refused r
+
+-- that of one that answers `Done`
+abbrev pub result_of : Result (Unit {0}) Refusal → Answer
+result_of (Ok _) = Done
+result_of (Err r) = Refused r
 
 -- ---- both
 

@@ -1,5 +1,6 @@
 -- The abstract scene: names, values, grids, the step of a command, and what answers show.
 pub mod Names
+pub mod Metas
 pub mod Scalars
 pub mod Scene
 pub mod Places

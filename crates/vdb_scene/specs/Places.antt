@@ -41,19 +41,34 @@ abbrev pub region : Option Corners → Box
 region None = everywhere
 region (Some c) = box_between c
 
+-- the number of a line as a count
+abbrev pub count_of : Num → ℕ
+count_of n = unsigned_abs (number n)
+
 -- whether a line names an accessor, 0 to 7, or none
 abbrev pub is_accessor : Option Num → Bool
 is_accessor None = true
 is_accessor (Some k) = is_from (pos 0) (pos 7) k
 
+-- the accessor that it names, if it names one
+abbrev pub accessor_of : Option Num → Option ℕ
+accessor_of None = None
+accessor_of (Some k) = Some (count_of k)
+
 -- whether a line names a limit of a listing, 1 to 4,096
 abbrev pub is_limit : Num → Bool
 is_limit n = is_from (pos 1) (pos 4096) n
 
+-- whether a line names a limit of root blocks, 1 to 65,536, or none
+abbrev pub is_root_limit : Option Num → Bool
+is_root_limit None = true
+is_root_limit (Some n) = is_from (pos 1) (pos 65536) n
+
+-- the limit that it names, or that of a grid without one
+abbrev pub root_limit_of : Option Num → ℕ
+root_limit_of None = 4096
+root_limit_of (Some n) = count_of n
+
 -- whether a line names a number of turns, 1 to 16
 abbrev pub is_turn_count : Num → Bool
 is_turn_count n = is_from (pos 1) (pos 16) n
-
--- the number of a line as a count
-abbrev pub count_of : Num → ℕ
-count_of n = unsigned_abs (number n)

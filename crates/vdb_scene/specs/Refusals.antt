@@ -7,9 +7,10 @@ use Rattle.vdb_tree.specs.Field.{Field, lacks_sum}
 use Rattle.vdb_tree.specs.ConstantBlocks.{roots}
 use Rattle.vdb_tree.specs.declared.refusal.TreeRefusal.{TreeRefusal}
 use Rattle.vdb_tree.specs.declared.refusal.TreeRefusal.TheVariants.{Memory, RootLimit}
+use Rattle.vdb_scene.specs.Metas.{may_set}
 use Rattle.vdb_scene.specs.Places.{are_coords, box_between, is_accessor}
 use Rattle.vdb_scene.specs.Scalars.{kind_eq, kind_of, scalar_eq, scalar_sum}
-use Rattle.vdb_scene.specs.Scene.{Scene, field_at, grid_at, is_named, limit_at}
+use Rattle.vdb_scene.specs.Scene.{Scene, field_at, grid_at, is_named, limit_at, pairs_at}
 use Rattle.vdb_scene.specs.declared.answer.Refusal.{Refusal}
 use Rattle.vdb_scene.specs.declared.answer.Refusal.TheVariants as refusals
 use Rattle.vdb_scene.specs.declared.command.Corners.{Corners}
@@ -45,6 +46,10 @@ module _ (s : Scene) where
   -- more root blocks than the grid's limit would hold anything but the background after this change
   abbrev pub root_limit : List ℕ → (Field Scalar → Field Scalar) → Option Refusal
   root_limit name change = beyond_limit (limit_at s name) (change (field_at s name))
+
+  -- the grid has 16 metadata pairs, and none of them under the key
+  abbrev pub meta_limit : List ℕ → List ℕ → Option Refusal
+  meta_limit name key = refused_if (not (may_set (pairs_at s name) key)) refusals.MetaLimit
 
 -- something has another form than the kind's values
 abbrev pub other_form : Bool → Option Refusal

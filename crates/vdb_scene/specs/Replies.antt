@@ -5,6 +5,7 @@ use Rattle.vdb_coord.specs.declared.Coord.{Coord}
 use Rattle.vdb_value.specs.declared.Cell.{Cell}
 use Rattle.vdb_tree.specs.Field.{Field}
 use Rattle.vdb_walk.specs.declared.smallest.Census.{Census as Smallest}
+use Rattle.vdb_scene.specs.Metas.{Pairs as MetaPairs}
 use Rattle.vdb_scene.specs.declared.answer.Refusal.{Refusal}
 use Rattle.vdb_scene.specs.declared.scalar.Scalar.{Scalar}
 
@@ -31,6 +32,7 @@ pub data Reply : Type 0 where
   Count : (active : ℕ) → Reply
   Bounds : (box : Option Box) → Reply
   Census : (counts : Smallest) → Reply
+  Pairs : (pairs : MetaPairs) → Reply
 
 -- the first so many of some voxels, and whether there are more
 abbrev pub listing : ℕ → List (Coord × Scalar) → Reply

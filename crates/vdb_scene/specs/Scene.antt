@@ -1,20 +1,22 @@
--- The abstract scene: named fields.
-use Rattle.std.specs.Prelude.{ℕ, Bool, false, List, Option, unwrap_or}
+-- The abstract scene: named fields, with limits and metadata pairs.
+use Rattle.std.specs.Prelude.{ℕ, Bool, false, List, [], Option, unwrap_or}
 use Rattle.std.specs.Ordering.{nat_cmp}
 use Rattle.std.specs.Cmp.Lexicographic.{slice_cmp}
 use Rattle.std.specs.Map.{lookup, remove_entry, set_value}
 use Rattle.std.specs.BTreeMap.{insert_entry, is_at}
 use Rattle.vdb_value.specs.declared.Kind.{Kind}
 use Rattle.vdb_tree.specs.Field.{Field, new}
+use Rattle.vdb_scene.specs.Metas.{Pairs}
 use Rattle.vdb_scene.specs.Scalars.{kind_of}
 use Rattle.vdb_scene.specs.declared.scalar.Scalar.{Scalar}
 use Rattle.vdb_scene.specs.declared.scalar.Scalar.TheVariants.{Bool as truth}
 
--- what a name stands for: one total function from coordinates to cells, whose background tells its kind, and how many of its
--- root blocks may hold anything but the background
+-- what a name stands for: one total function from coordinates to cells, whose background tells its kind, how many of its
+-- root blocks may hold anything but the background, and its metadata pairs
 pub record Grid : Type 0 where
   pub field : Field Scalar
   pub limit : ℕ
+  pub pairs : Pairs
 
 -- the grids, each under its name, by rising bytes of the names
 abbrev pub Scene : Type 0
@@ -28,13 +30,13 @@ is_named name = is_at (slice_cmp nat_cmp name)
 abbrev pub grid_at : Scene → List ℕ → Option Grid
 grid_at s name = lookup (is_named name) s
 
--- a grid that was never written, with the limit of every grid that a command makes
-abbrev pub new_grid : Scalar → Grid
-new_grid background = record { field = new background; limit = 4096 }
+-- a grid that was never written, without metadata
+abbrev pub new_grid : Scalar → ℕ → Grid
+new_grid background limit = record { field = new background; limit = limit; pairs = [] }
 
 -- the grid of a name that is there; any other stands for one that isn't, which is refused before
 abbrev pub the_grid : Scene → List ℕ → Grid
-the_grid s name = unwrap_or (grid_at s name) (new_grid (truth false))
+the_grid s name = unwrap_or (grid_at s name) (new_grid (truth false) 0)
 
 -- its field
 abbrev pub field_at : Scene → List ℕ → Field Scalar
@@ -43,6 +45,10 @@ field_at s name = (the_grid s name).field
 -- its limit
 abbrev pub limit_at : Scene → List ℕ → ℕ
 limit_at s name = (the_grid s name).limit
+
+-- its metadata pairs
+abbrev pub pairs_at : Scene → List ℕ → Pairs
+pairs_at s name = (the_grid s name).pairs
 
 -- its kind
 abbrev pub kind_at : Scene → List ℕ → Kind

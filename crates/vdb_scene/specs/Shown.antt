@@ -7,7 +7,7 @@ use Rattle.vdb_scene.specs.Slices.{rows_left}
 use Rattle.vdb_scene.specs.Replies.{Reply, listing}
 use Rattle.vdb_scene.specs.Replies as replies
 use Rattle.vdb_scene.specs.declared.answer.Answer.{Answer}
-use Rattle.vdb_scene.specs.declared.answer.Answer.TheVariants.{Done, Refused, Value, List, Slice, Count, Bounds, Census}
+use Rattle.vdb_scene.specs.declared.answer.Answer.TheVariants.{Done, Refused, Value, List, Slice, Count, Bounds, Census, Pairs}
 
 -- the box between two corners
 abbrev pub box_of_corners : Coord × Coord → Box
@@ -23,3 +23,4 @@ Shows (Slice s) reply = reply ≡ replies.Slice (rows_left s)
 Shows (Count active) reply = reply ≡ replies.Count active
 Shows (Bounds corners) reply = reply ≡ replies.Bounds (option_map box_of_corners corners)
 Shows (Census counts) reply = reply ≡ replies.Census counts
+Shows (Pairs metas) reply = reply ≡ replies.Pairs metas.now

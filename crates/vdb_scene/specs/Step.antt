@@ -10,11 +10,12 @@ use Rattle.vdb_tree.specs.declared.Write.TheVariants as writes
 use Rattle.vdb_tree.specs.Field.{Field, as_write_of, clip, dilate, erode, fill, turns, write, written}
 use Rattle.vdb_tree.specs.ConstantBlocks.{cell_eq, count, is_constant}
 use Rattle.vdb_walk.specs.Reports.{IsActiveBounds, active, census}
-use Rattle.vdb_scene.specs.Places.{are_coords, box_between, count_of, flat, is_limit, is_coord, is_turn_count, coord_of, region}
-use Rattle.vdb_scene.specs.Refusals.{first_of_all, too_many_grids, name_taken, no_accessor, no_box, no_grid, other_form, out_of_range, root_limit, same_grid, too_large, too_wide, tried_region}
-use Rattle.vdb_scene.specs.Replies.{Bounds, Census, Count, Done, Refused, Reply, Slice, Value, listing, rows}
+use Rattle.vdb_scene.specs.Metas.{Pairs, has_pair, with_pair, without_pair}
+use Rattle.vdb_scene.specs.Places.{are_coords, box_between, count_of, flat, is_limit, is_coord, is_root_limit, is_turn_count, coord_of, region, root_limit_of}
+use Rattle.vdb_scene.specs.Refusals.{first_of_all, meta_limit, too_many_grids, name_taken, no_accessor, no_box, no_grid, other_form, out_of_range, root_limit, same_grid, too_large, too_wide, tried_region}
+use Rattle.vdb_scene.specs.Replies.{Bounds, Census, Count, Done, Pairs as PairsReply, Refused, Reply, Slice, Value, listing, rows}
 use Rattle.vdb_scene.specs.Scalars.{has_form, has_value, scalar, scalar_eq}
-use Rattle.vdb_scene.specs.Scene.{Grid, Scene, field_at, kind_at, limit_at, new_grid, the_grid, with_changed, with_grid, without_grid}
+use Rattle.vdb_scene.specs.Scene.{Grid, Scene, field_at, kind_at, limit_at, new_grid, pairs_at, the_grid, with_changed, with_grid, without_grid}
 use Rattle.vdb_scene.specs.TwoGrids.{made_of, tried_of}
 use Rattle.vdb_scene.specs.declared.command.Command.{Command}
 use Rattle.vdb_scene.specs.declared.command.Command.TheVariants as commands
@@ -48,6 +49,10 @@ passes test (writes.Value v) = test v
 -- the scene with the field of a name changed
 abbrev pub changed : Scene → List ℕ → (Field Scalar → Field Scalar) → Scene
 changed s name change = with_changed s name (record (the_grid s name) { field = change (field_at s name) })
+
+-- the scene with the metadata pairs of a name changed
+abbrev pub with_pairs : Scene → List ℕ → (Pairs → Pairs) → Scene
+with_pairs s name change = with_changed s name (record (the_grid s name) { pairs = change (pairs_at s name) })
 
 -- what a line writes to a voxel of a grid
 abbrev pub write_at : Scene → List ℕ → Write Literal → Write Scalar
@@ -109,10 +114,10 @@ meaning_of_two o s name other = record {
 
 -- what each command means
 abbrev pub meaning : Scene → Command → Meaning
--- a grid that was never written, with this background
-meaning s (commands.Grid name kind v) = record {
-  tried = name_taken s name ∷ too_many_grids s ∷ other_form (has_form kind v) ∷ out_of_range (has_value kind v) ∷ [];
-  after = with_grid s name (new_grid (scalar kind v));
+-- a grid that was never written, with this background and this limit
+meaning s (commands.Grid name kind v limit) = record {
+  tried = name_taken s name ∷ too_many_grids s ∷ other_form (has_form kind v) ∷ out_of_range (has_value kind v && is_root_limit limit) ∷ [];
+  after = with_grid s name (new_grid (scalar kind v) (root_limit_of limit));
   IsReply = only Done;
   takes_memory = true;
 }
@@ -123,7 +128,7 @@ meaning s (commands.Drop name) = record {
   IsReply = only Done;
   takes_memory = false;
 }
--- a second grid with the field and the limit of the first
+-- a second grid with the field, the limit and the metadata of the first
 meaning s (commands.Copy from to) = record {
   tried = no_grid s from ∷ name_taken s to ∷ too_many_grids s ∷ [];
   after = with_grid s to (the_grid s from);
@@ -227,6 +232,27 @@ meaning s (commands.Erode name n) = record {
   after = changed s name (turns (count_of n) erode);
   IsReply = only Done;
   takes_memory = true;
+}
+-- a text under a key of the grid's metadata, which takes no memory where the key has one
+meaning s (commands.Meta name key text) = record {
+  tried = no_grid s name ∷ meta_limit s name key ∷ [];
+  after = with_pairs s name (λ pairs. with_pair pairs key text);
+  IsReply = only Done;
+  takes_memory = not (has_pair (pairs_at s name) key);
+}
+-- the pair of a key goes, if there is one
+meaning s (commands.Unmeta name key) = record {
+  tried = no_grid s name ∷ [];
+  after = with_pairs s name (λ pairs. without_pair pairs key);
+  IsReply = only Done;
+  takes_memory = false;
+}
+-- the grid's metadata pairs, by rising bytes of the keys
+meaning s (commands.Metas name) = record {
+  tried = no_grid s name ∷ [];
+  after = s;
+  IsReply = only (PairsReply (pairs_at s name));
+  takes_memory = false;
 }
 
 -- what a command may be refused for, in order

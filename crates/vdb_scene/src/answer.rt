@@ -3,7 +3,7 @@
 ghost use Rattle.std.specs.Prelude.{◌≡◌};
 ghost use Rattle.vdb_scene.specs.Refusals.{of_tree};
 
-use crate::{Scalar, Slice, Voxels};
+use crate::{Metas, Scalar, Slice, Voxels};
 use vdb_coord::Coord;
 use vdb_tree::TreeRefusal;
 use vdb_walk::Census;
@@ -39,6 +39,8 @@ pub enum Refusal {
     SumRange,
     /// The grid would have too many root blocks that hold anything but the background.
     RootLimit,
+    /// The grid has 16 metadata pairs, and none of them under the key.
+    MetaLimit,
     /// There is too little memory.
     Memory,
 }
@@ -62,6 +64,8 @@ pub enum Answer<'a> {
     Bounds(Option<(Coord, Coord)>),
     /// How large the smallest tree of the grid's cells is.
     Census(Census),
+    /// The metadata pairs of a grid.
+    Pairs(&'a Metas),
 }
 
 impl From<TreeRefusal> for Refusal {

@@ -1,5 +1,5 @@
 //! A grid of any kind.
-ghost use Rattle.std.specs.Prelude.{◌≡◌, ◌+◌, ◌≤◌, false, IfErr, IfOk, IsOk, IsTrue, OnOk};
+ghost use Rattle.std.specs.Prelude.{◌≡◌, ◌+◌, ◌<◌, ◌≤◌, ℕ, Some, false, IfErr, IfOk, IsOk, IsTrue, OnOk};
 ghost use Rattle.std.specs.Option.{unwrap_or};
 ghost use Rattle.vdb_coord.specs.Blocks.{vdb};
 ghost use Rattle.vdb_coord.specs.Space.{everywhere};
@@ -10,7 +10,7 @@ ghost use Rattle.vdb_tree.specs.declared.refusal.TreeRefusal.TheVariants.{Memory
 ghost use Rattle.vdb_morph.specs.Growth.{IsGrowth};
 ghost use Rattle.vdb_walk.specs.Reports.{IsActiveBounds, census as census_of};
 ghost use Rattle.vdb_scene.specs.Scalars.{is_of, kind_of, scalar_eq};
-ghost use Rattle.vdb_scene.specs.Grids.{IsPruned, IsVoxelised, grid_field, grid_limit};
+ghost use Rattle.vdb_scene.specs.Grids.{HasSameTree, IsPruned, IsVoxelised, coords_after, grid_coords, grid_field, grid_limit};
 ghost use Rattle.vdb_scene.specs.Step.{passes, write_takes_memory};
 ghost use Rattle.vdb_scene.specs.TwoGrids.{IsMade, StaysBut};
 
@@ -18,17 +18,21 @@ use crate::two_grids::Operation;
 use crate::{Refusal, Scalar, grid_pair, grid_tree};
 use std::alloc::Global;
 use vdb_coord::{Bounds, Coord};
+use vdb_grid::Grid;
 use vdb_pool::Steps;
-use vdb_tree::{Tree, TreeRefusal, Write};
+use vdb_tree::{TreeRefusal, Write};
 use vdb_value::{Cell, Kind};
 use vdb_walk::Census;
 
-/// A grid of one of the three kinds.
+/// How many accessors a grid has.
+pub const ACCESSORS: usize = 8;
+
+/// A grid of one of the three kinds, with `ACCESSORS` accessors.
 #[derive(Drop)]
 pub enum AnyGrid {
-    Bool(Tree<bool>),
-    I32(Tree<i32>),
-    I64(Tree<i64>),
+    Bool(Grid<bool, ACCESSORS>),
+    I32(Grid<i32, ACCESSORS>),
+    I64(Grid<i64, ACCESSORS>),
 }
 
 impl AnyGrid {
@@ -39,9 +43,9 @@ impl AnyGrid {
         ensures limit { grid_limit result ≡ limit }
     {
         match background {
-            Scalar::Bool(value) => AnyGrid::Bool(Tree::new(alloc, value, limit)),
-            Scalar::I32(value) => AnyGrid::I32(Tree::new(alloc, value, limit)),
-            Scalar::I64(value) => AnyGrid::I64(Tree::new(alloc, value, limit)),
+            Scalar::Bool(value) => AnyGrid::Bool(Grid::new(alloc, value, limit)),
+            Scalar::I32(value) => AnyGrid::I32(Grid::new(alloc, value, limit)),
+            Scalar::I64(value) => AnyGrid::I64(Grid::new(alloc, value, limit)),
         }
     }
 
@@ -56,36 +60,55 @@ impl AnyGrid {
         }
     }
 
-    /// The cell of a voxel, by at most three visits.
+    /// The cell of a voxel by the descent from the root, by at most three visits.
     pub fn get(&self, at: Coord, steps: &mut Steps) -> Cell<Scalar>
         ensures cell { result ≡ (grid_field self.now).cell at }
         ensures steps { steps.new ≤ steps.old + 3 }
     {
         match self {
-            AnyGrid::Bool(tree) => grid_tree::get(tree, at, steps),
-            AnyGrid::I32(tree) => grid_tree::get(tree, at, steps),
-            AnyGrid::I64(tree) => grid_tree::get(tree, at, steps),
+            AnyGrid::Bool(grid) => grid_tree::get(grid.tree(), at, steps),
+            AnyGrid::I32(grid) => grid_tree::get(grid.tree(), at, steps),
+            AnyGrid::I64(grid) => grid_tree::get(grid.tree(), at, steps),
         }
     }
 
-    /// Writes a voxel, with a value of the grid's kind. `RootLimit` says that too many root blocks would have a cell that isn't
+    /// The cell of a voxel through an accessor, or from the root where none is named. The accessor then caches the path to it.
+    pub fn probe(&mut self, accessor: Option<usize>, at: Coord, steps: &mut Steps) -> Cell<Scalar>
+        requires { (k : ℕ) → accessor ≡ Some k → k < ACCESSORS }
+        ensures cell { result ≡ (grid_field self.old).cell at }
+        ensures tree { HasSameTree self.old self.new }
+        ensures last { grid_coords self.new ≡ coords_after accessor at (grid_coords self.old) }
+        ensures steps { steps.new ≤ steps.old + 3 }
+    {
+        match self {
+            AnyGrid::Bool(grid) => grid_tree::probe(grid, accessor, at, steps),
+            AnyGrid::I32(grid) => grid_tree::probe(grid, accessor, at, steps),
+            AnyGrid::I64(grid) => grid_tree::probe(grid, accessor, at, steps),
+        }
+    }
+
+    /// Writes a voxel, with a value of the grid's kind, through an accessor or without one. The accessor then caches the path to
+    /// it, whether the write is accepted or refused. `RootLimit` says that too many root blocks would have a cell that isn't
     /// the background, inactive; `Memory` that a growth was refused. Both leave every cell as it was. `Memory` comes only where
     /// the cell changes and the cells of its leaf block are all equal.
     pub fn write(
         &mut self,
+        accessor: Option<usize>,
         at: Coord,
         change: Write<Scalar>,
         steps: &mut Steps,
     ) -> Result<(), TreeRefusal>
-        requires { IsTrue (passes (is_of (kind_of (grid_field self.old).background)) change) }
+        requires kind { IsTrue (passes (is_of (kind_of (grid_field self.old).background)) change) }
+        requires within { (k : ℕ) → accessor ≡ Some k → k < ACCESSORS }
         ensures outcome { IsOutcome scalar_eq vdb (grid_limit self.old) (grid_field self.old) (write at change (grid_field self.old)) (grid_field self.new) result }
         ensures limit { grid_limit self.new ≡ grid_limit self.old }
+        ensures last { grid_coords self.new ≡ coords_after accessor at (grid_coords self.old) }
         ensures memory { write_takes_memory (grid_field self.old) at change ≡ false → IsOk result }
     {
         match self {
-            AnyGrid::Bool(tree) => grid_tree::write(tree, at, change, steps),
-            AnyGrid::I32(tree) => grid_tree::write(tree, at, change, steps),
-            AnyGrid::I64(tree) => grid_tree::write(tree, at, change, steps),
+            AnyGrid::Bool(grid) => grid_tree::write(grid, accessor, at, change, steps),
+            AnyGrid::I32(grid) => grid_tree::write(grid, accessor, at, change, steps),
+            AnyGrid::I64(grid) => grid_tree::write(grid, accessor, at, change, steps),
         }
     }
 
@@ -102,9 +125,9 @@ impl AnyGrid {
         ensures limit { grid_limit self.new ≡ grid_limit self.old }
     {
         match self {
-            AnyGrid::Bool(tree) => grid_tree::fill(tree, bounds, cell, steps),
-            AnyGrid::I32(tree) => grid_tree::fill(tree, bounds, cell, steps),
-            AnyGrid::I64(tree) => grid_tree::fill(tree, bounds, cell, steps),
+            AnyGrid::Bool(grid) => grid_tree::fill(grid, bounds, cell, steps),
+            AnyGrid::I32(grid) => grid_tree::fill(grid, bounds, cell, steps),
+            AnyGrid::I64(grid) => grid_tree::fill(grid, bounds, cell, steps),
         }
     }
 
@@ -116,9 +139,9 @@ impl AnyGrid {
         ensures memory { IfErr result (λ refusal. refusal ≡ Memory) }
     {
         match self {
-            AnyGrid::Bool(tree) => grid_tree::clip(tree, bounds, steps),
-            AnyGrid::I32(tree) => grid_tree::clip(tree, bounds, steps),
-            AnyGrid::I64(tree) => grid_tree::clip(tree, bounds, steps),
+            AnyGrid::Bool(grid) => grid_tree::clip(grid, bounds, steps),
+            AnyGrid::I32(grid) => grid_tree::clip(grid, bounds, steps),
+            AnyGrid::I64(grid) => grid_tree::clip(grid, bounds, steps),
         }
     }
 
@@ -132,9 +155,9 @@ impl AnyGrid {
         ensures limit { grid_limit self.new ≡ grid_limit self.old }
     {
         match self {
-            AnyGrid::Bool(tree) => grid_tree::dilate(tree, turns, steps),
-            AnyGrid::I32(tree) => grid_tree::dilate(tree, turns, steps),
-            AnyGrid::I64(tree) => grid_tree::dilate(tree, turns, steps),
+            AnyGrid::Bool(grid) => grid_tree::dilate(grid, turns, steps),
+            AnyGrid::I32(grid) => grid_tree::dilate(grid, turns, steps),
+            AnyGrid::I64(grid) => grid_tree::dilate(grid, turns, steps),
         }
     }
 
@@ -148,9 +171,9 @@ impl AnyGrid {
         ensures memory { IfErr result (λ refusal. refusal ≡ Memory) }
     {
         match self {
-            AnyGrid::Bool(tree) => grid_tree::erode(tree, turns, steps),
-            AnyGrid::I32(tree) => grid_tree::erode(tree, turns, steps),
-            AnyGrid::I64(tree) => grid_tree::erode(tree, turns, steps),
+            AnyGrid::Bool(grid) => grid_tree::erode(grid, turns, steps),
+            AnyGrid::I32(grid) => grid_tree::erode(grid, turns, steps),
+            AnyGrid::I64(grid) => grid_tree::erode(grid, turns, steps),
         }
     }
 
@@ -169,9 +192,9 @@ impl AnyGrid {
         ensures limit { grid_limit self.new ≡ grid_limit self.old }
     {
         match self {
-            AnyGrid::Bool(tree) => grid_pair::combine(tree, operation, other, steps),
-            AnyGrid::I32(tree) => grid_pair::combine(tree, operation, other, steps),
-            AnyGrid::I64(tree) => grid_pair::combine(tree, operation, other, steps),
+            AnyGrid::Bool(grid) => grid_pair::combine(grid, operation, other, steps),
+            AnyGrid::I32(grid) => grid_pair::combine(grid, operation, other, steps),
+            AnyGrid::I64(grid) => grid_pair::combine(grid, operation, other, steps),
         }
     }
 
@@ -180,9 +203,9 @@ impl AnyGrid {
         ensures { result ≡ active_count (grid_field self.now) (unwrap_or bounds everywhere) }
     {
         match self {
-            AnyGrid::Bool(tree) => grid_tree::count(tree, bounds, steps),
-            AnyGrid::I32(tree) => grid_tree::count(tree, bounds, steps),
-            AnyGrid::I64(tree) => grid_tree::count(tree, bounds, steps),
+            AnyGrid::Bool(grid) => grid_tree::count(grid.tree(), bounds, steps),
+            AnyGrid::I32(grid) => grid_tree::count(grid.tree(), bounds, steps),
+            AnyGrid::I64(grid) => grid_tree::count(grid.tree(), bounds, steps),
         }
     }
 
@@ -191,9 +214,9 @@ impl AnyGrid {
         ensures { IsActiveBounds (grid_field self.now) result }
     {
         match self {
-            AnyGrid::Bool(tree) => grid_tree::active_bounds(tree, steps),
-            AnyGrid::I32(tree) => grid_tree::active_bounds(tree, steps),
-            AnyGrid::I64(tree) => grid_tree::active_bounds(tree, steps),
+            AnyGrid::Bool(grid) => grid_tree::active_bounds(grid.tree(), steps),
+            AnyGrid::I32(grid) => grid_tree::active_bounds(grid.tree(), steps),
+            AnyGrid::I64(grid) => grid_tree::active_bounds(grid.tree(), steps),
         }
     }
 
@@ -203,9 +226,9 @@ impl AnyGrid {
         ensures { result ≡ census_of scalar_eq vdb (grid_field self.now) }
     {
         match self {
-            AnyGrid::Bool(tree) => grid_tree::census(tree, steps),
-            AnyGrid::I32(tree) => grid_tree::census(tree, steps),
-            AnyGrid::I64(tree) => grid_tree::census(tree, steps),
+            AnyGrid::Bool(grid) => grid_tree::census(grid.tree(), steps),
+            AnyGrid::I32(grid) => grid_tree::census(grid.tree(), steps),
+            AnyGrid::I64(grid) => grid_tree::census(grid.tree(), steps),
         }
     }
 
@@ -216,9 +239,9 @@ impl AnyGrid {
         ensures least { IsPruned self.new }
     {
         match self {
-            AnyGrid::Bool(tree) => tree.prune(steps),
-            AnyGrid::I32(tree) => tree.prune(steps),
-            AnyGrid::I64(tree) => tree.prune(steps),
+            AnyGrid::Bool(grid) => grid.prune(steps),
+            AnyGrid::I32(grid) => grid.prune(steps),
+            AnyGrid::I64(grid) => grid.prune(steps),
         }
     }
 
@@ -229,9 +252,9 @@ impl AnyGrid {
         ensures memory { IfErr result (λ refusal. refusal ≡ Memory) }
     {
         match self {
-            AnyGrid::Bool(tree) => Ok(AnyGrid::Bool(tree.try_copy()?)),
-            AnyGrid::I32(tree) => Ok(AnyGrid::I32(tree.try_copy()?)),
-            AnyGrid::I64(tree) => Ok(AnyGrid::I64(tree.try_copy()?)),
+            AnyGrid::Bool(grid) => Ok(AnyGrid::Bool(grid.try_copy()?)),
+            AnyGrid::I32(grid) => Ok(AnyGrid::I32(grid.try_copy()?)),
+            AnyGrid::I64(grid) => Ok(AnyGrid::I64(grid.try_copy()?)),
         }
     }
 
@@ -243,9 +266,9 @@ impl AnyGrid {
         ensures memory { IfErr result (λ refusal. refusal ≡ Memory) }
     {
         match self {
-            AnyGrid::Bool(tree) => tree.voxelise(bounds, steps),
-            AnyGrid::I32(tree) => tree.voxelise(bounds, steps),
-            AnyGrid::I64(tree) => tree.voxelise(bounds, steps),
+            AnyGrid::Bool(grid) => grid.voxelise(bounds, steps),
+            AnyGrid::I32(grid) => grid.voxelise(bounds, steps),
+            AnyGrid::I64(grid) => grid.voxelise(bounds, steps),
         }
     }
 }

@@ -1,57 +1,30 @@
 //! The step of a scene by a command.
-ghost use Rattle.std.specs.Prelude.{◌≡◌, IfOk, IfErr, Some, None, ◌∷◌, [], true, if◌then◌else◌, ◌||◌, nat_lt};
+ghost use Rattle.std.specs.Prelude.{◌≡◌, IfOk, IfErr, Some, ◌∷◌, [], true};
 ghost use Rattle.std.specs.Borrow.{sem};
 ghost use Rattle.std.specs.Io.BufRead.{Rests};
-ghost use Rattle.vdb_coord.specs.Space.{extent, is_box};
 ghost use Rattle.vdb_scene.specs.Doing.{AppliesTo, CarriesOut, LeavesTrees, answer_of};
 ghost use Rattle.vdb_scene.specs.Grids.{scene_of};
 ghost use Rattle.vdb_scene.specs.contracts.scene.Scene.{the_row};
-ghost use Rattle.vdb_scene.specs.Scalars.{has_form, has_value, number, scalar};
-ghost use Rattle.vdb_scene.specs.Places.{are_coords, box_between, count_of, flat as flat_corners, is_accessor, is_component, is_limit, is_coord, coord_of};
-ghost use Rattle.vdb_scene.specs.Refusals.{first_of_all, no_box, other_form, out_of_range};
+ghost use Rattle.vdb_scene.specs.Scalars.{has_form, has_value, scalar};
+ghost use Rattle.vdb_scene.specs.Refusals.{first_of_all, other_form, out_of_range};
 ghost use Rattle.vdb_scene.specs.Step.{passes, write_command};
 ghost use Rattle.vdb_tree.specs.Field.{as_write_of};
 ghost use Rattle.vdb_scene.specs.declared.command.Command.TheVariants as commands;
 
-use crate::slice::numbers;
+use crate::places::{
+    bounds_of, component_of, flat, is_wide, limit_of, named_accessor, place_of, root_limit_of,
+};
 use crate::two_grids::{Composite, Operation};
 use crate::{
-    Answer, AnyGrid, Area, Command, Corners, Literal, Name, Num, Point, ROOT_LIMIT, Refusal,
+    Answer, AnyGrid, Area, Command, Corners, GridEntry, Literal, Metas, Name, Num, Point, Refusal,
     Scalar, Scene, Slice, Voxels,
 };
-use vdb_coord::{Bounds, Coord};
 use vdb_pool::Steps;
 use vdb_tree::{StateRule, Write};
 use vdb_value::{Cell, Kind};
 
 /// The most voxels of a box that is voxelised at once.
 const VOXELISE_LIMIT: u128 = 2_097_152;
-
-/// The most voxels that are listed at once.
-const LIST_LIMIT: i64 = 4096;
-
-/// The most columns, and the most rows, of a slice.
-const SLICE_LIMIT: u64 = 64;
-
-/// The 32-bit number that a line writes, if it is one.
-fn component_of(component: Num) -> Option<i32>
-    ensures { result ≡ (if is_component component then Some (number component) else None) }
-{
-    match component {
-        Num::Near(value) => i32::try_from(value).ok(),
-        Num::Far => None,
-    }
-}
-
-/// The coordinate that a line names, if it is one.
-fn place_of(at: &Point) -> Option<Coord>
-    ensures { result ≡ (if is_coord at.now then Some (coord_of at.now) else None) }
-{
-    let x = component_of(at.x)?;
-    let y = component_of(at.y)?;
-    let z = component_of(at.z)?;
-    Some(Coord { x, y, z })
-}
 
 /// The value of a kind that a line writes. `Kind` refuses one of another form, and `ValueRange` one outside the kind.
 fn scalar_of(kind: Kind, literal: Literal) -> Result<Scalar, Refusal>
@@ -79,77 +52,6 @@ fn scalar_of(kind: Kind, literal: Literal) -> Result<Scalar, Refusal>
     }
 }
 
-/// The box that a line names. `ValueRange` refuses a corner that is no coordinate, and then `Box` a minimum that is greater
-/// than its maximum.
-pub(crate) fn bounds_of(corners: &Corners) -> Result<Bounds, Refusal>
-    ensures places { IfOk result (λ bounds. are_coords corners.now ≡ true) }
-    ensures ordered { IfOk result (λ bounds. is_box (box_between corners.now) ≡ true) }
-    ensures bounds { IfOk result (λ bounds. bounds ≡ box_between corners.now) }
-    ensures refusal { IfErr result (λ refusal. first_of_all (out_of_range (are_coords corners.now) ∷ no_box corners.now ∷ []) ≡ Some refusal) }
-{
-    let Some(min) = place_of(&corners.min) else {
-        return Err(Refusal::ValueRange);
-    };
-    let Some(max) = place_of(&corners.max) else {
-        return Err(Refusal::ValueRange);
-    };
-    let Some(bounds) = Bounds::new(min, max) else {
-        return Err(Refusal::Box);
-    };
-    Ok(bounds)
-}
-
-/// The corners of a part of a plane.
-fn flat(z: Num, area: Area) -> Corners
-    ensures { result ≡ flat_corners z area }
-{
-    let min = Point {
-        x: area.min_x,
-        y: area.min_y,
-        z,
-    };
-    let max = Point {
-        x: area.max_x,
-        y: area.max_y,
-        z,
-    };
-    Corners { min, max }
-}
-
-/// Whether a slice between two corners has more than `SLICE_LIMIT` columns or rows.
-fn is_wide(min: Coord, max: Coord) -> bool
-    ensures { result ≡ (nat_lt 64 (extent min.x max.x) || nat_lt 64 (extent min.y max.y)) }
-{
-    numbers(min.x, max.x) > SLICE_LIMIT || numbers(min.y, max.y) > SLICE_LIMIT
-}
-
-/// The limit of a listing that a line names, if it is one of 1 to `LIST_LIMIT`.
-fn limit_of(limit: Num) -> Option<u32>
-    ensures { result ≡ (if is_limit limit then Some (count_of limit) else None) }
-{
-    match limit {
-        Num::Near(value) => {
-            if 1 <= value && value <= LIST_LIMIT {
-                Some(value as u32)
-            } else {
-                None
-            }
-        }
-        Num::Far => None,
-    }
-}
-
-/// Whether a line names no accessor, or one of 0 to 7.
-fn names_accessor(accessor: Option<Num>) -> bool
-    ensures { result ≡ is_accessor accessor }
-{
-    match accessor {
-        None => true,
-        Some(Num::Near(k)) => 0 <= k && k <= 7,
-        Some(Num::Far) => false,
-    }
-}
-
 /// The write that a line asks for, with a value of the kind. `Kind` refuses a value of another form, and `ValueRange` one
 /// outside the kind.
 fn write_of(kind: Kind, change: Write<Literal>) -> Result<Write<Scalar>, Refusal>
@@ -173,9 +75,10 @@ impl Scene {
         name: Name,
         kind: Kind,
         background: Literal,
+        limit: Option<Num>,
     ) -> Result<Answer<'static>, Refusal>
-        ensures step { CarriesOut (scene_of self.old) (commands.Grid name kind background) result (scene_of self.new) }
-        ensures trees { LeavesTrees (commands.Grid name kind background) (answer_of result) self.old self.new }
+        ensures step { CarriesOut (scene_of self.old) (commands.Grid name kind background limit) result (scene_of self.new) }
+        ensures trees { LeavesTrees (commands.Grid name kind background limit) (answer_of result) self.old self.new }
     {
         if self.has(&name) {
             return Err(Refusal::NameTaken);
@@ -184,7 +87,14 @@ impl Scene {
             return Err(Refusal::GridLimit);
         }
         let background = scalar_of(kind, background)?;
-        self.put(name, AnyGrid::new(self.alloc, background, ROOT_LIMIT))?;
+        let Some(limit) = root_limit_of(limit) else {
+            return Err(Refusal::ValueRange);
+        };
+        let entry = GridEntry {
+            grid: AnyGrid::new(self.alloc, background, limit),
+            metas: Metas::new(self.alloc),
+        };
+        self.put(name, entry)?;
         Ok(Answer::Done)
     }
 
@@ -204,7 +114,7 @@ impl Scene {
         ensures step { CarriesOut (scene_of self.old) (commands.Copy from.now to) result (scene_of self.new) }
         ensures trees { LeavesTrees (commands.Copy from.now to) (answer_of result) self.old self.new }
     {
-        let Some(grid) = self.get(from) else {
+        let Some(entry) = self.entry(from) else {
             return Err(Refusal::NoGrid);
         };
         if self.has(&to) {
@@ -213,31 +123,30 @@ impl Scene {
         if self.is_full() {
             return Err(Refusal::GridLimit);
         }
-        let copy = grid.try_copy()?;
+        let copy = entry.try_copy(self.alloc)?;
         self.put(to, copy)?;
         Ok(Answer::Done)
     }
 
     /// Carries out a command that looks up a voxel.
     fn look_up(
-        &self,
+        &mut self,
         name: &Name,
         accessor: Option<Num>,
         at: &Point,
         steps: &mut Steps,
     ) -> Result<Answer<'static>, Refusal>
-        ensures { CarriesOut (scene_of self.now) (commands.Get name.now accessor at.now) result (scene_of self.now) }
+        ensures step { CarriesOut (scene_of self.old) (commands.Get name.now accessor at.now) result (scene_of self.new) }
+        ensures trees { LeavesTrees (commands.Get name.now accessor at.now) (answer_of result) self.old self.new }
     {
-        let Some(grid) = self.get(name) else {
+        let Some(entry) = self.grids.get_mut(name) else {
             return Err(Refusal::NoGrid);
         };
         let Some(at) = place_of(at) else {
             return Err(Refusal::ValueRange);
         };
-        if !names_accessor(accessor) {
-            return Err(Refusal::NoAccessor);
-        }
-        let cell = grid.get(at, steps);
+        let accessor = named_accessor(accessor)?;
+        let cell = entry.grid.probe(accessor, at, steps);
         Ok(Answer::Value(cell.value, cell.on))
     }
 
@@ -253,17 +162,15 @@ impl Scene {
         ensures step { CarriesOut (scene_of self.old) (write_command name.now accessor at.now change) result (scene_of self.new) }
         ensures trees { LeavesTrees (write_command name.now accessor at.now change) (answer_of result) self.old self.new }
     {
-        let Some(grid) = self.grids.get_mut(name) else {
+        let Some(entry) = self.grids.get_mut(name) else {
             return Err(Refusal::NoGrid);
         };
-        let change = write_of(grid.kind(), change)?;
+        let change = write_of(entry.grid.kind(), change)?;
         let Some(at) = place_of(at) else {
             return Err(Refusal::ValueRange);
         };
-        if !names_accessor(accessor) {
-            return Err(Refusal::NoAccessor);
-        }
-        grid.write(at, change, steps)?;
+        let accessor = named_accessor(accessor)?;
+        entry.grid.write(accessor, at, change, steps)?;
         Ok(Answer::Done)
     }
 
@@ -279,12 +186,12 @@ impl Scene {
         ensures step { CarriesOut (scene_of self.old) (commands.Fill name.now corners.now value on) result (scene_of self.new) }
         ensures trees { LeavesTrees (commands.Fill name.now corners.now value on) (answer_of result) self.old self.new }
     {
-        let Some(grid) = self.grids.get_mut(name) else {
+        let Some(entry) = self.grids.get_mut(name) else {
             return Err(Refusal::NoGrid);
         };
-        let value = scalar_of(grid.kind(), value)?;
+        let value = scalar_of(entry.grid.kind(), value)?;
         let bounds = bounds_of(corners)?;
-        grid.fill(bounds, Cell { value, on }, steps)?;
+        entry.grid.fill(bounds, Cell { value, on }, steps)?;
         Ok(Answer::Done)
     }
 
@@ -298,11 +205,11 @@ impl Scene {
         ensures step { CarriesOut (scene_of self.old) (commands.Clip name.now corners.now) result (scene_of self.new) }
         ensures trees { LeavesTrees (commands.Clip name.now corners.now) (answer_of result) self.old self.new }
     {
-        let Some(grid) = self.grids.get_mut(name) else {
+        let Some(entry) = self.grids.get_mut(name) else {
             return Err(Refusal::NoGrid);
         };
         let bounds = bounds_of(corners)?;
-        grid.clip(bounds, steps)?;
+        entry.grid.clip(bounds, steps)?;
         Ok(Answer::Done)
     }
 
@@ -311,10 +218,10 @@ impl Scene {
         ensures step { CarriesOut (scene_of self.old) (commands.Prune name.now) result (scene_of self.new) }
         ensures trees { LeavesTrees (commands.Prune name.now) (answer_of result) self.old self.new }
     {
-        let Some(grid) = self.grids.get_mut(name) else {
+        let Some(entry) = self.grids.get_mut(name) else {
             return Err(Refusal::NoGrid);
         };
-        grid.prune(steps);
+        entry.grid.prune(steps);
         Ok(Answer::Done)
     }
 
@@ -328,14 +235,14 @@ impl Scene {
         ensures step { CarriesOut (scene_of self.old) (commands.Voxelise name.now corners.now) result (scene_of self.new) }
         ensures trees { LeavesTrees (commands.Voxelise name.now corners.now) (answer_of result) self.old self.new }
     {
-        let Some(grid) = self.grids.get_mut(name) else {
+        let Some(entry) = self.grids.get_mut(name) else {
             return Err(Refusal::NoGrid);
         };
         let bounds = bounds_of(corners)?;
         if bounds.volume() > VOXELISE_LIMIT {
             return Err(Refusal::TooLarge);
         }
-        grid.voxelise(bounds, steps)?;
+        entry.grid.voxelise(bounds, steps)?;
         Ok(Answer::Done)
     }
 
@@ -343,28 +250,28 @@ impl Scene {
     fn list(&self, name: &Name, corners: &Corners, limit: Num) -> Result<Answer<'_>, Refusal>
         ensures { CarriesOut (scene_of self.now) (commands.List name.now corners.now limit) result (scene_of self.now) }
     {
-        let Some(grid) = self.get(name) else {
+        let Some(entry) = self.entry(name) else {
             return Err(Refusal::NoGrid);
         };
         let Some(limit) = limit_of(limit) else {
             return Err(Refusal::ValueRange);
         };
         let bounds = bounds_of(corners)?;
-        Ok(Answer::List(Voxels::new(grid, bounds, limit)))
+        Ok(Answer::List(Voxels::new(&entry.grid, bounds, limit)))
     }
 
     /// Carries out a command that shows a part of a plane.
     fn slice(&self, name: &Name, z: Num, area: Area) -> Result<Answer<'_>, Refusal>
         ensures { CarriesOut (scene_of self.now) (commands.Slice name.now z area) result (scene_of self.now) }
     {
-        let Some(grid) = self.get(name) else {
+        let Some(entry) = self.entry(name) else {
             return Err(Refusal::NoGrid);
         };
         let bounds = bounds_of(&flat(z, area))?;
         if is_wide(bounds.min(), bounds.max()) {
             return Err(Refusal::TooLarge);
         }
-        Ok(Answer::Slice(Slice::new(grid, bounds)))
+        Ok(Answer::Slice(Slice::new(&entry.grid, bounds)))
     }
 
     /// Carries out a command and answers it. Refusals are tried in their one order, the first that applies is answered, and
@@ -388,7 +295,8 @@ impl Scene {
                 name,
                 kind,
                 background,
-            } => self.make(*name, *kind, *background),
+                limit,
+            } => self.make(*name, *kind, *background, *limit),
             Command::Drop { name } => self.take(name),
             Command::Copy { from, to } => self.copy(from, *to),
             Command::Get { name, accessor, at } => self.look_up(name, *accessor, at, steps),
@@ -469,6 +377,9 @@ impl Scene {
             }
             Command::Dilate { name, turns } => self.dilate(name, *turns, steps),
             Command::Erode { name, turns } => self.erode(name, *turns, steps),
+            Command::Meta { name, key, text } => self.put_meta(name, *key, *text),
+            Command::Unmeta { name, key } => self.take_meta(name, key),
+            Command::Metas { name } => self.pairs(name),
         }
     }
 }

@@ -1,6 +1,6 @@
 //! Commands, as a line has them: numbers may lie outside every range, and names need not be there.
 
-use crate::Name;
+use crate::{MetaText, Name};
 use vdb_value::Kind;
 
 /// A number of a line.
@@ -46,11 +46,12 @@ pub struct Area {
 /// What a line asks for.
 #[derive(Clone, Copy, PartialEq, Eq)]
 pub enum Command {
-    /// Makes a grid that holds its background everywhere.
+    /// Makes a grid that holds its background everywhere, with this limit of root blocks, or 4,096 where the line names none.
     Grid {
         name: Name,
         kind: Kind,
         background: Literal,
+        limit: Option<Num>,
     },
     /// Takes a grid away.
     Drop {
@@ -185,5 +186,20 @@ pub enum Command {
     Erode {
         name: Name,
         turns: Num,
+    },
+    /// Puts a text under a key of a grid's metadata, in the place of the one that is there.
+    Meta {
+        name: Name,
+        key: Name,
+        text: MetaText,
+    },
+    /// Takes the metadata pair of a key away, if there is one.
+    Unmeta {
+        name: Name,
+        key: Name,
+    },
+    /// Answers the metadata pairs of a grid.
+    Metas {
+        name: Name,
     },
 }

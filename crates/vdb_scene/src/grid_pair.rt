@@ -1,4 +1,4 @@
-//! Operations on a tree of one type of values and a grid of any kind.
+//! Operations on a grid of one type of values and one of any kind.
 
 ghost use Rattle.std.specs.Prelude.{◌≡◌, IfErr, OnErr};
 ghost use Rattle.vdb_coord.specs.Blocks.{vdb};
@@ -11,90 +11,91 @@ ghost use Rattle.vdb_tree.specs.Field.{ruled};
 ghost use Rattle.vdb_scene.specs.TwoGrids.{IsMade, StaysBut, of_sum};
 ghost use Rattle.vdb_scene.specs.declared.two_grids.Operation.TheVariants.{Values as values_op};
 
+use crate::any_grid::ACCESSORS;
 use crate::scalar::GridValue;
 use crate::two_grids::{Composite, Operation};
 use crate::{AnyGrid, Refusal};
-use vdb_composite::{SumRefusal, maximum, minimum, replace, sum};
+use vdb_composite::SumRefusal;
+use vdb_grid::Grid;
 use vdb_pool::Steps;
-use vdb_topology::{intersect, subtract, unite};
 use vdb_tree::{StateRule, Tree, TreeRefusal};
 
-/// Makes of a tree and of a grid what the operation says.
+/// Makes of a grid and of another one what the operation says.
 pub fn combine<V: GridValue>(
-    tree: &mut Tree<V>,
+    grid: &mut Grid<V, ACCESSORS>,
     operation: Operation,
     other: &AnyGrid,
     steps: &mut Steps,
 ) -> Result<(), Refusal>
-    ensures outcome { IsMade operation tree.old.limit (as_field_of V.as_scalar (field_of vdb tree.old)) (grid_field other.now) (as_field_of V.as_scalar (field_of vdb tree.new)) result }
-    ensures kept { IfErr result (λ refusal. StaysBut refusal tree.old tree.new) }
-    ensures limit { tree.new.limit ≡ tree.old.limit }
+    ensures outcome { IsMade operation grid.old.tree.limit (as_field_of V.as_scalar (field_of vdb grid.old.tree)) (grid_field other.now) (as_field_of V.as_scalar (field_of vdb grid.new.tree)) result }
+    ensures kept { IfErr result (λ refusal. StaysBut refusal grid.old grid.new) }
+    ensures limit { grid.new.tree.limit ≡ grid.old.tree.limit }
 {
     match operation {
-        Operation::States(rule) => Ok(combine_states(tree, rule, other, steps)?),
+        Operation::States(rule) => Ok(combine_states(grid, rule, other, steps)?),
         Operation::Values(how) => match V::tree_in(other) {
-            Some(given) => combine_values(tree, how, given, steps),
+            Some(given) => combine_values(grid, how, given, steps),
             None => Err(Refusal::Kind),
         },
     }
 }
 
-/// Makes the states of a tree and of a grid of any kind by a rule.
+/// Makes the states of a grid and of one of any kind by a rule.
 fn combine_states<V: GridValue>(
-    tree: &mut Tree<V>,
+    grid: &mut Grid<V, ACCESSORS>,
     rule: StateRule,
     other: &AnyGrid,
     steps: &mut Steps,
 ) -> Result<(), TreeRefusal>
-    ensures outcome { IsOutcome scalar_eq vdb tree.old.limit (as_field_of V.as_scalar (field_of vdb tree.old))
-        (ruled rule (as_field_of V.as_scalar (field_of vdb tree.old)) (grid_field other.now)) (as_field_of V.as_scalar (field_of vdb tree.new)) result }
-    ensures limit { tree.new.limit ≡ tree.old.limit }
+    ensures outcome { IsOutcome scalar_eq vdb grid.old.tree.limit (as_field_of V.as_scalar (field_of vdb grid.old.tree))
+        (ruled rule (as_field_of V.as_scalar (field_of vdb grid.old.tree)) (grid_field other.now)) (as_field_of V.as_scalar (field_of vdb grid.new.tree)) result }
+    ensures limit { grid.new.tree.limit ≡ grid.old.tree.limit }
 {
     match other {
-        AnyGrid::Bool(given) => set_states(tree, rule, given, steps),
-        AnyGrid::I32(given) => set_states(tree, rule, given, steps),
-        AnyGrid::I64(given) => set_states(tree, rule, given, steps),
+        AnyGrid::Bool(given) => set_states(grid, rule, given.tree(), steps),
+        AnyGrid::I32(given) => set_states(grid, rule, given.tree(), steps),
+        AnyGrid::I64(given) => set_states(grid, rule, given.tree(), steps),
     }
 }
 
-/// Makes the states of two trees by a rule.
+/// Makes the states of a grid and of a tree by a rule.
 fn set_states<V: GridValue, X: GridValue>(
-    tree: &mut Tree<V>,
+    grid: &mut Grid<V, ACCESSORS>,
     rule: StateRule,
     given: &Tree<X>,
     steps: &mut Steps,
 ) -> Result<(), TreeRefusal>
-    ensures outcome { IsOutcome scalar_eq vdb tree.old.limit (as_field_of V.as_scalar (field_of vdb tree.old))
-        (ruled rule (as_field_of V.as_scalar (field_of vdb tree.old)) (as_field_of X.as_scalar (field_of vdb given.now))) (as_field_of V.as_scalar (field_of vdb tree.new)) result }
-    ensures limit { tree.new.limit ≡ tree.old.limit }
+    ensures outcome { IsOutcome scalar_eq vdb grid.old.tree.limit (as_field_of V.as_scalar (field_of vdb grid.old.tree))
+        (ruled rule (as_field_of V.as_scalar (field_of vdb grid.old.tree)) (as_field_of X.as_scalar (field_of vdb given.now))) (as_field_of V.as_scalar (field_of vdb grid.new.tree)) result }
+    ensures limit { grid.new.tree.limit ≡ grid.old.tree.limit }
 {
     match rule {
-        StateRule::Unite => unite(tree, given, steps),
-        StateRule::Subtract => subtract(tree, given, steps),
-        StateRule::Intersect => intersect(tree, given, steps),
+        StateRule::Unite => grid.unite(given, steps),
+        StateRule::Subtract => grid.subtract(given, steps),
+        StateRule::Intersect => grid.intersect(given, steps),
     }
 }
 
-/// Makes the values of two trees of one kind one.
+/// Makes the values of a grid and of a tree of one kind one.
 fn combine_values<V: GridValue>(
-    tree: &mut Tree<V>,
+    grid: &mut Grid<V, ACCESSORS>,
     how: Composite,
     given: &Tree<V>,
     steps: &mut Steps,
 ) -> Result<(), Refusal>
-    ensures outcome { IsMade (values_op how) tree.old.limit (as_field_of V.as_scalar (field_of vdb tree.old)) (as_field_of V.as_scalar (field_of vdb given.now)) (as_field_of V.as_scalar (field_of vdb tree.new)) result }
-    ensures kept { OnErr result (tree.new ≡ tree.old) }
-    ensures limit { tree.new.limit ≡ tree.old.limit }
+    ensures outcome { IsMade (values_op how) grid.old.tree.limit (as_field_of V.as_scalar (field_of vdb grid.old.tree)) (as_field_of V.as_scalar (field_of vdb given.now)) (as_field_of V.as_scalar (field_of vdb grid.new.tree)) result }
+    ensures kept { OnErr result (grid.new ≡ grid.old) }
+    ensures limit { grid.new.tree.limit ≡ grid.old.tree.limit }
 {
     match how {
-        Composite::Maximum => Ok(maximum(tree, given, steps)?),
-        Composite::Minimum => Ok(minimum(tree, given, steps)?),
-        Composite::Replace => Ok(replace(tree, given, steps)?),
+        Composite::Maximum => Ok(grid.maximum(given, steps)?),
+        Composite::Minimum => Ok(grid.minimum(given, steps)?),
+        Composite::Replace => Ok(grid.replace(given, steps)?),
         Composite::Sum => {
             if !V::SUMS {
                 return Err(Refusal::NoSum);
             }
-            Ok(sum(tree, given, steps)?)
+            Ok(grid.sum(given, steps)?)
         }
     }
 }

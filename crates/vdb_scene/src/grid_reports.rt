@@ -3,7 +3,7 @@ ghost use Rattle.vdb_scene.specs.Doing.{CarriesOut};
 ghost use Rattle.vdb_scene.specs.Grids.{scene_of};
 ghost use Rattle.vdb_scene.specs.declared.command.Command.TheVariants as commands;
 
-use crate::carry_out::bounds_of;
+use crate::places::bounds_of;
 use crate::{Answer, Corners, Name, Refusal, Scene};
 use vdb_pool::Steps;
 
@@ -17,15 +17,15 @@ impl Scene {
     ) -> Result<Answer<'static>, Refusal>
         ensures { CarriesOut (scene_of self.now) (commands.Count name.now corners.now) result (scene_of self.now) }
     {
-        let Some(grid) = self.get(name) else {
+        let Some(entry) = self.entry(name) else {
             return Err(Refusal::NoGrid);
         };
         match corners {
             Some(corners) => {
                 let bounds = bounds_of(corners)?;
-                Ok(Answer::Count(grid.count(Some(bounds), steps)))
+                Ok(Answer::Count(entry.grid.count(Some(bounds), steps)))
             }
-            None => Ok(Answer::Count(grid.count(None, steps))),
+            None => Ok(Answer::Count(entry.grid.count(None, steps))),
         }
     }
 
@@ -33,10 +33,10 @@ impl Scene {
     pub(crate) fn bounds(&self, name: &Name, steps: &mut Steps) -> Result<Answer<'static>, Refusal>
         ensures { CarriesOut (scene_of self.now) (commands.Bounds name.now) result (scene_of self.now) }
     {
-        let Some(grid) = self.get(name) else {
+        let Some(entry) = self.entry(name) else {
             return Err(Refusal::NoGrid);
         };
-        match grid.active_bounds(steps) {
+        match entry.grid.active_bounds(steps) {
             Some(bounds) => Ok(Answer::Bounds(Some((bounds.min(), bounds.max())))),
             None => Ok(Answer::Bounds(None)),
         }
@@ -46,9 +46,9 @@ impl Scene {
     pub(crate) fn census(&self, name: &Name, steps: &mut Steps) -> Result<Answer<'static>, Refusal>
         ensures { CarriesOut (scene_of self.now) (commands.Census name.now) result (scene_of self.now) }
     {
-        let Some(grid) = self.get(name) else {
+        let Some(entry) = self.entry(name) else {
             return Err(Refusal::NoGrid);
         };
-        Ok(Answer::Census(grid.census(steps)))
+        Ok(Answer::Census(entry.grid.census(steps)))
     }
 }

@@ -1,6 +1,6 @@
-//! Calls on a tree of one type of values as a grid of any kind.
+//! Calls on a grid of one type of values, or on its tree, as on a grid of any kind.
 
-ghost use Rattle.std.specs.Prelude.{◌≡◌, ◌+◌, ◌≤◌, false, IfErr, IsOk, IsTrue};
+ghost use Rattle.std.specs.Prelude.{◌≡◌, ◌+◌, ◌<◌, ◌≤◌, ℕ, Some, false, IfErr, IsOk, IsTrue};
 ghost use Rattle.std.specs.Option.{unwrap_or};
 ghost use Rattle.vdb_coord.specs.Blocks.{vdb};
 ghost use Rattle.vdb_coord.specs.Space.{everywhere};
@@ -10,13 +10,16 @@ ghost use Rattle.vdb_tree.specs.Outcome.{IsOutcome};
 ghost use Rattle.vdb_tree.specs.ConstantBlocks.{count as active_count};
 ghost use Rattle.vdb_tree.specs.declared.refusal.TreeRefusal.TheVariants.{Memory};
 ghost use Rattle.vdb_morph.specs.Growth.{IsGrowth};
+ghost use Rattle.vdb_scene.specs.Grids.{coords_after};
 ghost use Rattle.vdb_scene.specs.Scalars.{is_of, scalar_eq};
 ghost use Rattle.vdb_scene.specs.Step.{passes, write_takes_memory};
 ghost use Rattle.vdb_walk.specs.Reports.{IsActiveBounds, census as census_of};
 
 use crate::Scalar;
+use crate::any_grid::ACCESSORS;
 use crate::scalar::GridValue;
 use vdb_coord::{Bounds, Coord};
+use vdb_grid::Grid;
 use vdb_pool::Steps;
 use vdb_tree::{Tree, TreeRefusal, Write};
 use vdb_value::Cell;
@@ -27,87 +30,109 @@ pub fn get<V: GridValue>(tree: &Tree<V>, at: Coord, steps: &mut Steps) -> Cell<S
     ensures cell { result ≡ (as_field_of V.as_scalar (field_of vdb tree.now)).cell at }
     ensures steps { steps.new ≤ steps.old + 3 }
 {
-    let cell = tree.get(at, steps);
-    Cell {
-        value: cell.value.scalar(),
-        on: cell.on,
+    of_any_kind(tree.get(at, steps))
+}
+
+/// The cell of a voxel through an accessor, or from the root where none is named.
+pub fn probe<V: GridValue>(
+    grid: &mut Grid<V, ACCESSORS>,
+    accessor: Option<usize>,
+    at: Coord,
+    steps: &mut Steps,
+) -> Cell<Scalar>
+    requires { (k : ℕ) → accessor ≡ Some k → k < ACCESSORS }
+    ensures cell { result ≡ (as_field_of V.as_scalar (field_of vdb grid.old.tree)).cell at }
+    ensures tree { grid.new.tree ≡ grid.old.tree }
+    ensures last { grid.new.coords ≡ coords_after accessor at grid.old.coords }
+    ensures steps { steps.new ≤ steps.old + 3 }
+{
+    match accessor {
+        Some(k) => of_any_kind(grid.probe(k, at, steps)),
+        None => of_any_kind(grid.tree().get(at, steps)),
     }
 }
 
-/// Writes a voxel, with a value of the tree's kind.
+/// Writes a voxel, with a value of the grid's kind, through an accessor or without one.
 pub fn write<V: GridValue>(
-    tree: &mut Tree<V>,
+    grid: &mut Grid<V, ACCESSORS>,
+    accessor: Option<usize>,
     at: Coord,
     change: Write<Scalar>,
     steps: &mut Steps,
 ) -> Result<(), TreeRefusal>
-    requires { IsTrue (passes (is_of V.KIND) change) }
-    ensures outcome { IsOutcome scalar_eq vdb tree.old.limit (as_field_of V.as_scalar (field_of vdb tree.old))
-        (write at change (as_field_of V.as_scalar (field_of vdb tree.old))) (as_field_of V.as_scalar (field_of vdb tree.new)) result }
-    ensures limit { tree.new.limit ≡ tree.old.limit }
-    ensures memory { write_takes_memory (as_field_of V.as_scalar (field_of vdb tree.old)) at change ≡ false → IsOk result }
+    requires kind { IsTrue (passes (is_of V.KIND) change) }
+    requires within { (k : ℕ) → accessor ≡ Some k → k < ACCESSORS }
+    ensures outcome { IsOutcome scalar_eq vdb grid.old.tree.limit (as_field_of V.as_scalar (field_of vdb grid.old.tree))
+        (write at change (as_field_of V.as_scalar (field_of vdb grid.old.tree))) (as_field_of V.as_scalar (field_of vdb grid.new.tree)) result }
+    ensures limit { grid.new.tree.limit ≡ grid.old.tree.limit }
+    ensures last { grid.new.coords ≡ coords_after accessor at grid.old.coords }
+    ensures memory { write_takes_memory (as_field_of V.as_scalar (field_of vdb grid.old.tree)) at change ≡ false → IsOk result }
 {
-    tree.write(at, of_kind(change), steps)
+    let change = of_kind(change);
+    match accessor {
+        Some(k) => grid.write_by(k, at, change, steps),
+        None => grid.write(at, change, steps),
+    }
 }
 
-/// Gives each coordinate of a box one cell, with a value of the tree's kind.
+/// Gives each coordinate of a box one cell, with a value of the grid's kind.
 pub fn fill<V: GridValue>(
-    tree: &mut Tree<V>,
+    grid: &mut Grid<V, ACCESSORS>,
     bounds: Bounds,
     cell: Cell<Scalar>,
     steps: &mut Steps,
 ) -> Result<(), TreeRefusal>
     requires { IsTrue (is_of V.KIND cell.value) }
-    ensures outcome { IsOutcome scalar_eq vdb tree.old.limit (as_field_of V.as_scalar (field_of vdb tree.old))
-        (filled bounds cell (as_field_of V.as_scalar (field_of vdb tree.old))) (as_field_of V.as_scalar (field_of vdb tree.new)) result }
-    ensures limit { tree.new.limit ≡ tree.old.limit }
+    ensures outcome { IsOutcome scalar_eq vdb grid.old.tree.limit (as_field_of V.as_scalar (field_of vdb grid.old.tree))
+        (filled bounds cell (as_field_of V.as_scalar (field_of vdb grid.old.tree))) (as_field_of V.as_scalar (field_of vdb grid.new.tree)) result }
+    ensures limit { grid.new.tree.limit ≡ grid.old.tree.limit }
 {
-    vdb_region::fill(tree, bounds, cell_of_kind(cell), steps)
+    grid.fill(bounds, cell_of_kind(cell), steps)
 }
 
 /// Makes each coordinate outside a box the background, inactive.
 pub fn clip<V: GridValue>(
-    tree: &mut Tree<V>,
+    grid: &mut Grid<V, ACCESSORS>,
     bounds: Bounds,
     steps: &mut Steps,
 ) -> Result<(), TreeRefusal>
-    ensures outcome { IsOutcome scalar_eq vdb tree.old.limit (as_field_of V.as_scalar (field_of vdb tree.old))
-        (clipped bounds (as_field_of V.as_scalar (field_of vdb tree.old))) (as_field_of V.as_scalar (field_of vdb tree.new)) result }
-    ensures limit { tree.new.limit ≡ tree.old.limit }
+    ensures outcome { IsOutcome scalar_eq vdb grid.old.tree.limit (as_field_of V.as_scalar (field_of vdb grid.old.tree))
+        (clipped bounds (as_field_of V.as_scalar (field_of vdb grid.old.tree))) (as_field_of V.as_scalar (field_of vdb grid.new.tree)) result }
+    ensures limit { grid.new.tree.limit ≡ grid.old.tree.limit }
     ensures memory { IfErr result (λ refusal. refusal ≡ Memory) }
 {
-    vdb_region::clip(tree, bounds, steps)
+    grid.clip(bounds, steps)
 }
 
 /// Makes each voxel active, in each of 1 to 16 turns, that has an active face neighbour.
 pub fn dilate<V: GridValue>(
-    tree: &mut Tree<V>,
+    grid: &mut Grid<V, ACCESSORS>,
     turns: u32,
     steps: &mut Steps,
 ) -> Result<(), TreeRefusal>
     requires some { 1 ≤ turns }
     requires few { turns ≤ 16 }
-    ensures outcome { IsGrowth scalar_eq vdb tree.old.limit (as_field_of V.as_scalar (field_of vdb tree.old))
-        (turned turns dilation (as_field_of V.as_scalar (field_of vdb tree.old))) (as_field_of V.as_scalar (field_of vdb tree.new)) result }
-    ensures limit { tree.new.limit ≡ tree.old.limit }
+    ensures outcome { IsGrowth scalar_eq vdb grid.old.tree.limit (as_field_of V.as_scalar (field_of vdb grid.old.tree))
+        (turned turns dilation (as_field_of V.as_scalar (field_of vdb grid.old.tree))) (as_field_of V.as_scalar (field_of vdb grid.new.tree)) result }
+    ensures limit { grid.new.tree.limit ≡ grid.old.tree.limit }
 {
-    vdb_morph::dilate(tree, turns, steps)
+    grid.dilate(turns, steps)
 }
 
 /// Makes each voxel inactive, in each of 1 to 16 turns, that has an inactive face neighbour.
 pub fn erode<V: GridValue>(
-    tree: &mut Tree<V>,
+    grid: &mut Grid<V, ACCESSORS>,
     turns: u32,
     steps: &mut Steps,
 ) -> Result<(), TreeRefusal>
     requires some { 1 ≤ turns }
     requires few { turns ≤ 16 }
-    ensures outcome { IsOutcome scalar_eq vdb tree.old.limit (as_field_of V.as_scalar (field_of vdb tree.old))
-        (turned turns erosion (as_field_of V.as_scalar (field_of vdb tree.old))) (as_field_of V.as_scalar (field_of vdb tree.new)) result }
-    ensures limit { tree.new.limit ≡ tree.old.limit }
+    ensures outcome { IsOutcome scalar_eq vdb grid.old.tree.limit (as_field_of V.as_scalar (field_of vdb grid.old.tree))
+        (turned turns erosion (as_field_of V.as_scalar (field_of vdb grid.old.tree))) (as_field_of V.as_scalar (field_of vdb grid.new.tree)) result }
+    ensures limit { grid.new.tree.limit ≡ grid.old.tree.limit }
     ensures memory { IfErr result (λ refusal. refusal ≡ Memory) }
 {
-    vdb_morph::erode(tree, turns, steps)
+    grid.erode(turns, steps)
 }
 
 /// How many voxels of the box, or of all, are active.
@@ -129,6 +154,16 @@ pub fn census<V: GridValue>(tree: &Tree<V>, steps: &mut Steps) -> Census
     ensures { result ≡ census_of scalar_eq vdb (as_field_of V.as_scalar (field_of vdb tree.now)) }
 {
     vdb_walk::census(tree, steps)
+}
+
+/// A cell as one of any kind.
+pub fn of_any_kind<V: GridValue>(cell: Cell<V>) -> Cell<Scalar>
+    ensures { result ≡ as_cell_of V.as_scalar cell }
+{
+    Cell {
+        value: cell.value.scalar(),
+        on: cell.on,
+    }
 }
 
 /// The cell of one kind that one of any is.

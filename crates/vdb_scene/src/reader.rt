@@ -7,6 +7,7 @@ ghost use Rattle.vdb_tree.specs.Layout.{field_of};
 ghost use Rattle.vdb_scene.specs.Grids.{grid_field};
 ghost use Rattle.vdb_scene.specs.Readers.{field_read};
 
+use crate::grid_tree::of_any_kind;
 use crate::scalar::GridValue;
 use crate::{AnyGrid, Scalar};
 use std::marker::Model;
@@ -64,10 +65,7 @@ impl<'a, V: GridValue> CellReader<'a, V> {
     {
         let cell = self.tree.descend(&mut self.path, self.near, at, steps);
         self.near = at;
-        Cell {
-            value: cell.value.scalar(),
-            on: cell.on,
-        }
+        of_any_kind(cell)
     }
 }
 
@@ -77,9 +75,9 @@ impl<'a> AnyReader<'a> {
         ensures { field_read result ≡ grid_field grid.now }
     {
         match grid {
-            AnyGrid::Bool(tree) => AnyReader::Bool(CellReader::new(tree)),
-            AnyGrid::I32(tree) => AnyReader::I32(CellReader::new(tree)),
-            AnyGrid::I64(tree) => AnyReader::I64(CellReader::new(tree)),
+            AnyGrid::Bool(grid) => AnyReader::Bool(CellReader::new(grid.tree())),
+            AnyGrid::I32(grid) => AnyReader::I32(CellReader::new(grid.tree())),
+            AnyGrid::I64(grid) => AnyReader::I64(CellReader::new(grid.tree())),
         }
     }
 

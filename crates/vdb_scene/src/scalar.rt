@@ -73,7 +73,7 @@ impl GridValue for bool {
 
     fn tree_in(grid: &AnyGrid) -> Option<&Tree<bool>> {
         match grid {
-            AnyGrid::Bool(tree) => Some(tree),
+            AnyGrid::Bool(held) => Some(held.tree()),
             _ => None,
         }
     }
@@ -107,7 +107,7 @@ impl GridValue for i32 {
 
     fn tree_in(grid: &AnyGrid) -> Option<&Tree<i32>> {
         match grid {
-            AnyGrid::I32(tree) => Some(tree),
+            AnyGrid::I32(held) => Some(held.tree()),
             _ => None,
         }
     }
@@ -141,7 +141,7 @@ impl GridValue for i64 {
 
     fn tree_in(grid: &AnyGrid) -> Option<&Tree<i64>> {
         match grid {
-            AnyGrid::I64(tree) => Some(tree),
+            AnyGrid::I64(held) => Some(held.tree()),
             _ => None,
         }
     }

@@ -1,6 +1,8 @@
 //! Scenes with ample memory, and names.
 
+mod accessors;
 mod boxes;
+mod metas;
 mod reports;
 mod scattered;
 mod slices;
@@ -36,6 +38,7 @@ fn grid(name: Name, kind: Kind, background: Literal) -> Command {
         name,
         kind,
         background,
+        limit: None,
     }
 }
 

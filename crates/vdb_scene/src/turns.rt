@@ -41,13 +41,13 @@ impl Scene {
         ensures step { CarriesOut (scene_of self.old) (commands.Dilate name.now turns) result (scene_of self.new) }
         ensures trees { LeavesTrees (commands.Dilate name.now turns) (answer_of result) self.old self.new }
     {
-        let Some(grid) = self.grids.get_mut(name) else {
+        let Some(entry) = self.grids.get_mut(name) else {
             return Err(Refusal::NoGrid);
         };
         let Some(count) = turns_of(turns) else {
             return Err(Refusal::ValueRange);
         };
-        grid.dilate(count, steps)?;
+        entry.grid.dilate(count, steps)?;
         Ok(Answer::Done)
     }
 
@@ -61,13 +61,13 @@ impl Scene {
         ensures step { CarriesOut (scene_of self.old) (commands.Erode name.now turns) result (scene_of self.new) }
         ensures trees { LeavesTrees (commands.Erode name.now turns) (answer_of result) self.old self.new }
     {
-        let Some(grid) = self.grids.get_mut(name) else {
+        let Some(entry) = self.grids.get_mut(name) else {
             return Err(Refusal::NoGrid);
         };
         let Some(count) = turns_of(turns) else {
             return Err(Refusal::ValueRange);
         };
-        grid.erode(count, steps)?;
+        entry.grid.erode(count, steps)?;
         Ok(Answer::Done)
     }
 }

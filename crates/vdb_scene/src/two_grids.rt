@@ -7,8 +7,9 @@ ghost use Rattle.vdb_scene.specs.Grids.{grid_field, grid_limit, scene_of};
 ghost use Rattle.vdb_scene.specs.Scene.{is_named};
 ghost use Rattle.vdb_scene.specs.TwoGrids.{IsMade, StaysBut, command_of};
 ghost use Rattle.vdb_scene.specs.declared.any_grid.AnyGrid.{AnyGrid};
+ghost use Rattle.vdb_scene.specs.declared.grid_entry.GridEntry.{GridEntry};
 
-use crate::{Answer, AnyGrid, Name, Refusal, Scalar, Scene};
+use crate::{Answer, AnyGrid, GridEntry, Metas, Name, Refusal, Scalar, Scene};
 use std::mem;
 use vdb_pool::Steps;
 use vdb_tree::StateRule;
@@ -68,39 +69,43 @@ impl Scene {
         requires there { IsSome (lookup (is_named name.now) self.old.grids.entries) }
         requires other { IsSome (lookup (is_named other.now) self.old.grids.entries) }
         requires apart { name.now ≡ other.now → ⊥ }
-        ensures grids { (was : AnyGrid) × (given : AnyGrid) × (grid : AnyGrid) × (lookup (is_named name.now) self.old.grids.entries ≡ Some was) × (lookup (is_named other.now) self.old.grids.entries ≡ Some given)
-            × (self.new.grids.entries ≡ set_value (is_named name.now) self.old.grids.entries grid)
-            × (grid_limit grid ≡ grid_limit was) × IsMade operation (grid_limit was) (grid_field was) (grid_field given) (grid_field grid) result × IfErr result (λ refusal. StaysBut refusal was grid) }
+        ensures grids { (was : GridEntry) × (given : GridEntry) × (grid : AnyGrid) × (lookup (is_named name.now) self.old.grids.entries ≡ Some was) × (lookup (is_named other.now) self.old.grids.entries ≡ Some given)
+            × (self.new.grids.entries ≡ set_value (is_named name.now) self.old.grids.entries (record was { grid = grid }))
+            × (grid_limit grid ≡ grid_limit was.grid) × IsMade operation (grid_limit was.grid) (grid_field was.grid) (grid_field given.grid) (grid_field grid) result
+            × IfErr result (λ refusal. StaysBut refusal was.grid grid) }
     {
-        let mut grid = self.lend(name);
+        let mut entry = self.lend(name);
         let result = match self.grids.get(other) {
-            Some(given) => grid.combine(operation, given, steps),
+            Some(given) => entry.grid.combine(operation, &given.grid, steps),
             None => unreachable!(),
         };
-        self.give_back(name, grid);
+        self.give_back(name, entry);
         result
     }
 
-    /// Takes the grid of a name out of the scene, and leaves one that was never written in its place.
-    fn lend(&mut self, name: &Name) -> AnyGrid
+    /// Takes what stands under a name out of the scene, and leaves a grid that was never written in its place.
+    fn lend(&mut self, name: &Name) -> GridEntry
         requires { IsSome (lookup (is_named name.now) self.old.grids.entries) }
-        ensures grid { lookup (is_named name.now) self.old.grids.entries ≡ Some result }
-        ensures rest { (left : AnyGrid) × (self.new.grids.entries ≡ set_value (is_named name.now) self.old.grids.entries left) }
+        ensures entry { lookup (is_named name.now) self.old.grids.entries ≡ Some result }
+        ensures rest { (left : GridEntry) × (self.new.grids.entries ≡ set_value (is_named name.now) self.old.grids.entries left) }
     {
-        let empty = AnyGrid::new(self.alloc, Scalar::Bool(false), 0);
+        let empty = GridEntry {
+            grid: AnyGrid::new(self.alloc, Scalar::Bool(false), 0),
+            metas: Metas::new(self.alloc),
+        };
         match self.grids.get_mut(name) {
-            Some(grid) => mem::replace(grid, empty),
+            Some(entry) => mem::replace(entry, empty),
             None => unreachable!(),
         }
     }
 
-    /// Puts a grid in place of the one of a name.
-    fn give_back(&mut self, name: &Name, given: AnyGrid)
+    /// Puts an entry in place of the one of a name.
+    fn give_back(&mut self, name: &Name, given: GridEntry)
         requires { IsSome (lookup (is_named name.now) self.old.grids.entries) }
         ensures { self.new.grids.entries ≡ set_value (is_named name.now) self.old.grids.entries given }
     {
         match self.grids.get_mut(name) {
-            Some(grid) => *grid = given,
+            Some(entry) => *entry = given,
             None => unreachable!(),
         }
     }

@@ -57,9 +57,9 @@ impl<'a> Voxels<'a> {
     {
         let bounds = between(self.corner, self.opposite);
         match self.grid {
-            AnyGrid::Bool(tree) => AnyListing::Bool(list(tree, bounds, self.limit)),
-            AnyGrid::I32(tree) => AnyListing::I32(list(tree, bounds, self.limit)),
-            AnyGrid::I64(tree) => AnyListing::I64(list(tree, bounds, self.limit)),
+            AnyGrid::Bool(grid) => AnyListing::Bool(list(grid.tree(), bounds, self.limit)),
+            AnyGrid::I32(grid) => AnyListing::I32(list(grid.tree(), bounds, self.limit)),
+            AnyGrid::I64(grid) => AnyListing::I64(list(grid.tree(), bounds, self.limit)),
         }
     }
 }

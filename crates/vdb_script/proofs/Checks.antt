@@ -1,5 +1,5 @@
 -- Lines, tokens, commands and texts, found by computing.
-use Rattle.std.proofs.Common.{refl, ◌≡◌, pos, negsuc, true, false, [], ◌∷◌, replicate, codes, Some, None, Ok, Err}
+use Rattle.std.proofs.Common.{refl, ◌≡◌, pos, negsuc, true, false, [], ◌∷◌, ◌++◌, replicate, codes, Some, None, Ok, Err}
 use Rattle.std.specs.List.{flat_map}
 use Rattle.std.specs.Fmt.{digits}
 use Rattle.vdb_value.specs.declared.Kind.TheVariants as kinds
@@ -73,10 +73,10 @@ letter_behind = refl
 
 -- ---- commands
 
-grid_number : parse (codes "grid a i32 0") ≡ Ok (Some (commands.Grid (codes "a") kinds.I32 (Number (Near (pos 0)))))
+grid_number : parse (codes "grid a i32 0") ≡ Ok (Some (commands.Grid (codes "a") kinds.I32 (Number (Near (pos 0))) None))
 grid_number = refl
 
-grid_truth : parse (codes "grid a i32 true") ≡ Ok (Some (commands.Grid (codes "a") kinds.I32 (Truth true)))
+grid_truth : parse (codes "grid a i32 true") ≡ Ok (Some (commands.Grid (codes "a") kinds.I32 (Truth true) None))
 grid_truth = refl
 
 other_kind : parse (codes "grid a f32 0") ≡ Err refusals.Syntax
@@ -85,11 +85,26 @@ other_kind = refl
 capital : parse (codes "grid A i32 0") ≡ Err refusals.Syntax
 capital = refl
 
-longest_name : parse (codes "grid abcdefghijklmnop i32 0") ≡ Ok (Some (commands.Grid (codes "abcdefghijklmnop") kinds.I32 (Number (Near (pos 0)))))
+longest_name : parse (codes "grid abcdefghijklmnop i32 0") ≡ Ok (Some (commands.Grid (codes "abcdefghijklmnop") kinds.I32 (Number (Near (pos 0))) None))
 longest_name = refl
 
 longer_name : parse (codes "grid abcdefghijklmnopq i32 0") ≡ Err refusals.Syntax
 longer_name = refl
+
+grid_limited : parse (codes "grid a i32 0 65536") ≡ Ok (Some (commands.Grid (codes "a") kinds.I32 (Number (Near (pos 0))) (Some (Near (pos 65536)))))
+grid_limited = refl
+
+limit_below_zero : parse (codes "grid a i32 0 -5") ≡ Ok (Some (commands.Grid (codes "a") kinds.I32 (Number (Near (pos 0))) (Some (Near (negsuc 4)))))
+limit_below_zero = refl
+
+limit_of_twenty_digits : parse (codes "grid a i32 0 99999999999999999999") ≡ Ok (Some (commands.Grid (codes "a") kinds.I32 (Number (Near (pos 0))) (Some Far)))
+limit_of_twenty_digits = refl
+
+limit_of_letters : parse (codes "grid a i32 0 all") ≡ Err refusals.Syntax
+limit_of_letters = refl
+
+two_limits : parse (codes "grid a i32 0 1 1") ≡ Err refusals.Syntax
+two_limits = refl
 
 set_without_accessor : parse (codes "set a - 0 0 2147483648 1")
     ≡ Ok (Some (commands.Set (codes "a") None (record { x = Near (pos 0); y = Near (pos 0); z = Near (pos 2147483648) }) (Number (Near (pos 1)))))
@@ -102,10 +117,10 @@ set_with_accessor = refl
 get_without_accessor : parse (codes "get b - 0 0 0") ≡ Ok (Some (commands.Get (codes "b") None (record { x = Near (pos 0); y = Near (pos 0); z = Near (pos 0) })))
 get_without_accessor = refl
 
-kinds_read : parse (codes "grid a bool true") ≡ Ok (Some (commands.Grid (codes "a") kinds.Bool (Truth true)))
+kinds_read : parse (codes "grid a bool true") ≡ Ok (Some (commands.Grid (codes "a") kinds.Bool (Truth true) None))
 kinds_read = refl
 
-wide_kind_read : parse (codes "grid a i64 -1") ≡ Ok (Some (commands.Grid (codes "a") kinds.I64 (Number (Near (negsuc 0)))))
+wide_kind_read : parse (codes "grid a i64 -1") ≡ Ok (Some (commands.Grid (codes "a") kinds.I64 (Number (Near (negsuc 0))) None))
 wide_kind_read = refl
 
 unset_read : parse (codes "unset a - 0 0 0 1") ≡ Ok (Some (commands.Unset (codes "a") None (record { x = Near (pos 0); y = Near (pos 0); z = Near (pos 0) }) (Number (Near (pos 1)))))
@@ -195,6 +210,42 @@ erode_without_turns = refl
 
 dilate_by_a_grid : parse (codes "dilate a b") ≡ Err refusals.Syntax
 dilate_by_a_grid = refl
+
+meta_read : parse (codes "meta a k \"x=1\"") ≡ Ok (Some (commands.Meta (codes "a") (codes "k") (codes "\"x=1\"")))
+meta_read = refl
+
+meta_with_a_capital_key : parse (codes "meta a K x") ≡ Err refusals.Syntax
+meta_with_a_capital_key = refl
+
+meta_without_a_text : parse (codes "meta a k") ≡ Err refusals.Syntax
+meta_without_a_text = refl
+
+meta_of_two_words : parse (codes "meta a k x y") ≡ Err refusals.Syntax
+meta_of_two_words = refl
+
+least_and_greatest_text : parse (codes "meta a k !~") ≡ Ok (Some (commands.Meta (codes "a") (codes "k") (33 ∷ 126 ∷ [])))
+least_and_greatest_text = refl
+
+meta_with_a_delete : parse (codes "meta a k " ++ 127 ∷ []) ≡ Err refusals.Syntax
+meta_with_a_delete = refl
+
+longest_meta : parse (codes "meta a k " ++ replicate 64 120) ≡ Ok (Some (commands.Meta (codes "a") (codes "k") (replicate 64 120)))
+longest_meta = refl
+
+longer_meta : parse (codes "meta a k " ++ replicate 65 120) ≡ Err refusals.Syntax
+longer_meta = refl
+
+unmeta_read : parse (codes "unmeta a k") ≡ Ok (Some (commands.Unmeta (codes "a") (codes "k")))
+unmeta_read = refl
+
+unmeta_without_a_key : parse (codes "unmeta a") ≡ Err refusals.Syntax
+unmeta_without_a_key = refl
+
+metas_read : parse (codes "metas a") ≡ Ok (Some (commands.Metas (codes "a")))
+metas_read = refl
+
+metas_of_two_grids : parse (codes "metas a b") ≡ Err refusals.Syntax
+metas_of_two_grids = refl
 
 bounds_of_all : parse (codes "bounds a all") ≡ Err refusals.Syntax
 bounds_of_all = refl

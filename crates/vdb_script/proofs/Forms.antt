@@ -10,7 +10,7 @@ use Rattle.vdb_scene.specs.declared.command.Num.{Num}
 use Rattle.vdb_scene.specs.declared.command.Point.{Point}
 use Rattle.vdb_scene.specs.declared.answer.Refusal.TheVariants as refusals
 use Rattle.vdb_script.specs.Lines.{tokens}
-use Rattle.vdb_script.specs.Grammar.{Form, ◌>>=◌, give, one, point, corners, grid, drop, copy, get, voxel_value, two_grids, state, fill, clip, prune, voxelise, all_of, count_box, count_all, count, bounds, census, or_else, list, slice, turns, whole, command_forms, command_of, word_of, is_comment, meaning, parse, name_of, kind_named, state_of, literal_of, accessor_of, number_of}
+use Rattle.vdb_script.specs.Grammar.{Form, ◌>>=◌, give, one, point, corners, grid_with, grid, drop, copy, get, voxel_value, two_grids, state, fill, clip, prune, voxelise, all_of, count_box, count_all, count, bounds, census, or_else, list, slice, turns, meta, unmeta, metas, whole, command_forms, command_of, word_of, is_comment, meaning, parse, name_of, text_of, kind_named, state_of, literal_of, accessor_of, number_of}
 
 -- where a form is there, it takes so many tokens
 pub record Takes {A : Type 0} (n : ℕ) (form : Form A) : Type 0 where
@@ -94,9 +94,19 @@ clip_takes = then_takes 1 6 _ _ (one_takes name_of) (λ name. then_takes 6 0 _ _
 pub voxelise_takes : Takes 7 voxelise
 voxelise_takes = then_takes 1 6 _ _ (one_takes name_of) (λ name. then_takes 6 0 _ _ corners_takes (λ c. give_takes _))
 
+-- grid NAME KIND BACKGROUND LIMIT
+abbrev grid_limited : Form Command
+grid_limited = grid_with (one (λ t. option_map Some (number_of t)))
+
+grid_limited_takes : Takes 4 grid_limited
+grid_limited_takes = then_takes 1 3 _ _ (one_takes name_of) (λ name. then_takes 1 2 _ _ (one_takes kind_named) (λ kind. then_takes 1 1 _ _ (one_takes literal_of) (λ background. then_takes 1 0 _ _ (one_takes _) (λ most. give_takes _))))
+
 -- grid NAME KIND BACKGROUND
-pub grid_takes : Takes 3 grid
-grid_takes = then_takes 1 2 _ _ (one_takes name_of) (λ name. then_takes 1 1 _ _ (one_takes kind_named) (λ kind. then_takes 1 0 _ _ (one_takes literal_of) (λ background. give_takes _)))
+abbrev grid_unlimited : Form Command
+grid_unlimited = grid_with (give None)
+
+grid_unlimited_takes : Takes 3 grid_unlimited
+grid_unlimited_takes = then_takes 1 2 _ _ (one_takes name_of) (λ name. then_takes 1 1 _ _ (one_takes kind_named) (λ kind. then_takes 1 0 _ _ (one_takes literal_of) (λ background. then_takes 0 0 _ _ (give_takes {A = Option Num} None) (λ most. give_takes (commands.Grid name kind background most)))))
 
 -- NAME OTHER
 pub two_grids_takes : (make : List ℕ → List ℕ → Command) → Takes 2 (two_grids make)
@@ -105,6 +115,18 @@ two_grids_takes make = then_takes 1 1 _ _ (one_takes name_of) (λ name. then_tak
 -- NAME TURNS
 pub turns_takes : (make : List ℕ → Num → Command) → Takes 2 (turns make)
 turns_takes make = then_takes 1 1 _ _ (one_takes name_of) (λ name. then_takes 1 0 _ _ (one_takes number_of) (λ n. give_takes _))
+
+-- meta NAME KEY TEXT
+pub meta_takes : Takes 3 meta
+meta_takes = then_takes 1 2 _ _ (one_takes name_of) (λ name. then_takes 1 1 _ _ (one_takes name_of) (λ key. then_takes 1 0 _ _ (one_takes text_of) (λ text. give_takes _)))
+
+-- unmeta NAME KEY
+pub unmeta_takes : Takes 2 unmeta
+unmeta_takes = then_takes 1 1 _ _ (one_takes name_of) (λ name. then_takes 1 0 _ _ (one_takes name_of) (λ key. give_takes _))
+
+-- metas NAME
+pub metas_takes : Takes 1 metas
+metas_takes = then_takes 1 0 _ _ (one_takes name_of) (λ name. give_takes _)
 
 -- get NAME ACCESSOR X Y Z
 pub get_takes : Takes 5 get
@@ -208,6 +230,11 @@ or_whole (Some (c, rest)) b h = refl
 pub count_of_seven : (tokens : List (List ℕ)) → length tokens ≡ 7 → whole (count tokens) ≡ whole (count_box tokens)
 count_of_seven tokens seven = or_whole (count_box tokens) (count_all tokens) (whole_takes 2 count_all tokens count_all_takes (omega (arith, seven)))
 
+-- neither of the two forms of grid takes another number of tokens
+pub no_grid : (tokens : List (List ℕ)) → length tokens ≢ 3 → length tokens ≢ 4 → Err refusals.Syntax ≡ whole (grid tokens)
+no_grid tokens three four =
+    or_neither (grid_limited tokens) (grid_unlimited tokens) (whole_takes 4 grid_limited tokens grid_limited_takes four) (whole_takes 3 grid_unlimited tokens grid_unlimited_takes three)
+
 picked : (test : Bool) (form : Form Command) (others : Option (Form Command)) (tokens : List (List ℕ)) → Err refusals.Syntax ≡ whole (form tokens)
     → Err refusals.Syntax ≡ whole (option_and_then (λ f. f tokens) others) → Err refusals.Syntax ≡ whole (option_and_then (λ f. f tokens) (cond test (Some form) others))
 picked true form others tokens h k = h
@@ -223,10 +250,13 @@ few {command} n bound takes = record { none = λ tokens many. whole_takes n comm
 count_takes_few : TakesFew (codes "count", count)
 count_takes_few = record { none = λ tokens many. no_count tokens (omega (arith, many)) (omega (arith, many)) }
 
+grid_takes_few : TakesFew (codes "grid", grid)
+grid_takes_few = record { none = λ tokens many. no_grid tokens (omega (arith, many)) (omega (arith, many)) }
+
 -- each command's form does
 commands_take_few : AllByRecursion TakesFew command_forms
 commands_take_few = (
-  few 3 (omega arith) grid_takes,
+  grid_takes_few,
   (
     few 1 (omega arith) drop_takes,
     (
@@ -245,7 +275,7 @@ commands_take_few = (
                   few 9 (omega arith) fill_takes,
                   (
                     few 7 (omega arith) clip_takes,
-                    (few 1 (omega arith) prune_takes, (few 7 (omega arith) voxelise_takes, (few 8 (omega arith) list_takes, (few 6 (omega arith) slice_takes, (count_takes_few, (few 1 (omega arith) bounds_takes, (few 1 (omega arith) census_takes, (few 2 (omega arith) (two_grids_takes commands.Union), (few 2 (omega arith) (two_grids_takes commands.Difference), (few 2 (omega arith) (two_grids_takes commands.Intersect), (few 2 (omega arith) (two_grids_takes commands.Max), (few 2 (omega arith) (two_grids_takes commands.Min), (few 2 (omega arith) (two_grids_takes commands.Sum), (few 2 (omega arith) (two_grids_takes commands.Replace), (few 2 (omega arith) (turns_takes commands.Dilate), (few 2 (omega arith) (turns_takes commands.Erode), tt)))))))))))))))),
+                    (few 1 (omega arith) prune_takes, (few 7 (omega arith) voxelise_takes, (few 8 (omega arith) list_takes, (few 6 (omega arith) slice_takes, (count_takes_few, (few 1 (omega arith) bounds_takes, (few 1 (omega arith) census_takes, (few 2 (omega arith) (two_grids_takes commands.Union), (few 2 (omega arith) (two_grids_takes commands.Difference), (few 2 (omega arith) (two_grids_takes commands.Intersect), (few 2 (omega arith) (two_grids_takes commands.Max), (few 2 (omega arith) (two_grids_takes commands.Min), (few 2 (omega arith) (two_grids_takes commands.Sum), (few 2 (omega arith) (two_grids_takes commands.Replace), (few 2 (omega arith) (turns_takes commands.Dilate), (few 2 (omega arith) (turns_takes commands.Erode), (few 3 (omega arith) meta_takes, (few 2 (omega arith) unmeta_takes, (few 1 (omega arith) metas_takes, tt))))))))))))))))))),
                   ),
                 ),
               ),

@@ -7,6 +7,7 @@ use Rattle.vdb_value.specs.Values.{has_number}
 use Rattle.vdb_value.specs.declared.Kind.{Kind}
 use Rattle.vdb_value.specs.declared.Kind.TheVariants as kinds
 use Rattle.vdb_scene.specs.Names.{is_name}
+use Rattle.vdb_scene.specs.Metas.{is_text}
 use Rattle.vdb_scene.specs.declared.command.Command.{Command}
 use Rattle.vdb_scene.specs.declared.command.Command.TheVariants as commands
 use Rattle.vdb_scene.specs.declared.command.Corners.{Corners}
@@ -24,6 +25,10 @@ use Rattle.vdb_script.specs.Lines.{tokens}
 -- a name
 abbrev pub name_of : List ℕ → Option (List ℕ)
 name_of token = if is_name token then Some token else None
+
+-- the text of a metadata pair
+abbrev pub text_of : List ℕ → Option (List ℕ)
+text_of token = if is_text token then Some token else None
 
 -- the number that decimal digits write
 abbrev pub digits_value : List ℕ → ℕ
@@ -106,13 +111,18 @@ corners = do
   max ← point
   give (record { min = min; max = max })
 
--- grid NAME KIND BACKGROUND
-abbrev pub grid : Form Command
-grid = do
+-- grid NAME KIND BACKGROUND, with what comes behind for the limit
+abbrev pub grid_with : Form (Option Num) → Form Command
+grid_with limit = do
   name ← one name_of
   kind ← one kind_named
   background ← one literal_of
-  give (commands.Grid name kind background)
+  most ← limit
+  give (commands.Grid name kind background most)
+
+-- grid NAME KIND BACKGROUND LIMIT, or without a limit
+abbrev pub grid : Form Command
+grid tokens = or_else (grid_with (one (λ t. option_map Some (number_of t))) tokens) (grid_with (give None) tokens)
 
 -- drop NAME
 abbrev pub drop : Form Command
@@ -259,6 +269,27 @@ turns make = do
   n ← one number_of
   give (make name n)
 
+-- meta NAME KEY TEXT: a key has the form of a name
+abbrev pub meta : Form Command
+meta = do
+  name ← one name_of
+  key ← one name_of
+  text ← one text_of
+  give (commands.Meta name key text)
+
+-- unmeta NAME KEY
+abbrev pub unmeta : Form Command
+unmeta = do
+  name ← one name_of
+  key ← one name_of
+  give (commands.Unmeta name key)
+
+-- metas NAME
+abbrev pub metas : Form Command
+metas = do
+  name ← one name_of
+  give (commands.Metas name)
+
 -- ---- the commands
 
 -- each command's word, and the form of what comes behind it
@@ -268,7 +299,7 @@ command_forms =
     ∷ (codes "fill", fill) ∷ (codes "clip", clip) ∷ (codes "prune", prune) ∷ (codes "voxelise", voxelise) ∷ (codes "list", list) ∷ (codes "slice", slice) ∷ (codes "count", count) ∷ (codes "bounds", bounds)
     ∷ (codes "census", census) ∷ (codes "union", two_grids commands.Union) ∷ (codes "difference", two_grids commands.Difference) ∷ (codes "intersect", two_grids commands.Intersect)
     ∷ (codes "max", two_grids commands.Max) ∷ (codes "min", two_grids commands.Min) ∷ (codes "sum", two_grids commands.Sum) ∷ (codes "replace", two_grids commands.Replace)
-    ∷ (codes "dilate", turns commands.Dilate) ∷ (codes "erode", turns commands.Erode) ∷ []
+    ∷ (codes "dilate", turns commands.Dilate) ∷ (codes "erode", turns commands.Erode) ∷ (codes "meta", meta) ∷ (codes "unmeta", unmeta) ∷ (codes "metas", metas) ∷ []
 
 -- a command with no token left, or a syntax error
 abbrev pub whole : Option (Command × List (List ℕ)) → Result (Option Command) Refusal

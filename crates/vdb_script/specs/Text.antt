@@ -6,7 +6,7 @@ use Rattle.vdb_coord.specs.Space.{Box}
 use Rattle.vdb_coord.specs.declared.Coord.{Coord}
 use Rattle.vdb_value.specs.declared.Cell.{Cell}
 use Rattle.vdb_scene.specs.Scalars.{scalar_text}
-use Rattle.vdb_scene.specs.Replies.{Reply, Row, Done, Refused, Value, Listing, Slice, Count, Bounds, Census}
+use Rattle.vdb_scene.specs.Replies.{Reply, Row, Done, Refused, Value, Listing, Slice, Count, Bounds, Census, Pairs}
 use Rattle.vdb_scene.specs.declared.answer.Refusal.{Refusal}
 use Rattle.vdb_scene.specs.declared.answer.Refusal.TheVariants as refusals
 use Rattle.vdb_scene.specs.declared.scalar.Scalar.{Scalar}
@@ -27,6 +27,7 @@ word refusals.TooLarge = codes "too-large"
 word refusals.NoSum = codes "no-sum"
 word refusals.SumRange = codes "sum-range"
 word refusals.RootLimit = codes "root-limit"
+word refusals.MetaLimit = codes "meta-limit"
 word refusals.Memory = codes "memory"
 
 -- the word of a state
@@ -66,6 +67,10 @@ abbrev pub bounds_words : Option Box → List (List ℕ)
 bounds_words None = codes "none" ∷ []
 bounds_words (Some box) = components box.min ++ components box.max
 
+-- the line of a metadata pair: its key and its text
+abbrev pub pair_line : List ℕ × List ℕ → List ℕ
+pair_line pair = line (pair.0 ∷ pair.1 ∷ [])
+
 -- the text of an answer
 abbrev pub text : Reply → List ℕ
 text Done = line (codes "ok" ∷ [])
@@ -76,6 +81,7 @@ text (Slice rows) = flat_map row_line rows ++ last_line (codes "end") (length ro
 text (Count active) = line (codes "count" ∷ decimal active ∷ [])
 text (Bounds box) = line (codes "bounds" ∷ bounds_words box)
 text (Census c) = line (codes "census" ∷ decimal c.roots ∷ decimal c.upper ∷ decimal c.lower ∷ decimal c.leaf ∷ [])
+text (Pairs pairs) = flat_map pair_line pairs ++ last_line (codes "end") (length pairs)
 
 -- the texts of answers, one after another
 abbrev pub answers_text : List Reply → List ℕ

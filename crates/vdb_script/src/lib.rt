@@ -4,8 +4,10 @@
 mod line_text;
 mod lines;
 mod lists;
+mod metas;
 mod numbers;
 mod output;
+mod pairs;
 mod parsing;
 mod printing;
 mod reports;

@@ -7,6 +7,7 @@ ghost use Rattle.vdb_scene.specs.declared.command.Num.{Num};
 ghost use Rattle.vdb_scene.specs.declared.command.Point.{Point};
 ghost use Rattle.vdb_script.specs.Grammar.{name_of, kind_named, state_of, literal_of, accessor_of, point, corners, grid, drop, copy, get, voxel_value, set, unset, only, state, fill, clip, prune, voxelise, all_of, count, bounds, census, list, slice, whole, command_of, is_comment, parse};
 
+use crate::metas::{meta_command, metas_command, unmeta_command};
 use crate::numbers::number_of;
 use crate::tokens::{first_token, split_tokens};
 use crate::turns::{dilate_command, erode_command};
@@ -90,7 +91,7 @@ fn corners_of(x0: &[u8], y0: &[u8], z0: &[u8], x1: &[u8], y1: &[u8], z1: &[u8]) 
     Some(Corners { min, max })
 }
 
-/// The command `grid NAME KIND BACKGROUND`, from the tokens behind its word.
+/// The command `grid NAME KIND BACKGROUND` or `grid NAME KIND BACKGROUND LIMIT`, from the tokens behind its word.
 fn grid_command(tokens: &[&[u8]]) -> Option<Command>
     ensures { ok_or (option_map Some result) Refusal.Syntax ≡ whole (grid (map (λ t. t.now) tokens.now)) }
 {
@@ -99,6 +100,13 @@ fn grid_command(tokens: &[&[u8]]) -> Option<Command>
             name: name_of(name)?,
             kind: kind_named(kind)?,
             background: literal_of(background)?,
+            limit: None,
+        }),
+        [name, kind, background, limit] => Some(Command::Grid {
+            name: name_of(name)?,
+            kind: kind_named(kind)?,
+            background: literal_of(background)?,
+            limit: Some(number_of(limit)?),
         }),
         _ => None,
     }
@@ -413,6 +421,12 @@ fn command_of(word: &[u8], tokens: &[&[u8]]) -> Option<Command>
         dilate_command(tokens)
     } else if is_word(word, b"erode") {
         erode_command(tokens)
+    } else if is_word(word, b"meta") {
+        meta_command(tokens)
+    } else if is_word(word, b"unmeta") {
+        unmeta_command(tokens)
+    } else if is_word(word, b"metas") {
+        metas_command(tokens)
     } else {
         None
     }

@@ -1,6 +1,6 @@
 //! Lines and the commands that they are.
 use crate::parse;
-use vdb_scene::{Area, Command, Corners, Literal, Name, Num, Point, Refusal};
+use vdb_scene::{Area, Command, Corners, Literal, MetaText, Name, Num, Point, Refusal};
 use vdb_value::Kind;
 
 /// The coordinate of the lines below.
@@ -15,6 +15,16 @@ fn grid(name: Name, background: Literal) -> Command {
         name,
         kind: Kind::I32,
         background,
+        limit: None,
+    }
+}
+
+fn limited_grid(name: Name, limit: Num) -> Command {
+    Command::Grid {
+        name,
+        kind: Kind::I32,
+        background: Literal::Number(Num::Near(0)),
+        limit: Some(limit),
     }
 }
 
@@ -221,6 +231,7 @@ fn commands_are_read(rt: HostRuntime) {
                 name: a,
                 kind: Kind::Bool,
                 background: Literal::Truth(true),
+                limit: None,
             },
         ),
         (
@@ -229,6 +240,7 @@ fn commands_are_read(rt: HostRuntime) {
                 name: a,
                 kind: Kind::I64,
                 background: zero,
+                limit: None,
             },
         ),
     ] {
@@ -264,11 +276,55 @@ fn numbers_have_any_length(rt: HostRuntime) {
 }
 
 #[test]
+fn limits_have_any_length(rt: HostRuntime) {
+    let a = Name::new(b"a").expect(&rt, "one letter");
+    for (line, limit) in [
+        (b"grid a i32 0 65536".as_slice(), Num::Near(65536)),
+        (b"grid a i32 0 1\r".as_slice(), Num::Near(1)),
+        (b"grid a i32 0 0".as_slice(), Num::Near(0)),
+        (b"grid a i32 0 -5".as_slice(), Num::Near(-5)),
+        (b"grid a i32 0 99999999999999999999".as_slice(), Num::Far),
+    ] {
+        assert!(rt; parse(rt.alloc(), line) == Ok(Some(limited_grid(a, limit))));
+    }
+}
+
+#[test]
+fn commands_on_metadata_are_read(rt: HostRuntime) {
+    let a = Name::new(b"a").expect(&rt, "one letter");
+    let key = Name::new(b"k_1").expect(&rt, "a name");
+    let longest = b"0123456789ABCDEF0123456789abcdef0123456789ABCDEF0123456789abcdef";
+    for (line, text) in [
+        (b"meta a k_1 x".as_slice(), b"x".as_slice()),
+        (b"\tmeta a  k_1\t-5 \r".as_slice(), b"-5".as_slice()),
+        (b"meta a k_1 #1".as_slice(), b"#1".as_slice()),
+        (b"meta a k_1 \x21\x7E".as_slice(), b"!~".as_slice()),
+        (
+            b"meta a k_1 0123456789ABCDEF0123456789abcdef0123456789ABCDEF0123456789abcdef".as_slice(),
+            longest.as_slice(),
+        ),
+    ] {
+        let want = Command::Meta {
+            name: a,
+            key,
+            text: MetaText::new(text).expect(&rt, "1 to 64 printable characters"),
+        };
+        assert!(rt; parse(rt.alloc(), line) == Ok(Some(want)));
+    }
+    let taken_away = Command::Unmeta { name: a, key };
+    assert!(rt; parse(rt.alloc(), b"unmeta a k_1") == Ok(Some(taken_away)));
+    assert!(rt; parse(rt.alloc(), b"metas a") == Ok(Some(Command::Metas { name: a })));
+}
+
+#[test]
 fn other_lines_are_no_commands(rt: HostRuntime) {
     for line in [
         b"grid".as_slice(),
         b"grid a i32".as_slice(),
-        b"grid a i32 0 0".as_slice(),
+        b"grid a i32 0 1 1".as_slice(),
+        b"grid a i32 0 x".as_slice(),
+        b"grid a i32 0 01".as_slice(),
+        b"grid a i32 0 true".as_slice(),
         b"grid a i32 0 # with a zero".as_slice(),
         b"grid a f32 0".as_slice(),
         b"grid A i32 0".as_slice(),
@@ -358,6 +414,22 @@ fn other_lines_are_no_commands(rt: HostRuntime) {
         b"clip a 0 0 0 0 0 0 0".as_slice(),
         b"clip a 0 0 0 0 0 true".as_slice(),
         b"clip - 0 0 0 0 0 0".as_slice(),
+        b"meta".as_slice(),
+        b"meta a k".as_slice(),
+        b"meta a k \x20".as_slice(),
+        b"meta a k x\x20y".as_slice(),
+        b"meta a k x\x7F".as_slice(),
+        b"meta a k \x80".as_slice(),
+        b"meta a k 0123456789ABCDEF0123456789abcdef0123456789ABCDEF0123456789abcdefx".as_slice(),
+        b"meta a K x".as_slice(),
+        b"meta a 1 x".as_slice(),
+        b"meta A k x".as_slice(),
+        b"unmeta a".as_slice(),
+        b"unmeta a k k".as_slice(),
+        b"unmeta a K".as_slice(),
+        b"metas".as_slice(),
+        b"metas a b".as_slice(),
+        b"metas A".as_slice(),
         b"get a - 0 0 0 1 2 3 4 5 6 7 8 9 10 11 12".as_slice(),
     ] {
         assert!(rt; parse(rt.alloc(), line) == Err(Refusal::Syntax));

@@ -1,16 +1,17 @@
 //! Answers as text.
 
-ghost use Rattle.std.specs.Prelude.{◌≡◌, ◌≤◌, ◌||◌, [], ◌∷◌, ◌++◌, if◌then◌else◌, is_err, length, map};
+ghost use Rattle.std.specs.Prelude.{◌≡◌, ◌≤◌, ◌||◌, [], ◌∷◌, ◌++◌, codes, if◌then◌else◌, is_err, length, map};
 ghost use Rattle.vdb_scene.specs.Scalars.{scalar_text};
 ghost use Rattle.vdb_scene.specs.Shown.{Shows};
 ghost use Rattle.vdb_scene.specs.Replies.{Reply};
 ghost use Rattle.vdb_scene.specs.Replies as replies;
 ghost use Rattle.vdb_scene.specs.Watched.{has_failed, source};
-ghost use Rattle.vdb_script.specs.Text.{line, state_text, text, word};
+ghost use Rattle.vdb_script.specs.Text.{last_line, line, state_text, text, word};
 ghost use Rattle.vdb_script.specs.Writing.{Writes};
 
 use crate::lists::print_list;
 use crate::output::{WriteFault, write_bytes};
+use crate::pairs::print_pairs;
 use crate::reports::{bounds_line, census_line, count_line};
 use crate::slices::print_slice;
 use arrayvec::ArrayVec;
@@ -42,6 +43,7 @@ fn refusal_word(refusal: Refusal) -> &'static [u8]
         Refusal::NoSum => b"no-sum",
         Refusal::SumRange => b"sum-range",
         Refusal::RootLimit => b"root-limit",
+        Refusal::MetaLimit => b"meta-limit",
         Refusal::Memory => b"memory",
     }
 }
@@ -103,6 +105,14 @@ fn refusal_line(refusal: Refusal) -> ArrayVec<u8, ANSWER_LIMIT>
     compose([b"error".as_slice(), refusal_word(refusal)].as_slice())
 }
 
+/// The line behind the others of an answer: how many they are.
+pub(crate) fn end_line(count: u64) -> ArrayVec<u8, ANSWER_LIMIT>
+    ensures { result.items ≡ last_line (codes "end") count }
+{
+    let mut buffer = Buffer::new();
+    compose([b"end".as_slice(), buffer.format(count).as_bytes()].as_slice())
+}
+
 /// The line of a cell.
 fn value_line(value: Scalar, on: bool) -> ArrayVec<u8, ANSWER_LIMIT>
     ensures { result.items ≡ text (replies.Value (record { value = value; on = on })) }
@@ -139,5 +149,6 @@ pub fn print<W: Write>(
         Answer::Count(active) => write_bytes(writer, count_line(active).as_slice()),
         Answer::Bounds(corners) => write_bytes(writer, bounds_line(corners).as_slice()),
         Answer::Census(counts) => write_bytes(writer, census_line(counts).as_slice()),
+        Answer::Pairs(metas) => print_pairs(metas, writer),
     }
 }

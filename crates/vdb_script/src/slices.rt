@@ -4,11 +4,11 @@ ghost use Rattle.std.specs.Fmt.{signed_decimal};
 ghost use Rattle.vdb_scene.specs.Slices.{cells_left, rows_left};
 ghost use Rattle.vdb_scene.specs.Replies as replies;
 ghost use Rattle.vdb_scene.specs.Watched.{has_failed, source};
-ghost use Rattle.vdb_script.specs.Text.{cell_text, last_line, row_line, text};
+ghost use Rattle.vdb_script.specs.Text.{cell_text, row_line, text};
 ghost use Rattle.vdb_script.specs.Writing.{Adds, Writes};
 
 use crate::output::{Page, WriteFault, add, write_bytes};
-use crate::printing::{ANSWER_LIMIT, compose, value_text};
+use crate::printing::{ANSWER_LIMIT, compose, end_line, value_text};
 use arrayvec::ArrayVec;
 use itoa::Buffer;
 use std::io::Write;
@@ -31,7 +31,7 @@ pub(crate) fn print_slice<W: Write>(
     let count = slice.len();
     let mut page = Page::new();
     add_rows(slice, &mut page, writer, steps)?;
-    add(&mut page, slice_end_line(count).as_slice(), writer)?;
+    add(&mut page, end_line(count).as_slice(), writer)?;
     write_bytes(writer, page.as_slice())
 }
 
@@ -114,12 +114,4 @@ fn spaced_cell(cell: Cell<Scalar>) -> ArrayVec<u8, CELL_LIMIT>
         spaced.push(b')');
     }
     spaced
-}
-
-/// The line behind the rows: how many they are.
-fn slice_end_line(count: u64) -> ArrayVec<u8, ANSWER_LIMIT>
-    ensures { result.items ≡ last_line (codes "end") count }
-{
-    let mut buffer = Buffer::new();
-    compose([b"end".as_slice(), buffer.format(count).as_bytes()].as_slice())
 }

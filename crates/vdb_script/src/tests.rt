@@ -1,3 +1,5 @@
+mod pairs;
+
 use super::*;
 use std::io::{self, Read, Write};
 use vdb_coord::Coord;

@@ -1,5 +1,5 @@
 -- A script as a whole run with its text, and a write fault in the second answer after the first is out.
-use Rattle.std.proofs.Common.{◌≡◌, refl, ℕ, pos, false, List, [], ◌∷◌, Some, codes, inl, inr, arith}
+use Rattle.std.proofs.Common.{◌≡◌, refl, ℕ, pos, false, List, [], ◌∷◌, Some, codes, inl, inr, arith, None}
 use Rattle.std.specs.Fmt.{digits}
 use Rattle.vdb_value.specs.declared.Kind.TheVariants as kinds
 use Rattle.vdb_scene.specs.Scene.{Scene}
@@ -19,7 +19,7 @@ abbrev script : List ℕ
 script = codes "grid a i32 0\nget a - 5 5 5\n"
 
 abbrev with_a : Scene
-with_a = after [] (commands.Grid (codes "a") kinds.I32 (Number (Near (pos 0))))
+with_a = after [] (commands.Grid (codes "a") kinds.I32 (Number (Near (pos 0))) None)
 
 abbrev shown : Reply
 shown = Value (record { value = I32 (pos 0); on = false })

@@ -2,7 +2,7 @@
 use Rattle.std.specs.Prelude.{◌≡◌, ℕ, ◌^◌, ◌<◌, ◌≤◌, ◌+◌, Bool, true, false, if◌then◌else◌, List, [], ◌∷◌, ◌++◌, length, take, Option, Some, None}
 use Rattle.std.specs.List.{list_any}
 use Rattle.vdb_scene.specs.Scene.{Scene}
-use Rattle.vdb_scene.specs.Replies.{Reply, Done, Refused, Value, Listing, Slice, Count, Bounds, Census}
+use Rattle.vdb_scene.specs.Replies.{Reply, Done, Refused, Value, Listing, Slice, Count, Bounds, Census, Pairs}
 use Rattle.vdb_script.specs.Lines.{lines, script_lines, whole_lines}
 use Rattle.vdb_script.specs.Run.{Run}
 use Rattle.vdb_script.specs.Text.{answers_text, text}
@@ -20,6 +20,7 @@ is_refused (Slice rows) = false
 is_refused (Count active) = false
 is_refused (Bounds box) = false
 is_refused (Census counts) = false
+is_refused (Pairs pairs) = false
 
 -- the exit status: 4 after a fault, else 1 where a line was refused, else 0
 abbrev pub status : Bool → Option Fault → ℕ

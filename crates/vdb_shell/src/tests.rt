@@ -3,7 +3,9 @@ ghost use Rattle.std.specs.Prelude.{Some};
 
 mod faults;
 mod layouts;
+mod limits;
 mod lists;
+mod metas;
 mod random;
 mod slices;
 mod turns;

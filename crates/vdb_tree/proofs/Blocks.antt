@@ -1,5 +1,6 @@
 -- The cells of a block, and what the tests of the field say of it.
 use Rattle.std.proofs.Common.{◌≡◌, refl, sym, subst, ◌∙◌, Bool, true, false, IsTrue}
+use Rattle.std.specs.Prelude.{◌↔◌}
 use Rattle.vdb_coord.specs.Blocks.{block, block_around, block_number}
 use Rattle.vdb_coord.specs.Entries.{AreBits}
 use Rattle.vdb_coord.specs.Space.{everywhere, is_inside}
@@ -45,6 +46,11 @@ module _ {V : Type 0} (eq : V → V → Bool) (exact : (x y : V) → eq x y ≡ 
 
     uniform_cell_from : (c : Cell V) → IsConstantBlock bits level t p c → is_uniform eq (field_of bits t) (block_around bits level p) c ≡ true
     uniform_cell_from c h = uniform_block_from bits level (field_of bits t) (block_number bits level p) c (λ q e. block_cell q e ∙ h q e)
+
+    -- the test for one cell
+    pub uniform_test : (c : Cell V) (test : Bool) → IsTrue test ↔ IsConstantBlock bits level t p c → test ≡ is_uniform eq (field_of bits t) (block_around bits level p) c
+    uniform_test c true h = sym (uniform_cell_from c (h.0 refl))
+    uniform_test c false h = sym (not_true _ (λ k. never refl (h.1 (uniform_cell c k))))
 
     -- the cells of a constant block are one
     pub constant_block : is_constant eq (field_of bits t) (block_around bits level p) ≡ true → IsConstantBlock bits level t p (cell_at bits t p)

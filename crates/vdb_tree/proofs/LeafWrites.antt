@@ -120,6 +120,9 @@ module _ {V : Type 0} (bits : Bits) (t : Layout V) (u : ℕ) (n m : LeafOf V) (w
     pub write_changes : IsSound bits t → Changes bits t (with_leaf t u m) p (written change (cell_at bits t p))
     write_changes = voxel_changes p child (written change (cell_at bits t p)) at_offset
 
+    pub write_gives : IsSound bits t → Changes bits t (with_leaf t u m) p cell
+    write_gives sound = subst (λ c. Changes bits t (with_leaf t u m) p c) (sym new_cell) (write_changes sound)
+
     pub write_alone : IsVoxelWritten bits t (with_leaf t u m) p (written change (cell_at bits t p))
     write_alone = voxel_alone p child (written change (cell_at bits t p)) at_offset
 

@@ -26,6 +26,7 @@ pub mod Tiled
 pub mod Constants
 pub mod Passes
 pub mod Sweeps
+mod SweptTables
 pub mod KeysPast
 pub mod Covered
 pub mod KeysMet

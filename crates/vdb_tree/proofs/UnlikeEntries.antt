@@ -40,22 +40,22 @@ module _ {V : Type 0} (bits : Bits) (t : Layout V) (level : Level) (p : Coord) (
   -- what a node says of the tiles of a cell, its block says of the cell
   module _ (entry : Coord → Entry V) (tiled : (q : Coord) → entry q ≡ Tile cell → cell_at bits t q ≡ cell) (node : List (Entry V)) (x : Cell V)
       (by : (q : Coord) → block_number bits level q ≡ block_number bits level p → entry q ≡ slice_index_or node (offset bits level q) (Tile x)) where
-    pub unlike_at : (from index : ℕ) → IsFirstWithoutAt (IsTileOf cell node) (entry_count (node_bits bits level)) from index → IsNextUnlikeAt bits t level p cell from index
+    pub unlike_at : (from index : ℕ) → IsFirstWithoutAt (IsTileOf cell node) (entry_count (node_bits bits level)) from index → IsNextUnlikeAt bits (cell_at bits t) level p cell from index
     unlike_at from index next = record {
       within = rw (entries_is bits level) next.within;
       from_on = next.from_on;
       before = λ q b more less. tiled q (by q b ∙ next.before (offset bits level q) more less (Tile x));
     }
 
-    pub unlike_none : (from : ℕ) → ((i : ℕ) → from ≤ i → i < entry_count (node_bits bits level) → IsTileOf cell node i) → IsCellFrom bits t level p cell from (entries bits level)
+    pub unlike_none : (from : ℕ) → ((i : ℕ) → from ≤ i → i < entry_count (node_bits bits level) → IsTileOf cell node i) → IsCellFrom bits (cell_at bits t) level p cell from (entries bits level)
     unlike_none from none q b more less = tiled q (by q b ∙ none (offset bits level q) more (rw (← entries_is bits level) less) (Tile x))
 
-    pub unlike : (from : ℕ) (o : Option ℕ) → IsFirstWithout (IsTileOf cell node) (entry_count (node_bits bits level)) from o → IsNextUnlike bits t level p cell from o
+    pub unlike : (from : ℕ) (o : Option ℕ) → IsFirstWithout (IsTileOf cell node) (entry_count (node_bits bits level)) from o → IsNextUnlike bits (cell_at bits t) level p cell from o
     unlike from (Some index) next = unlike_at from index next
     unlike from None none = unlike_none from none
 
   -- an entry of the cell that others of the cell come before
-  pub below_next : (from index : ℕ) → IsConstantBelow bits t level p cell from → IsNextUnlikeAt bits t level p cell from index → IsConstantAt bits level t p index cell → IsConstantBelow bits t level p cell (index + 1)
+  pub below_next : (from index : ℕ) → IsConstantBelow bits t level p cell from → IsNextUnlikeAt bits (cell_at bits t) level p cell from index → IsConstantAt bits level t p index cell → IsConstantBelow bits t level p cell (index + 1)
   below_next from index below next here q b h =
       elim (from_or_below (offset bits level q) from) [
         | inl k ↦ below q b k
@@ -66,7 +66,7 @@ module _ {V : Type 0} (bits : Bits) (t : Layout V) (level : Level) (p : Coord) (
       ]
 
   -- all are of the cell
-  pub below_all : (from : ℕ) → IsConstantBelow bits t level p cell from → IsCellFrom bits t level p cell from (entries bits level) → IsConstantBlock bits level t p cell
+  pub below_all : (from : ℕ) → IsConstantBelow bits t level p cell from → IsCellFrom bits (cell_at bits t) level p cell from (entries bits level) → IsConstantBlock bits level t p cell
   below_all from below rest q b =
       elim (from_or_below (offset bits level q) from) [
         | inl k ↦ below q b k
@@ -95,6 +95,26 @@ nearer from index n h k = omega (arith, h, k)
 pub least : (n : ℕ) → 0 ≤ n
 least n = omega arith
 
+itself : (n : ℕ) → n ≤ n
+itself n = omega arith
+
+not_both : (a b : ℕ) → b ≤ a → a < b → ⊥
+not_both a b h k = omega (arith, h, k)
+
+past_last : (a n from : ℕ) → a < n → n ≤ from → a < from
+past_last a n from h k = omega (arith, h, k)
+
+-- ---- the entries of a block, of whatever it consists
+
+module _ {V : Type 0} (bits : Bits) (cells : Coord → Cell V) (level : Level) (p : Coord) (cell : Cell V) where
+  -- nothing comes between an entry and itself
+  pub unlike_here : (from : ℕ) → from < entries bits level → IsNextUnlike bits cells level p cell from (Some from)
+  unlike_here from h = record { within = h; from_on = itself from; before = λ q b more less. absurd (not_both (offset bits level q) from more less) }
+
+  -- past the last entry none is left
+  pub unlike_past : (from : ℕ) → entries bits level ≤ from → IsNextUnlike bits cells level p cell from None
+  unlike_past from h q b more less = absurd (not_both (offset bits level q) from more (past_last (offset bits level q) (entries bits level) from less h))
+
 -- ---- the one cell of a block
 
 module _ {V : Type 0} (bits : Bits) (configured : AreBits bits) (level : Level) (t : Layout V) (p : Coord) (inside : IsTrue (is_inside everywhere p)) where
@@ -106,6 +126,15 @@ module _ {V : Type 0} (bits : Bits) (configured : AreBits bits) (level : Level) 
 
   block_from : (c : Cell V) → IsOneCell bits level (field_of bits t) p c → IsConstantBlock bits level t p c
   block_from c h q b = sym (cell_is q b) ∙ h q (block_in_range bits level configured p q inside b) b
+
+  -- the field's entries are the tree's
+  pub unlike_in_field : (cell : Cell V) (from : ℕ) (o : Option ℕ) → IsNextUnlike bits (cell_at bits t) level p cell from o → IsNextUnlike bits (field_of bits t).cell level p cell from o
+  unlike_in_field cell from (Some index) next = record { within = next.within; from_on = next.from_on; before = λ q b more less. cell_is q b ∙ next.before q b more less }
+  unlike_in_field cell from None none = λ q b more less. cell_is q b ∙ none q b more less
+
+  -- and a block of one cell has it at each entry
+  pub unlike_in_tile : (cell : Cell V) (from : ℕ) → IsConstantBlock bits level t p cell → IsNextUnlike bits (field_of bits t).cell level p cell from None
+  unlike_in_tile cell from h q b more less = cell_is q b ∙ h q b
 
   -- the cell at p is the only one that there can be
   module _ (c : Cell V) (at : cell_at bits t p ≡ c) (same : Bool) (test : IsTrue same ↔ IsConstantBlock bits level t p c) where

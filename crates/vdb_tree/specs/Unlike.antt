@@ -7,18 +7,15 @@ use Rattle.vdb_coord.specs.declared.Coord.{Coord}
 use Rattle.vdb_coord.specs.declared.Level.{Level}
 use Rattle.vdb_value.specs.declared.Cell.{Cell}
 use Rattle.vdb_tree.specs.Field.{Field}
-use Rattle.vdb_tree.specs.Layout.{Layout, cell_at}
 
 -- each cell of the field in p's block of the level is this
 abbrev pub IsOneCell : {V : Type 0} → Bits → Level → Field V → Coord → Cell V → Type 0
 IsOneCell bits level f p cell = (q : Coord) → IsTrue (is_inside everywhere q) → block_number bits level q ≡ block_number bits level p → f.cell q ≡ cell
 
--- ---- the entries of a node, of which the calls of this crate alone speak
-
-module _ {V : Type 0} (bits : Bits) (t : Layout V) (level : Level) (p : Coord) (cell : Cell V) where
+module _ {V : Type 0} (bits : Bits) (cells : Coord → Cell V) (level : Level) (p : Coord) (cell : Cell V) where
   -- each cell of p's block of the level is this at entries from one on and before another
   abbrev pub IsCellFrom : ℕ → ℕ → Type 0
-  IsCellFrom from to = (q : Coord) → block_number bits level q ≡ block_number bits level p → from ≤ offset bits level q → offset bits level q < to → cell_at bits t q ≡ cell
+  IsCellFrom from to = (q : Coord) → block_number bits level q ≡ block_number bits level p → from ≤ offset bits level q → offset bits level q < to → cells q ≡ cell
 
   -- each entry from one on and before this is of the cell
   pub record IsNextUnlikeAt (from index : ℕ) : Type 0 where

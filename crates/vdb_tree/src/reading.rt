@@ -12,3 +12,4 @@ pub(crate) mod pieces;
 pub(crate) mod places;
 pub(crate) mod root_blocks;
 pub(crate) mod trace;
+pub(crate) mod unlike;

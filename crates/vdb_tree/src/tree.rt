@@ -40,6 +40,8 @@ pub struct TreeOf<
     pub(crate) background: V,
     pub(crate) limit: u32,
     pub(crate) root: RootTable<V>,
+    /// Whether it is known that no entry of the root table is that of a background block.
+    pub(crate) swept: bool,
     pub(crate) uppers: Pool<Internal<V, U, WU>>,
     pub(crate) lowers: Pool<Internal<V, L, WL>>,
     pub(crate) leaves: Pool<Leaf<V, F, WF>>,
@@ -60,6 +62,8 @@ impl<
     const WL: usize,
     const WF: usize,
 > Model for TreeOf<V, U, L, F, WU, WL, WF> {
+    ghost use Rattle.std.specs.Prelude.{IsTrue};
+    ghost use Rattle.vdb_tree.specs.Changes.{IsSwept};
     ghost use Rattle.vdb_tree.specs.Layout.{Layout, bits_of};
     ghost use Rattle.vdb_tree.specs.Sound.{IsConfigured, IsSound};
 
@@ -81,7 +85,14 @@ impl<
       uppers = t.uppers;
       lowers = t.lowers;
       leaves = t.leaves;
-    }) };
+    }) × (IsTrue t.swept → IsSwept (bits_of U L F) (record {
+      background = t.background;
+      limit = t.limit;
+      root = t.root;
+      uppers = t.uppers;
+      lowers = t.lowers;
+      leaves = t.leaves;
+    })) };
 }
 
 impl<
@@ -106,6 +117,7 @@ impl<
             background,
             limit,
             root: RootTable::new(alloc),
+            swept: false,
             uppers: Pool::new(alloc),
             lowers: Pool::new(alloc),
             leaves: Pool::new(alloc),

@@ -36,6 +36,7 @@ impl<
             background: self.background,
             limit: self.limit,
             root,
+            swept: self.swept,
             uppers,
             lowers,
             leaves,

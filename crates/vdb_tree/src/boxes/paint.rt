@@ -236,6 +236,7 @@ impl<
         let place = held_place(&self.leaves, leaf);
         let bits = self.bits();
         let part = self.part(bounds, Level::Leaf, p);
+        self.swept = false;
         paint_voxels(self.leaves.at_mut(place, steps), bits, part, cell);
     }
 }

@@ -44,6 +44,7 @@ impl<
         ensures entries { Turns (block_number (bits_of U L F) Leaf) p (lower_entry (bits_of U L F) self.old) (lower_entry (bits_of U L F) self.new) (Tile cell) }
     {
         let offset = self.offset(p, Level::Lower);
+        self.swept = false;
         let from = held_place(&self.leaves, leaf);
         let _ = self.leaves.take(from, steps);
         let place = held_place(&self.lowers, lower);
@@ -59,6 +60,7 @@ impl<
         ensures entries { Turns (block_number (bits_of U L F) Leaf) p (lower_entry (bits_of U L F) self.old) (lower_entry (bits_of U L F) self.new) (Tile cell) }
     {
         let offset = self.offset(p, Level::Lower);
+        self.swept = false;
         let place = held_place(&self.lowers, lower);
         self.lowers.at_mut(place, steps).set_tile(offset, cell);
     }
@@ -73,6 +75,7 @@ impl<
         ensures lowers { Turns (block_number (bits_of U L F) Lower) p (lower_entry (bits_of U L F) self.old) (lower_entry (bits_of U L F) self.new) (Tile cell) }
     {
         let offset = self.offset(p, Level::Upper);
+        self.swept = false;
         let place = held_place(&self.uppers, upper);
         self.uppers.at_mut(place, steps).set_tile(offset, cell);
     }
@@ -87,6 +90,7 @@ impl<
         ensures lowers { Turns (block_number (bits_of U L F) Upper) p (lower_entry (bits_of U L F) self.old) (lower_entry (bits_of U L F) self.new) (Tile cell) }
     {
         let key = self.key(p);
+        self.swept = false;
         self.root.set(key, Entry::Tile(cell));
     }
 
@@ -108,6 +112,7 @@ impl<
         ensures lowers { Turns (block_number (bits_of U L F) Lower) p (lower_entry (bits_of U L F) self.old) (lower_entry (bits_of U L F) self.new) (Tile cell) }
     {
         let offset = self.offset(p, Level::Upper);
+        self.swept = false;
         let from = held_place(&self.lowers, lower);
         let _ = self.lowers.take(from, steps);
         let place = held_place(&self.uppers, upper);
@@ -124,6 +129,7 @@ impl<
         ensures lowers { Turns (block_number (bits_of U L F) Upper) p (lower_entry (bits_of U L F) self.old) (lower_entry (bits_of U L F) self.new) (Tile cell) }
     {
         let key = p.key_in(self.bits());
+        self.swept = false;
         let from = held_place(&self.uppers, upper);
         let _ = self.uppers.take(from, steps);
         self.root.set(key, Entry::Tile(cell));

@@ -30,10 +30,14 @@ impl<
         ensures keys { MakesNoKey self.old self.new }
         ensures swept { IsSwept (bits_of U L F) self.new }
     {
+        if self.swept {
+            return;
+        }
         let mut passed = None;
         while let Some(key) = self.erase_next_background(passed, steps) {
             passed = Some(key);
         }
+        self.swept = true;
     }
 
     /// Takes the entry of the first root block past a key, or of the first of all, away if the block is all background. It

@@ -5,7 +5,7 @@ ghost use Rattle.vdb_coord.specs.Blocks.{block_around};
 ghost use Rattle.vdb_coord.specs.declared.Level.TheVariants.{Leaf, Lower};
 ghost use Rattle.vdb_tree.specs.Changes.{IsConstantBlock};
 ghost use Rattle.vdb_tree.specs.Layout.{bits_of, field_of};
-ghost use Rattle.vdb_tree.specs.ConstantBlocks.{is_constant};
+ghost use Rattle.vdb_tree.specs.ConstantBlocks.{is_constant, is_uniform};
 ghost use Rattle.vdb_tree.specs.Unlike.{IsOneCell};
 
 use crate::TreeOf;
@@ -38,6 +38,15 @@ impl<
         } else {
             None
         }
+    }
+
+    /// Whether each voxel of the level's block around a coordinate has this cell (OpenVDB's `InternalNode::isConstant` and
+    /// `LeafNode::isConstant`, where the cell is known). It takes no memory, and ends at the first voxel that differs.
+    pub fn is_block_of(&self, level: Level, p: Coord, cell: Cell<V>, steps: &mut Steps) -> bool
+        ensures { result ≡ is_uniform V.eq (field_of (bits_of U L F) self.now) (block_around (bits_of U L F) level p) cell }
+    {
+        let _ = &self.root;
+        self.block_is(level, p, cell, steps)
     }
 
     /// Whether each voxel of the level's block around p is this cell.

@@ -21,6 +21,7 @@ use vdb_coord::{Coord, Level};
 use vdb_mask::Mask;
 use vdb_node::{Entry, Leaf, Stored};
 use vdb_pool::{Place, Steps};
+use vdb_value::Cell;
 
 impl<
     V: Stored<WU> + Stored<WL> + Stored<WF>,
@@ -149,6 +150,7 @@ impl<
         ensures paths { (path : TreePath V) (q : Coord) → IsWhole (bits_of U L F) self.old path q → IsWhole (bits_of U L F) self.new path q }
         ensures steps { steps.new ≤ steps.old + 1 }
     {
+        self.swept = false;
         let place = held_place(&self.leaves, leaf);
         self.leaves.at_mut(place, steps).set_states(states);
     }
@@ -162,10 +164,15 @@ impl<
         ensures paths { (path : TreePath V) (q : Coord) → IsWhole (bits_of U L F) self.old path q → IsWhole (bits_of U L F) self.new path q }
         ensures steps { steps.new ≤ steps.old + 1 }
     {
+        let background_cell = Cell {
+            value: self.background,
+            on: false,
+        };
         let offset = self.offset(p, Level::Leaf);
         let place = held_place(&self.leaves, leaf);
         let leaf = self.leaves.at_mut(place, steps);
         let cell = change.applied(leaf.entry(offset));
         leaf.set(offset, cell);
+        self.swept = self.swept && cell != background_cell;
     }
 }

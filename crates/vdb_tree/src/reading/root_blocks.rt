@@ -5,7 +5,7 @@ ghost use Rattle.vdb_coord.specs.Blocks.{block_number, entries, offset};
 ghost use Rattle.vdb_coord.specs.declared.Level.TheVariants.{Leaf, Lower, Upper};
 ghost use Rattle.vdb_node.specs.declared.Entry.TheVariants.{Child};
 ghost use Rattle.vdb_tree.specs.Changes.{IsConstantAt, IsConstantBlock};
-ghost use Rattle.vdb_tree.specs.Layout.{bits_of, field_of, lower_entry, root_entry, upper_entry};
+ghost use Rattle.vdb_tree.specs.Layout.{bits_of, cell_at, field_of, lower_entry, root_entry, upper_entry};
 ghost use Rattle.vdb_tree.specs.ConstantBlocks.{roots};
 ghost use Rattle.vdb_tree.specs.Unlike.{IsNextUnlike};
 
@@ -76,7 +76,7 @@ impl<
 
     /// The index, from this one on, of the first entry of the upper node around p that isn't a tile of this cell; `None` where
     /// there is none.
-    fn next_unlike_lower(
+    pub(crate) fn next_unlike_lower(
         &self,
         upper: u32,
         p: Coord,
@@ -86,7 +86,7 @@ impl<
     ) -> Option<u32>
         requires child { root_entry (bits_of U L F) self.now p ≡ Child upper }
         requires within { from ≤ entries (bits_of U L F) Upper }
-        ensures { IsNextUnlike (bits_of U L F) self.now Upper p cell from result }
+        ensures { IsNextUnlike (bits_of U L F) (cell_at (bits_of U L F) self.now) Upper p cell from result }
     {
         let place = held_place(&self.uppers, upper);
         self.uppers.at(place, steps).next_unlike(cell, from)
@@ -155,7 +155,7 @@ impl<
 
     /// The index, from this one on, of the first entry of the lower node around p that isn't a tile of this cell; `None` where
     /// there is none.
-    fn next_unlike_leaf(
+    pub(crate) fn next_unlike_leaf(
         &self,
         lower: u32,
         p: Coord,
@@ -165,7 +165,7 @@ impl<
     ) -> Option<u32>
         requires child { upper_entry (bits_of U L F) self.now p ≡ Child lower }
         requires within { from ≤ entries (bits_of U L F) Lower }
-        ensures { IsNextUnlike (bits_of U L F) self.now Lower p cell from result }
+        ensures { IsNextUnlike (bits_of U L F) (cell_at (bits_of U L F) self.now) Lower p cell from result }
     {
         let place = held_place(&self.lowers, lower);
         self.lowers.at(place, steps).next_unlike(cell, from)

@@ -105,6 +105,7 @@ impl<
         ensures limit { self.new.limit ≡ self.old.limit }
         ensures steps { steps.new ≤ steps.old + 1 }
     {
+        self.swept = false;
         let place = held_place(&self.leaves, slot);
         self.leaves.at_mut(place, steps).copy_from(leaf);
     }

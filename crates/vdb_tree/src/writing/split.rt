@@ -39,6 +39,7 @@ impl<
         ensures entered { OnOk result (IsSome (root_at self.new.root (key (bits_of U L F) p))) }
     {
         let key = self.key(p);
+        self.swept = false;
         self.root.put(key, Entry::Tile(cell))?;
         Ok(())
     }

@@ -1,15 +1,25 @@
-use Rattle.std.proofs.Common.{◌≡◌, ◌<◌, ◌≤◌, ◌+◌, ◌*◌, length, arith, refl, sym, ap, ◌∙◌}
-use Rattle.vdb_grid.proofs.EachAccessor.{last_next, whole_all, whole_next}
+use Rattle.std.proofs.Common.{◌<◌, ◌∙◌, length, arith}
+use Rattle.vdb_grid.proofs.EachAccessor.{none_next, set_length, whole_all, whole_next}
+use Rattle.vdb_grid.proofs.accessors.retrace.Goals.{in-Some, in_default}
 use Rattle.vdb_grid.proofs.accessors.retrace.Goals as goal
 
-pub loop-i-preserved : goal.loop-i-preserved
-loop-i-preserved g c =
-    let b : c.loop-i.i < length c.loop-i.accessors = omega arith in
-    record {
-      whole = whole_next _ _ _ _ b c.loop-i.invariant.whole c.traced.ensures.whole;
-      last = λ k. last_next _ _ _ b c.traced.ensures.last k ∙ c.loop-i.invariant.last k;
-      steps = omega arith;
-    }
+pub loop-k-preserved : goal.loop-k-preserved
+loop-k-preserved g c =
+    elim c.match-coords-k.branch [
+      | in-Some w ↦
+          let b : c.loop-k.k < length c.loop-k.paths = omega arith in
+          record {
+            whole = rw w.paths-is (whole_next _ _ _ _ _ _ b c.loop-k.invariant.whole w.in-Some.is w.trace.ensures.whole);
+            length = rw w.paths-is (set_length c.args.tree.now _ _ _ ∙ c.loop-k.invariant.length);
+            steps = rw w.steps-is (omega (arith, c.loop-k.invariant.steps, w.trace.ensures.steps));
+          }
+      | in_default w ↦
+          record {
+            whole = rw w.paths-is (none_next _ _ _ _ c.loop-k.invariant.whole w.in_default.is);
+            length = rw w.paths-is c.loop-k.invariant.length;
+            steps = rw w.steps-is (omega (arith, c.loop-k.invariant.steps));
+          }
+    ]
 
 pub returns-clause-whole : goal.returns-clause-whole
-returns-clause-whole g c = whole_all _ _ (λ k p path l e. c.loop-i.invariant.whole k p path (omega arith) e)
+returns-clause-whole g c = whole_all _ _ _ (λ k p l e. c.loop-k.invariant.whole k p (omega arith) e)

@@ -1,11 +1,10 @@
-use Rattle.std.proofs.Common.{◌≡◌, ◌≤◌, ◌<◌, ℕ, ◌+◌, ◌*◌, length}
-use Rattle.vdb_grid.specs.Grid.{KeepsLast}
+use Rattle.std.proofs.Common.{◌≡◌, ◌≤◌, ◌+◌, ◌*◌, length}
 use Rattle.vdb_grid.proofs.EachAccessor.{AreWholeBelow}
 use Rattle.vdb_grid.proofs.accessors.retrace.Given as goal
 
-abbrev pub invariant-loop-i : goal.invariant-loop-i
-invariant-loop-i g l = record {
-  whole : AreWholeBelow l.tree l.accessors l.i;
-  last : KeepsLast l.initial.accessors l.accessors;
-  steps : l.steps ≤ l.initial.steps + 3 * l.i;
+abbrev pub invariant-loop-k : goal.invariant-loop-k
+invariant-loop-k g l = record {
+  whole : AreWholeBelow l.tree l.coords l.paths l.k;
+  length : length l.paths ≡ length l.coords;
+  steps : l.steps ≤ l.initial.steps + 3 * l.k;
 }

@@ -8,5 +8,5 @@ use Rattle.vdb_scene.proofs.grid_tree.erode.Goals as goal
 pub returns-clause-outcome : goal.returns-clause-outcome
 returns-clause-outcome g c =
     let make = g.V.GridValue.as_scalar in
-    let tree = c.args.tree.now in
-    as_outcome_of_turns make erode erode (erode_made make) g.V.PartialEq.eq scalar_eq g.met.V.GridValue.same_eq vdb tree.limit c.args.turns tree.background (cell_at vdb tree) (field_of vdb c.erode.new.tree) c.erode.result c.erode.ensures.outcome
+    let tree = c.args.grid.now.tree in
+    as_outcome_of_turns make erode erode (erode_made make) g.V.PartialEq.eq scalar_eq g.met.V.GridValue.same_eq vdb tree.limit c.args.turns tree.background (cell_at vdb tree) (field_of vdb c.erode.new.self.tree) c.erode.result c.erode.ensures.outcome

@@ -11,25 +11,48 @@ use Rattle.vdb_scene.specs.Step.{write_takes_memory}
 use Rattle.vdb_scene.proofs.Writing.{no_memory}
 use Rattle.vdb_scene.proofs.grid_tree.write.Goals as goal
 
-pub returns-clause-outcome : goal.returns-clause-outcome
-returns-clause-outcome g c =
+pub returns-in-Some-clause-outcome : goal.returns-in-Some-clause-outcome
+returns-in-Some-clause-outcome g c =
     let make = g.V.GridValue.as_scalar in
-    let old = field_of vdb c.args.tree.now in
-    let new = field_of vdb c.write.new.self in
-    subst (λ w. IsOutcome scalar_eq vdb c.args.tree.now.limit (as_field_of make old) (write c.args.at w (as_field_of make old)) (as_field_of make new) c.write.result) c.of_kind.ensures
-    (as_outcome_of_write make g.V.PartialEq.eq scalar_eq g.met.V.GridValue.same_eq vdb c.args.tree.now.limit c.args.at c.of_kind.result old new c.write.result c.write.ensures.outcome)
+    let old = field_of vdb c.args.grid.now.tree in
+    let new = field_of vdb c.write_by.new.self.tree in
+    subst (λ w. IsOutcome scalar_eq vdb c.args.grid.now.tree.limit (as_field_of make old) (write c.args.at w (as_field_of make old)) (as_field_of make new) c.write_by.result) c.of_kind-change.ensures
+    (as_outcome_of_write make g.V.PartialEq.eq scalar_eq g.met.V.GridValue.same_eq vdb c.args.grid.now.tree.limit c.args.at c.of_kind-change.result old new c.write_by.result c.write_by.ensures.outcome)
 
-pub returns-clause-memory : goal.returns-clause-memory
-returns-clause-memory g c = λ free.
+pub returns-in-Some-clause-memory : goal.returns-in-Some-clause-memory
+returns-in-Some-clause-memory g c = λ free.
     let make = g.V.GridValue.as_scalar in
     let eq = g.V.PartialEq.eq in
     let same = g.met.V.GridValue.same_eq in
-    let t = c.args.tree.now in
+    let t = c.args.grid.now.tree in
     let old = (field_of vdb t).cell c.args.at in
     let exact = exact_by eq g.V.Ord.cmp g.met.V.Ord.matches_eq g.met.V.Voxel.exact in
-    elim (no_memory _ _ (subst (λ w. write_takes_memory (as_field_of make (field_of vdb t)) c.args.at w ≡ false) (sym c.of_kind.ensures) free)) [
+    elim (no_memory _ _ (subst (λ w. write_takes_memory (as_field_of make (field_of vdb t)) c.args.at w ≡ false) (sym c.of_kind-change.ensures) free)) [
       | inl stands ↦
-          c.write.ensures.unchanged (cell_exact eq exact g.met.V.Eq.laws.refl (written c.of_kind.result old) old (sym (as_field_of_stands make t.background (cell_at vdb t) eq scalar_eq same c.of_kind.result c.args.at) ∙ stands))
+          c.write_by.ensures.unchanged (cell_exact eq exact g.met.V.Eq.laws.refl (written c.of_kind-change.result old) old (sym (as_field_of_stands make t.background (cell_at vdb t) eq scalar_eq same c.of_kind-change.result c.args.at) ∙ stands))
+      | inr non_constant ↦
+          c.write_by.ensures.non_constant (sym (as_field_of_constant make t.background (cell_at vdb t) eq scalar_eq same (block_around vdb Leaf c.args.at)) ∙ non_constant)
+    ]
+
+pub returns-in-None-clause-outcome : goal.returns-in-None-clause-outcome
+returns-in-None-clause-outcome g c =
+    let make = g.V.GridValue.as_scalar in
+    let old = field_of vdb c.args.grid.now.tree in
+    let new = field_of vdb c.write.new.self.tree in
+    subst (λ w. IsOutcome scalar_eq vdb c.args.grid.now.tree.limit (as_field_of make old) (write c.args.at w (as_field_of make old)) (as_field_of make new) c.write.result) c.of_kind-change.ensures
+    (as_outcome_of_write make g.V.PartialEq.eq scalar_eq g.met.V.GridValue.same_eq vdb c.args.grid.now.tree.limit c.args.at c.of_kind-change.result old new c.write.result c.write.ensures.outcome)
+
+pub returns-in-None-clause-memory : goal.returns-in-None-clause-memory
+returns-in-None-clause-memory g c = λ free.
+    let make = g.V.GridValue.as_scalar in
+    let eq = g.V.PartialEq.eq in
+    let same = g.met.V.GridValue.same_eq in
+    let t = c.args.grid.now.tree in
+    let old = (field_of vdb t).cell c.args.at in
+    let exact = exact_by eq g.V.Ord.cmp g.met.V.Ord.matches_eq g.met.V.Voxel.exact in
+    elim (no_memory _ _ (subst (λ w. write_takes_memory (as_field_of make (field_of vdb t)) c.args.at w ≡ false) (sym c.of_kind-change.ensures) free)) [
+      | inl stands ↦
+          c.write.ensures.unchanged (cell_exact eq exact g.met.V.Eq.laws.refl (written c.of_kind-change.result old) old (sym (as_field_of_stands make t.background (cell_at vdb t) eq scalar_eq same c.of_kind-change.result c.args.at) ∙ stands))
       | inr non_constant ↦
           c.write.ensures.non_constant (sym (as_field_of_constant make t.background (cell_at vdb t) eq scalar_eq same (block_around vdb Leaf c.args.at)) ∙ non_constant)
     ]

@@ -1,10 +1,15 @@
 use Rattle.std.proofs.Common.{◌≢◌, map, length, rules}
 use Rattle.std.proofs.lemmas.List.{length-map}
-use Rattle.vdb_script.specs.Grammar.{grid}
-use Rattle.vdb_script.proofs.Forms.{whole_takes, grid_takes}
+use Rattle.vdb_script.proofs.Forms.{no_grid}
 use Rattle.vdb_script.proofs.parsing.grid_command.Goals as goal
+use Rattle.vdb_script.proofs.parsing.grid_command.Goals.{in_default-via-then-tokens-lt3, in_default-via-else-tokens-lt3+else-tokens-lt4+else-tokens-lt5}
 
 pub returns-in_default : goal.returns-in_default
 returns-in_default c =
-    let other : length c.args.tokens.now ≢ 3 = search rules in
-    whole_takes 3 grid (map (λ t. t.now) c.args.tokens.now) grid_takes (simp length-map other)
+    let apart : (length c.args.tokens.now ≢ 3) × (length c.args.tokens.now ≢ 4) = elim c.in_default.branch [
+      | in_default-via-then-tokens-lt3 w ↦ (search rules, search rules)
+      | in_default-via-else-tokens-lt3+else-tokens-lt4+else-tokens-lt5 w ↦ (search rules, search rules)
+    ] in
+    let three = apart.0 in
+    let four = apart.1 in
+    no_grid (map (λ t. t.now) c.args.tokens.now) (simp length-map three) (simp length-map four)

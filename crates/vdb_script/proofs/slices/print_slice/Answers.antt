@@ -12,10 +12,10 @@ returns-in_err-add_rows-clause-writes g c =
 pub returns-in_err-add-clause-writes : goal.returns-in_err-add-clause-writes
 returns-in_err-add-clause-writes g c =
     let exit = err_from_is_err_and c.from_residual-in_err-add.result c.from_residual-in_err-add.ensures.1 in
-    let line = c.as_slice.ensures.value ∙ c.slice_end_line.ensures ∙ ap (λ (n : ℕ). last_line (codes "end") n) c.len-count.ensures in
+    let line = c.as_slice.ensures.value ∙ c.end_line.ensures ∙ ap (λ (n : ℕ). last_line (codes "end") n) c.len-count.ensures in
     rw exit.1 (cut_at_last _ _ _ _ _ c.new-page.ensures _ _ _ line c.in_ok-add_rows.ensures.adds c.in_err-add.ensures.adds)
 
 pub returns-clause-writes : goal.returns-clause-writes
 returns-clause-writes g c =
-    let line = c.as_slice.ensures.value ∙ c.slice_end_line.ensures ∙ ap (λ (n : ℕ). last_line (codes "end") n) c.len-count.ensures in
+    let line = c.as_slice.ensures.value ∙ c.end_line.ensures ∙ ap (λ (n : ℕ). last_line (codes "end") n) c.len-count.ensures in
     writes_all _ _ _ _ _ c.new-page.ensures _ _ _ line c.in_ok-add_rows.ensures.adds _ _ _ c.in_ok-add.ensures.adds c.as_slice-2.ensures.value _ c.write_bytes.ensures.writes

@@ -1,11 +1,17 @@
-use Rattle.vdb_grid.proofs.EachAccessor.{whole_set}
-use Rattle.vdb_grid.proofs.NearLeaves.{one_visit, start_near}
+use Rattle.std.proofs.Common.{arith, sym}
+use Rattle.vdb_grid.proofs.EachAccessor.{whole_moved}
+use Rattle.vdb_grid.proofs.NearLeaves.{near_below}
 use Rattle.vdb_grid.proofs.grid.Grid.probe.Goals as goal
 
 pub invariant_of-self : goal.invariant_of-self
-invariant_of-self g c = whole_set _ _ _ _ _ c.self.invariant c.descend-cell.ensures.whole
+invariant_of-self g c = whole_moved _ _ _ _ _ c.self.invariant (rw (← c.self.view_is) at c.in-Some.ensures.whole)
 
-pub returns-clause-near : goal.returns-clause-near
-returns-clause-near g c = λ q e b.
-    let n = start_near _ _ c.args.p q (c.self.invariant c.args.k) (rw (← c.self.view_is) at e) b in
-    one_visit _ _ _ (rw (c.start-path.ensures.value, ← c.self.view_is) at c.descend-cell.ensures.steps) n
+pub returns-in-Some-clause-below : goal.returns-in-Some-clause-below
+returns-in-Some-clause-below g c = λ q e.
+    rw (← c.self.view_is) (near_below _ _ _ c.args.k q c.args.p _ _ c.self.invariant (rw (← c.self.view_is) at e) (rw (← c.self.view_is) at (sym c.in-Some.ensures.answer)) c.in-Some.ensures.steps)
+
+pub returns-in-None-clause-below : goal.returns-in-None-clause-below
+returns-in-None-clause-below g c = λ q e. omega (arith, c.go_to.ensures.below q e, c.in-None.ensures.steps)
+
+pub returns-in-None-clause-near : goal.returns-in-None-clause-near
+returns-in-None-clause-near g c = λ q e b. omega (arith, c.go_to.ensures.near q e b, c.in-None.ensures.steps)

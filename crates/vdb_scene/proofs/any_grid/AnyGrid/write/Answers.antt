@@ -17,3 +17,12 @@ returns-in-I64-clause-outcome c = rw c.in-I64.is c.write-in-I64.ensures.outcome
 
 pub returns-in-I64-clause-memory : goal.returns-in-I64-clause-memory
 returns-in-I64-clause-memory c = rw c.in-I64.is c.write-in-I64.ensures.memory
+
+pub returns-in-Bool-clause-last : goal.returns-in-Bool-clause-last
+returns-in-Bool-clause-last c = rw c.in-Bool.is c.write.ensures.last
+
+pub returns-in-I32-clause-last : goal.returns-in-I32-clause-last
+returns-in-I32-clause-last c = rw c.in-I32.is c.write-in-I32.ensures.last
+
+pub returns-in-I64-clause-last : goal.returns-in-I64-clause-last
+returns-in-I64-clause-last c = rw c.in-I64.is c.write-in-I64.ensures.last

@@ -4,28 +4,28 @@ use Rattle.vdb_scene.proofs.scene.Scene.change_by.Goals as goal
 
 pub unreachable-requires : goal.unreachable-requires
 unreachable-requires c =
-    let out = c.lend-grid.ensures.rest in
+    let out = c.lend-entry.ensures.rest in
     not_missing _ c.requires.other
-    (c.in-None.ensures.value ∙ other_found c.args.self.now.grids.entries c.lend-grid.new.self.grids.entries c.args.name.now c.args.other.now out.0 out.1 c.requires.apart)
+    (c.in-None.ensures.value ∙ other_found c.args.self.now.grids.entries c.lend-entry.new.self.grids.entries c.args.name.now c.args.other.now out.0 out.1 c.requires.apart)
 
 pub give_back-requires : goal.give_back-requires
 give_back-requires c =
-    let out = c.lend-grid.ensures.rest in
-    place_found c.args.self.now.grids.entries c.lend-grid.new.self.grids.entries c.args.name.now c.args.other.now out.0 out.1 c.requires.there
+    let out = c.lend-entry.ensures.rest in
+    place_found c.args.self.now.grids.entries c.lend-entry.new.self.grids.entries c.args.name.now c.args.other.now out.0 out.1 c.requires.there
 
 pub returns : goal.returns
 returns c =
-    let out = c.lend-grid.ensures.rest in
+    let out = c.lend-entry.ensures.rest in
     let entries = c.args.self.now.grids.entries in
-    let lent = c.lend-grid.new.self.grids.entries in
+    let lent = c.lend-entry.new.self.grids.entries in
     record {
       grids = (
-        c.lend-grid.result,
+        c.lend-entry.result,
         c.in-Some.given.now,
         c.combine-result.new.self,
-        c.lend-grid.ensures.grid,
+        c.lend-entry.ensures.entry,
         sym (c.in-Some.ensures.value ∙ other_found entries lent c.args.name.now c.args.other.now out.0 out.1 c.requires.apart),
-        put_back entries lent c.args.name.now c.args.other.now out.0 out.1 c.give_back.new.self.grids.entries c.combine-result.new.self c.give_back.ensures,
+        put_back entries lent c.args.name.now c.args.other.now out.0 out.1 c.give_back.new.self.grids.entries (record c.lend-entry.result { grid = c.combine-result.new.self }) c.give_back.ensures,
         c.combine-result.ensures.limit,
         c.combine-result.ensures.outcome,
         c.combine-result.ensures.kept,

@@ -4,7 +4,7 @@ use Rattle.vdb_tree.specs.Field.{clip}
 use Rattle.vdb_scene.specs.Replies as replies
 use Rattle.vdb_scene.specs.Refusals.{of_tree}
 use Rattle.vdb_scene.specs.Step.{changed}
-use Rattle.vdb_scene.proofs.Borrowed.{changed_field, found, kept, missing, unchanged}
+use Rattle.vdb_scene.proofs.Borrowed.{changed_field, found, kept, missing, same_scene, unchanged}
 use Rattle.vdb_scene.proofs.Steps.{corners_first, refused}
 use Rattle.vdb_scene.specs.Grids.{grid_field, grid_limit, scene_of}
 use Rattle.vdb_scene.specs.declared.command.Command.TheVariants as commands
@@ -19,46 +19,46 @@ returns-in_default-clause-step c =
 pub returns-in_err-bounds-clause-step : goal.returns-in_err-bounds-clause-step
 returns-in_err-bounds-clause-step c =
     let grids = c.args.self.now.grids.entries in
-    let grid = c.in-Some.grid.now in
+    let entry = c.in-Some.entry.now in
     let there = sym c.in-Some.ensures.value in
     let exit = err_from_is_err_and c.from_residual.result c.from_residual.ensures.1 in
     let first = corners_first _ _ _ _ (c.in_err-bounds.ensures.refusal ∙ ap Some (sym exit.2)) in
-    rw exit.1 (refused (scene_of c.args.self.now) (commands.Clip c.args.name.now c.args.corners.now) _ _ (rw (found grids c.args.name.now grid there) first.0) first.1
-    (unchanged grids c.args.name.now _ grid grid there (c.get_mut.follows.holds grid).0 refl refl))
+    rw exit.1 (refused (scene_of c.args.self.now) (commands.Clip c.args.name.now c.args.corners.now) _ _ (rw (found grids c.args.name.now entry there) first.0) first.1
+    (same_scene grids c.args.name.now _ entry there (c.get_mut.follows.holds entry).0))
 
 pub returns-in_err-clip-clause-step : goal.returns-in_err-clip-clause-step
 returns-in_err-clip-clause-step c =
     let grids = c.args.self.now.grids.entries in
-    let grid = c.in-Some.grid.now in
+    let entry = c.in-Some.entry.now in
     let there = sym c.in-Some.ensures.value in
     let exit = err_from_is_err_and c.from_residual-in_err-clip.result c.from_residual-in_err-clip.ensures.1 in
-    let same = kept c.in_err-clip.field-0.0 (grid_limit grid) (grid_field grid) (clip c.in_ok-bounds.bounds (grid_field grid)) (grid_field c.clip.new.self) c.in_err-clip.ensures.outcome in
+    let same = kept c.in_err-clip.field-0.0 (grid_limit entry.grid) (grid_field entry.grid) (clip c.in_ok-bounds.bounds (grid_field entry.grid)) (grid_field c.clip.new.self) c.in_err-clip.ensures.outcome in
     rw (exit.1, exit.2 ∙ ap of_tree c.in_err-clip.ensures.memory) (
-      rw (found grids c.args.name.now grid there, c.in_ok-bounds.ensures.places, c.in_ok-bounds.ensures.ordered) refl,
+      rw (found grids c.args.name.now entry there, c.in_ok-bounds.ensures.places, c.in_ok-bounds.ensures.ordered) refl,
       refl,
-      unchanged grids c.args.name.now _ grid c.clip.new.self there (c.get_mut.follows.holds c.clip.new.self).0 same c.in_err-clip.ensures.limit,
+      unchanged grids c.args.name.now _ entry there c.clip.new.self (c.get_mut.follows.holds (record entry { grid = c.clip.new.self })).0 same c.in_err-clip.ensures.limit,
     )
 
 pub returns-clause-step : goal.returns-clause-step
 returns-clause-step c =
     let grids = c.args.self.now.grids.entries in
-    let grid = c.in-Some.grid.now in
+    let entry = c.in-Some.entry.now in
     let there = sym c.in-Some.ensures.value in (
-      rw (found grids c.args.name.now grid there, c.in_ok-bounds.ensures.places, c.in_ok-bounds.ensures.ordered) refl,
+      rw (found grids c.args.name.now entry there, c.in_ok-bounds.ensures.places, c.in_ok-bounds.ensures.ordered) refl,
       (replies.Done, refl, refl),
-      changed_field grids c.args.name.now _ grid c.clip.new.self there (c.get_mut.follows.holds c.clip.new.self).0 (clip c.in_ok-bounds.bounds) c.in_ok-clip.ensures.outcome.0 c.in_ok-clip.ensures.limit
+      changed_field grids c.args.name.now _ entry there c.clip.new.self (c.get_mut.follows.holds (record entry { grid = c.clip.new.self })).0 (clip c.in_ok-bounds.bounds) c.in_ok-clip.ensures.outcome.0 c.in_ok-clip.ensures.limit
           ∙ ap (λ box. changed (scene_of c.args.self.now) c.args.name.now (clip box)) c.in_ok-bounds.ensures.bounds,
     )
 
 pub returns-in_err-bounds-clause-trees : goal.returns-in_err-bounds-clause-trees
 returns-in_err-bounds-clause-trees c =
     let exit = err_from_is_err_and c.from_residual.result c.from_residual.ensures.1 in
-    rw exit.1 (refused_leaves c.args.self.now (record c.args.self.now { grids = c.get_mut.follows.lender c.in-Some.grid.now }) (commands.Clip c.args.name.now c.args.corners.now) c.args.name.now refl c.in-Some.grid.now (c.get_mut.follows.holds c.in-Some.grid.now).0 _ (sym c.in-Some.ensures.value))
+    rw exit.1 (refused_leaves c.args.self.now (record c.args.self.now { grids = c.get_mut.follows.lender c.in-Some.entry.now }) (commands.Clip c.args.name.now c.args.corners.now) c.args.name.now refl c.in-Some.entry.now (c.get_mut.follows.holds c.in-Some.entry.now).0 _ (sym c.in-Some.ensures.value))
 
 pub returns-in_err-clip-clause-trees : goal.returns-in_err-clip-clause-trees
 returns-in_err-clip-clause-trees c =
     let exit = err_from_is_err_and c.from_residual-in_err-clip.result c.from_residual-in_err-clip.ensures.1 in
-    rw (exit.1, exit.2) (tree_refused_leaves c.args.self.now (record c.args.self.now { grids = c.get_mut.follows.lender c.clip.new.self }) (commands.Clip c.args.name.now c.args.corners.now) c.args.name.now refl c.clip.new.self (c.get_mut.follows.holds c.clip.new.self).0 c.in_err-clip.field-0.0)
+    rw (exit.1, exit.2) (tree_refused_leaves c.args.self.now (record c.args.self.now { grids = c.get_mut.follows.lender (record c.in-Some.entry.now { grid = c.clip.new.self }) }) (commands.Clip c.args.name.now c.args.corners.now) c.args.name.now refl (record c.in-Some.entry.now { grid = c.clip.new.self }) (c.get_mut.follows.holds (record c.in-Some.entry.now { grid = c.clip.new.self })).0 c.in_err-clip.field-0.0)
 
 pub returns-clause-trees : goal.returns-clause-trees
-returns-clause-trees c = (c.clip.new.self, (c.get_mut.follows.holds c.clip.new.self).0)
+returns-clause-trees c = (record c.in-Some.entry.now { grid = c.clip.new.self }, (c.get_mut.follows.holds (record c.in-Some.entry.now { grid = c.clip.new.self })).0)

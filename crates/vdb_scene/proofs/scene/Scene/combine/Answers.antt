@@ -32,3 +32,8 @@ returns-in_err-change_by-clause-trees c =
     let g = c.in_err-change_by.ensures.grids in
     let exit = err_from_is_err_and c.from_residual.result c.from_residual.ensures.1 in
     rw (exit.1, exit.2) (refused_trees c.args.operation c.args.self.now c.change_by.new.self c.args.name.now c.args.other.now g.0 g.2 c.in_err-change_by.field-0.0 g.3 g.5 g.8)
+
+pub returns-clause-trees : goal.returns-clause-trees
+returns-clause-trees c =
+    let g = c.in_ok-change_by.ensures.grids in
+    done_leaves c.args.operation c.args.self.now c.change_by.new.self c.args.name.now c.args.other.now (record g.0 { grid = g.2 }) g.5

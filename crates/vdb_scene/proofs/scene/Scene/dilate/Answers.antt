@@ -1,6 +1,6 @@
 use Rattle.std.proofs.Common.{refl, sym}
 use Rattle.std.proofs.lemmas.Result.{err_from_is_err_and}
-use Rattle.vdb_scene.proofs.Borrowed.{unchanged}
+use Rattle.vdb_scene.proofs.Borrowed.{same_scene}
 use Rattle.vdb_scene.proofs.Steps.{test_fails, test_passes}
 use Rattle.vdb_scene.proofs.Trees.{same_back, tree_refused_leaves}
 use Rattle.vdb_scene.proofs.Turning.{dilate_done, dilate_missing, dilate_out_of_range, dilate_refused}
@@ -13,30 +13,30 @@ returns-in_default-clause-step c = dilate_missing c.args.self.now.grids.entries 
 pub returns-in_default-turns_of-clause-step : goal.returns-in_default-turns_of-clause-step
 returns-in_default-turns_of-clause-step c =
     let grids = c.args.self.now.grids.entries in
-    let grid = c.in-Some.grid.now in
+    let entry = c.in-Some.entry.now in
     let there = sym c.in-Some.ensures.value in
-    dilate_out_of_range grids c.args.name.now c.args.turns _ (unchanged grids c.args.name.now _ grid grid there (c.get_mut.follows.holds grid).0 refl refl) grid there (test_fails _ _ (sym c.in_default-turns_of.ensures.turns))
+    dilate_out_of_range grids c.args.name.now c.args.turns _ (same_scene grids c.args.name.now _ entry there (c.get_mut.follows.holds entry).0) entry there (test_fails _ _ (sym c.in_default-turns_of.ensures.turns))
 
 pub returns-in_err-dilate-clause-step : goal.returns-in_err-dilate-clause-step
 returns-in_err-dilate-clause-step c =
     let fits = test_passes _ _ _ (sym c.in-Some-turns_of.ensures.turns) in
     let exit = err_from_is_err_and c.from_residual.result c.from_residual.ensures.1 in
-    rw (exit.1, exit.2) (dilate_refused c.args.self.now.grids.entries _ c.args.name.now c.args.turns c.in-Some.grid.now c.dilate.new.self (sym c.in-Some.ensures.value)
-    (c.get_mut.follows.holds c.dilate.new.self).0 c.in_err-dilate.ensures.limit fits.0 c.in-Some-turns_of.count fits.1 c.in_err-dilate.field-0.0 c.in_err-dilate.ensures.outcome)
+    rw (exit.1, exit.2) (dilate_refused c.args.self.now.grids.entries _ c.args.name.now c.args.turns c.in-Some.entry.now c.dilate.new.self (sym c.in-Some.ensures.value)
+    (c.get_mut.follows.holds (record c.in-Some.entry.now { grid = c.dilate.new.self })).0 c.in_err-dilate.ensures.limit fits.0 c.in-Some-turns_of.count fits.1 c.in_err-dilate.field-0.0 c.in_err-dilate.ensures.outcome)
 
 pub returns-clause-step : goal.returns-clause-step
 returns-clause-step c =
     let fits = test_passes _ _ _ (sym c.in-Some-turns_of.ensures.turns) in
-    dilate_done c.args.self.now.grids.entries _ c.args.name.now c.args.turns c.in-Some.grid.now c.dilate.new.self (sym c.in-Some.ensures.value)
-    (c.get_mut.follows.holds c.dilate.new.self).0 c.in_ok-dilate.ensures.limit fits.0 c.in-Some-turns_of.count fits.1 tt c.in_ok-dilate.ensures.outcome
+    dilate_done c.args.self.now.grids.entries _ c.args.name.now c.args.turns c.in-Some.entry.now c.dilate.new.self (sym c.in-Some.ensures.value)
+    (c.get_mut.follows.holds (record c.in-Some.entry.now { grid = c.dilate.new.self })).0 c.in_ok-dilate.ensures.limit fits.0 c.in-Some-turns_of.count fits.1 tt c.in_ok-dilate.ensures.outcome
 
 pub returns-in_default-turns_of-clause-trees : goal.returns-in_default-turns_of-clause-trees
-returns-in_default-turns_of-clause-trees c = same_back c.args.self.now.grids.entries _ c.args.name.now c.in-Some.grid.now (sym c.in-Some.ensures.value) (c.get_mut.follows.holds c.in-Some.grid.now).0
+returns-in_default-turns_of-clause-trees c = same_back c.args.self.now.grids.entries _ c.args.name.now c.in-Some.entry.now (sym c.in-Some.ensures.value) (c.get_mut.follows.holds c.in-Some.entry.now).0
 
 pub returns-in_err-dilate-clause-trees : goal.returns-in_err-dilate-clause-trees
 returns-in_err-dilate-clause-trees c =
     let exit = err_from_is_err_and c.from_residual.result c.from_residual.ensures.1 in
-    rw (exit.1, exit.2) (tree_refused_leaves c.args.self.now (record c.args.self.now { grids = c.get_mut.follows.lender c.dilate.new.self }) (commands.Dilate c.args.name.now c.args.turns) c.args.name.now refl c.dilate.new.self (c.get_mut.follows.holds c.dilate.new.self).0 c.in_err-dilate.field-0.0)
+    rw (exit.1, exit.2) (tree_refused_leaves c.args.self.now (record c.args.self.now { grids = c.get_mut.follows.lender (record c.in-Some.entry.now { grid = c.dilate.new.self }) }) (commands.Dilate c.args.name.now c.args.turns) c.args.name.now refl (record c.in-Some.entry.now { grid = c.dilate.new.self }) (c.get_mut.follows.holds (record c.in-Some.entry.now { grid = c.dilate.new.self })).0 c.in_err-dilate.field-0.0)
 
 pub returns-clause-trees : goal.returns-clause-trees
-returns-clause-trees c = (c.dilate.new.self, (c.get_mut.follows.holds c.dilate.new.self).0)
+returns-clause-trees c = (record c.in-Some.entry.now { grid = c.dilate.new.self }, (c.get_mut.follows.holds (record c.in-Some.entry.now { grid = c.dilate.new.self })).0)

@@ -3,7 +3,7 @@ use Rattle.std.proofs.lemmas.Result.{err_from_is_err_and}
 use Rattle.std.specs.Prelude.{Some}
 use Rattle.vdb_tree.specs.Field.{fill}
 use Rattle.vdb_scene.specs.Grids.{grid_field, grid_limit}
-use Rattle.vdb_scene.proofs.Borrowed.{changed_field, kept, unchanged}
+use Rattle.vdb_scene.proofs.Borrowed.{changed_field, kept, same_scene, unchanged}
 use Rattle.vdb_scene.proofs.Filling.{fill_corners_refused, fill_done, fill_missing, fill_refused, fill_value_refused}
 use Rattle.vdb_scene.proofs.Trees.{refused_leaves, tree_refused_leaves}
 use Rattle.vdb_scene.specs.declared.command.Command.TheVariants as commands
@@ -16,58 +16,58 @@ returns-in_default-clause-step c =
 pub returns-in_err-value-clause-step : goal.returns-in_err-value-clause-step
 returns-in_err-value-clause-step c =
     let grids = c.args.self.now.grids.entries in
-    let grid = c.in-Some.grid.now in
+    let entry = c.in-Some.entry.now in
     let there = sym c.in-Some.ensures.value in
     let exit = err_from_is_err_and c.from_residual.result c.from_residual.ensures.1 in
-    rw exit.1 (fill_value_refused grids c.args.name.now c.args.corners.now c.args.value c.args.on _ grid there c.kind.result c.kind.ensures _ (c.in_err-value.ensures.refusal ∙ ap Some (sym exit.2))
-    (unchanged grids c.args.name.now _ grid grid there (c.get_mut.follows.holds grid).0 refl refl))
+    rw exit.1 (fill_value_refused grids c.args.name.now c.args.corners.now c.args.value c.args.on _ entry there c.kind.result c.kind.ensures _ (c.in_err-value.ensures.refusal ∙ ap Some (sym exit.2))
+    (same_scene grids c.args.name.now _ entry there (c.get_mut.follows.holds entry).0))
 
 pub returns-in_err-bounds-clause-step : goal.returns-in_err-bounds-clause-step
 returns-in_err-bounds-clause-step c =
     let grids = c.args.self.now.grids.entries in
-    let grid = c.in-Some.grid.now in
+    let entry = c.in-Some.entry.now in
     let there = sym c.in-Some.ensures.value in
     let exit = err_from_is_err_and c.from_residual-in_err-bounds.result c.from_residual-in_err-bounds.ensures.1 in
-    rw exit.1 (fill_corners_refused grids c.args.name.now c.args.corners.now c.args.value c.args.on _ grid there c.kind.result c.kind.ensures c.in_ok-value.ensures.form c.in_ok-value.ensures.range
-    _ (c.in_err-bounds.ensures.refusal ∙ ap Some (sym exit.2)) (unchanged grids c.args.name.now _ grid grid there (c.get_mut.follows.holds grid).0 refl refl))
+    rw exit.1 (fill_corners_refused grids c.args.name.now c.args.corners.now c.args.value c.args.on _ entry there c.kind.result c.kind.ensures c.in_ok-value.ensures.form c.in_ok-value.ensures.range
+    _ (c.in_err-bounds.ensures.refusal ∙ ap Some (sym exit.2)) (same_scene grids c.args.name.now _ entry there (c.get_mut.follows.holds entry).0))
 
 pub returns-in_err-fill-clause-step : goal.returns-in_err-fill-clause-step
 returns-in_err-fill-clause-step c =
     let grids = c.args.self.now.grids.entries in
-    let grid = c.in-Some.grid.now in
+    let entry = c.in-Some.entry.now in
     let there = sym c.in-Some.ensures.value in
     let exit = err_from_is_err_and c.from_residual-in_err-fill.result c.from_residual-in_err-fill.ensures.1 in
-    let same = kept c.in_err-fill.field-0.0 (grid_limit grid) (grid_field grid) (fill c.in_ok-bounds.bounds (record { value = c.in_ok-value.value; on = c.args.on }) (grid_field grid)) (grid_field c.fill.new.self)
+    let same = kept c.in_err-fill.field-0.0 (grid_limit entry.grid) (grid_field entry.grid) (fill c.in_ok-bounds.bounds (record { value = c.in_ok-value.value; on = c.args.on }) (grid_field entry.grid)) (grid_field c.fill.new.self)
     c.in_err-fill.ensures.outcome in
-    rw (exit.1, exit.2) (fill_refused grids c.args.name.now c.args.corners.now c.args.value c.args.on _ grid there c.kind.result c.kind.ensures c.in_ok-value.ensures.form c.in_ok-value.ensures.range
+    rw (exit.1, exit.2) (fill_refused grids c.args.name.now c.args.corners.now c.args.value c.args.on _ entry there c.kind.result c.kind.ensures c.in_ok-value.ensures.form c.in_ok-value.ensures.range
     c.in_ok-bounds.ensures.places c.in_ok-bounds.ensures.ordered c.in_ok-bounds.bounds c.in_ok-bounds.ensures.bounds c.in_ok-value.value c.in_ok-value.ensures.value
     c.in_err-fill.field-0.0 (grid_field c.fill.new.self) c.in_err-fill.ensures.outcome
-    (unchanged grids c.args.name.now _ grid c.fill.new.self there (c.get_mut.follows.holds c.fill.new.self).0 same c.in_err-fill.ensures.limit))
+    (unchanged grids c.args.name.now _ entry there c.fill.new.self (c.get_mut.follows.holds (record entry { grid = c.fill.new.self })).0 same c.in_err-fill.ensures.limit))
 
 pub returns-clause-step : goal.returns-clause-step
 returns-clause-step c =
     let grids = c.args.self.now.grids.entries in
-    let grid = c.in-Some.grid.now in
+    let entry = c.in-Some.entry.now in
     let there = sym c.in-Some.ensures.value in
-    fill_done grids c.args.name.now c.args.corners.now c.args.value c.args.on _ grid there c.kind.result c.kind.ensures c.in_ok-value.ensures.form c.in_ok-value.ensures.range
+    fill_done grids c.args.name.now c.args.corners.now c.args.value c.args.on _ entry there c.kind.result c.kind.ensures c.in_ok-value.ensures.form c.in_ok-value.ensures.range
     c.in_ok-bounds.ensures.places c.in_ok-bounds.ensures.ordered c.in_ok-bounds.bounds c.in_ok-bounds.ensures.bounds c.in_ok-value.value c.in_ok-value.ensures.value c.in_ok-fill.ensures.outcome.1
-    (changed_field grids c.args.name.now _ grid c.fill.new.self there (c.get_mut.follows.holds c.fill.new.self).0 (fill c.in_ok-bounds.bounds (record { value = c.in_ok-value.value; on = c.args.on }))
+    (changed_field grids c.args.name.now _ entry there c.fill.new.self (c.get_mut.follows.holds (record entry { grid = c.fill.new.self })).0 (fill c.in_ok-bounds.bounds (record { value = c.in_ok-value.value; on = c.args.on }))
     c.in_ok-fill.ensures.outcome.0 c.in_ok-fill.ensures.limit)
 
 pub returns-in_err-value-clause-trees : goal.returns-in_err-value-clause-trees
 returns-in_err-value-clause-trees c =
     let exit = err_from_is_err_and c.from_residual.result c.from_residual.ensures.1 in
-    rw exit.1 (refused_leaves c.args.self.now (record c.args.self.now { grids = c.get_mut.follows.lender c.in-Some.grid.now }) (commands.Fill c.args.name.now c.args.corners.now c.args.value c.args.on) c.args.name.now refl c.in-Some.grid.now (c.get_mut.follows.holds c.in-Some.grid.now).0 _ (sym c.in-Some.ensures.value))
+    rw exit.1 (refused_leaves c.args.self.now (record c.args.self.now { grids = c.get_mut.follows.lender c.in-Some.entry.now }) (commands.Fill c.args.name.now c.args.corners.now c.args.value c.args.on) c.args.name.now refl c.in-Some.entry.now (c.get_mut.follows.holds c.in-Some.entry.now).0 _ (sym c.in-Some.ensures.value))
 
 pub returns-in_err-bounds-clause-trees : goal.returns-in_err-bounds-clause-trees
 returns-in_err-bounds-clause-trees c =
     let exit = err_from_is_err_and c.from_residual-in_err-bounds.result c.from_residual-in_err-bounds.ensures.1 in
-    rw exit.1 (refused_leaves c.args.self.now (record c.args.self.now { grids = c.get_mut.follows.lender c.in-Some.grid.now }) (commands.Fill c.args.name.now c.args.corners.now c.args.value c.args.on) c.args.name.now refl c.in-Some.grid.now (c.get_mut.follows.holds c.in-Some.grid.now).0 _ (sym c.in-Some.ensures.value))
+    rw exit.1 (refused_leaves c.args.self.now (record c.args.self.now { grids = c.get_mut.follows.lender c.in-Some.entry.now }) (commands.Fill c.args.name.now c.args.corners.now c.args.value c.args.on) c.args.name.now refl c.in-Some.entry.now (c.get_mut.follows.holds c.in-Some.entry.now).0 _ (sym c.in-Some.ensures.value))
 
 pub returns-in_err-fill-clause-trees : goal.returns-in_err-fill-clause-trees
 returns-in_err-fill-clause-trees c =
     let exit = err_from_is_err_and c.from_residual-in_err-fill.result c.from_residual-in_err-fill.ensures.1 in
-    rw (exit.1, exit.2) (tree_refused_leaves c.args.self.now (record c.args.self.now { grids = c.get_mut.follows.lender c.fill.new.self }) (commands.Fill c.args.name.now c.args.corners.now c.args.value c.args.on) c.args.name.now refl c.fill.new.self (c.get_mut.follows.holds c.fill.new.self).0 c.in_err-fill.field-0.0)
+    rw (exit.1, exit.2) (tree_refused_leaves c.args.self.now (record c.args.self.now { grids = c.get_mut.follows.lender (record c.in-Some.entry.now { grid = c.fill.new.self }) }) (commands.Fill c.args.name.now c.args.corners.now c.args.value c.args.on) c.args.name.now refl (record c.in-Some.entry.now { grid = c.fill.new.self }) (c.get_mut.follows.holds (record c.in-Some.entry.now { grid = c.fill.new.self })).0 c.in_err-fill.field-0.0)
 
 pub returns-clause-trees : goal.returns-clause-trees
-returns-clause-trees c = (c.fill.new.self, (c.get_mut.follows.holds c.fill.new.self).0)
+returns-clause-trees c = (record c.in-Some.entry.now { grid = c.fill.new.self }, (c.get_mut.follows.holds (record c.in-Some.entry.now { grid = c.fill.new.self })).0)

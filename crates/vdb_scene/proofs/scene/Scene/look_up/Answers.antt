@@ -1,19 +1,54 @@
-use Rattle.std.proofs.Common.{◌≡◌, ◌∙◌, sym, ap, refl, true, Some}
-use Rattle.vdb_tree.specs.Field.{Field}
-use Rattle.vdb_scene.specs.Grids.{grid_field, grid_of, scene_of}
-use Rattle.vdb_scene.specs.Scene.{field_at, grid_at}
-use Rattle.vdb_scene.specs.Places.{is_accessor, coord_of}
-use Rattle.vdb_scene.specs.Replies.{Value}
-use Rattle.vdb_scene.specs.declared.scalar.Scalar.{Scalar}
-use Rattle.vdb_scene.proofs.Steps.{field_found, get_accepted, test_passes}
+use Rattle.std.proofs.Common.{◌∙◌, sym, ap, refl}
+use Rattle.std.proofs.lemmas.Result.{err_from_is_err_and}
+use Rattle.vdb_scene.proofs.Borrowed.{same_scene}
+use Rattle.vdb_scene.proofs.Lookups.{get_accessor_refused, get_done, get_missing, get_place_refused}
+use Rattle.vdb_scene.proofs.Steps.{test_fails, test_passes}
+use Rattle.vdb_scene.proofs.Trees.{accessed, same_back}
 use Rattle.vdb_scene.proofs.scene.Scene.look_up.Goals as goal
 
-pub returns : goal.returns
-returns c =
-    let s = scene_of c.args.self.now in
-    let name = c.args.name.now in
-    let found : grid_at s name ≡ Some (grid_of c.in-Some.grid.now) = sym c.in-Some.ensures in
+pub returns-in_default-clause-step : goal.returns-in_default-clause-step
+returns-in_default-clause-step c =
+    get_missing c.args.self.now.grids.entries c.args.name.now c.args.accessor c.args.at.now _ (sym c.in_default.ensures.value) (rw c.get_mut.follows.holds-at-none refl)
+
+pub returns-in_default-place_of-clause-step : goal.returns-in_default-place_of-clause-step
+returns-in_default-place_of-clause-step c =
+    let grids = c.args.self.now.grids.entries in
+    let entry = c.in-Some.entry.now in
+    let there = sym c.in-Some.ensures.value in
+    get_place_refused grids c.args.name.now c.args.accessor c.args.at.now _ entry there (test_fails _ _ (sym c.in_default-place_of.ensures))
+    (same_scene grids c.args.name.now _ entry there (c.get_mut.follows.holds entry).0)
+
+pub returns-in_err-accessor-clause-step : goal.returns-in_err-accessor-clause-step
+returns-in_err-accessor-clause-step c =
+    let grids = c.args.self.now.grids.entries in
+    let entry = c.in-Some.entry.now in
+    let there = sym c.in-Some.ensures.value in
+    let exit = err_from_is_err_and c.from_residual.result c.from_residual.ensures.1 in
+    rw (exit.1, exit.2, c.in_err-accessor.ensures.refusal.0) (get_accessor_refused grids c.args.name.now c.args.accessor c.args.at.now _ entry there
+    (test_passes _ _ _ (sym c.in-Some-place_of.ensures)).0 c.in_err-accessor.ensures.refusal.1
+    (same_scene grids c.args.name.now _ entry there (c.get_mut.follows.holds entry).0))
+
+pub returns-clause-step : goal.returns-clause-step
+returns-clause-step c =
     let at = test_passes _ _ _ (sym c.in-Some-place_of.ensures) in
-    let accessor : is_accessor c.args.accessor ≡ true = sym c.names_accessor.ensures ∙ c.if-not-names_accessor.false in
-    let cell = c.get-cell.ensures.cell ∙ ap (grid_field c.in-Some.grid.now).cell (sym at.1) ∙ ap (λ (f : Field Scalar). f.cell (coord_of c.args.at.now)) (sym (field_found s name _ found)) in
-    (get_accepted s name _ found c.args.accessor c.args.at.now at.0 accessor, (Value ((field_at s name).cell (coord_of c.args.at.now)), ap Value (sym cell), refl), refl)
+    get_done c.args.self.now.grids.entries c.args.name.now c.args.accessor c.args.at.now _ c.in-Some.entry.now (sym c.in-Some.ensures.value)
+    at.0 c.in_ok-accessor.ensures.valid c.in-Some-place_of.at at.1 c.probe-cell.result c.probe-cell.ensures.cell c.probe-cell.new.self c.probe-cell.ensures.tree
+    (c.get_mut.follows.holds (record c.in-Some.entry.now { grid = c.probe-cell.new.self })).0
+
+pub returns-in_default-place_of-clause-trees : goal.returns-in_default-place_of-clause-trees
+returns-in_default-place_of-clause-trees c = same_back c.args.self.now.grids.entries _ c.args.name.now c.in-Some.entry.now (sym c.in-Some.ensures.value) (c.get_mut.follows.holds c.in-Some.entry.now).0
+
+pub returns-in_err-accessor-clause-trees : goal.returns-in_err-accessor-clause-trees
+returns-in_err-accessor-clause-trees c =
+    let exit = err_from_is_err_and c.from_residual.result c.from_residual.ensures.1 in
+    rw (exit.1, exit.2, c.in_err-accessor.ensures.refusal.0)
+    (same_back c.args.self.now.grids.entries _ c.args.name.now c.in-Some.entry.now (sym c.in-Some.ensures.value) (c.get_mut.follows.holds c.in-Some.entry.now).0)
+
+pub returns-clause-trees : goal.returns-clause-trees
+returns-clause-trees c =
+    let at = test_passes _ _ _ (sym c.in-Some-place_of.ensures) in (
+      c.in-Some.entry.now,
+      record c.in-Some.entry.now { grid = c.probe-cell.new.self },
+      (sym c.in-Some.ensures.value, (c.get_mut.follows.holds (record c.in-Some.entry.now { grid = c.probe-cell.new.self })).0, accessed c.args.accessor c.args.at.now _ _ _ _ c.in_ok-accessor.ensures.number at.1 c.probe-cell.ensures.last),
+      c.probe-cell.ensures.tree,
+    )

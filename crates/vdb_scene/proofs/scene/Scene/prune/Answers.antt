@@ -11,9 +11,13 @@ returns-in_default-clause-step c =
 pub returns-clause-step : goal.returns-clause-step
 returns-clause-step c =
     let grids = c.args.self.now.grids.entries in
-    let grid = c.in-Some.grid.now in
+    let entry = c.in-Some.entry.now in
     let there = sym c.in-Some.ensures.value in (
-      rw (found grids c.args.name.now grid there) refl,
+      rw (found grids c.args.name.now entry there) refl,
       (replies.Done, refl, refl),
-      unchanged grids c.args.name.now _ grid c.prune.new.self there (c.get_mut.follows.holds c.prune.new.self).0 c.prune.ensures.field c.prune.ensures.limit,
+      unchanged grids c.args.name.now _ entry there c.prune.new.self (c.get_mut.follows.holds (record entry { grid = c.prune.new.self })).0 c.prune.ensures.field c.prune.ensures.limit,
     )
+
+pub returns-clause-trees : goal.returns-clause-trees
+returns-clause-trees c =
+    (record c.in-Some.entry.now { grid = c.prune.new.self }, (c.get_mut.follows.holds (record c.in-Some.entry.now { grid = c.prune.new.self })).0, c.prune.ensures.least)

@@ -5,7 +5,7 @@ use Rattle.vdb_coord.specs.Space.{volume}
 use Rattle.vdb_scene.specs.Replies as replies
 use Rattle.vdb_scene.specs.Places.{box_between}
 use Rattle.vdb_scene.specs.Refusals.{of_tree}
-use Rattle.vdb_scene.proofs.Borrowed.{found, missing, unchanged}
+use Rattle.vdb_scene.proofs.Borrowed.{found, missing, same_scene, unchanged}
 use Rattle.vdb_scene.proofs.Steps.{corners_first, refused}
 use Rattle.vdb_scene.specs.Grids.{IsVoxelised, scene_of}
 use Rattle.vdb_scene.specs.declared.command.Command.TheVariants as commands
@@ -20,59 +20,59 @@ returns-in_default-clause-step c =
 pub returns-in_err-bounds-clause-step : goal.returns-in_err-bounds-clause-step
 returns-in_err-bounds-clause-step c =
     let grids = c.args.self.now.grids.entries in
-    let grid = c.in-Some.grid.now in
+    let entry = c.in-Some.entry.now in
     let there = sym c.in-Some.ensures.value in
     let exit = err_from_is_err_and c.from_residual.result c.from_residual.ensures.1 in
     let first = corners_first _ _ _ _ (c.in_err-bounds.ensures.refusal ∙ ap Some (sym exit.2)) in
-    rw exit.1 (refused (scene_of c.args.self.now) (commands.Voxelise c.args.name.now c.args.corners.now) _ _ (rw (found grids c.args.name.now grid there) first.0) first.1
-    (unchanged grids c.args.name.now _ grid grid there (c.get_mut.follows.holds grid).0 refl refl))
+    rw exit.1 (refused (scene_of c.args.self.now) (commands.Voxelise c.args.name.now c.args.corners.now) _ _ (rw (found grids c.args.name.now entry there) first.0) first.1
+    (same_scene grids c.args.name.now _ entry there (c.get_mut.follows.holds entry).0))
 
 pub returns-then-volume-gt-VOXELISE_LIMIT-clause-step : goal.returns-then-volume-gt-VOXELISE_LIMIT-clause-step
 returns-then-volume-gt-VOXELISE_LIMIT-clause-step c =
     let grids = c.args.self.now.grids.entries in
-    let grid = c.in-Some.grid.now in
+    let entry = c.in-Some.entry.now in
     let there = sym c.in-Some.ensures.value in
     let many : 2097152 < volume (box_between c.args.corners.now) = rw (c.volume.ensures.value ∙ ap volume c.in_ok-bounds.ensures.bounds) at c.if-volume-gt-VOXELISE_LIMIT.true in (
-      rw (found grids c.args.name.now grid there, c.in_ok-bounds.ensures.places, c.in_ok-bounds.ensures.ordered, lt-ltb 2097152 (volume (box_between c.args.corners.now)) many) refl,
-      unchanged grids c.args.name.now _ grid grid there (c.get_mut.follows.holds grid).0 refl refl,
+      rw (found grids c.args.name.now entry there, c.in_ok-bounds.ensures.places, c.in_ok-bounds.ensures.ordered, lt-ltb 2097152 (volume (box_between c.args.corners.now)) many) refl,
+      same_scene grids c.args.name.now _ entry there (c.get_mut.follows.holds entry).0,
     )
 
 pub returns-in_err-voxelise-clause-step : goal.returns-in_err-voxelise-clause-step
 returns-in_err-voxelise-clause-step c =
     let grids = c.args.self.now.grids.entries in
-    let grid = c.in-Some.grid.now in
+    let entry = c.in-Some.entry.now in
     let there = sym c.in-Some.ensures.value in
     let exit = err_from_is_err_and c.from_residual-in_err-voxelise.result c.from_residual-in_err-voxelise.ensures.1 in
     let few : volume (box_between c.args.corners.now) ≤ 2097152 = rw (c.volume.ensures.value ∙ ap volume c.in_ok-bounds.ensures.bounds) at c.if-volume-gt-VOXELISE_LIMIT.false in
     rw (exit.1, exit.2 ∙ ap of_tree c.in_err-voxelise.ensures.memory) (
-      rw (found grids c.args.name.now grid there, c.in_ok-bounds.ensures.places, c.in_ok-bounds.ensures.ordered, le-ltb 2097152 (volume (box_between c.args.corners.now)) few) refl,
+      rw (found grids c.args.name.now entry there, c.in_ok-bounds.ensures.places, c.in_ok-bounds.ensures.ordered, le-ltb 2097152 (volume (box_between c.args.corners.now)) few) refl,
       refl,
-      unchanged grids c.args.name.now _ grid c.voxelise.new.self there (c.get_mut.follows.holds c.voxelise.new.self).0 c.in_err-voxelise.ensures.field c.in_err-voxelise.ensures.limit,
+      unchanged grids c.args.name.now _ entry there c.voxelise.new.self (c.get_mut.follows.holds (record entry { grid = c.voxelise.new.self })).0 c.in_err-voxelise.ensures.field c.in_err-voxelise.ensures.limit,
     )
 
 pub returns-clause-step : goal.returns-clause-step
 returns-clause-step c =
     let grids = c.args.self.now.grids.entries in
-    let grid = c.in-Some.grid.now in
+    let entry = c.in-Some.entry.now in
     let there = sym c.in-Some.ensures.value in
     let few : volume (box_between c.args.corners.now) ≤ 2097152 = rw (c.volume.ensures.value ∙ ap volume c.in_ok-bounds.ensures.bounds) at c.if-volume-gt-VOXELISE_LIMIT.false in (
-      rw (found grids c.args.name.now grid there, c.in_ok-bounds.ensures.places, c.in_ok-bounds.ensures.ordered, le-ltb 2097152 (volume (box_between c.args.corners.now)) few) refl,
+      rw (found grids c.args.name.now entry there, c.in_ok-bounds.ensures.places, c.in_ok-bounds.ensures.ordered, le-ltb 2097152 (volume (box_between c.args.corners.now)) few) refl,
       (replies.Done, refl, refl),
-      unchanged grids c.args.name.now _ grid c.voxelise.new.self there (c.get_mut.follows.holds c.voxelise.new.self).0 c.in_ok-voxelise.ensures.field c.in_ok-voxelise.ensures.limit,
+      unchanged grids c.args.name.now _ entry there c.voxelise.new.self (c.get_mut.follows.holds (record entry { grid = c.voxelise.new.self })).0 c.in_ok-voxelise.ensures.field c.in_ok-voxelise.ensures.limit,
     )
 
 pub returns-in_err-bounds-clause-trees : goal.returns-in_err-bounds-clause-trees
 returns-in_err-bounds-clause-trees c =
     let exit = err_from_is_err_and c.from_residual.result c.from_residual.ensures.1 in
-    rw exit.1 (refused_leaves c.args.self.now (record c.args.self.now { grids = c.get_mut.follows.lender c.in-Some.grid.now }) (commands.Voxelise c.args.name.now c.args.corners.now) c.args.name.now refl c.in-Some.grid.now (c.get_mut.follows.holds c.in-Some.grid.now).0 _ (sym c.in-Some.ensures.value))
+    rw exit.1 (refused_leaves c.args.self.now (record c.args.self.now { grids = c.get_mut.follows.lender c.in-Some.entry.now }) (commands.Voxelise c.args.name.now c.args.corners.now) c.args.name.now refl c.in-Some.entry.now (c.get_mut.follows.holds c.in-Some.entry.now).0 _ (sym c.in-Some.ensures.value))
 
 pub returns-then-volume-gt-VOXELISE_LIMIT-clause-trees : goal.returns-then-volume-gt-VOXELISE_LIMIT-clause-trees
-returns-then-volume-gt-VOXELISE_LIMIT-clause-trees c = same_back c.args.self.now.grids.entries _ c.args.name.now c.in-Some.grid.now (sym c.in-Some.ensures.value) (c.get_mut.follows.holds c.in-Some.grid.now).0
+returns-then-volume-gt-VOXELISE_LIMIT-clause-trees c = same_back c.args.self.now.grids.entries _ c.args.name.now c.in-Some.entry.now (sym c.in-Some.ensures.value) (c.get_mut.follows.holds c.in-Some.entry.now).0
 
 pub returns-clause-trees : goal.returns-clause-trees
-returns-clause-trees c = (c.voxelise.new.self, (c.get_mut.follows.holds c.voxelise.new.self).0, subst (IsVoxelised c.voxelise.new.self) c.in_ok-bounds.ensures.bounds c.in_ok-voxelise.ensures.leaves)
+returns-clause-trees c = (record c.in-Some.entry.now { grid = c.voxelise.new.self }, (c.get_mut.follows.holds (record c.in-Some.entry.now { grid = c.voxelise.new.self })).0, subst (IsVoxelised c.voxelise.new.self) c.in_ok-bounds.ensures.bounds c.in_ok-voxelise.ensures.leaves)
 
 pub returns-in_err-voxelise-clause-trees : goal.returns-in_err-voxelise-clause-trees
 returns-in_err-voxelise-clause-trees c =
     let exit = err_from_is_err_and c.from_residual-in_err-voxelise.result c.from_residual-in_err-voxelise.ensures.1 in
-    rw (exit.1, exit.2) (tree_refused_leaves c.args.self.now (record c.args.self.now { grids = c.get_mut.follows.lender c.voxelise.new.self }) (commands.Voxelise c.args.name.now c.args.corners.now) c.args.name.now refl c.voxelise.new.self (c.get_mut.follows.holds c.voxelise.new.self).0 c.in_err-voxelise.field-0.0)
+    rw (exit.1, exit.2) (tree_refused_leaves c.args.self.now (record c.args.self.now { grids = c.get_mut.follows.lender (record c.in-Some.entry.now { grid = c.voxelise.new.self }) }) (commands.Voxelise c.args.name.now c.args.corners.now) c.args.name.now refl (record c.in-Some.entry.now { grid = c.voxelise.new.self }) (c.get_mut.follows.holds (record c.in-Some.entry.now { grid = c.voxelise.new.self })).0 c.in_err-voxelise.field-0.0)

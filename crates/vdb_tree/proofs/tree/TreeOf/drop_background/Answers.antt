@@ -2,6 +2,7 @@ use Rattle.std.proofs.Common.{◌≡◌, refl, sym, ◌∙◌}
 use Rattle.std.specs.Prelude.{None, Option, Some}
 use Rattle.vdb_tree.specs.Layout.{bits_of}
 use Rattle.vdb_tree.proofs.Sweeps.{equal_tile, other_key, that_key, non_background_keeps, non_background_same, non_background_sound}
+use Rattle.vdb_tree.proofs.SweptTables.{kept_swept, not_known, updated_held}
 use Rattle.vdb_tree.proofs.Uniform.{exact_by}
 use Rattle.vdb_tree.proofs.tree.TreeOf.drop_background.Goals as goal
 
@@ -15,8 +16,12 @@ returns-then-eq-clause-table g c = rw (← c.self.view_is) (λ k d. other_key c.
 pub invariant_of-self : goal.invariant_of-self
 invariant_of-self g c =
     let exact = exact_by g.V.PartialEq.eq g.V.Ord.cmp g.met.V.Ord.matches_eq g.met.V.Voxel.exact in
-    let found = sym c.get.ensures ∙ equal_tile g.V.PartialEq.eq exact g.met.V.Eq.laws.refl _ (λ s d. refl) (λ d e. refl) c.get.result _ (sym c.eq.ensures ∙ c.if-eq.true) in
-    (c.self.invariant.0, non_background_sound _ _ c.args.p _ (rw c.key-key.ensures.value at c.remove.ensures.updates) (rw c.key-key.ensures.value at found) c.self.invariant.1 c.remove.ensures.size c.remove.ensures.apart)
+    let found = sym c.get.ensures ∙ equal_tile g.V.PartialEq.eq exact g.met.V.Eq.laws.refl _ (λ s d. refl) (λ d e. refl) c.get.result _ (sym c.eq.ensures ∙ c.if-eq.true) in (
+      c.self.invariant.0,
+      non_background_sound _ _ c.args.p _ (rw c.key-key.ensures.value at c.remove.ensures.updates) (rw c.key-key.ensures.value at found) c.self.invariant.1 c.remove.ensures.size c.remove.ensures.apart,
+      λ known. kept_swept _ _ _ (updated_held _ _ _ None (rw c.key-key.ensures.value at c.remove.ensures.updates) not_known)
+          (non_background_keeps _ _ c.args.p _ (rw c.key-key.ensures.value at c.remove.ensures.updates) (rw c.key-key.ensures.value at found)) (c.self.invariant.2 known),
+    )
 
 pub returns-then-eq-clause-keeps : goal.returns-then-eq-clause-keeps
 returns-then-eq-clause-keeps g c =

@@ -2,6 +2,7 @@ use Rattle.std.proofs.Common.{sym, ap, ◌∙◌}
 use Rattle.vdb_node.specs.declared.Entry.TheVariants.{Child}
 use Rattle.vdb_tree.proofs.Pools.{node_puts, take_puts}
 use Rattle.vdb_tree.proofs.Tiled.{lower_fills, lower_uppers, lower_lowers, lower_sound}
+use Rattle.vdb_tree.proofs.SweptTables.{not_known}
 use Rattle.vdb_tree.proofs.tree.TreeOf.drop_lower.Goals as goal
 
 pub invariant_of-self : goal.invariant_of-self
@@ -12,6 +13,7 @@ invariant_of-self g c = (
       ((rw (← c.self.view_is) at c.requires.lower) ∙ ap Child (sym c.held_place-from.ensures.slot))
       (rw (← c.self.view_is) at c.requires.childless)
       c.at_mut.ensures.node (rw c.offset-offset.ensures.value at c.set_tile.ensures) (node_puts _ _ _ _ c.at_mut.ensures.node) (take_puts _ _ _ _ c.take.ensures.node c.take.ensures.after),
+  not_known,
 )
 
 pub returns-clause-fills : goal.returns-clause-fills

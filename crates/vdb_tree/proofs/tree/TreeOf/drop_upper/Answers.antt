@@ -2,6 +2,7 @@ use Rattle.std.proofs.Common.{◌≡◌, ◌≤◌, ℕ, arith, sym, ap, ◌∙�
 use Rattle.vdb_node.specs.declared.Entry.TheVariants.{Child}
 use Rattle.vdb_tree.proofs.Pools.{take_puts}
 use Rattle.vdb_tree.proofs.Tiled.{root_present, upper_fills, upper_lowers, upper_sound, upper_uppers}
+use Rattle.vdb_tree.proofs.SweptTables.{not_known}
 use Rattle.vdb_tree.proofs.tree.TreeOf.drop_upper.Goals as goal
 
 at_most : (a b : ℕ) → a ≡ b → a ≤ b
@@ -19,6 +20,7 @@ invariant_of-self g c = (
       ((rw (← c.self.view_is) at c.requires.upper) ∙ ap Child (sym c.held_place-from.ensures.slot))
       (rw (← c.self.view_is) at c.requires.childless)
       (rw (c.key_in-key.ensures.key, c.bits.ensures.value) at c.set.ensures.updates) (at_most _ _ c.set.ensures.size) c.set.ensures.apart (take_puts _ _ _ _ c.take.ensures.node c.take.ensures.after),
+  not_known,
 )
 
 pub returns-clause-table : goal.returns-clause-table

@@ -1,6 +1,7 @@
 use Rattle.std.proofs.Common.{ℕ, ◌+◌, ◌<◌, ◌≤◌, arith}
 use Rattle.vdb_tree.proofs.Splits.{with_entry_keeps, with_entry_adds, with_entry_same, with_entry_sound}
 use Rattle.vdb_tree.proofs.Sweeps.{other_key}
+use Rattle.vdb_tree.proofs.SweptTables.{not_known}
 use Rattle.vdb_tree.proofs.tree.TreeOf.enter.Goals as goal
 
 one_more : (n o l : ℕ) → n ≤ o + 1 → o < l → n ≤ l
@@ -11,6 +12,7 @@ invariant_of-self-2 g c = (
   c.self.invariant.0,
   with_entry_sound _ _ c.self.invariant.1 c.args.p _ _ (rw (← c.self.view_is) at c.requires.tiled) (rw c.key-key.ensures.value at c.in_ok-put.ensures.ok) c.key-key.ensures.within
       (one_more _ _ _ c.in_ok-put.ensures.size (rw (← c.self.view_is) at c.requires.room)) c.in_ok-put.ensures.apart,
+  not_known,
 )
 
 pub returns-clause-keeps : goal.returns-clause-keeps

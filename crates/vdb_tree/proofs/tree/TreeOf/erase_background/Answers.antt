@@ -1,4 +1,4 @@
-use Rattle.std.proofs.Common.{refl, subst, sym}
+use Rattle.std.proofs.Common.{◌∙◌, refl, subst, sym}
 use Rattle.vdb_coord.specs.declared.Coord.{Coord}
 use Rattle.vdb_tree.specs.Changes.{IsNoBackgroundRoot, Keeps}
 use Rattle.vdb_tree.specs.Layout.{Layout, bits_of}
@@ -22,18 +22,18 @@ loop-key-preserved g c =
 
 pub returns-clause-adds : goal.returns-clause-adds
 returns-clause-adds g c =
-    subst (λ (t : Layout g.row.V.Denot). AddsBackgroundTiles (bits_of g.row.U g.row.L g.row.F) c.args.self.now t) (sym (c.in_default.ensures.none refl)) c.loop-key.invariant.adds
+    subst (λ (t : Layout g.row.V.Denot). AddsBackgroundTiles (bits_of g.row.U g.row.L g.row.F) c.args.self.now t) (sym (c.self-2.view_is ∙ c.in_default.ensures.none refl)) c.loop-key.invariant.adds
 
 pub returns-clause-swept : goal.returns-clause-swept
 returns-clause-swept g c =
     let bits = bits_of g.row.U g.row.L g.row.F in
-    subst (λ (t : Layout g.row.V.Denot). (p : Coord) → IsNoBackgroundRoot bits t p) (sym (c.in_default.ensures.none refl))
+    subst (λ (t : Layout g.row.V.Denot). (p : Coord) → IsNoBackgroundRoot bits t p) (sym (c.self-2.view_is ∙ c.in_default.ensures.none refl))
     (erased_end bits c.args.self.now c.loop-key.self c.loop-key.passed c.loop-key.invariant c.in_default.ensures.next)
 
 pub returns-clause-keeps : goal.returns-clause-keeps
 returns-clause-keeps g c =
-    subst (λ (t : Layout g.row.V.Denot). Keeps (bits_of g.row.U g.row.L g.row.F) c.args.self.now t) (sym (c.in_default.ensures.none refl)) c.loop-key.invariant.adds.keeps
+    subst (λ (t : Layout g.row.V.Denot). Keeps (bits_of g.row.U g.row.L g.row.F) c.args.self.now t) (sym (c.self-2.view_is ∙ c.in_default.ensures.none refl)) c.loop-key.invariant.adds.keeps
 
 pub returns-clause-keys : goal.returns-clause-keys
 returns-clause-keys g c =
-    subst (λ (t : Layout g.row.V.Denot). MakesNoKey c.args.self.now t) (sym (c.in_default.ensures.none refl)) c.loop-key.invariant.keys
+    subst (λ (t : Layout g.row.V.Denot). MakesNoKey c.args.self.now t) (sym (c.self-2.view_is ∙ c.in_default.ensures.none refl)) c.loop-key.invariant.keys

@@ -3,6 +3,7 @@ use Rattle.vdb_node.specs.declared.Entry.TheVariants.{Child}
 use Rattle.vdb_node.proofs.Sizes.{up_le}
 use Rattle.vdb_tree.proofs.LeafWrites.{elsewhere, leaf_sound, states_alone, states_field, states_here, whole_after}
 use Rattle.vdb_tree.proofs.Sizes.{leaf_small}
+use Rattle.vdb_tree.proofs.SweptTables.{not_known}
 use Rattle.vdb_tree.proofs.tree.TreeOf.set_leaf_states.Goals as goal
 
 pub set_states-requires : goal.set_states-requires
@@ -12,7 +13,7 @@ set_states-requires g c =
     (leaf_small _ _ g.row.WF _ few small.1 small.1 small.0, omega (arith, few, up_le 8 (0 + g.row.WF * 8)))
 
 pub invariant_of-self : goal.invariant_of-self
-invariant_of-self g c = (c.self.invariant.0, leaf_sound _ _ _ _ _ c.at_mut.ensures.node c.self.invariant.1)
+invariant_of-self g c = (c.self.invariant.0, leaf_sound _ _ _ _ _ c.at_mut.ensures.node c.self.invariant.1, not_known)
 
 pub returns-clause-field : goal.returns-clause-field
 returns-clause-field g c =

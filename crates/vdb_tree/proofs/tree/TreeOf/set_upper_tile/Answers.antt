@@ -2,6 +2,7 @@ use Rattle.std.proofs.Common.{sym, ap, ◌∙◌}
 use Rattle.vdb_node.specs.declared.Entry.TheVariants.{Child}
 use Rattle.vdb_tree.proofs.Pools.{node_puts}
 use Rattle.vdb_tree.proofs.Tiled.{upper_tile_sound, upper_tile_fills, upper_tile_uppers, upper_tile_lowers}
+use Rattle.vdb_tree.proofs.SweptTables.{not_known}
 use Rattle.vdb_tree.proofs.tree.TreeOf.set_upper_tile.Goals as goal
 
 pub invariant_of-self : goal.invariant_of-self
@@ -11,6 +12,7 @@ invariant_of-self g c = (
       ((rw (← c.self.view_is) at c.requires.upper) ∙ ap Child (sym c.held_place-place.ensures.slot))
       (rw (← c.self.view_is) at c.requires.tiled.1)
       c.at_mut.ensures.node (rw c.offset-offset.ensures.value at c.set_tile.ensures) (node_puts _ _ _ _ c.at_mut.ensures.node),
+  not_known,
 )
 
 pub returns-clause-fills : goal.returns-clause-fills

@@ -6,11 +6,12 @@ use Rattle.vdb_node.specs.declared.Entry.TheVariants.{Child}
 use Rattle.vdb_tree.specs.Layout.{bits_of}
 use Rattle.vdb_tree.proofs.Splits.{room_adds, room_but, room_keeps, room_sound, with_upper_at, with_upper_but, with_upper_keeps, with_upper_adds, with_upper_sound}
 use Rattle.vdb_tree.proofs.Sweeps.{other_key}
+use Rattle.vdb_tree.proofs.SweptTables.{kept_swept, updated_held}
 use Rattle.vdb_tree.proofs.tree.TreeOf.split_root.Goals as goal
 
 pub invariant_of-self : goal.invariant_of-self
 invariant_of-self g c =
-    (c.self.invariant.0, room_sound _ _ _ refl refl c.in_err-slot.ensures.err refl refl refl c.self.invariant.1)
+    (c.self.invariant.0, room_sound _ _ _ refl refl c.in_err-slot.ensures.err refl refl refl c.self.invariant.1, λ known. kept_swept _ _ _ (λ k h. h) (room_keeps _ _ _ refl refl c.in_err-slot.ensures.err refl refl refl) (c.self.invariant.2 known))
 
 pub returns-in_err-slot-clause-keeps : goal.returns-in_err-slot-clause-keeps
 returns-in_err-slot-clause-keeps g c =
@@ -23,6 +24,11 @@ invariant_of-self-2 g c = (
       (rw (← c.self.view_is) at c.requires.tiled) (rw c.key-key.ensures.value at c.set.ensures.updates)
       c.in_ok-slot.ensures.vacant c.in_ok-node.ensures (record { here = c.in_ok-slot.ensures.node; others = c.in_ok-slot.ensures.others })
       (rw (← c.self.view_is) at c.requires.entered) c.set.ensures.size c.set.ensures.apart,
+  λ known. kept_swept _ _ _ (updated_held _ _ _ _ (rw c.key-key.ensures.value at c.set.ensures.updates) (λ put. rw (← c.self.view_is) at c.requires.entered))
+      (with_upper_keeps _ _ c.self.invariant.1 c.args.p _ _ _ _ _
+      (rw (← c.self.view_is) at c.requires.tiled) (rw c.key-key.ensures.value at c.set.ensures.updates)
+      c.in_ok-slot.ensures.vacant c.in_ok-node.ensures (record { here = c.in_ok-slot.ensures.node; others = c.in_ok-slot.ensures.others }))
+      (c.self.invariant.2 known),
 )
 
 pub returns-clause-keeps : goal.returns-clause-keeps

@@ -3,11 +3,12 @@ use Rattle.vdb_coord.specs.declared.Level.TheVariants.{Lower}
 use Rattle.vdb_node.specs.declared.Entry.TheVariants.{Child}
 use Rattle.vdb_tree.proofs.Pools.{node_puts}
 use Rattle.vdb_tree.proofs.Splits.{room_adds, room_but, room_keeps, room_sound, with_lower_at, with_lower_but, with_lower_keeps, with_lower_adds, with_lower_sound}
+use Rattle.vdb_tree.proofs.SweptTables.{kept_swept}
 use Rattle.vdb_tree.proofs.tree.TreeOf.split_upper.Goals as goal
 
 pub invariant_of-self : goal.invariant_of-self
 invariant_of-self g c =
-    (c.self.invariant.0, room_sound _ _ _ refl refl refl c.in_err-slot.ensures.err refl refl c.self.invariant.1)
+    (c.self.invariant.0, room_sound _ _ _ refl refl refl c.in_err-slot.ensures.err refl refl c.self.invariant.1, λ known. kept_swept _ _ _ (λ k h. h) (room_keeps _ _ _ refl refl refl c.in_err-slot.ensures.err refl refl) (c.self.invariant.2 known))
 
 pub returns-in_err-slot-clause-keeps : goal.returns-in_err-slot-clause-keeps
 returns-in_err-slot-clause-keeps g c =
@@ -20,6 +21,12 @@ invariant_of-self-2 g c = (
       ((rw (← c.self.view_is) at c.requires.node) ∙ ap Child (sym c.held_place-place.ensures.slot)) (rw (← c.self.view_is) at c.requires.tiled)
       c.at_mut.ensures.node (rw c.offset-offset.ensures.value at c.set_child.ensures) (node_puts _ _ _ _ c.at_mut.ensures.node)
       c.in_ok-slot.ensures.vacant c.in_ok-node.ensures (record { here = c.in_ok-slot.ensures.node; others = c.in_ok-slot.ensures.others }),
+  λ known. kept_swept _ _ _ (λ k h. h)
+      (with_lower_keeps _ _ c.self.invariant.1 c.args.p _ _ _ _ _ _ _ _
+      ((rw (← c.self.view_is) at c.requires.node) ∙ ap Child (sym c.held_place-place.ensures.slot)) (rw (← c.self.view_is) at c.requires.tiled)
+      c.at_mut.ensures.node (rw c.offset-offset.ensures.value at c.set_child.ensures) (node_puts _ _ _ _ c.at_mut.ensures.node)
+      c.in_ok-slot.ensures.vacant c.in_ok-node.ensures (record { here = c.in_ok-slot.ensures.node; others = c.in_ok-slot.ensures.others }))
+      (c.self.invariant.2 known),
 )
 
 pub returns-clause-keeps : goal.returns-clause-keeps

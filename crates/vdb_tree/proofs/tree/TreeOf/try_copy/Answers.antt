@@ -4,6 +4,7 @@ use Rattle.vdb_tree.proofs.Equations.{keeps_field}
 use Rattle.vdb_tree.proofs.Sizes.{internal_small}
 use Rattle.vdb_tree.proofs.Rooted.{same_size}
 use Rattle.vdb_tree.proofs.Splits.{alike_keeps, alike_sound, alike_tree}
+use Rattle.vdb_tree.proofs.SweptTables.{kept_swept}
 use Rattle.vdb_tree.proofs.tree.TreeOf.try_copy.Goals as goal
 
 pub drop-lowers-requires-room-T-Destruct : goal.drop-lowers-requires-room-T-Destruct
@@ -21,6 +22,8 @@ invariant_of-result g c = (
   c.self.invariant.0,
   alike_sound _ _ _ refl c.in_ok-root.ensures.entries c.in_ok-uppers.ensures.nodes c.in_ok-lowers.ensures.nodes c.in_ok-leaves.ensures.nodes refl c.self.invariant.1
       c.in_ok-root.ensures.size c.in_ok-root.ensures.apart,
+  λ known. kept_swept _ _ _ (λ k h. let e = c.in_ok-root.ensures.entries k in rw e at h)
+      (alike_keeps _ _ _ refl c.in_ok-root.ensures.entries c.in_ok-uppers.ensures.nodes c.in_ok-lowers.ensures.nodes c.in_ok-leaves.ensures.nodes refl) (c.self.invariant.2 known),
 )
 
 pub returns-clause-field : goal.returns-clause-field

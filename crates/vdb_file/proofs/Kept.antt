@@ -1,0 +1,50 @@
+-- What the members that pass a test tell of all members of a list.
+use Rattle.std.proofs.Common.{◌≡◌, ℕ, ◌<◌, ◌≤◌, Bool, true, false, cond, List, [], ◌∷◌, length, sym, subst, ◌∙◌, arith}
+use Rattle.std.specs.List.{AllByRecursion, Contains, filter, range_with_len}
+use Rattle.std.proofs.lemmas.List.Elements.{All-contains, All-filter, All-from_recursion, filter_passes, recursion_from_All}
+use Rattle.std.proofs.lemmas.List.FromFn.{get_or-range_with_len, length-range_with_len}
+use Rattle.std.proofs.lemmas.List.Sums.{count_by-le-length, length-filter}
+use Rattle.vdb_coord.proofs.Boxes.{same_truth}
+
+module _ {K : Type 0} where
+  -- one member, which a filter keeps or not
+  one_kept : (P : K → Type 0) (b : Bool) (x : K) (xs : List K) → AllByRecursion P (cond b (x ∷ xs) xs) → (b ≡ true → P x) × AllByRecursion P xs
+  one_kept P true x xs all = (λ h. all.0, all.1)
+  one_kept P false x xs all = (λ h. absurd cc, all)
+
+  -- what holds of all that pass holds of each member, if that passes
+  each_kept : (P : K → Type 0) (test : K → Bool) (xs : List K) → AllByRecursion P (filter test xs) → AllByRecursion (λ x. test x ≡ true → P x) xs
+  each_kept P test [] all = tt
+  each_kept P test (x ∷ xs) all = let s = one_kept P (test x) x (filter test xs) all in (s.0, each_kept P test xs s.1)
+
+  -- the same of one member that passes
+  pub at_kept : (P : K → Type 0) (test : K → Bool) (xs : List K) → AllByRecursion P (filter test xs) → (x : K) → Contains xs x → test x ≡ true → P x
+  at_kept P test xs all x member = All-contains (λ y. test y ≡ true → P y) xs x (All-from_recursion (λ y. test y ≡ true → P y) xs (each_kept P test xs all)) member
+
+  -- two tests that the same members pass are the same at each
+  pub same_tests : (s t : K → Bool) (xs : List K) → filter s xs ≡ filter t xs → (x : K) → Contains xs x → s x ≡ t x
+  same_tests s t xs e x member =
+      let passes : (test : K → Bool) → AllByRecursion (λ y. test y ≡ true) (filter test xs) = λ test. recursion_from_All (λ y. test y ≡ true) (filter test xs) (filter_passes test xs) in
+      same_truth (s x) (t x)
+      (at_kept (λ y. t y ≡ true) s xs (subst (AllByRecursion (λ y. t y ≡ true)) (sym e) (passes t)) x member)
+      (at_kept (λ y. s y ≡ true) t xs (subst (AllByRecursion (λ y. s y ≡ true)) e (passes s)) x member)
+
+  -- what holds of all members holds of those that pass
+  pub all_kept : (P : K → Type 0) (test : K → Bool) (xs : List K) → AllByRecursion P xs → AllByRecursion P (filter test xs)
+  all_kept P test xs all = recursion_from_All P (filter test xs) (All-filter test P xs (All-from_recursion P xs all))
+
+  -- no more pass than there are
+  pub few_kept : (test : K → Bool) (xs : List K) → length (filter test xs) ≤ length xs
+  few_kept test xs = rw (length-filter test xs) (count_by-le-length test xs)
+
+-- ---- the numbers below n
+
+-- each that is listed is below n
+pub range_below : (n : ℕ) → AllByRecursion (λ i. i < n) (range_with_len 0 n)
+range_below n =
+    recursion_from_All (λ i. i < n) (range_with_len 0 n)
+    (λ i d h. let small : i < n = omega (arith, length-range_with_len 0 n) in rw (get_or-range_with_len 0 n i d small) (omega arith))
+
+-- and each that is below n is listed
+pub range_has : (n i : ℕ) → i < n → Contains (range_with_len 0 n) i
+range_has n i h = (i, omega (arith, length-range_with_len 0 n), get_or-range_with_len 0 n i i h ∙ omega arith)

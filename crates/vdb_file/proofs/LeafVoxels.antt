@@ -1,0 +1,133 @@
+-- The voxels of a leaf that aren't the background.
+use Rattle.std.proofs.Common.{◌≡◌, ℕ, ◌+◌, ◌<◌, ◌≤◌, Bool, true, false, not, List, ◌∷◌, [], ◌++◌, arith, refl, sym, ap, subst, ◌∙◌, length, IsTrue}
+use Rattle.std.specs.Prelude.{◌↔◌, IfSome, Option, Some, None, is_some}
+use Rattle.std.specs.Int.{w16, to_be_bytes}
+use Rattle.vdb_coord.specs.Blocks.{block_around, block_number, entries, node_bits, offset, sub_block}
+use Rattle.vdb_coord.specs.Entries.{AreBits}
+use Rattle.vdb_coord.specs.Space.{Box, everywhere, is_inside}
+use Rattle.vdb_coord.specs.declared.Bits.{Bits}
+use Rattle.vdb_coord.specs.declared.Coord.{Coord}
+use Rattle.vdb_coord.specs.declared.Level.{Level}
+use Rattle.vdb_coord.specs.declared.Level.TheVariants.{Leaf}
+use Rattle.vdb_coord.proofs.InRange.{block_in_range, number_of_corner}
+use Rattle.vdb_coord.proofs.Nesting.{corner_inside, corner_of_entry, in_entry, number_in_block, voxel_from_leaf}
+use Rattle.vdb_node.specs.Nodes.{entry_count}
+use Rattle.vdb_tree.specs.Field.{Field, off}
+use Rattle.vdb_tree.specs.Layout.{Layout, field_of}
+use Rattle.vdb_tree.specs.Leaves.{IsLeafAround}
+use Rattle.vdb_tree.proofs.Constants.{block_from_node}
+use Rattle.vdb_tree.proofs.Uniform.{cell_exact, cell_same, uniform_cells, uniform_from}
+use Rattle.vdb_walk.proofs.LeafTests.{leaf_test}
+use Rattle.vdb_node.specs.Leaf.{IsConstantLeaf, Leaf as LeafOf, cell_in}
+use Rattle.vdb_tree.specs.ConstantBlocks.{cell_eq, is_background, is_constant}
+use Rattle.vdb_value.specs.declared.Cell.{Cell}
+use Rattle.vdb_file.specs.Bodies.{cell_bytes, listed, voxel_body}
+use Rattle.vdb_file.specs.internal.Written.{Puts, Sent, numbered, passing}
+use Rattle.vdb_file.proofs.ListedEntries.{around, listed_is}
+use Rattle.vdb_file.proofs.Passing.{counted_in, counted_out, entry_put, numbered_same, passing_in, passing_out, passing_same}
+
+module _ {V : Type 0} (eq : V → V → Bool) (leaf : LeafOf V) (d background : Cell V) where
+  -- whether the voxel isn't the background
+  abbrev pub stands : ℕ → Bool
+  stands i = not (cell_eq eq (cell_in d leaf i) background)
+
+  module _ (i count : ℕ) (cell : Cell V) (at : cell_in d leaf i ≡ cell) where
+    pub voxel_counted : not (cell_eq eq cell background) ≡ true → count ≡ length (passing stands i) → count + 1 ≡ length (passing stands (i + 1))
+    voxel_counted h = counted_in stands i count (ap (λ (c : Cell V). not (cell_eq eq c background)) at ∙ h)
+
+    pub voxel_passed : not (cell_eq eq cell background) ≡ false → count ≡ length (passing stands i) → count ≡ length (passing stands (i + 1))
+    voxel_passed h = counted_out stands i count (ap (λ (c : Cell V). not (cell_eq eq c background)) at ∙ h)
+
+  module _ (value_bytes : V → List ℕ) (i : ℕ) (cell : Cell V) (at : cell_in d leaf i ≡ cell) (a b c : Sent)
+      (so_far : Puts a b (numbered (λ k. cell_bytes eq value_bytes (cell_in d leaf k)) (passing stands i))) where
+    pub voxel_put : not (cell_eq eq cell background) ≡ true → Puts b c (to_be_bytes w16 i ++ cell_bytes eq value_bytes cell) → Puts a c (numbered (λ k. cell_bytes eq value_bytes (cell_in d leaf k)) (passing stands (i + 1)))
+    voxel_put h more =
+        entry_put (λ k. cell_bytes eq value_bytes (cell_in d leaf k)) a b c (passing stands i) i (passing stands (i + 1)) so_far
+        (subst (λ (x : Cell V). Puts b c (to_be_bytes w16 i ++ cell_bytes eq value_bytes x)) (sym at) more)
+        (passing_in stands i (ap (λ (x : Cell V). not (cell_eq eq x background)) at ∙ h))
+
+    pub voxel_left : not (cell_eq eq cell background) ≡ false → Puts a b (numbered (λ k. cell_bytes eq value_bytes (cell_in d leaf k)) (passing stands (i + 1)))
+    voxel_left h =
+        subst (λ (is : List ℕ). Puts a b (numbered (λ k. cell_bytes eq value_bytes (cell_in d leaf k)) is)) (sym (passing_out stands i (ap (λ (x : Cell V). not (cell_eq eq x background)) at ∙ h))) so_far
+
+-- ---- the leaf of a tree, or none
+
+-- a block with one cell
+pub one_everywhere : {V : Type 0} (eq : V → V → Bool) (exact : (x y : V) → eq x y ≡ true → x ≡ y) (itself : (x : V) → eq x x ≡ true) (bits : Bits) (configured : AreBits bits) (level : Level) (f : Field V) (p : Coord) (inside : is_inside everywhere p ≡ true)
+    (cell : Cell V) → ((q : Coord) → is_inside everywhere q ≡ true → block_number bits level q ≡ block_number bits level p → f.cell q ≡ cell)
+    → (is_constant eq f (block_around bits level p) ≡ true) × (f.cell (block_around bits level p).min ≡ cell)
+one_everywhere eq exact itself bits configured level f p inside cell cells =
+    let box = block_around bits level p in
+    let all : (q : Coord) → block_number bits level q ≡ block_number bits level p → f.cell q ≡ cell = λ q b. cells q (block_in_range bits level configured p q inside b) b in
+    let first : f.cell box.min ≡ cell = all box.min (number_of_corner bits level (block_number bits level p)) in
+    (uniform_from eq exact itself f box (f.cell box.min) (λ q h. all q (number_in_block bits level (block_number bits level p) q h) ∙ sym first), first)
+
+both_ways : (a b : Bool) → (a ≡ true → b ≡ true) → (b ≡ true → a ≡ true) → a ≡ b
+both_ways true b h k = sym (h refl)
+both_ways false true h k = k refl
+both_ways false false h k = refl
+
+same_denied : (a b : Bool) → not a ≡ not b → a ≡ b
+same_denied true true e = refl
+same_denied true false e = cc
+same_denied false true e = cc
+same_denied false false e = refl
+
+twice : (b : Bool) → b ≡ not (not b)
+twice true = refl
+twice false = refl
+
+module _ {V : Type 0} (eq : V → V → Bool) (exact : (x y : V) → eq x y ≡ true → x ≡ y) (itself : (x : V) → eq x x ≡ true) (bits : Bits) (configured : AreBits bits) (t : Layout V) (p : Coord) (inside : is_inside everywhere p ≡ true)
+    (leaf : LeafOf V) (leaf_around : IsLeafAround bits (field_of bits t) p leaf) where
+  abbrev f : Field V
+  f = field_of bits t
+
+  abbrev box : Box
+  box = block_around bits Leaf p
+
+  by_leaf : (q : Coord) → block_number bits Leaf q ≡ block_number bits Leaf p → f.cell q ≡ cell_in (off t.background) leaf (offset bits Leaf q)
+  by_leaf q b = leaf_around q (block_in_range bits Leaf configured p q inside b) b
+
+  module _ (one : Option (Cell V)) (given : (c : Cell V) → (one ≡ Some c) ↔ IsConstantLeaf leaf (entry_count (node_bits bits Leaf)) c) where
+    -- the leaf has one cell where its block is constant
+    pub one_test : (last : ℕ) → last + 1 ≡ entries bits Leaf → (e : Cell V) → ((d : Cell V) → cell_in d leaf last ≡ e) → is_some one ≡ is_constant eq f box
+    one_test last end e reads =
+        same_denied (is_some one) (is_constant eq f box) (leaf_test eq exact itself bits configured t p inside leaf leaf_around last end e reads one (not (is_some one)) (twice (is_some one)) given)
+
+  -- and that is the block's
+  pub one_at : (one : Option (Cell V)) → ((c : Cell V) → (one ≡ Some c) ↔ IsConstantLeaf leaf (entry_count (node_bits bits Leaf)) c) → IfSome one (λ c. f.cell box.min ≡ c)
+  one_at None given = tt
+  one_at (Some c) given =
+      block_from_node bits Leaf p f.cell (λ d i. cell_in d leaf i) (off t.background) c by_leaf ((given c).0 refl) box.min (number_of_corner bits Leaf (block_number bits Leaf p))
+
+  -- an entry of the block is a voxel of the leaf
+  pub voxel_at : (i : ℕ) → i < entries bits Leaf → f.cell (around bits p Leaf i).min ≡ cell_in (off t.background) leaf i
+  voxel_at i less =
+      let c = corner_of_entry bits Leaf p i less in
+      by_leaf (around bits p Leaf i).min c.0 ∙ ap (cell_in (off t.background) leaf) c.1
+
+  -- which is listed where it isn't the background
+  pub voxel_test : (i : ℕ) → i < entries bits Leaf → is_background eq f (around bits p Leaf i) ≡ cell_eq eq (cell_in (off t.background) leaf i) (off t.background)
+  voxel_test i less =
+      let corner = (around bits p Leaf i).min in
+      let c = corner_of_entry bits Leaf p i less in
+      both_ways (is_background eq f (around bits p Leaf i)) (cell_eq eq (cell_in (off t.background) leaf i) (off t.background))
+      (λ h. cell_same eq exact itself (cell_in (off t.background) leaf i) (off t.background) (sym (voxel_at i less) ∙ uniform_cells eq exact itself f (around bits p Leaf i) (off t.background) h corner (corner_inside bits Leaf box i)))
+      (λ h. uniform_from eq exact itself f (around bits p Leaf i) (off t.background) (λ q within.
+      let at = in_entry bits Leaf p q i less within in
+      ap f.cell (voxel_from_leaf bits q corner (at.0 ∙ sym c.0) (at.1 ∙ sym c.1)) ∙ voxel_at i less ∙ cell_exact eq exact itself (cell_in (off t.background) leaf i) (off t.background) h))
+
+  module _ (value_bytes : V → List ℕ) where
+    pub listed_voxels : listed eq value_bytes bits f Leaf box ≡ passing (stands eq leaf (off t.background) (off t.background)) (entries bits Leaf)
+    listed_voxels =
+        listed_is eq value_bytes bits f Leaf box
+        ∙ passing_same (λ i. not (is_background eq f (around bits p Leaf i))) (stands eq leaf (off t.background) (off t.background)) (entries bits Leaf) (λ i less. ap not (voxel_test i less))
+
+    -- the voxels that were put are the entries that are listed
+    pub voxels_put : (a b : Sent) → Puts a b (numbered (λ i. cell_bytes eq value_bytes (cell_in (off t.background) leaf i)) (passing (stands eq leaf (off t.background) (off t.background)) (entries bits Leaf)))
+        → Puts a b (numbered (λ i. voxel_body eq value_bytes bits f (around bits p Leaf i)) (listed eq value_bytes bits f Leaf box))
+    voxels_put a b put =
+        subst (Puts a b)
+        (numbered_same (stands eq leaf (off t.background) (off t.background)) (λ i. cell_bytes eq value_bytes (cell_in (off t.background) leaf i)) (λ i. voxel_body eq value_bytes bits f (around bits p Leaf i)) (entries bits Leaf)
+        (λ i less. ap (cell_bytes eq value_bytes) (sym (voxel_at i less)))
+        ∙ ap (numbered (λ i. voxel_body eq value_bytes bits f (around bits p Leaf i))) (sym listed_voxels)) put

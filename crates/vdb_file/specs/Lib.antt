@@ -1,0 +1,6 @@
+-- Scenes as files.
+pub mod Bodies
+pub mod Spelling
+pub mod Scenes
+pub mod Faults
+pub mod internal

@@ -1,0 +1,15 @@
+//! Scenes as files: one spelling for one scene.
+#![tactic(auto)]
+
+mod fault;
+mod laws;
+mod output;
+mod save_bodies;
+mod saving;
+
+pub use fault::{LoadFault, SaveFault};
+pub use laws::spelling_laws;
+pub use saving::{FILE_LIMIT, length, save};
+
+#[cfg(test)]
+mod tests;

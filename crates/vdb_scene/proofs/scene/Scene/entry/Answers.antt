@@ -1,0 +1,16 @@
+use Rattle.std.proofs.Common.{◌≡◌, ◌∙◌, ap, sym, refl, Option, Some, None}
+use Rattle.std.specs.Option.{option_map, option_copied}
+use Rattle.std.specs.Borrow.{Bor}
+use Rattle.vdb_scene.specs.Grids.{grid_of}
+use Rattle.vdb_scene.specs.declared.grid_entry.GridEntry.{GridEntry}
+use Rattle.vdb_scene.specs.Scene.{is_named}
+use Rattle.vdb_scene.proofs.Entries.{lookup-over}
+use Rattle.vdb_scene.proofs.scene.Scene.entry.Goals as goal
+
+-- what a borrowed entry is in the abstract scene
+lent : (o : Option (Bor GridEntry)) → option_map (λ entry. grid_of entry.now) o ≡ option_map grid_of (option_copied o)
+lent None = refl
+lent (Some e) = refl
+
+pub returns : goal.returns
+returns c = lent c.get.result ∙ ap (option_map grid_of) c.get.ensures.value ∙ sym (lookup-over grid_of (is_named c.args.name.now) c.args.self.now.grids.entries)

@@ -1,0 +1,28 @@
+//! What a scene holds under a name.
+
+ghost use Rattle.std.specs.Prelude.{◌≡◌, IfErr, IfOk};
+ghost use Rattle.vdb_scene.specs.Grids.{grid_of};
+
+use crate::{AnyGrid, Metas, Refusal};
+use std::alloc::Global;
+
+/// What a name of a scene stands for: a grid and its metadata pairs.
+#[derive(Drop)]
+pub struct GridEntry {
+    pub(crate) grid: AnyGrid,
+    pub(crate) metas: Metas,
+}
+
+impl GridEntry {
+    /// A grid with the same cells, background and limit, and with the same pairs. `Memory` says that a growth was refused.
+    pub(crate) fn try_copy(&self, alloc: Global) -> Result<GridEntry, Refusal>
+        ensures same { IfOk result (λ copy. grid_of copy ≡ grid_of self.now) }
+        ensures memory { IfErr result (λ refusal. refusal ≡ Refusal.Memory) }
+    {
+        let grid = self.grid.try_copy()?;
+        match self.metas.try_copy(alloc) {
+            Ok(metas) => Ok(GridEntry { grid, metas }),
+            Err(_) => Err(Refusal::Memory),
+        }
+    }
+}

@@ -1,0 +1,53 @@
+-- A swept table stays so where no key and no background cell comes.
+use Rattle.std.proofs.Common.{◌≡◌, ◌∙◌, refl, sym, ap, false, List, inl, inr}
+use Rattle.std.specs.Prelude.{None, Option, Some, IsSome, IsTrue, if◌then◌else◌}
+use Rattle.vdb_coord.specs.Blocks.{key}
+use Rattle.vdb_coord.specs.Space.{coord_eq}
+use Rattle.vdb_coord.specs.declared.Bits.{Bits}
+use Rattle.vdb_coord.specs.declared.Coord.{Coord}
+use Rattle.vdb_node.specs.declared.Entry.{Entry}
+use Rattle.vdb_value.specs.declared.Cell.{Cell}
+use Rattle.vdb_tree.specs.Changes.{Changes, IsSwept, Keeps}
+use Rattle.vdb_tree.specs.Layout.{Layout, background_cell, cell_at, root_at}
+use Rattle.vdb_tree.proofs.Blocks.{never}
+use Rattle.vdb_tree.proofs.Levels.{coord_cases}
+use Rattle.vdb_tree.proofs.Sweeps.{other_key, that_key}
+
+-- where it isn't known that the table is swept
+pub not_known : {A : Type 0} → IsTrue false → A
+not_known h = absurd (never {b = false} refl h)
+
+entry_from : {V : Type 0} (o : Option (Entry V)) → IsSome o → (entry : Entry V) × (o ≡ Some entry)
+entry_from None h = cc
+entry_from (Some entry) h = (entry, refl)
+
+-- a table in which one key that has no entry gets none brings no key
+pub updated_held : {V : Type 0} (old new : List (Coord × Entry V)) (at : Coord) (o : Option (Entry V)) → ((k : Coord) → root_at new k ≡ (if coord_eq at k then o else root_at old k))
+    → (IsSome o → IsSome (root_at old at)) → (k : Coord) → IsSome (root_at new k) → IsSome (root_at old k)
+updated_held old new at o updates held k h =
+    elim (coord_cases k at) [
+      | inl e ↦ let here = that_key old new at o updates in rw e (held (rw here at (rw e at h)))
+      | inr d ↦ let same = other_key old new at k o updates d in rw same at h
+    ]
+
+module _ {V : Type 0} (bits : Bits) (old new : Layout V) (keys : (k : Coord) → IsSome (root_at new.root k) → IsSome (root_at old.root k)) where
+  still_swept : ((q : Coord) → cell_at bits new q ≡ background_cell new → cell_at bits old q ≡ background_cell old) → IsSwept bits old → IsSwept bits new
+  still_swept cells swept p entry there constant =
+      let held = entry_from (root_at old.root (key bits p)) (keys (key bits p) (rw there refl)) in
+      swept p held.0 held.1 (λ q same. cells q (constant q same))
+
+  background_stays : new.background ≡ old.background → background_cell new ≡ background_cell old
+  background_stays same = ap (λ b. record { value = b; on = false }) same
+
+  -- every cell stays
+  pub kept_swept : Keeps bits old new → IsSwept bits old → IsSwept bits new
+  kept_swept keeps = still_swept (λ q h. sym (keeps.cells q) ∙ h ∙ background_stays keeps.head.background)
+
+  -- one cell changes, to another than the background
+  pub changed_swept : (p : Coord) (cell : Cell V) → Changes bits old new p cell → (cell ≡ background_cell new → ⊥) → IsSwept bits old → IsSwept bits new
+  changed_swept p cell changes other =
+      still_swept (λ q h.
+      elim (coord_cases q p) [
+        | inl e ↦ absurd (other (sym (changes.cells.here q e) ∙ h))
+        | inr d ↦ sym (changes.cells.there q d) ∙ h ∙ background_stays changes.head.background
+      ])
