@@ -10,6 +10,3 @@ mod saving;
 pub use fault::{LoadFault, SaveFault};
 pub use laws::spelling_laws;
 pub use saving::{FILE_LIMIT, length, save};
-
-#[cfg(test)]
-mod tests;

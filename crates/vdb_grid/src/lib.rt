@@ -12,7 +12,5 @@
 mod accessors;
 mod edits;
 mod grid;
-#[cfg(test)]
-mod tests;
 
 pub use grid::Grid;

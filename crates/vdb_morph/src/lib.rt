@@ -19,8 +19,6 @@ mod eroded;
 mod faces;
 mod spread_block;
 mod states;
-#[cfg(test)]
-mod tests;
 mod turns;
 mod words;
 

@@ -35,6 +35,3 @@ pub use scene::{GRID_LIMIT, MOST_ROOT_LIMIT, ROOT_LIMIT, Scene};
 pub use slice::{Slice, SliceRow};
 pub use voxels::{AnyListing, Voxels};
 pub use watched::Watched;
-
-#[cfg(test)]
-mod tests;

@@ -23,8 +23,3 @@ pub use output::WriteFault;
 pub use parsing::parse;
 pub use printing::print;
 pub use source::{SCRIPT_LIMIT, ScriptFault};
-
-#[cfg(test)]
-mod parsing_tests;
-#[cfg(test)]
-mod tests;

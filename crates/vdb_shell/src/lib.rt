@@ -8,6 +8,3 @@ mod sessions;
 pub use fault::{Fault, status};
 pub use playing::{Played, play};
 pub use sessions::{Outcome, session};
-
-#[cfg(test)]
-mod tests;

@@ -12,8 +12,6 @@ mod order;
 mod part_starts;
 mod piece_iter;
 mod smallest;
-#[cfg(test)]
-mod tests;
 mod uniform_box;
 mod voxels;
 

@@ -11,13 +11,13 @@ mod slices;
 mod turns;
 mod two_grids;
 
-use super::*;
 use std::alloc::AllocError;
 use std::io::{self, Read, Write};
 use std::process::Abort;
 use vdb_pool::Steps;
 use vdb_scene::Watched;
 use vdb_script::ScriptFault;
+use vdb_shell::{Fault, session, status};
 
 /// A reader over memory that gives at most `step` bytes at once, and fails at its call numbered `fails_at`.
 #[derive(Drop)]

@@ -1,9 +1,9 @@
 //! Scenes saved as files.
 
-use super::*;
 use std::io;
 use std::io::Write;
 use std::process::Abort;
+use vdb_file::{SaveFault, length, save};
 use vdb_pool::Steps;
 use vdb_scene::{Answer, Command, Corners, Literal, MetaText, Name, Num, Point, Scene, Watched};
 use vdb_value::Kind;

@@ -1,12 +1,12 @@
 //! Boxes around active voxels.
 
 use super::{Leaves4, Leaves16, Tiny, all, at, fill, off, on};
-use crate::active_bounds;
 use std::process::Abort;
 use vdb_coord::Coord;
 use vdb_node::Stored;
 use vdb_pool::Steps;
 use vdb_tree::{Tree, Tree433, TreeOf, TreeRefusal, Write};
+use vdb_walk::active_bounds;
 
 // The least and the greatest corner of the box around the tree's active voxels.
 fn corners<

@@ -1,7 +1,6 @@
 //! Metadata pairs as text.
 
 use super::*;
-use crate::pairs::print_pairs;
 use std::process::Abort;
 use vdb_scene::{MetaText, Metas, Name};
 
@@ -36,7 +35,7 @@ fn longest(last: u8) -> ([u8; 16], [u8; 64]) {
 fn no_pairs_are_an_end(rt: HostRuntime) {
     let metas = Metas::new(rt.alloc());
     let mut writer = Watched::new(Vec::new(rt.alloc()));
-    assert!(rt; print_pairs(&metas, &mut writer).is_ok());
+    assert!(rt; print(Answer::Pairs(&metas), &mut writer, &mut Steps::new(&rt)).is_ok());
     assert_eq!(rt; writer.get_ref().as_slice(), b"end 0\n".as_slice());
 }
 
@@ -51,7 +50,14 @@ fn pairs_are_lines_by_rising_keys(rt: HostRuntime) {
             fails: false,
         };
         let mut writer = Watched::new(&mut narrow);
-        assert!(rt; print_pairs(&three(&rt), &mut writer).is_ok());
+        assert!(rt;
+            print(
+                Answer::Pairs(&three(&rt)),
+                &mut writer,
+                &mut Steps::new(&rt)
+            )
+            .is_ok()
+        );
         assert!(rt; !writer.failed());
         assert_eq!(rt; narrow.text.as_slice(), THREE);
         assert_eq!(rt; narrow.calls, calls);
@@ -82,7 +88,7 @@ fn sixteen_long_pairs_are_one_write(rt: HostRuntime) {
         fails: false,
     };
     let mut writer = Watched::new(&mut narrow);
-    assert!(rt; print_pairs(&metas, &mut writer).is_ok());
+    assert!(rt; print(Answer::Pairs(&metas), &mut writer, &mut Steps::new(&rt)).is_ok());
     assert_eq!(rt; narrow.text.as_slice(), wanted.as_slice());
     assert_eq!(rt; narrow.calls, 1);
 }
@@ -99,7 +105,13 @@ fn a_write_fault_leaves_a_prefix_of_the_pairs(rt: HostRuntime) {
                 fails,
             };
             let mut writer = Watched::new(&mut narrow);
-            assert!(rt; print_pairs(&three(&rt), &mut writer) == Err(WriteFault));
+            assert!(rt;
+                print(
+                    Answer::Pairs(&three(&rt)),
+                    &mut writer,
+                    &mut Steps::new(&rt)
+                ) == Err(WriteFault)
+            );
             assert!(rt; writer.failed());
             assert_eq!(rt; Some(narrow.text.as_slice()), THREE.get(..stops_at - 1));
             assert_eq!(rt; narrow.calls, stops_at);

@@ -1,6 +1,6 @@
 //! Lines and the commands that they are.
-use crate::parse;
 use vdb_scene::{Area, Command, Corners, Literal, MetaText, Name, Num, Point, Refusal};
+use vdb_script::parse;
 use vdb_value::Kind;
 
 /// The coordinate of the lines below.

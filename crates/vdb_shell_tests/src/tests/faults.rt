@@ -2,13 +2,13 @@
 //! fault.
 
 use super::{Endless, FIRST, Picky, Slow};
-use crate::{Fault, session, status};
 use std::alloc::AllocError;
 use std::io::{Read, Write};
 use std::process::Abort;
 use vdb_pool::Steps;
 use vdb_scene::Watched;
 use vdb_script::ScriptFault;
+use vdb_shell::{Fault, session, status};
 
 const READ: Option<Fault> = Some(Fault::Script(ScriptFault::Read));
 

@@ -1,10 +1,10 @@
 //! The pieces of a tree, one after another.
 
 use super::{Tiny, all, at, fill, off, on};
-use crate::Pieces;
 use vdb_coord::Bounds;
 use vdb_pool::Steps;
 use vdb_tree::{Piece, TreeRefusal, Write};
+use vdb_walk::Pieces;
 
 #[test]
 fn no_entries(rt: HostRuntime) {

@@ -4,13 +4,13 @@ mod census;
 mod listing;
 mod piece_iter;
 
-use crate::count;
 use std::process::Abort;
 use vdb_coord::{Bounds, Coord};
 use vdb_node::Stored;
 use vdb_pool::Steps;
 use vdb_tree::{Tree, Tree433, TreeOf, TreeRefusal, Write};
 use vdb_value::Cell;
+use vdb_walk::count;
 
 /// A tree whose blocks span 2, 4 and 8 voxels along each axis, so that a few writes fill one.
 type Tiny<V> = TreeOf<V, 1, 1, 1, 1, 1, 1>;

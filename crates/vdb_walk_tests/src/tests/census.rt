@@ -3,7 +3,6 @@
 ghost use Rattle.std.specs.Prelude.{◌<◌};
 
 use super::{Tiny, all, at, fill, off, on};
-use crate::{Census, census, uniform};
 use std::alloc::{AllocError, Global};
 use std::collections::BTreeMap;
 use std::process::Abort;
@@ -12,6 +11,7 @@ use vdb_node::Stored;
 use vdb_pool::Steps;
 use vdb_tree::{NodeCounts, Tree, Tree433, TreeOf, TreeRefusal, Write};
 use vdb_value::Cell;
+use vdb_walk::{Census, census, uniform};
 
 // The root blocks that hold anything but the background, and the upper, lower and leaf blocks whose cells differ.
 fn expect_census<

@@ -3,13 +3,13 @@
 ghost use Rattle.std.specs.Prelude.{◌<◌};
 
 use super::{Tiny, all, at, fill, off, on};
-use crate::{list, next_active};
 use std::alloc::{AllocError, Global};
 use std::collections::BTreeMap;
 use std::process::Abort;
 use vdb_coord::{Bounds, Coord};
 use vdb_pool::Steps;
 use vdb_tree::{Tree, Tree433, TreeOf, TreeRefusal, Write};
+use vdb_walk::{list, next_active};
 
 // The listing of the box is this, and more is left before each voxel but not past the last.
 fn expect_listing<

@@ -1,10 +1,10 @@
 mod pairs;
 
-use super::*;
 use std::io::{self, Read, Write};
 use vdb_coord::Coord;
 use vdb_pool::Steps;
 use vdb_scene::{Answer, Refusal, Scalar, Watched};
+use vdb_script::{Line, Lines, SCRIPT_LIMIT, ScriptFault, WriteFault, print, read_line};
 use vdb_walk::Census;
 
 // ---- reading

@@ -2,9 +2,9 @@
 
 mod random;
 
-use crate::Grid;
 use std::process::Abort;
 use vdb_coord::{Bounds, Coord};
+use vdb_grid::Grid;
 use vdb_pool::Steps;
 use vdb_tree::{Tree, TreeRefusal, Write};
 use vdb_value::Cell;

@@ -3,9 +3,9 @@
 ghost use Rattle.std.specs.Prelude.{◌≤◌};
 
 use super::{Leaves8, Tiny, Turn, all, at, expect_cells, fill, off, on};
-use crate::{dilate, erode};
 use std::process::Abort;
 use vdb_coord::{Bounds, Coord};
+use vdb_morph::{dilate, erode};
 use vdb_node::Stored;
 use vdb_pool::Steps;
 use vdb_tree::{Tree, Tree433, TreeOf, TreeRefusal, Write};

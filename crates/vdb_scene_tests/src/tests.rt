@@ -8,9 +8,12 @@ mod scattered;
 mod slices;
 mod turns;
 
-use super::*;
 use std::process::Abort;
 use vdb_pool::Steps;
+use vdb_scene::{
+    ACCESSORS, Answer, AnyGrid, Area, Command, Corners, Literal, META_LIMIT, MetaText, Metas, Name,
+    Num, Point, ROOT_LIMIT, Refusal, Scalar, Scene,
+};
 use vdb_value::Kind;
 
 /// A number of a line.

@@ -1,9 +1,9 @@
 //! Trees whose root table is full.
 
 use super::{all, at, expect_cells, fill, off, on};
-use crate::{dilate, erode};
 use std::process::Abort;
 use vdb_coord::Coord;
+use vdb_morph::{dilate, erode};
 use vdb_pool::Steps;
 use vdb_tree::{Tree, Tree433, TreeRefusal, Write};
 use vdb_walk::count;

@@ -7,9 +7,9 @@ mod voxel_map;
 
 ghost use Rattle.std.specs.Prelude.{◌≤◌};
 
-use crate::{dilate, erode};
 use std::process::Abort;
 use vdb_coord::{Bounds, Coord};
+use vdb_morph::{dilate, erode};
 use vdb_node::Stored;
 use vdb_pool::Steps;
 use vdb_tree::{TreeOf, TreeRefusal};
