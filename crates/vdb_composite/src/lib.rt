@@ -14,6 +14,3 @@ mod sums;
 
 pub use operations::{maximum, minimum, replace};
 pub use sums::{SumRefusal, sum};
-
-#[cfg(test)]
-mod tests;

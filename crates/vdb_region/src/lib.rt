@@ -11,6 +11,3 @@ mod rings;
 
 pub use clip_box::clip;
 pub use fill_box::fill;
-
-#[cfg(test)]
-mod tests;

@@ -14,9 +14,6 @@ use vdb_node::Stored;
 use vdb_pool::Steps;
 use vdb_tree::{StateRule, TreeOf, TreeRefusal};
 
-#[cfg(test)]
-mod tests;
-
 /// Makes each voxel of a tree active that is so in it or in another tree (OpenVDB's `Tree::topologyUnion`).
 ///
 /// `RootLimit` says that there would be more root blocks with a cell that isn't the background than the limit, `Memory` that a

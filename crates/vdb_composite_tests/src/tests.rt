@@ -2,8 +2,8 @@
 
 ghost use Rattle.std.specs.Prelude.{◌<◌};
 
-use crate::{SumRefusal, maximum, minimum, replace, sum};
 use std::process::Abort;
+use vdb_composite::{SumRefusal, maximum, minimum, replace, sum};
 use vdb_coord::{Bounds, Coord};
 use vdb_pool::Steps;
 use vdb_tree::{Tree, TreeOf, TreeRefusal, Write};

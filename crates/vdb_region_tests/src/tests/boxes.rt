@@ -1,10 +1,10 @@
 //! Boxes of a few voxels and of the whole space.
 
 use super::{all, at, bounds, expect_counts, off, on};
-use crate::{clip, fill};
 use std::process::Abort;
 use vdb_coord::Coord;
 use vdb_pool::Steps;
+use vdb_region::{clip, fill};
 use vdb_tree::{Tree, TreeRefusal, Write};
 use vdb_value::Cell;
 

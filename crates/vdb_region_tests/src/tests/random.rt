@@ -3,12 +3,12 @@
 ghost use Rattle.std.specs.Prelude.{◌<◌, ◌≤◌};
 
 use super::{at, off};
-use crate::{clip, fill};
 use std::alloc::{AllocError, Global};
 use std::collections::BTreeMap;
 use std::process::Abort;
 use vdb_coord::{Bounds, Coord};
 use vdb_pool::Steps;
+use vdb_region::{clip, fill};
 use vdb_tree::{Tree433, TreeOf, TreeRefusal};
 use vdb_value::Cell;
 

@@ -2,11 +2,11 @@
 
 ghost use Rattle.std.specs.Prelude.{◌<◌};
 
-use crate::{intersect, subtract, unite};
 use std::process::Abort;
 use vdb_coord::{Bounds, Coord};
 use vdb_node::Stored;
 use vdb_pool::Steps;
+use vdb_topology::{intersect, subtract, unite};
 use vdb_tree::{NodeCounts, StateRule, Tree, Tree433, TreeOf, TreeRefusal, Write};
 use vdb_value::Cell;
 

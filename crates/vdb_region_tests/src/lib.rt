@@ -1,0 +1,5 @@
+//! Tests of boxes filled and clipped, by public calls alone. They are in a crate of their own, since a crate with tests is proved twice.
+#![tactic(auto)]
+
+#[cfg(test)]
+mod tests;
