@@ -1,4 +1,4 @@
-//! Tests of values of two trees made one, by public calls alone. They are in a crate of their own, since a crate with tests is proved twice.
+//! Tests of values of two trees made one, by public calls alone.
 #![tactic(auto)]
 
 #[cfg(test)]

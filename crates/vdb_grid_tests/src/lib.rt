@@ -1,4 +1,4 @@
-//! Tests of grids and their accessors, by public calls alone. They are in a crate of their own, since a crate with tests is proved twice.
+//! Tests of grids and their accessors, by public calls alone.
 #![tactic(auto)]
 
 #[cfg(test)]

@@ -1,4 +1,4 @@
-//! Tests of scenes and their commands, by public calls alone. They are in a crate of their own, since a crate with tests is proved twice.
+//! Tests of scenes and their commands, by public calls alone.
 #![tactic(auto)]
 
 #[cfg(test)]

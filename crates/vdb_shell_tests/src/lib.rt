@@ -1,4 +1,4 @@
-//! Tests of whole sessions, by public calls alone. They are in a crate of their own, since a crate with tests is proved twice.
+//! Tests of whole sessions, by public calls alone.
 #![tactic(auto)]
 
 #[cfg(test)]
