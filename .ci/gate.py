@@ -5,6 +5,7 @@ rt ci gives each task one processor: the proof of a crate, of its tests, and its
 another, so that for hours one proof would hold up all others, on one processor. Here the proofs of crates come one after another, each on
 all processors but one; the one that is left tries edits and proves tests, and takes all of them once no crate is left to prove. What
 is read, proved, run and tried, and what fails, is rt's own: only the function that says when a task runs gives way to `in_turn`.
+In a kit whose rt has no such function, this is rt ci.
 """
 import importlib.machinery
 import importlib.util
@@ -73,5 +74,6 @@ def in_turn(tasks):
     return given
 
 
-rt.in_lanes = in_turn
+if all(hasattr(rt, name) for name in ("in_lanes", "processors", "free")):
+    rt.in_lanes = in_turn
 sys.exit(rt.main(["ci"]))
