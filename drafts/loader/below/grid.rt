@@ -1,0 +1,261 @@
+//! The grid: its tree, its probes and its writes.
+
+ghost use Rattle.std.specs.Prelude.{◌≡◌, ◌≢◌, ◌+◌, ◌-◌, ◌*◌, ◌<◌, ◌≤◌, ◌⊎◌, false, if◌then◌else◌, is_some, IfErr, IfOk, IfSome, IsOk, IsTrue, None, Ok, slice_set, Some, ℕ};
+ghost use Rattle.vdb_coord.specs.Blocks.{block_around, block_number, key, vdb};
+ghost use Rattle.vdb_coord.specs.declared.Coord.{Coord};
+ghost use Rattle.vdb_coord.specs.declared.Level.TheVariants.{Leaf};
+ghost use Rattle.vdb_tree.specs.ConstantBlocks.{is_constant};
+ghost use Rattle.vdb_tree.specs.Field.{new, write, written};
+ghost use Rattle.vdb_tree.specs.Layout.{field_of};
+ghost use Rattle.vdb_tree.specs.Leaves.{IsVoxelWritten};
+ghost use Rattle.vdb_tree.specs.Nodes.{IsSameTree, KeepsElsewhere};
+ghost use Rattle.vdb_tree.specs.Outcome.{IsOutcome};
+ghost use Rattle.vdb_tree.specs.Paths.{common, depth, down_count, in_leaf, IsWhole, Lives};
+ghost use Rattle.vdb_tree.specs.Table.{HasCapacity};
+ghost use Rattle.vdb_tree.specs.declared.refusal.TreeRefusal.TheVariants.{Memory};
+ghost use Rattle.vdb_grid.specs.Grid.{has_leaf, last, path};
+
+use crate::accessors::retrace;
+use std::alloc::Global;
+use std::marker::Model;
+use vdb_coord::Coord;
+use vdb_node::Stored;
+use vdb_pool::Steps;
+use vdb_tree::{Path, Tree, TreeRefusal, Write};
+use vdb_value::Cell;
+
+/// A tree of the standard configuration with `K` accessors (OpenVDB's `Grid` with `ValueAccessor`s that stay valid).
+#[derive(Drop)]
+pub struct Grid<V: Stored<512> + Stored<64> + Stored<8>, const K: usize> {
+    pub(crate) tree: Tree<V>,
+    // The coordinate that each accessor was last given.
+    pub(crate) coords: [Option<Coord>; K],
+    // The path to it; any path where there is none.
+    pub(crate) paths: [Path<V>; K],
+}
+
+impl<V: Stored<512> + Stored<64> + Stored<8>, const K: usize> Model for Grid<V, K> {
+    ghost use Rattle.vdb_grid.specs.Grid.{ArePathsWhole, GridOf};
+
+    ghost Value = { GridOf V };
+
+    ghost view = { λ g. record {
+      tree = g.tree;
+      coords = g.coords;
+      paths = g.paths;
+    } };
+
+    ghost invariant = { λ g. ArePathsWhole g.tree g.coords g.paths };
+}
+
+impl<V: Stored<512> + Stored<64> + Stored<8>, const K: usize> Grid<V, K> {
+    /// A grid without nodes, where each coordinate has the background, inactive, and with a limit of root blocks. Its
+    /// accessors were given no coordinate.
+    pub fn new(alloc: Global, background: V, limit: u32) -> Self
+        ensures field { field_of vdb result.tree ≡ new background }
+        ensures limit { result.tree.limit ≡ limit }
+        ensures last { (k : ℕ) → last result.coords k ≡ None }
+    {
+        Grid {
+            tree: Tree::new(alloc, background, limit),
+            coords: [None; K],
+            paths: [Path::Empty; K],
+        }
+    }
+
+    /// The grid of a tree, with accessors that were given no coordinate. It takes no memory.
+    pub fn from_tree(tree: Tree<V>) -> Self
+        ensures tree { result.tree ≡ tree }
+        ensures last { (k : ℕ) → last result.coords k ≡ None }
+    {
+        Grid {
+            tree,
+            coords: [None; K],
+            paths: [Path::Empty; K],
+        }
+    }
+
+    /// The tree.
+    pub fn tree(&self) -> &Tree<V>
+        ensures { result.now ≡ self.now.tree }
+    {
+        &self.tree
+    }
+
+    /// The coordinate that an accessor was last given, by a probe or by a write through it.
+    pub fn cached(&self, k: usize) -> Option<Coord>
+        requires { k < K }
+        ensures { result ≡ last self.now.coords k }
+    {
+        self.coords[k]
+    }
+
+    /// The cell of a voxel through an accessor: by the descent from the lowest node that the accessor caches and that contains
+    /// the voxel (OpenVDB's `ValueAccessor::getValue`). In the leaf block of the last coordinate it visits at most one node.
+    pub fn probe(&mut self, k: usize, p: Coord, steps: &mut Steps) -> Cell<V>
+        requires { k < K }
+        ensures cell { result ≡ (field_of vdb self.old.tree).cell p }
+        ensures tree { self.new.tree ≡ self.old.tree }
+        ensures last { self.new.coords ≡ slice_set self.old.coords k (Some p) }
+        ensures others { (j : ℕ) → j ≢ k → path self.new.paths j ≡ path self.old.paths j }
+        ensures below { (q : Coord) → last self.old.coords k ≡ Some q
+            → steps.new ≤ steps.old + (down_count vdb self.old.tree p - (depth (common vdb q p (path self.old.paths k)) - 1)) }
+        ensures near { (q : Coord) → last self.old.coords k ≡ Some q → block_number vdb Leaf q ≡ block_number vdb Leaf p
+            → steps.new ≤ steps.old + 1 }
+        ensures steps { steps.new ≤ steps.old + 3 }
+    {
+        match self.near_cell(k, p, steps) {
+            Some(cell) => {
+                self.coords[k] = Some(p);
+                cell
+            }
+            None => self.go_to(k, p, steps),
+        }
+    }
+
+    /// The cell of a voxel in the leaf that the accessor's path ends in, where that holds it.
+    fn near_cell(&self, k: usize, p: Coord, steps: &mut Steps) -> Option<Cell<V>>
+        requires { k < K }
+        ensures answer { is_some result ≡ has_leaf (last self.now.coords k) (path self.now.paths k) p }
+        ensures cell { IfSome result (λ cell. cell ≡ (field_of vdb self.now.tree).cell p) }
+        ensures whole { IfSome result (λ _. IsWhole vdb self.now.tree (path self.now.paths k) p) }
+        ensures steps { steps.new ≤ steps.old + (if is_some result then 1 else 0) }
+    {
+        let q = self.coords[k]?;
+        self.tree.cell_near(&self.paths[k], q, p, steps)
+    }
+
+    /// The cell of a voxel by the descent from the lowest node of the accessor's path that contains it. The accessor then
+    /// caches the path to the voxel.
+    fn go_to(&mut self, k: usize, p: Coord, steps: &mut Steps) -> Cell<V>
+        requires { k < K }
+        ensures cell { result ≡ (field_of vdb self.old.tree).cell p }
+        ensures tree { self.new.tree ≡ self.old.tree }
+        ensures last { self.new.coords ≡ slice_set self.old.coords k (Some p) }
+        ensures others { (j : ℕ) → j ≢ k → path self.new.paths j ≡ path self.old.paths j }
+        ensures below { (q : Coord) → last self.old.coords k ≡ Some q
+            → steps.new ≤ steps.old + (down_count vdb self.old.tree p - (depth (common vdb q p (path self.old.paths k)) - 1)) }
+        ensures near { (q : Coord) → last self.old.coords k ≡ Some q → block_number vdb Leaf q ≡ block_number vdb Leaf p
+            → steps.new ≤ steps.old + 1 }
+        ensures steps { steps.new ≤ steps.old + 3 }
+    {
+        let (q, mut path) = self.start(k, p);
+        let cell = self.tree.descend(&mut path, q, p, steps);
+        self.coords[k] = Some(p);
+        self.paths[k] = path;
+        cell
+    }
+
+    /// Where a descent to `p` through an accessor begins: the coordinate that it was last given with the path to it, or `p`
+    /// without a node.
+    fn start(&self, k: usize, p: Coord) -> (Coord, Path<V>)
+        requires { k < K }
+        ensures value { (q : Coord) → last self.now.coords k ≡ Some q → result ≡ (q, path self.now.paths k) }
+        ensures lives { Lives vdb self.now.tree result.1 result.0 }
+    {
+        match self.coords[k] {
+            Some(q) => (q, self.paths[k]),
+            None => (p, Path::Empty),
+        }
+    }
+
+    /// Writes a voxel, as the tree's `write` does, and traces the path of each accessor anew.
+    pub fn write(
+        &mut self,
+        p: Coord,
+        change: Write<V>,
+        steps: &mut Steps,
+    ) -> Result<(), TreeRefusal>
+        ensures outcome { IsOutcome V.eq vdb self.old.tree.limit (field_of vdb self.old.tree)
+            (write p change (field_of vdb self.old.tree)) (field_of vdb self.new.tree) result }
+        ensures limit { self.new.tree.limit ≡ self.old.tree.limit }
+        ensures last { self.new.coords ≡ self.old.coords }
+        ensures unchanged { written change ((field_of vdb self.old.tree).cell p) ≡ (field_of vdb self.old.tree).cell p → IsOk result }
+        ensures leaf { IsTrue (in_leaf vdb self.old.tree p) → IsOk result }
+        ensures non_constant { is_constant V.eq (field_of vdb self.old.tree) (block_around vdb Leaf p) ≡ false → IsOk result }
+        ensures elsewhere { HasCapacity self.old.tree (key vdb p) → KeepsElsewhere vdb self.old.tree self.new.tree p }
+        ensures steps { HasCapacity self.old.tree (key vdb p)
+            ⊎ (written change ((field_of vdb self.old.tree).cell p) ≡ (field_of vdb self.old.tree).cell p)
+            → steps.new ≤ steps.old + (5 + 3 * K) }
+    {
+        let outcome = self.tree.write(p, change, steps);
+        retrace(&self.tree, &self.coords, &mut self.paths, steps);
+        outcome
+    }
+
+    /// Writes a voxel through an accessor, which then caches the path to it, whether the write is accepted or refused. Where the
+    /// cached path ends in a leaf that holds the voxel, that leaf alone is visited (OpenVDB's `ValueAccessor::setValue`); in any
+    /// other leaf it takes the descent from the lowest cached node that contains the voxel.
+    pub fn write_by(
+        &mut self,
+        k: usize,
+        p: Coord,
+        change: Write<V>,
+        steps: &mut Steps,
+    ) -> Result<(), TreeRefusal>
+        requires { k < K }
+        ensures outcome { IsOutcome V.eq vdb self.old.tree.limit (field_of vdb self.old.tree)
+            (write p change (field_of vdb self.old.tree)) (field_of vdb self.new.tree) result }
+        ensures limit { self.new.tree.limit ≡ self.old.tree.limit }
+        ensures last { self.new.coords ≡ slice_set self.old.coords k (Some p) }
+        ensures near { IsTrue (has_leaf (last self.old.coords k) (path self.old.paths k) p)
+            → IsOk result × IsVoxelWritten vdb self.old.tree self.new.tree p (written change ((field_of vdb self.old.tree).cell p)) × (steps.new ≤ steps.old + 1) }
+        ensures unchanged { written change ((field_of vdb self.old.tree).cell p) ≡ (field_of vdb self.old.tree).cell p → IsOk result }
+        ensures leaf { IsTrue (in_leaf vdb self.old.tree p) → IsOk result }
+        ensures non_constant { is_constant V.eq (field_of vdb self.old.tree) (block_around vdb Leaf p) ≡ false → IsOk result }
+        ensures steps { HasCapacity self.old.tree (key vdb p)
+            ⊎ (written change ((field_of vdb self.old.tree).cell p) ≡ (field_of vdb self.old.tree).cell p)
+            → steps.new ≤ steps.old + (8 + 3 * K) }
+    {
+        if self.write_near(k, p, change, steps) {
+            return Ok(());
+        }
+        let _ = self.go_to(k, p, steps);
+        if self.write_near(k, p, change, steps) {
+            return Ok(());
+        }
+        self.write(p, change, steps)
+    }
+
+    /// Writes a voxel in the leaf that the accessor's path ends in, where that holds the voxel, by one visit. The answer says
+    /// whether it does; where it doesn't, nothing changes.
+    fn write_near(&mut self, k: usize, p: Coord, change: Write<V>, steps: &mut Steps) -> bool
+        requires { k < K }
+        ensures answer { result ≡ has_leaf (last self.old.coords k) (path self.old.paths k) p }
+        ensures outcome { IsTrue result → IsOutcome V.eq vdb self.old.tree.limit (field_of vdb self.old.tree)
+            (write p change (field_of vdb self.old.tree)) (field_of vdb self.new.tree) (Ok tt) }
+        ensures limit { self.new.tree.limit ≡ self.old.tree.limit }
+        ensures alone { IsTrue result → IsVoxelWritten vdb self.old.tree self.new.tree p (written change ((field_of vdb self.old.tree).cell p)) }
+        ensures last { IsTrue result → self.new.coords ≡ slice_set self.old.coords k (Some p) }
+        ensures untouched { result ≡ false → self.new ≡ self.old }
+        ensures steps { steps.new ≤ steps.old + (if result then 1 else 0) }
+    {
+        let Some(q) = self.coords[k] else {
+            return false;
+        };
+        let path = self.paths[k];
+        if !self.tree.write_near(&path, q, p, change, steps) {
+            return false;
+        }
+        let _ = self.tree.limit(); // no more root blocks than the limit hold anything but the background
+        self.coords[k] = Some(p);
+        true
+    }
+
+    /// A grid with the same cells, tiles, nodes, background and limit, and with accessors that were given no coordinate.
+    /// `Memory` says that a growth was refused.
+    pub fn try_copy(&self) -> Result<Self, TreeRefusal>
+        ensures field { IfOk result (λ copy. field_of vdb copy.tree ≡ field_of vdb self.now.tree) }
+        ensures limit { IfOk result (λ copy. copy.tree.limit ≡ self.now.tree.limit) }
+        ensures same { IfOk result (λ copy. IsSameTree vdb self.now.tree copy.tree) }
+        ensures last { IfOk result (λ copy. (k : ℕ) → last copy.coords k ≡ None) }
+        ensures memory { IfErr result (λ refusal. refusal ≡ Memory) }
+    {
+        let tree = self.tree.try_copy()?;
+        Ok(Grid {
+            tree,
+            coords: [None; K],
+            paths: [Path::Empty; K],
+        })
+    }
+}

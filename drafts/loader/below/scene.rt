@@ -1,0 +1,121 @@
+//! Scenes: grids under names.
+ghost use Rattle.std.specs.Prelude.{◌≡◌, ◌++◌, ◌∷◌, [], IfErr, OnErr, OnOk, map, length, is_some, nat_le};
+ghost use Rattle.std.specs.Cmp.Lexicographic.{slice_cmp};
+ghost use Rattle.std.specs.List.Sorted.{IsStrictlySortedBy};
+ghost use Rattle.std.specs.Option.{option_map};
+ghost use Rattle.std.specs.Ordering.{nat_cmp};
+ghost use Rattle.vdb_scene.specs.Doing.{AddsGrid, KeepsGrids};
+ghost use Rattle.vdb_scene.specs.Grids.{grid_alone, grid_field, grid_limit, grid_of, grid_with, scene_of};
+ghost use Rattle.vdb_scene.specs.Scene.{grid_at, with_grid};
+ghost use Rattle.vdb_scene.specs.Step.{Inserts};
+
+use crate::{AnyGrid, GridEntry, Metas, Name, Refusal};
+use std::alloc::Global;
+use std::collections::BTreeMap;
+use std::collections::btree_map::Keys;
+
+/// The most grids of a scene.
+pub const GRID_LIMIT: usize = 64;
+
+/// The most root blocks of a grid with a cell that isn't the background, inactive, where the command that makes it names no
+/// limit.
+pub const ROOT_LIMIT: u32 = 4096;
+
+/// The greatest limit of root blocks that such a command may name.
+pub const MOST_ROOT_LIMIT: u32 = 65536;
+
+/// Grids under names: at most `GRID_LIMIT` of them.
+#[derive(Drop)]
+pub struct Scene {
+    pub(crate) alloc: Global,
+    pub(crate) grids: BTreeMap<Name, GridEntry>,
+}
+
+impl Scene {
+    /// The empty scene. It takes no memory.
+    pub fn new(alloc: Global) -> Scene
+        ensures { scene_of result ≡ [] }
+    {
+        Scene {
+            alloc,
+            grids: BTreeMap::new(alloc),
+        }
+    }
+
+    /// The grid of a name, if it is there.
+    pub fn get(&self, name: &Name) -> Option<&AnyGrid>
+        ensures field { option_map (λ grid. grid_field grid.now) result ≡ option_map (λ g. g.field) (grid_at (scene_of self.now) name.now) }
+        ensures limit { option_map (λ grid. grid_limit grid.now) result ≡ option_map (λ g. g.limit) (grid_at (scene_of self.now) name.now) }
+    {
+        match self.entry(name) {
+            Some(entry) => Some(&entry.grid),
+            None => None,
+        }
+    }
+
+    /// What stands under a name, if it is there.
+    pub(crate) fn entry(&self, name: &Name) -> Option<&GridEntry>
+        ensures { option_map (λ entry. grid_of entry.now) result ≡ grid_at (scene_of self.now) name.now }
+    {
+        self.grids.get(name)
+    }
+
+    /// The names of the grids. They rise by their bytes, and each is there once.
+    pub fn names(&self) -> Keys<'_, Name, GridEntry>
+        ensures names { result ≡ map (λ e. e.0) (scene_of self.now) }
+        ensures rising { IsStrictlySortedBy (slice_cmp nat_cmp) result }
+    {
+        self.grids.keys()
+    }
+
+    /// Puts a grid without metadata under a name. It is refused, dropped, and the scene stays as it was, where the name is taken, where there
+    /// are `GRID_LIMIT` grids, or for lack of memory, in this order.
+    pub fn insert(&mut self, name: Name, grid: AnyGrid) -> Result<(), Refusal>
+        ensures { Inserts (scene_of self.old) name (grid_alone grid) result (scene_of self.new) }
+    {
+        let metas = Metas::new(self.alloc);
+        self.insert_with(name, grid, metas)
+    }
+
+    /// Puts a grid with its metadata under a name. It is refused, dropped, and the scene stays as it was, where the name is taken, where
+    /// there are `GRID_LIMIT` grids, or for lack of memory, in this order.
+    pub fn insert_with(&mut self, name: Name, grid: AnyGrid, metas: Metas) -> Result<(), Refusal>
+        ensures { Inserts (scene_of self.old) name (grid_with grid metas) result (scene_of self.new) }
+    {
+        if self.has(&name) {
+            return Err(Refusal::NameTaken);
+        }
+        if self.is_full() {
+            return Err(Refusal::GridLimit);
+        }
+        self.put(name, GridEntry { grid, metas })
+    }
+
+    /// Whether there is a grid of a name.
+    pub(crate) fn has(&self, name: &Name) -> bool
+        ensures { result ≡ is_some (grid_at (scene_of self.now) name.now) }
+    {
+        self.grids.contains_key(name)
+    }
+
+    /// Whether there are as many grids as there may be.
+    pub(crate) fn is_full(&self) -> bool
+        ensures { result ≡ nat_le 64 (length (scene_of self.now)) }
+    {
+        self.grids.len() >= GRID_LIMIT
+    }
+
+    /// Puts an entry under a name that isn't taken; only lack of memory refuses it.
+    pub(crate) fn put(&mut self, name: Name, entry: GridEntry) -> Result<(), Refusal>
+        ensures ok { OnOk result (scene_of self.new ≡ with_grid (scene_of self.old) name (grid_of entry)) }
+        ensures err { OnErr result (scene_of self.new ≡ scene_of self.old) }
+        ensures memory { IfErr result (λ refusal. refusal ≡ Refusal.Memory) }
+        ensures added { OnOk result (AddsGrid self.old name entry self.new) }
+        ensures kept { OnErr result (KeepsGrids self.old self.new) }
+    {
+        match self.grids.insert(name, entry) {
+            Ok(_) => Ok(()),
+            Err(_) => Err(Refusal::Memory),
+        }
+    }
+}

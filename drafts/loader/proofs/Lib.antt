@@ -1,0 +1,21 @@
+-- Lemmas for the proofs of the crate.
+pub mod Unambiguous
+pub mod Fronts
+pub mod FieldBytes
+pub mod Numbers
+pub mod Kept
+pub mod Agreement
+pub mod Bodies
+pub mod Roots
+pub mod Values
+pub mod Pairs
+pub mod Scenes
+pub mod MadeBodies
+pub mod Texts
+pub mod Items
+pub mod PairParts
+pub mod Beginnings
+pub mod HeadParts
+pub mod TypedGrids
+pub mod KindsOfValues
+pub mod GridParts

@@ -1,0 +1,167 @@
+//! A script that is played on a scene, line by line.
+ghost use Rattle.std.specs.Prelude.{◌≡◌, ◌<◌, ◌||◌, ◌↔◌, false, true, Some, None, Err, IfOk, IfSome, OnOk, OnErr, IsTrue, is_err, ℕ, List, length};
+ghost use Rattle.std.specs.Io.KnownBytes.{Appends, Consumes};
+ghost use Rattle.vdb_scene.specs.Grids.{scene_of};
+ghost use Rattle.vdb_scene.specs.Shown.{Shows};
+ghost use Rattle.vdb_scene.specs.Replies.{Reply};
+ghost use Rattle.vdb_scene.specs.Watched.{has_failed, source};
+ghost use Rattle.vdb_script.specs.Reading.{EndsWith, YieldsEnd, YieldsLine, YieldsPart, YieldsTooMuch, ahead, budget};
+ghost use Rattle.vdb_script.specs.Text.{text};
+ghost use Rattle.vdb_script.specs.Writing.{Writes};
+ghost use Rattle.vdb_shell.specs.internal.Answering.{TakesTurn, is_read_ending};
+ghost use Rattle.vdb_shell.specs.Session.{IsOfScript, PlaysFrom, is_refused};
+
+use crate::Fault;
+use std::alloc::Global;
+use std::io::{Read, Write};
+use vdb_pool::Steps;
+use vdb_scene::{Answer, Refusal, Scene, Watched};
+use vdb_script::{Line, Lines, ScriptFault, WriteFault, parse, print, read_line};
+
+/// How the playing of a script ended.
+#[derive(Clone, Copy, Debug, PartialEq, Eq)]
+pub struct Played {
+    /// Whether some line was refused.
+    pub refused: bool,
+    /// What ended it early, if anything did.
+    pub fault: Option<Fault>,
+}
+
+/// What came of a line.
+#[derive(Clone, Copy)]
+struct Turn {
+    /// Whether it was refused.
+    refused: bool,
+    /// Whether its answer went out, if it has one.
+    written: Result<(), WriteFault>,
+}
+
+/// Plays a script on a scene: reads a line, carries it out and writes its answer before the next line is read. It ends where
+/// the script does, or at the first fault: at a script of more than 16,777,216 bytes, of which each whole line within that
+/// limit is carried out; at a call of the reader that fails, and then the line that it was to end isn't carried out; or at a
+/// call of the writer that fails or takes no byte, and then what went out is a prefix of the answers.
+pub fn play<R: Read, W: Write>(
+    alloc: Global,
+    scene: &mut Scene,
+    script: &mut Watched<R>,
+    answers: &mut Watched<W>,
+    steps: &mut Steps,
+) -> Played
+    requires script_fresh { has_failed script.old ≡ false }
+    requires answers_fresh { has_failed answers.old ≡ false }
+    // Where the reader tells its bytes, answers and scene are those of a run over the script's lines.
+    ensures plays { (bytes : List ℕ) → R.remaining (source script.old) ≡ Some bytes →
+        (given written : List ℕ)
+        × Consumes (Some bytes) (R.remaining (source script.new)) given
+        × Appends (W.contents (source answers.old)) (W.contents (source answers.new)) written
+        × PlaysFrom (scene_of scene.old) bytes result.fault result.refused given written (scene_of scene.new) }
+    // A fault is one of the script or of its answers, and one of reading or writing comes exactly where that reader or writer
+    // failed.
+    ensures faults { IfSome result.fault IsOfScript }
+    ensures script { (result.fault ≡ Some (Fault.Script ScriptFault.Read)) ↔ IsTrue (has_failed script.new) }
+    ensures answers { (result.fault ≡ Some Fault.Answers) ↔ IsTrue (has_failed answers.new) }
+{
+    let mut lines = Lines::new();
+    let mut refused = false;
+    'lines: loop {
+        match play_line(alloc, scene, &mut lines, script, answers, steps) {
+            Err(None) => {
+                return Played {
+                    refused,
+                    fault: None,
+                };
+            }
+            Err(Some(fault)) => {
+                return Played {
+                    refused,
+                    fault: Some(Fault::Script(fault)),
+                };
+            }
+            Ok(turn) => {
+                refused |= turn.refused;
+                if turn.written.is_err() {
+                    return Played {
+                        refused,
+                        fault: Some(Fault::Answers),
+                    };
+                }
+            }
+        }
+    }
+}
+
+/// Reads the next line of a script that has neither ended nor failed, carries it out and writes its answer, if it has one.
+/// `Err(None)` is the script's end.
+fn play_line<R: Read, W: Write>(
+    alloc: Global,
+    scene: &mut Scene,
+    lines: &mut Lines,
+    script: &mut Watched<R>,
+    answers: &mut Watched<W>,
+    steps: &mut Steps,
+) -> Result<Turn, Option<ScriptFault>>
+    requires unended { lines.old.ending ≡ None }
+    requires ends { EndsWith lines.old.source (R.remaining (source script.old)) }
+    ensures ends { EndsWith lines.new.source (R.remaining (source script.new)) }
+    ensures line { IfOk result (λ turn. (line : List ℕ)
+        × YieldsLine (ahead lines.old.source (R.remaining (source script.old))) (ahead lines.new.source (R.remaining (source script.new))) lines.old.source lines.new.source line
+        × TakesTurn (scene_of scene.old) line turn (W.contents (source answers.old)) (W.contents (source answers.new)) (scene_of scene.new)) }
+    ensures end { result ≡ Err None → YieldsEnd (ahead lines.old.source (R.remaining (source script.old))) (ahead lines.new.source (R.remaining (source script.new))) lines.new.source }
+    ensures overflow { result ≡ Err (Some ScriptFault.TooLong) → YieldsTooMuch (ahead lines.old.source (R.remaining (source script.old))) (R.remaining (source script.new)) lines.old.source }
+    ensures read { result ≡ Err (Some ScriptFault.Read) → YieldsPart (ahead lines.old.source (R.remaining (source script.old))) (R.remaining (source script.new)) lines.old.source }
+    ensures failed { has_failed script.new ≡ (has_failed script.old || is_read_ending result) }
+    ensures answers_failed { IfOk result (λ turn. has_failed answers.new ≡ (has_failed answers.old || is_err turn.written)) }
+    ensures quiet { lines.old.source.ended ≡ true → script.new ≡ script.old }
+    ensures same { OnErr result (scene_of scene.new ≡ scene_of scene.old) }
+    ensures silent { OnErr result (answers.new ≡ answers.old) }
+    ensures unended { OnOk result (lines.new.ending ≡ None) }
+    ensures progress { OnOk result (budget lines.new.source < budget lines.old.source) }
+{
+    match read_line(lines, script) {
+        Ok(Line::Text) => Ok(answer_line(alloc, scene, lines.text(), answers, steps)),
+        Ok(Line::TooLong) => Ok(tell(Answer::Refused(Refusal::LineTooLong), answers, steps)),
+        Ok(Line::End) => Err(None),
+        Err(fault) => Err(Some(fault)),
+    }
+}
+
+/// Carries out a line of at most 256 bytes and writes its answer, if it has one.
+fn answer_line<W: Write>(
+    alloc: Global,
+    scene: &mut Scene,
+    line: &[u8],
+    answers: &mut Watched<W>,
+    steps: &mut Steps,
+) -> Turn
+    requires { length line.now < 257 }
+    ensures turn { TakesTurn (scene_of scene.old) line.now result (W.contents (source answers.old)) (W.contents (source answers.new)) (scene_of scene.new) }
+    ensures failed { has_failed answers.new ≡ (has_failed answers.old || is_err result.written) }
+{
+    match parse(alloc, line) {
+        Ok(None) => Turn {
+            refused: false,
+            written: Ok(()),
+        },
+        Ok(Some(command)) => tell(scene.apply(&command, steps), answers, steps),
+        Err(refusal) => tell(Answer::Refused(refusal), answers, steps),
+    }
+}
+
+/// Writes an answer.
+fn tell<W: Write>(answer: Answer, answers: &mut Watched<W>, steps: &mut Steps) -> Turn
+    ensures refused { (reply : Reply) → Shows answer.entry reply → result.refused ≡ is_refused reply }
+    ensures writes { (reply : Reply) → Shows answer.entry reply →
+        Writes (W.contents (source answers.old)) (W.contents (source answers.new)) result.written (text reply) }
+    ensures failed { has_failed answers.new ≡ (has_failed answers.old || is_err result.written) }
+{
+    let refused = is_refusal(&answer);
+    let written = print(answer, answers, steps);
+    Turn { refused, written }
+}
+
+/// Whether an answer is a refusal.
+fn is_refusal(answer: &Answer) -> bool
+    ensures { (reply : Reply) → Shows answer.now reply → result ≡ is_refused reply }
+{
+    matches!(answer, Answer::Refused(_))
+}
