@@ -1,5 +1,0 @@
--- Sessions.
-pub mod CommandLine
-pub mod Files
-pub mod Session
-pub mod internal
