@@ -5,7 +5,8 @@ rt ci gives each task one processor: the proof of a crate, of its tests, and its
 another, so that for hours one proof would hold up all others, on one processor. Here the proofs of crates come one after another, each on
 all processors but one; the one that is left tries edits and proves tests, and takes all of them once no crate is left to prove. What
 is read, proved, run and tried, and what fails, is rt's own: only the function that says when a task runs gives way to `in_turn`.
-In a kit whose rt has no such function, this is rt ci.
+In a kit whose rt has no such function, this is rt ci. With names of crates it does so for these and those below them alone, on a copy, as
+rt ci does with names.
 """
 import importlib.machinery
 import importlib.util
@@ -76,4 +77,4 @@ def in_turn(tasks):
 
 if all(hasattr(rt, name) for name in ("in_lanes", "processors", "free")):
     rt.in_lanes = in_turn
-sys.exit(rt.main(["ci"]))
+sys.exit(rt.main(["ci", *sys.argv[1:]]))

@@ -63,6 +63,18 @@ impl<V: Stored<512> + Stored<64> + Stored<8>, const K: usize> Grid<V, K> {
         }
     }
 
+    /// The grid of a tree, with accessors that were given no coordinate. It takes no memory.
+    pub fn from_tree(tree: Tree<V>) -> Self
+        ensures tree { result.tree ≡ tree }
+        ensures last { (k : ℕ) → last result.coords k ≡ None }
+    {
+        Grid {
+            tree,
+            coords: [None; K],
+            paths: [Path::Empty; K],
+        }
+    }
+
     /// The tree.
     pub fn tree(&self) -> &Tree<V>
         ensures { result.now ≡ self.now.tree }

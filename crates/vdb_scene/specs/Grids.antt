@@ -9,6 +9,7 @@ use Rattle.vdb_tree.specs.Field.{Field, as_field_of}
 use Rattle.vdb_tree.specs.Layout.{field_of}
 use Rattle.vdb_tree.specs.Leaves.{HasLeaves}
 use Rattle.vdb_tree.specs.Smallest.{IsLeast}
+use Rattle.vdb_scene.specs.Metas.{Pairs}
 use Rattle.vdb_scene.specs.Scene as abstract_scene
 use Rattle.vdb_scene.specs.declared.scalar.Scalar.{Scalar}
 use Rattle.vdb_scene.specs.declared.scalar.Scalar.TheVariants as scalars
@@ -66,6 +67,10 @@ grid_of e = record { field = grid_field e.grid; limit = grid_limit e.grid; pairs
 -- what a grid is there without metadata
 abbrev pub grid_alone : AnyGrid → abstract_scene.Grid
 grid_alone g = record { field = grid_field g; limit = grid_limit g; pairs = [] }
+
+-- what it is there with these pairs
+abbrev pub grid_with : AnyGrid → Pairs → abstract_scene.Grid
+grid_with g pairs = record { field = grid_field g; limit = grid_limit g; pairs = pairs }
 
 -- the abstract scene of these entries
 abbrev pub scene_over : List (List ℕ × GridEntry) → abstract_scene.Scene

@@ -5,7 +5,7 @@ ghost use Rattle.std.specs.List.Sorted.{IsStrictlySortedBy};
 ghost use Rattle.std.specs.Option.{option_map};
 ghost use Rattle.std.specs.Ordering.{nat_cmp};
 ghost use Rattle.vdb_scene.specs.Doing.{AddsGrid, KeepsGrids};
-ghost use Rattle.vdb_scene.specs.Grids.{grid_alone, grid_field, grid_limit, grid_of, scene_of};
+ghost use Rattle.vdb_scene.specs.Grids.{grid_alone, grid_field, grid_limit, grid_of, grid_with, scene_of};
 ghost use Rattle.vdb_scene.specs.Scene.{grid_at, with_grid};
 ghost use Rattle.vdb_scene.specs.Step.{Inserts};
 
@@ -73,13 +73,21 @@ impl Scene {
     pub fn insert(&mut self, name: Name, grid: AnyGrid) -> Result<(), Refusal>
         ensures { Inserts (scene_of self.old) name (grid_alone grid) result (scene_of self.new) }
     {
+        let metas = Metas::new(self.alloc);
+        self.insert_with(name, grid, metas)
+    }
+
+    /// Puts a grid with its metadata under a name. It is refused, dropped, and the scene stays as it was, where the name is taken, where
+    /// there are `GRID_LIMIT` grids, or for lack of memory, in this order.
+    pub fn insert_with(&mut self, name: Name, grid: AnyGrid, metas: Metas) -> Result<(), Refusal>
+        ensures { Inserts (scene_of self.old) name (grid_with grid metas) result (scene_of self.new) }
+    {
         if self.has(&name) {
             return Err(Refusal::NameTaken);
         }
         if self.is_full() {
             return Err(Refusal::GridLimit);
         }
-        let metas = Metas::new(self.alloc);
         self.put(name, GridEntry { grid, metas })
     }
 
