@@ -47,7 +47,7 @@ module _ {V U : Type 0} (make : V → U) (background : V) (cells : Coord → Cel
   made_root : root_body made_eq made_bytes bits made ≡ root_body eq bytes bits f
   made_root = made_block _ _ (made_block _ _ (made_block _ _ (fun_ext (λ b. made_cell b.min)) Leaf) Lower) Upper
 
-  made_keys : root_keys made_eq bits made ≡ root_keys eq bits f
+  pub made_keys : root_keys made_eq bits made ≡ root_keys eq bits f
   made_keys = ap (λ test. filter test (coordinates (block_numbers bits Upper))) (fun_ext (λ k. ap not (made_background (block bits Upper k))))
 
   -- the root blocks are spelled alike

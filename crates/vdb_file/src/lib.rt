@@ -3,10 +3,12 @@
 
 mod fault;
 mod laws;
+mod loading;
 mod output;
 mod save_bodies;
 mod saving;
 
 pub use fault::{LoadFault, SaveFault};
 pub use laws::spelling_laws;
+pub use loading::load;
 pub use saving::{FILE_LIMIT, length, save};
