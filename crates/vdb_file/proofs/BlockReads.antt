@@ -146,7 +146,7 @@ module _ {V : Type 0} {eq : V → V → Bool} {value_bytes : V → List ℕ} {P 
   pub node_shows : (n : ℕ) (f : Field V) → Mixed n f → ShowsIn eq P background b f
   node_shows n f p = record {
     values = p.0.values;
-    shown = elim (cases_Bool (is_background eq f b)) [ | inl h ↦ let never : true ≡ false = sym (plain_constant f h) ∙ p.1 in absurd cc | inr h ↦ h ];
+    shown = elim (cases_Bool (is_background eq f b)) [ inl h ↦ let never : true ≡ false = sym (plain_constant f h) ∙ p.1 in absurd cc | inr h ↦ h ];
   }
 
   pub node_read : (n : ℕ) (f : Field V) (old mid new : Place) → Mixed n f → Took old mid (head_bytes eq value_bytes (Node n)) → Took mid new (list f) → Took old new (body f)

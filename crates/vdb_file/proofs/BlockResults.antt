@@ -75,9 +75,10 @@ module _ {V : Type 0} {eq : V → V → Bool} {value_bytes : V → List ℕ} {P 
   one_result inside cells has cell spelled old mid took new (Ok x) memory is =
       let filled : Field V = fill b cell (field background cells) in
       let at : filled.cell b.min ≡ cell = fill_corner values bits few level p inside background cells cell has in
-      subst (λ (f : Field V). ShowsIn eq P background b f × Took old mid (body f)) (sym is)
-      (record { values = fill_values values bits few level p inside background cells cell has spelled.value; shown = fill_shows values bits few level p inside background cells cell has spelled.other },
-      one_read values bits few level p entry background cell filled old mid (fill_constant values bits few level p inside background cells cell has) at took)
+      subst (λ (f : Field V). ShowsIn eq P background b f × Took old mid (body f)) (sym is) (
+        record { values = fill_values values bits few level p inside background cells cell has spelled.value; shown = fill_shows values bits few level p inside background cells cell has spelled.other },
+        one_read values bits few level p entry background cell filled old mid (fill_constant values bits few level p inside background cells cell has) at took,
+      )
   one_result inside cells has cell spelled old mid took new (Err fault) memory is = memory_silent (ShowsIn eq P background b) body fault old memory
 
   -- another block
@@ -100,13 +101,16 @@ module _ {V : Type 0} {eq : V → V → Bool} {value_bytes : V → List ℕ} {P 
       let agree : Agree alone after (block_around bits Leaf p) = leaf_agrees P bits few p inside background cells leaf in
       let each : (i : ℕ) → Contains (entry_numbers bits Leaf) i → Agree alone after (sub_block bits Leaf (block_around bits Leaf p) i) = λ i m. agree_in_entry alone after bits Leaf p i (member_below bits Leaf i m) agree in
       let texts = texts_same values (is_leaf_row values bits few p) alone after refl each in
-      subst (λ (f : Field V). Voxels n f × Took old mid (voxels_bytes eq value_bytes bits p f)) (sym is)
-      ((record {
-        values = leaf_values P bits few p inside background cells leaf has of_leaf.0.values;
-        differs = sym (constant_same values alone after (block_around bits Leaf p) (corner_in_block bits Leaf p) agree) ∙ of_leaf.0.differs;
-      },
-      sym (ap length (listed_same values alone after refl bits Leaf p agree)) ∙ of_leaf.1),
-      subst (Took old mid) texts took)
+      subst (λ (f : Field V). Voxels n f × Took old mid (voxels_bytes eq value_bytes bits p f)) (sym is) (
+        (
+          record {
+            values = leaf_values P bits few p inside background cells leaf has of_leaf.0.values;
+            differs = sym (constant_same values alone after (block_around bits Leaf p) (corner_in_block bits Leaf p) agree) ∙ of_leaf.0.differs;
+          },
+          sym (ap length (listed_same values alone after refl bits Leaf p agree)) ∙ of_leaf.1,
+        ),
+        subst (Took old mid) texts took,
+      )
   leaf_result n leaf of_leaf old mid took new (Err fault) memory is = memory_silent (Voxels n) (voxels_bytes eq value_bytes bits p) fault old memory
 
 module _ {V : Type 0} {eq : V → V → Bool} {value_bytes : V → List ℕ} {P : V → Type 0} (values : AreValues eq value_bytes P) (bits : Bits) (few : AreBits bits) (p : Coord) (background : V) where

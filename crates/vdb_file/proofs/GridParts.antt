@@ -93,15 +93,14 @@ pub tree_read : {V : Type 0} (IsValue : V → Type 0) (eq : V → V → Bool) (b
     → let g : Loaded V = record { field = f; head = record { limit = most; pairs = head.pairs } } in IsLoaded IsValue eq bytes version g × Took old new (loaded_bytes IsValue eq bytes version g)
 tree_read IsValue eq bytes version old one two new background base limit most head f e l m value is field first second third =
     let same : background ≡ f.background = sym e ∙ sym field.background in
-    let again : head ≡ record { limit = most; pairs = head.pairs } = λ j. record { limit = sym (m ∙ l) j; pairs = head.pairs } in
-    (
+    let again : head ≡ record { limit = most; pairs = head.pairs } = λ j. record { limit = sym (m ∙ l) j; pairs = head.pairs } in (
       record {
         value = subst IsValue same value;
         head = subst (IsHead version) again is;
         field = record { background = refl; values = field.values; outside = field.outside; roots = subst (λ n. roots eq vdb f ≤ n) (sym m) field.roots };
       },
       subst (λ v. Took old new (bytes v ++ (head_code version (record { limit = most; pairs = head.pairs }) ++ roots_bytes eq bytes vdb f))) same
-      (took_both old one new (bytes background) _ first (took_both one two new (head_code version (record { limit = most; pairs = head.pairs })) (roots_bytes eq bytes vdb f) (subst (λ h. Took one two (head_code version h)) again second) third)),
+          (took_both old one new (bytes background) _ first (took_both one two new (head_code version (record { limit = most; pairs = head.pairs })) (roots_bytes eq bytes vdb f) (subst (λ h. Took one two (head_code version h)) again second) third)),
     )
 
 -- ---- the kind

@@ -108,7 +108,7 @@ module _ {E : Type 0} (P : E → Type 0) (key : E → List ℕ) where
         let whole : (es : List E) → AreItems P key n es → IsChain None es = λ es p. sorted_chain es p.each p.in_order in
         fails_after (AreItems P key n) (flat_map code) (flat_map code done) (λ es. done ≡ take k es) (λ es. flat_map code (take k es)) (λ es. flat_map code (drop k es)) fault old mid took
         (λ es p. let len : length done ≡ length (take k es) = omega (arith, length-take k es, p.count, short) in
-          says_all P code is_code done (take k es) len (chain_each None done chain) (chain_each None (take k es) (chain_front k None es (whole es p))))
+        says_all P code is_code done (take k es) len (chain_each None done chain) (chain_each None (take k es) (chain_front k None es (whole es p))))
         (λ es p. code_parts k es)
         (fails_first (λ es. AreItems P key n es × (done ≡ take k es)) (λ es. flat_map code (drop k es)) (IsItem P key (last_of None done)) code (λ es. get_or es k none) (λ es. flat_map code (drop (suc k) es)) fault mid
         (λ es p. let inside : k < length es = omega (arith, p.0.count, short) in subst (λ t. IsItem P key (last_of None t) (get_or es k none)) (sym p.1) (chain_at none k None es inside (whole es p.0)))

@@ -64,6 +64,7 @@ module _ (fault : LoadFault) (old : Place) where
 
 -- they were read
 pub pairs_read : (old mid new : Place) (n : ℕ) (ps : Pairs) → n ≤ 16 → AreItems IsPair name_of n ps → Took old mid (n ∷ []) → Took mid new (flat_map pair_bytes ps) → ArePairs ps × Took old new (pairs_bytes ps)
-pairs_read old mid new n ps few are first more =
-    (record { few = omega (arith, are.count, few); in_order = are.in_order; each = are.each },
-    subst (λ k. Took old new (k ∷ flat_map pair_bytes ps)) (sym are.count) (took_both old mid new (n ∷ []) (flat_map pair_bytes ps) first more))
+pairs_read old mid new n ps few are first more = (
+  record { few = omega (arith, are.count, few); in_order = are.in_order; each = are.each },
+  subst (λ k. Took old new (k ∷ flat_map pair_bytes ps)) (sym are.count) (took_both old mid new (n ∷ []) (flat_map pair_bytes ps) first more),
+)

@@ -73,15 +73,16 @@ module _ {V : Type 0} (eq : V → V → Bool) (value_bytes : V → List ℕ) (P 
         → Reads (λ _. field b cells) (ShowsInEach eq P background (block bits Upper) (coordinates (block_numbers bits Upper)) count) keyed result mid end → Reads (λ _. field b cells) Within bytes result old end
     roots_result most cells b (Ok x) end h =
         let g : Field V = field b cells in
-        let n : roots eq bits g ≡ count = h.0.counted in
-        (record {
-          loaded = record {
-            values = h.0.values;
-            outside = λ p out. (let e : g.cell p ≡ off b = rw out refl in e) ∙ ap off h.0.values.same;
-          };
-          few = omega (arith, n, most);
-        },
-        subst (Took old end) (ap (λ (m : ℕ). to_be_bytes w32 m ++ keyed g) (sym n) ∙ sym (count_first eq value_bytes bits g)) (took_both old mid end (to_be_bytes w32 count) (keyed g) took h.1))
+        let n : roots eq bits g ≡ count = h.0.counted in (
+          record {
+            loaded = record {
+              values = h.0.values;
+              outside = λ p out. (let e : g.cell p ≡ off b = rw out refl in e) ∙ ap off h.0.values.same;
+            };
+            few = omega (arith, n, most);
+          },
+          subst (Took old end) (ap (λ (m : ℕ). to_be_bytes w32 m ++ keyed g) (sym n) ∙ sym (count_first eq value_bytes bits g)) (took_both old mid end (to_be_bytes w32 count) (keyed g) took h.1),
+        )
     roots_result most cells b (Err fault) end h =
         after_roots fault
         (fails_turn (λ f. Within f × (count ≡ roots eq bits f)) keyed (ShowsInEach eq P background (block bits Upper) (coordinates (block_numbers bits Upper)) count) keyed (λ f. f) fault mid

@@ -14,8 +14,8 @@ ghost use Rattle.vdb_file.specs.internal.LeafVoxels.{IsMixed, IsVoxel, leaf_fiel
 ghost use Rattle.vdb_file.specs.internal.Reading.{EndsWith, Reads, place};
 
 use crate::fault::LoadFault;
-use crate::loading::fields::take_u16;
 use crate::loading::block_head::{take_cell, take_index};
+use crate::loading::fields::take_u16;
 use crate::loading::input::Input;
 use std::alloc::Global;
 use std::io::Read;

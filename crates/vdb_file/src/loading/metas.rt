@@ -20,10 +20,7 @@ use std::io::Read;
 use vdb_scene::{META_LIMIT, MetaText, Metas, Name, TEXT_LIMIT, Watched};
 
 /// Reads a text.
-fn take_text<R: Read>(
-    input: &mut Input,
-    reader: &mut Watched<R>,
-) -> Result<MetaText, LoadFault>
+fn take_text<R: Read>(input: &mut Input, reader: &mut Watched<R>) -> Result<MetaText, LoadFault>
     requires ends { EndsWith input.old (R.remaining (source reader.old)) }
     ensures ends { EndsWith input.new (R.remaining (source reader.new)) }
     ensures reads { Reads (λ text. text) (λ text. is_text text ≡ true) counted result

@@ -16,10 +16,10 @@ ghost use Rattle.vdb_file.specs.internal.LoadedFields.{IsWithin, ShowsInEach};
 ghost use Rattle.vdb_file.specs.internal.Reading.{EndsWith, Reads, place};
 
 use crate::fault::LoadFault;
-use crate::loading::fields::take_u32;
 use crate::loading::block_head::take_key;
-use crate::loading::input::Input;
 use crate::loading::blocks::take_root_block;
+use crate::loading::fields::take_u32;
+use crate::loading::input::Input;
 use std::io::Read;
 use vdb_coord::Level;
 use vdb_node::Stored;

@@ -4,7 +4,7 @@ use Rattle.std.proofs.lemmas.Int.{to_z-of_z}
 use Rattle.vdb_scene.specs.Watched.{source}
 use Rattle.vdb_file.specs.internal.Reading.{place}
 use Rattle.vdb_file.proofs.KeyCodes.{no_x, no_y, no_z, three_read}
-use Rattle.vdb_file.proofs.heads.take_coord.Goals as goal
+use Rattle.vdb_file.proofs.loading.block_head.take_coord.Goals as goal
 
 pub returns-in_err-x-clause-reads : goal.returns-in_err-x-clause-reads
 returns-in_err-x-clause-reads g c =

@@ -2,7 +2,7 @@ use Rattle.std.proofs.Common.{◌≡◌, ◌≤◌, ◌<◌, ◌^◌, rules, ari
 use Rattle.std.proofs.lemmas.Result.{err_from_is_err_and}
 use Rattle.vdb_file.specs.internal.Loading.{IsIndex}
 use Rattle.vdb_file.proofs.HeadCodes.{no_number, no_u16}
-use Rattle.vdb_file.proofs.heads.take_index.Goals as goal
+use Rattle.vdb_file.proofs.loading.block_head.take_index.Goals as goal
 
 pub returns-in_err-i-clause-reads : goal.returns-in_err-i-clause-reads
 returns-in_err-i-clause-reads g c =

@@ -1,7 +1,7 @@
 use Rattle.std.proofs.Common.{◌≡◌, rules}
 use Rattle.std.proofs.lemmas.Result.{err_from_is_err_and}
 use Rattle.vdb_file.proofs.KeyCodes.{no_key_bytes, no_such_key}
-use Rattle.vdb_file.proofs.heads.take_key.Goals as goal
+use Rattle.vdb_file.proofs.loading.block_head.take_key.Goals as goal
 
 pub returns-in_err-key-clause-reads : goal.returns-in_err-key-clause-reads
 returns-in_err-key-clause-reads g c =

@@ -1,7 +1,7 @@
 use Rattle.std.proofs.Common.{◌≡◌, rules}
 use Rattle.vdb_tree.proofs.Uniform.{exact_by}
 use Rattle.vdb_file.proofs.HeadCodes.{no_state, voxel_values}
-use Rattle.vdb_file.proofs.heads.take_state.Goals as goal
+use Rattle.vdb_file.proofs.loading.block_head.take_state.Goals as goal
 
 pub returns-then-eq-clause-reads : goal.returns-then-eq-clause-reads
 returns-then-eq-clause-reads g c =

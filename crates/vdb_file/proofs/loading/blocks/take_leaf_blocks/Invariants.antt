@@ -7,7 +7,7 @@ use Rattle.vdb_file.specs.Bodies.{leaf_body}
 use Rattle.vdb_file.specs.internal.Reading.{EndsWith, place}
 use Rattle.vdb_file.proofs.RowInstances.{node_row}
 use Rattle.vdb_file.proofs.RowLoops.{IsUnderway}
-use Rattle.vdb_file.proofs.load_blocks.take_leaf_blocks.Given as goal
+use Rattle.vdb_file.proofs.loading.blocks.take_leaf_blocks.Given as goal
 
 -- so many entries were read
 abbrev pub invariant-loop : goal.invariant-loop

@@ -16,7 +16,7 @@ use Rattle.vdb_file.proofs.Bodies.{entry_is_lower}
 use Rattle.vdb_file.proofs.BlockLoops.{entry_clear, entry_room, entry_values, more_entries, no_entries, no_entry_block, no_entry_number}
 use Rattle.vdb_file.proofs.RowInstances.{is_upper_row}
 use Rattle.vdb_file.proofs.RowLoops.{all_underway}
-use Rattle.vdb_file.proofs.load_blocks.take_lower_blocks.Goals as goal
+use Rattle.vdb_file.proofs.loading.blocks.take_lower_blocks.Goals as goal
 
 pub loop-init : goal.loop-init
 loop-init g c =

@@ -14,7 +14,7 @@ use Rattle.vdb_file.specs.internal.Reading.{Took, place}
 use Rattle.vdb_file.proofs.HeadCodes.{voxel_values}
 use Rattle.vdb_file.proofs.BlockReads.{no_mixed, no_mixed_list}
 use Rattle.vdb_file.proofs.RowInstances.{is_upper_row}
-use Rattle.vdb_file.proofs.load_blocks.take_upper_node.Goals as goal
+use Rattle.vdb_file.proofs.loading.blocks.take_upper_node.Goals as goal
 
 pub returns-in_err-take_lower_blocks-clause-reads : goal.returns-in_err-take_lower_blocks-clause-reads
 returns-in_err-take_lower_blocks-clause-reads g c =

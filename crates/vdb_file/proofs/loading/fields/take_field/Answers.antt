@@ -5,7 +5,7 @@ use Rattle.vdb_file.specs.internal.Reading.{Took, place}
 use Rattle.vdb_file.specs.declared.fault.LoadFault.TheVariants.{Truncated}
 use Rattle.vdb_file.proofs.FieldBytes.{at_end, piece_taken, took_kept}
 use Rattle.vdb_file.proofs.Fronts.{fails_short, took_nothing}
-use Rattle.vdb_file.proofs.fields.take_field.Goals as goal
+use Rattle.vdb_file.proofs.loading.fields.take_field.Goals as goal
 
 pub loop-at-init : goal.loop-at-init
 loop-at-init g c = record {

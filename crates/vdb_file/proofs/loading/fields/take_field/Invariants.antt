@@ -1,7 +1,7 @@
 use Rattle.std.proofs.Common.{◌≡◌, ◌≤◌, ◌-◌, length, take}
 use Rattle.vdb_scene.specs.Watched.{has_failed, source}
 use Rattle.vdb_file.specs.internal.Reading.{EndsWith, Took, place}
-use Rattle.vdb_file.proofs.fields.take_field.Given as goal
+use Rattle.vdb_file.proofs.loading.fields.take_field.Given as goal
 
 -- the front of the field was read
 abbrev pub invariant-loop-at : goal.invariant-loop-at

@@ -4,7 +4,7 @@ use Rattle.std.proofs.lemmas.Result.{err_from_is_err_and}
 use Rattle.vdb_file.specs.internal.Reading.{Took}
 use Rattle.vdb_file.proofs.FieldBytes.{four_bytes}
 use Rattle.vdb_file.proofs.Fronts.{fails_turn}
-use Rattle.vdb_file.proofs.fields.take_u32.Goals as goal
+use Rattle.vdb_file.proofs.loading.fields.take_u32.Goals as goal
 
 pub returns-in_err-take_field-clause-reads : goal.returns-in_err-take_field-clause-reads
 returns-in_err-take_field-clause-reads g c =

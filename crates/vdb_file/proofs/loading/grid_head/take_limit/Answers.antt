@@ -1,7 +1,7 @@
 use Rattle.std.proofs.Common.{◌≡◌, true, false, sym, ◌∙◌}
 use Rattle.std.proofs.lemmas.Result.{err_from_is_err_and}
 use Rattle.vdb_file.proofs.HeadParts.{no_limit, other_limit}
-use Rattle.vdb_file.proofs.heads.take_limit.Goals as goal
+use Rattle.vdb_file.proofs.loading.grid_head.take_limit.Goals as goal
 
 pub returns-in_err-limit-clause-reads : goal.returns-in_err-limit-clause-reads
 returns-in_err-limit-clause-reads g c =

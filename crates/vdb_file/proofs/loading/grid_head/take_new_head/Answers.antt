@@ -1,6 +1,6 @@
 use Rattle.std.proofs.lemmas.Result.{err_from_is_err_and}
 use Rattle.vdb_file.proofs.HeadParts.{head_read, no_head_limit, no_head_pairs}
-use Rattle.vdb_file.proofs.heads.take_new_head.Goals as goal
+use Rattle.vdb_file.proofs.loading.grid_head.take_new_head.Goals as goal
 
 pub returns-in_err-limit-clause-reads : goal.returns-in_err-limit-clause-reads
 returns-in_err-limit-clause-reads g c =

@@ -1,7 +1,7 @@
 use Rattle.std.proofs.lemmas.Result.{err_from_is_err_and}
 use Rattle.vdb_scene.specs.Grids.{grid_with}
 use Rattle.vdb_file.proofs.GridParts.{named_read, no_grid_body, no_grid_name}
-use Rattle.vdb_file.proofs.grids.take_named.Goals as goal
+use Rattle.vdb_file.proofs.loading.grids.take_named.Goals as goal
 
 pub returns-in_err-name-clause-reads : goal.returns-in_err-name-clause-reads
 returns-in_err-name-clause-reads g c =

@@ -11,7 +11,7 @@ use Rattle.vdb_file.specs.declared.fault.LoadFault.TheVariants.{ConstantNode}
 use Rattle.vdb_file.specs.internal.Reading.{place}
 use Rattle.vdb_file.proofs.HeadCodes.{voxel_values}
 use Rattle.vdb_file.proofs.LeafReads.{entries_are, first_cells, more_cells, none_read, shown_values, voxel_read, voxels_alike, voxels_differ, voxels_fail}
-use Rattle.vdb_file.proofs.load_leaf.take_listed_voxels.Goals as goal
+use Rattle.vdb_file.proofs.loading.leaf.take_listed_voxels.Goals as goal
 
 pub loop-init : goal.loop-init
 loop-init g c =

@@ -3,7 +3,7 @@ use Rattle.vdb_coord.specs.declared.Coord.{Coord}
 use Rattle.vdb_scene.specs.Watched.{has_failed, source}
 use Rattle.vdb_file.specs.internal.Reading.{EndsWith, place}
 use Rattle.vdb_file.proofs.LeafReads.{AreCells, HasRead}
-use Rattle.vdb_file.proofs.load_leaf.take_listed_voxels.Given as goal
+use Rattle.vdb_file.proofs.loading.leaf.take_listed_voxels.Given as goal
 
 -- the voxels so far were read into the leaf, whichever block it is that of, and the next is to follow the last of them
 abbrev pub invariant-loop : goal.invariant-loop

@@ -8,7 +8,7 @@ use Rattle.vdb_file.specs.internal.LeafVoxels.{IsVoxel, voxel_bytes}
 use Rattle.vdb_file.specs.internal.Reading.{place}
 use Rattle.vdb_file.proofs.LeafReads.{no_cell, no_index}
 use Rattle.vdb_file.proofs.Fronts.{took_both}
-use Rattle.vdb_file.proofs.load_leaf.take_voxel.Goals as goal
+use Rattle.vdb_file.proofs.loading.leaf.take_voxel.Goals as goal
 
 pub returns-in_err-i-clause-reads : goal.returns-in_err-i-clause-reads
 returns-in_err-i-clause-reads g c =

@@ -10,7 +10,7 @@ use Rattle.vdb_file.specs.internal.LeafVoxels.{leaf_field}
 use Rattle.vdb_file.specs.internal.Reading.{Took, place}
 use Rattle.vdb_file.proofs.HeadCodes.{voxel_values}
 use Rattle.vdb_file.proofs.LeafReads.{count_of_more, count_of_none, counted_voxels, no_number}
-use Rattle.vdb_file.proofs.load_leaf.take_voxels.Goals as goal
+use Rattle.vdb_file.proofs.loading.leaf.take_voxels.Goals as goal
 
 pub returns-in_err-count-clause-reads : goal.returns-in_err-count-clause-reads
 returns-in_err-count-clause-reads g c p =

@@ -7,7 +7,7 @@ use Rattle.vdb_file.specs.internal.Parts.{IsItem, name_of, pair_bytes}
 use Rattle.vdb_file.specs.internal.Reading.{Fails, place}
 use Rattle.vdb_file.proofs.Items.{are_items, chain_more, fails_within, last_more, more_read, put_last}
 use Rattle.vdb_file.proofs.PairParts.{pair_code}
-use Rattle.vdb_file.proofs.metas.take_each_pair.Goals as goal
+use Rattle.vdb_file.proofs.loading.metas.take_each_pair.Goals as goal
 
 pub returns-in_err-pair-clause-reads : goal.returns-in_err-pair-clause-reads
 returns-in_err-pair-clause-reads g c =

@@ -6,7 +6,7 @@ use Rattle.vdb_file.specs.Scenes.{IsPair}
 use Rattle.vdb_file.specs.internal.Parts.{name_of, pair_bytes}
 use Rattle.vdb_file.specs.internal.Reading.{EndsWith, Took, place}
 use Rattle.vdb_file.proofs.Items.{IsChain, last_of}
-use Rattle.vdb_file.proofs.metas.take_each_pair.Given as goal
+use Rattle.vdb_file.proofs.loading.metas.take_each_pair.Given as goal
 
 -- the pairs so far were read, and the next is to follow the last of them
 abbrev pub invariant-loop : goal.invariant-loop

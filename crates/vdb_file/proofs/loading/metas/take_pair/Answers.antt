@@ -1,6 +1,6 @@
 use Rattle.std.proofs.lemmas.Result.{err_from_is_err_and}
 use Rattle.vdb_file.proofs.PairParts.{no_key, no_pair_text, pair_read}
-use Rattle.vdb_file.proofs.metas.take_pair.Goals as goal
+use Rattle.vdb_file.proofs.loading.metas.take_pair.Goals as goal
 
 pub returns-in_err-key-clause-reads : goal.returns-in_err-key-clause-reads
 returns-in_err-key-clause-reads g c =

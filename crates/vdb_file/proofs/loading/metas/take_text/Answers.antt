@@ -1,7 +1,7 @@
 use Rattle.std.proofs.Common.{rules, ◌≡◌, true, false}
 use Rattle.vdb_scene.specs.Metas.{is_text}
 use Rattle.vdb_file.proofs.Texts.{no_text}
-use Rattle.vdb_file.proofs.metas.take_text.Goals as goal
+use Rattle.vdb_file.proofs.loading.metas.take_text.Goals as goal
 
 pub returns-in-None-clause-reads : goal.returns-in-None-clause-reads
 returns-in-None-clause-reads g c =

@@ -5,7 +5,7 @@ use Rattle.vdb_scene.specs.Names.{is_name}
 use Rattle.vdb_file.specs.internal.Following.{Follows}
 use Rattle.vdb_file.specs.internal.Parts.{IsNext}
 use Rattle.vdb_file.proofs.Texts.{no_text}
-use Rattle.vdb_file.proofs.names.take_name.Goals as goal
+use Rattle.vdb_file.proofs.loading.names.take_name.Goals as goal
 
 pub returns-then-not-follows-clause-reads : goal.returns-then-not-follows-clause-reads
 returns-then-not-follows-clause-reads g c =

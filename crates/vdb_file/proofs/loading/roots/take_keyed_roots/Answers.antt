@@ -16,7 +16,7 @@ use Rattle.vdb_coord.proofs.InRange.{number_of_corner}
 use Rattle.vdb_file.proofs.RootReads.{more_roots, no_root_block, no_root_key, no_roots, root_clear, root_room}
 use Rattle.vdb_file.proofs.RowInstances.{is_root_row}
 use Rattle.vdb_file.proofs.RowLoops.{all_underway}
-use Rattle.vdb_file.proofs.load_roots.take_keyed_roots.Goals as goal
+use Rattle.vdb_file.proofs.loading.roots.take_keyed_roots.Goals as goal
 
 pub loop-init : goal.loop-init
 loop-init g c =

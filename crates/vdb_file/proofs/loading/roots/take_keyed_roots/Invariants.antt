@@ -5,7 +5,7 @@ use Rattle.vdb_scene.specs.Watched.{has_failed, source}
 use Rattle.vdb_file.specs.internal.Reading.{EndsWith, place}
 use Rattle.vdb_file.proofs.RowInstances.{root_row}
 use Rattle.vdb_file.proofs.RowLoops.{IsUnderway}
-use Rattle.vdb_file.proofs.load_roots.take_keyed_roots.Given as goal
+use Rattle.vdb_file.proofs.loading.roots.take_keyed_roots.Given as goal
 
 -- so many root blocks were read
 abbrev pub invariant-loop : goal.invariant-loop

@@ -4,7 +4,7 @@ use Rattle.vdb_tree.specs.Layout.{bits_of, cell_at, field_of}
 use Rattle.vdb_scene.specs.Watched.{source}
 use Rattle.vdb_file.specs.internal.Reading.{place}
 use Rattle.vdb_file.proofs.RootReads.{no_root_count, roots_result, too_many_roots}
-use Rattle.vdb_file.proofs.load_roots.take_roots.Goals as goal
+use Rattle.vdb_file.proofs.loading.roots.take_roots.Goals as goal
 
 pub returns-in_err-count-clause-reads : goal.returns-in_err-count-clause-reads
 returns-in_err-count-clause-reads g c =

@@ -6,7 +6,7 @@ use Rattle.vdb_file.specs.Faults.{IsInner}
 use Rattle.vdb_file.specs.declared.fault.LoadFault.TheVariants.{Magic}
 use Rattle.vdb_file.proofs.Fronts.{fails_turn}
 use Rattle.vdb_file.proofs.Beginnings.{has_other_magic, inner_magic, other_magic}
-use Rattle.vdb_file.proofs.versions.take_magic.Goals as goal
+use Rattle.vdb_file.proofs.loading.versions.take_magic.Goals as goal
 
 pub returns-in_err-take_field-clause-reads : goal.returns-in_err-take_field-clause-reads
 returns-in_err-take_field-clause-reads g c =
@@ -26,17 +26,17 @@ returns-in_err-take_field-clause-magic g c =
 pub returns-then-ne-clause-reads : goal.returns-then-ne-clause-reads
 returns-then-ne-clause-reads g c =
     other_magic _ _ _ c.take_field.new.field c.in_ok-take_field.ensures.reads.1 (search rules) (λ e.
-      let x = c.ne.ensures in
-      let y = c.as_slice.ensures in
-      let z = c.as_slice-2.ensures in
-      let same : c.ne.result ≡ false = x ∙ (λ j. not (pointwise nat_eq ((y ∙ e) j) (z j))) in
-      let never : true ≡ false = sym c.if-ne.true ∙ same in cc)
+    let x = c.ne.ensures in
+    let y = c.as_slice.ensures in
+    let z = c.as_slice-2.ensures in
+    let same : c.ne.result ≡ false = x ∙ (λ j. not (pointwise nat_eq ((y ∙ e) j) (z j))) in
+    let never : true ≡ false = sym c.if-ne.true ∙ same in cc)
 
 pub returns-then-ne-clause-magic : goal.returns-then-ne-clause-magic
 returns-then-ne-clause-magic g c f =
     has_other_magic _ _ c.take_field.new.field c.in_ok-take_field.ensures.reads.1.bytes (search rules) (λ e.
-      let x = c.ne.ensures in
-      let y = c.as_slice.ensures in
-      let z = c.as_slice-2.ensures in
-      let same : c.ne.result ≡ false = x ∙ (λ j. not (pointwise nat_eq ((y ∙ e) j) (z j))) in
-      let never : true ≡ false = sym c.if-ne.true ∙ same in cc)
+    let x = c.ne.ensures in
+    let y = c.as_slice.ensures in
+    let z = c.as_slice-2.ensures in
+    let same : c.ne.result ≡ false = x ∙ (λ j. not (pointwise nat_eq ((y ∙ e) j) (z j))) in
+    let never : true ≡ false = sym c.if-ne.true ∙ same in cc)

@@ -2,7 +2,7 @@ use Rattle.std.proofs.Common.{◌∙◌, sym, ap, drop, arith}
 use Rattle.std.specs.List.{slice_range}
 use Rattle.vdb_file.specs.internal.Reading.{Stock}
 use Rattle.vdb_file.proofs.FieldBytes.{later_part}
-use Rattle.vdb_file.proofs.input.Input.run.Goals as goal
+use Rattle.vdb_file.proofs.loading.input.Input.run.Goals as goal
 
 pub returns-clause-unread : goal.returns-clause-unread
 returns-clause-unread c =
