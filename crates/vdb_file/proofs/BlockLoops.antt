@@ -19,14 +19,14 @@ use Rattle.vdb_file.specs.Bodies.{listed}
 use Rattle.vdb_file.specs.declared.fault.LoadFault.{LoadFault}
 use Rattle.vdb_file.specs.internal.LeafVoxels.{HasValues}
 use Rattle.vdb_file.specs.internal.Loading.{IsIndex}
-use Rattle.vdb_file.specs.internal.LoadedFields.{HasRoomAt, KeptOutside, ShowsIn, ShowsInEach}
+use Rattle.vdb_file.specs.internal.LoadedFields.{AreReady, HasRoomAt, IsNext, IsReady, KeptOutside, ShowsIn, ShowsInEach, entry_box, next_bytes}
 use Rattle.vdb_file.specs.internal.Reading.{Fails, Place, Took}
 use Rattle.vdb_file.specs.internal.Written.{numbered}
 use Rattle.vdb_file.proofs.Agreement.{AreValues}
 use Rattle.vdb_file.proofs.LoadedBlocks.{entry_in_block, in_upper, kept_wider, room_kept, same_upper}
 use Rattle.vdb_file.proofs.RowFrames.{below_member, member_below}
 use Rattle.vdb_file.proofs.RowInstances.{node_row}
-use Rattle.vdb_file.proofs.RowLoops.{IsUnderway, more_underway, next_clear, no_next_box, no_next_key, none_underway}
+use Rattle.vdb_file.proofs.RowLoops.{IsUnderway, more_underway, next_clear, no_next, none_underway}
 use Rattle.vdb_file.proofs.Rows.{IsRow}
 
 module _ {V : Type 0} {eq : V → V → Bool} {value_bytes : V → List ℕ} {P : V → Type 0} {Q : ℕ → Type 0} (values : AreValues eq value_bytes P) (bits : Bits) (level : Level) (p : Coord) (entry : Field V → Box → List ℕ) (background : V)
@@ -52,42 +52,39 @@ module _ {V : Type 0} {eq : V → V → Bool} {value_bytes : V → List ℕ} {P 
       (λ q inside. uniform_cells eq values.exact values.itself f b (off f.background) clear q (entry_in_block bits level p i (member_below bits level i member) q inside)))
 
   module _ (done : ℕ) (before : Option ℕ) (g : Field V) (now : Place) (so_far : Under done before g now) where
-    -- no number of an entry is ahead
-    pub no_entry_number : (count : ℕ) → done < count → (fault : LoadFault) → Fails (IsIndex (entries bits level) before) (to_be_bytes w16) fault now → Fails (Each count) list fault old
-    no_entry_number count more fault h =
-        no_next_key values is background b f old done before g now so_far count more fault (IsIndex (entries bits level) before) (λ i member follows. record { within = member_below bits level i member; later = follows }) h
+    abbrev N : ℕ → Type 0
+    N = IsIndex (entries bits level) before
 
-    -- a number was read, and its block is one of the level below, around this corner
-    module _ (i : ℕ) (index : IsIndex (entries bits level) before i) (inner : Box) (at : inner ≡ sub_block bits level b i) where
-      member : Contains (entry_numbers bits level) i
-      member = below_member bits level i index.within
+    abbrev box : ℕ → Box
+    box = entry_box bits level p
 
-      -- the tree's own background is that of the file
-      pub entry_values : HasValues P g.background g
-      entry_values = record { same = refl; values = so_far.values.values }
+    -- the tree's own background is that of the file
+    entry_values : HasValues P g.background g
+    entry_values = record { same = refl; values = so_far.values.values }
 
-      pub entry_clear : is_background eq g inner ≡ true
-      entry_clear = subst (λ (box : Box). is_background eq g box ≡ true) (sym at) (next_clear values is background b f old done before g now so_far i member index.later)
+    -- each entry that may come next is ready, as a block of the level below
+    pub entries_ready : (few : AreBits bits) (below : Level) → ((i : ℕ) → i < entries bits level → block_around bits below (box i).min ≡ box i) → (limit : ℕ) → HasRoomAt eq bits limit (block_around bits Upper p) f → AreReady eq P bits limit below N box g
+    entries_ready few below own limit room = record { configured = few; each = ready }
+      where
+        ready : (i : ℕ) → N i → IsReady eq P bits limit below (box i).min g
+        ready i index = record {
+          configured = few;
+          values = entry_values;
+          clear = subst (λ (c : Box). is_background eq g c ≡ true) (sym (own i index.within)) (next_clear values is background b f old done before g now so_far i (below_member bits level i index.within) index.later);
+          room =
+              let inside : is_inside b (box i).min ≡ true = entry_in_block bits level p i index.within (box i).min (corner_inside bits level b i) in
+              subst (λ (c : Box). HasRoomAt eq bits limit c g) (sym (same_upper bits level p (box i).min inside))
+              (room_kept eq bits limit (block_around bits Upper p) f g (kept_wider (block_around bits Upper p) b f g (in_upper bits level p) so_far.kept) room);
+        }
 
-      -- the root block has room as before
-      pub entry_room : (limit : ℕ) (corner : Coord) → corner ≡ (sub_block bits level b i).min → HasRoomAt eq bits limit (block_around bits Upper p) f → HasRoomAt eq bits limit (block_around bits Upper corner) g
-      entry_room limit corner is_corner room =
-          let upper = block_around bits Upper p in
-          let inside : is_inside b corner ≡ true = subst (λ (q : Coord). is_inside b q ≡ true) (sym is_corner) (entry_in_block bits level p i index.within (sub_block bits level b i).min (corner_inside bits level b i)) in
-          subst (λ (box : Box). HasRoomAt eq bits limit box g) (sym (same_upper bits level p corner inside))
-          (room_kept eq bits limit upper f g (kept_wider upper b f g (in_upper bits level p) so_far.kept) room)
+    -- no entry is ahead
+    pub no_next_entry : (count : ℕ) → done < count → (fault : LoadFault) → Fails (IsNext eq P g.background N box) (next_bytes (to_be_bytes w16) entry box) fault now → Fails (Each count) list fault old
+    no_next_entry count more fault h =
+        no_next values is background b f old done before g now so_far count more fault N (λ i member follows. record { within = member_below bits level i member; later = follows })
+        (subst (λ (v : V). Fails (IsNext eq P v N box) (next_bytes (to_be_bytes w16) entry box) fault now) so_far.values.same h)
 
-      -- no such block is ahead
-      pub no_entry_block : (count : ℕ) → done < count → (fault : LoadFault) (mid : Place) → Took now mid (to_be_bytes w16 i) → Fails (ShowsIn eq P g.background inner) (λ a. entry a inner) fault mid → Fails (Each count) list fault old
-      no_entry_block count more fault mid took h =
-          no_next_box values is background b f old done before g now so_far count more fault i member mid took
-          (subst (λ (box : Box). Fails (ShowsIn eq P background box) (λ a. entry a box) fault mid) at
-          (subst (λ (v : V). Fails (ShowsIn eq P v inner) (λ a. entry a inner) fault mid) so_far.values.same h))
-
-      -- it was read
-      pub more_entries : (mid next : Place) (h : Field V) → Took now mid (to_be_bytes w16 i) → Took mid next (entry h inner) → ShowsIn eq P g.background inner h → KeptOutside inner g h → Under (done + 1) (Some i) h next
-      more_entries mid next h number text shows kept =
-          more_underway values is background b f old done before g now so_far i member index.later (entry_in_block bits level p i index.within) mid next h number
-          (subst (λ (box : Box). Took mid next (entry h box)) at text)
-          (subst (λ (box : Box). ShowsIn eq P background box h) at (subst (λ (v : V). ShowsIn eq P v inner h) so_far.values.same shows))
-          (subst (λ (box : Box). KeptOutside box g h) at kept)
+    -- one was read
+    pub more_entries : (i : ℕ) (next : Place) (h : Field V) → IsNext eq P g.background N box (i, h) → Took now next (next_bytes (to_be_bytes w16) entry box (i, h)) → KeptOutside (box i) g h → Under (done + 1) (Some i) h next
+    more_entries i next h is_next took kept =
+        more_underway values is background b f old done before g now so_far i (below_member bits level i is_next.key.within) is_next.key.later (entry_in_block bits level p i is_next.key.within) next h took
+        (subst (λ (v : V). ShowsIn eq P v (box i) h) so_far.values.same is_next.shows) kept

@@ -42,4 +42,5 @@ pub mod LoadedBlocks
 pub mod BlockReads
 pub mod BlockResults
 pub mod BlockLoops
+pub mod NextReads
 pub mod RootReads

@@ -20,7 +20,7 @@ use Rattle.vdb_file.specs.Bodies.{key_bytes, root_body, roots_bytes}
 use Rattle.vdb_file.specs.declared.fault.LoadFault.{LoadFault}
 use Rattle.vdb_file.specs.internal.LeafVoxels.{HasValues}
 use Rattle.vdb_file.specs.internal.Loading.{IsKey}
-use Rattle.vdb_file.specs.internal.LoadedFields.{HasRoomAt, IsLoaded, IsWithin, KeptOutside, ShowsIn, ShowsInEach}
+use Rattle.vdb_file.specs.internal.LoadedFields.{AreReady, HasRoomAt, IsLoaded, IsNext, IsReady, IsWithin, KeptOutside, ShowsIn, ShowsInEach, next_bytes}
 use Rattle.vdb_file.specs.internal.Reading.{Fails, Place, Reads, Took}
 use Rattle.vdb_file.specs.internal.Following.{Follows}
 use Rattle.vdb_file.proofs.Ordered.{last_of}
@@ -28,7 +28,7 @@ use Rattle.vdb_file.proofs.Numbers.{FitsKey, says_u32}
 use Rattle.vdb_file.proofs.Agreement.{Agree, AreValues, both_uniform}
 use Rattle.vdb_file.proofs.Fronts.{fails_after, fails_first, fails_none, fails_turn, took_both}
 use Rattle.vdb_file.proofs.RowInstances.{inside_member, is_root_row, member_inside, root_row}
-use Rattle.vdb_file.proofs.RowLoops.{IsUnderway, more_underway, next_clear, no_next_box, no_next_key, none_underway}
+use Rattle.vdb_file.proofs.RowLoops.{IsUnderway, more_underway, next_clear, no_next, none_underway}
 use Rattle.vdb_file.proofs.Rows.{Adds, adds_outside, held, held_more, held_same, texts}
 
 -- ---- the root blocks behind their count
@@ -115,24 +115,19 @@ module _ {V : Type 0} {eq : V → V → Bool} {value_bytes : V → List ℕ} {P 
       either false = refl
 
   module _ (done : ℕ) (before : Option Coord) (g : Field V) (now : Place) (so_far : Under done before g now) (count : ℕ) (more : done < count) where
-    -- no key is ahead
-    pub no_root_key : (fault : LoadFault) → Fails (IsKey bits before) key_bytes fault now → Fails (Each count) list fault old
-    no_root_key fault h =
-        no_next_key values (is_root_row values bits configured) background everywhere f old done before g now so_far count more fault (IsKey bits before) (λ k member follows. record { inside = member_inside bits k member; later = follows }) h
+    abbrev N : Coord → Type 0
+    N = IsKey bits before
 
-    -- a key was read, and this is its block
-    module _ (k : Coord) (key : IsKey bits before k) (inner : Box) (at : inner ≡ block bits Upper k) where
+    abbrev box : Coord → Box
+    box = block bits Upper
+
+    -- a key that comes next
+    module _ (k : Coord) (key : N k) where
       member : Contains (coordinates (block_numbers bits Upper)) k
       member = inside_member bits k key.inside
 
-      clear_here : is_background eq g (block bits Upper k) ≡ true
+      clear_here : is_background eq g (box k) ≡ true
       clear_here = next_clear values (is_root_row values bits configured) background everywhere f old done before g now so_far k member key.later
-
-      pub root_values : HasValues P g.background g
-      root_values = record { same = refl; values = so_far.values.values }
-
-      pub root_clear : is_background eq g inner ≡ true
-      root_clear = subst (λ (box : Box). is_background eq g box ≡ true) (sym at) clear_here
 
       follows_last : Follows coord_cmp (last_of None (held eq (root_row eq value_bytes bits) g)) k
       follows_last = subst (λ (o : Option Coord). Follows coord_cmp o k) so_far.last key.later
@@ -163,20 +158,32 @@ module _ {V : Type 0} {eq : V → V → Bool} {value_bytes : V → List ℕ} {P 
             ];
           }
 
-      pub root_room : (limit : ℕ) → count ≤ limit → HasRoomAt eq bits limit inner g
-      root_room limit most = subst (λ (box : Box). HasRoomAt eq bits limit box g) (sym at) (record { few = λ h kept. let n = one_more h kept in omega (arith, n, most) })
+      own : block_around bits Upper (box k).min ≡ box k
+      own = ap (block bits Upper) (number_of_corner bits Upper k)
 
-      pub no_root_block : (fault : LoadFault) (mid : Place) → Took now mid (key_bytes k) → Fails (ShowsIn eq P g.background inner) (λ a. root_body eq value_bytes bits a inner) fault mid → Fails (Each count) list fault old
-      no_root_block fault mid took h =
-          no_next_box values (is_root_row values bits configured) background everywhere f old done before g now so_far count more fault k member mid took
-          (subst (λ (box : Box). Fails (ShowsIn eq P background box) (λ a. root_body eq value_bytes bits a box) fault mid) at
-          (subst (λ (v : V). Fails (ShowsIn eq P v inner) (λ a. root_body eq value_bytes bits a inner) fault mid) so_far.values.same h))
+      -- is ready
+      root_ready : (limit : ℕ) → count ≤ limit → IsReady eq P bits limit Upper (box k).min g
+      root_ready limit most = record {
+        configured = configured;
+        values = record { same = refl; values = so_far.values.values };
+        clear = subst (λ (c : Box). is_background eq g c ≡ true) (sym own) clear_here;
+        room = subst (λ (c : Box). HasRoomAt eq bits limit c g) (sym own) (record { few = λ h kept. let n = one_more h kept in omega (arith, n, most) });
+      }
 
-      pub more_roots : (mid next : Place) (h : Field V) → Took now mid (key_bytes k) → Took mid next (root_body eq value_bytes bits h inner) → ShowsIn eq P g.background inner h → KeptOutside inner g h → Under (done + 1) (Some k) h next
-      more_roots mid next h took text shows kept =
-          more_underway values (is_root_row values bits configured) background everywhere f old done before g now so_far k member key.later
-          (λ p inside. numbered_in_range bits Upper configured p (subst (λ (n : Coord). is_inside (block_numbers bits Upper) n ≡ true) (sym (number_in_block bits Upper k p inside)) key.inside))
-          mid next h took
-          (subst (λ (box : Box). Took mid next (root_body eq value_bytes bits h box)) at text)
-          (subst (λ (box : Box). ShowsIn eq P background box h) at (subst (λ (v : V). ShowsIn eq P v inner h) so_far.values.same shows))
-          (subst (λ (box : Box). KeptOutside box g h) at kept)
+    -- each that may come next is
+    pub roots_ready : (limit : ℕ) → count ≤ limit → AreReady eq P bits limit Upper N box g
+    roots_ready limit most = record { configured = configured; each = λ k key. root_ready k key limit most }
+
+    -- no root block is ahead
+    pub no_next_root : (fault : LoadFault) → Fails (IsNext eq P g.background N box) (next_bytes key_bytes (root_body eq value_bytes bits) box) fault now → Fails (Each count) list fault old
+    no_next_root fault h =
+        no_next values (is_root_row values bits configured) background everywhere f old done before g now so_far count more fault N (λ k member follows. record { inside = member_inside bits k member; later = follows })
+        (subst (λ (v : V). Fails (IsNext eq P v N box) (next_bytes key_bytes (root_body eq value_bytes bits) box) fault now) so_far.values.same h)
+
+    -- one was read
+    pub more_roots : (k : Coord) (next : Place) (h : Field V) → IsNext eq P g.background N box (k, h) → Took now next (next_bytes key_bytes (root_body eq value_bytes bits) box (k, h)) → KeptOutside (box k) g h → Under (done + 1) (Some k) h next
+    more_roots k next h is_next took kept =
+        more_underway values (is_root_row values bits configured) background everywhere f old done before g now so_far k (inside_member bits k is_next.key.inside) is_next.key.later
+        (λ p inside. numbered_in_range bits Upper configured p (subst (λ (n : Coord). is_inside (block_numbers bits Upper) n ≡ true) (sym (number_in_block bits Upper k p inside)) is_next.key.inside))
+        next h took
+        (subst (λ (v : V). ShowsIn eq P v (box k) h) so_far.values.same is_next.shows) kept

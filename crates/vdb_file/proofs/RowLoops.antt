@@ -12,15 +12,15 @@ use Rattle.vdb_tree.specs.Field.{Field}
 use Rattle.vdb_file.specs.declared.fault.LoadFault.{LoadFault}
 use Rattle.vdb_file.specs.internal.Following.{Follows}
 use Rattle.vdb_file.specs.internal.LeafVoxels.{HasValues}
-use Rattle.vdb_file.specs.internal.LoadedFields.{KeptOutside, ShowsIn, ShowsInEach}
+use Rattle.vdb_file.specs.internal.LoadedFields.{IsNext, KeptOutside, ShowsIn, ShowsInEach, next_bytes}
 use Rattle.vdb_file.specs.internal.Reading.{Fails, Place, Took}
 use Rattle.vdb_file.proofs.Unambiguous.{IsCode, says_fixed, says_map}
 use Rattle.vdb_file.proofs.Agreement.{Agree, AreValues, is_held}
-use Rattle.vdb_file.proofs.Fronts.{fails_first, fails_turn, took_both, took_nothing}
+use Rattle.vdb_file.proofs.Fronts.{fails_turn, took_nothing}
 use Rattle.vdb_file.proofs.Kept.{at_kept}
 use Rattle.vdb_file.proofs.LoadedBlocks.{kept_all, kept_both, kept_wider}
 use Rattle.vdb_file.proofs.Ordered.{by_member, last_more, last_of, none_kept, not_before}
-use Rattle.vdb_file.proofs.RowReads.{IsHeldIn, IsNextOf, after_key, entry_bytes, entry_read, no_row, within}
+use Rattle.vdb_file.proofs.RowReads.{IsNextOf, entry_bytes, entry_read, within}
 use Rattle.vdb_file.proofs.Rows.{IsRow, Row, adds_outside, all_before, behind_key, held, held_more, texts, texts_more}
 
 -- so many entries of a row were read into a field that was another
@@ -64,28 +64,22 @@ module _ {V K : Type 0} {eq : V → V → Bool} {value_bytes : V → List ℕ} {
       abbrev All : Field V → Type 0
       All = ShowsInEach eq P background row.box row.keys count
 
-      none_next : Fails (IsNextOf eq P row background (last_of None (held eq row g))) (entry_bytes row) fault now → Fails All (texts eq row) fault old
+      -- none is ahead
+      pub none_next : Fails (IsNextOf eq P row background (last_of None (held eq row g))) (entry_bytes row) fault now → Fails All (texts eq row) fault old
       none_next h =
           within values is background (λ n. []) (λ n. n ≡ count) (λ m n pm pn. says_map (λ _. pm ∙ sym pn) (says_fixed [] [] refl)) All (λ a p. p.values) (λ a p. p.counted) fault old now g so_far.values
           count refl (let e = so_far.counted in omega (arith, e, more)) so_far.took h
 
-      -- no key is ahead
-      pub no_next_key : (N : K → Type 0) → ((k : K) → Contains row.keys k → Follows row.cmp before k → N k) → Fails N row.code fault now → Fails All (texts eq row) fault old
-      no_next_key N has h =
-          none_next (fails_first (IsNextOf eq P row background (last_of None (held eq row g))) (entry_bytes row) N row.code (λ e. e.0) (λ e. row.body e.1 (row.box e.0)) fault now
-          (λ e p. has e.0 p.member (subst (λ (o : Option K). Follows row.cmp o e.0) (sym so_far.last) p.follows)) (λ e p. refl) h)
-
-      -- a key was read, and no text for its box is ahead
-      pub no_next_box : (k : K) → Contains row.keys k → (mid : Place) → Took now mid (row.code k) → Fails (ShowsIn eq P background (row.box k)) (λ a. row.body a (row.box k)) fault mid → Fails All (texts eq row) fault old
-      no_next_box k member mid took h =
-          none_next (after_key values is background (last_of None (held eq row g)) fault now mid k (is.fits k member) took
-          (fails_turn (IsHeldIn eq P background (row.box k)) (λ a. row.body a (row.box k)) (ShowsIn eq P background (row.box k)) (λ a. row.body a (row.box k)) (λ a. a) fault mid
-          (λ a p. record { values = p.0; shown = p.1 }) (λ a p. refl) h))
+      -- neither is a key with a field for its box
+      pub no_next : (N : K → Type 0) → ((k : K) → Contains row.keys k → Follows row.cmp before k → N k) → Fails (IsNext eq P background N row.box) (next_bytes row.code row.body row.box) fault now → Fails All (texts eq row) fault old
+      no_next N has h =
+          none_next (fails_turn (IsNextOf eq P row background (last_of None (held eq row g))) (entry_bytes row) (IsNext eq P background N row.box) (next_bytes row.code row.body row.box) (λ e. e) fault now
+          (λ e p. record { key = has e.0 p.member (subst (λ (o : Option K). Follows row.cmp o e.0) (sym so_far.last) p.follows); shows = record { values = p.values; shown = p.held } }) (λ e p. refl) h)
 
     -- one more was read
-    pub more_underway : (k : K) → Contains row.keys k → Follows row.cmp before k → ((p : Coord) → is_inside (row.box k) p ≡ true → is_inside b p ≡ true) → (mid next : Place) (h : Field V) → Took now mid (row.code k)
-        → Took mid next (row.body h (row.box k)) → ShowsIn eq P background (row.box k) h → KeptOutside (row.box k) g h → Underway (done + 1) (Some k) h next
-    more_underway k member follows inside mid next h key text shows kept =
+    pub more_underway : (k : K) → Contains row.keys k → Follows row.cmp before k → ((p : Coord) → is_inside (row.box k) p ≡ true → is_inside b p ≡ true) → (next : Place) (h : Field V) → Took now next (next_bytes row.code row.body row.box (k, h))
+        → ShowsIn eq P background (row.box k) h → KeptOutside (row.box k) g h → Underway (done + 1) (Some k) h next
+    more_underway k member follows inside next h took shows kept =
         let adds = adds_outside is g h k member (sym kept.background) (λ p out. sym (kept.cells p out)) shows.shown in
         let list = held_more values is g h k member (follows_last k follows) adds in
         record {
@@ -93,7 +87,7 @@ module _ {V K : Type 0} {eq : V → V → Bool} {value_bytes : V → List ℕ} {
           kept = kept_both b f g h so_far.kept (kept_wider b (row.box k) g h inside kept);
           counted = let e = so_far.counted in let l = ap length list ∙ length-append (held eq row g) (k ∷ []) in omega (arith, e, l);
           last = sym (ap (last_of None) list ∙ last_more None (held eq row g) k);
-          took = entry_read eq row (λ n. []) 0 g h k old now next (texts_more values is g h k member (follows_last k follows) adds) so_far.took (took_both now mid next (row.code k) (row.body h (row.box k)) key text);
+          took = entry_read eq row (λ n. []) 0 g h k old now next (texts_more values is g h k member (follows_last k follows) adds) so_far.took took;
         }
 
     -- in the end all were

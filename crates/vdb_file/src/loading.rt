@@ -20,6 +20,7 @@ mod grid_head;
 mod grids;
 mod input;
 mod leaf;
+mod leaf_blocks;
 mod metas;
 mod names;
 mod roots;

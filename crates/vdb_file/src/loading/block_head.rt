@@ -4,6 +4,7 @@ ghost use Rattle.std.specs.Prelude.{◌≡◌, ◌≤◌, ◌||◌, ◌↔◌, E
 ghost use Rattle.std.specs.Int.{w16, w32, to_be_bytes};
 ghost use Rattle.std.specs.Io.KnownBytes.{IsAtEnd};
 ghost use Rattle.std.specs.Ordering.{nat_cmp};
+ghost use Rattle.vdb_coord.specs.Blocks.{entries};
 ghost use Rattle.vdb_coord.specs.Entries.{AreBits};
 ghost use Rattle.vdb_coord.specs.Space.{coord_cmp};
 ghost use Rattle.vdb_scene.specs.Watched.{has_failed, source};
@@ -145,6 +146,27 @@ pub(crate) fn take_index<R: Read>(
         return Err(LoadFault::Index);
     }
     Ok(i)
+}
+
+/// Reads the number of an entry of one of the level's nodes, which comes after the one before.
+pub(crate) fn take_entry_number<R: Read>(
+    bits: Bits,
+    level: Level,
+    before: Option<u16>,
+    input: &mut Input,
+    reader: &mut Watched<R>,
+) -> Result<u16, LoadFault>
+    requires configured { AreBits bits }
+    requires ends { EndsWith input.old (R.remaining (source reader.old)) }
+    ensures ends { EndsWith input.new (R.remaining (source reader.new)) }
+    ensures reads { Reads (λ i. i) (IsIndex (entries bits level) before) (to_be_bytes w16) result
+        (place input.old (R.remaining (source reader.old))) (place input.new (R.remaining (source reader.new))) }
+    ensures inner { IfErr result IsInner }
+    ensures ended { result ≡ Err LoadFault.Truncated → IsAtEnd (place input.new (R.remaining (source reader.new))).known }
+    ensures failed { has_failed reader.new ≡ (has_failed reader.old || is_read_fault result) }
+{
+    let most = bits.entries(level);
+    take_index(most, before, input, reader)
 }
 
 /// Whether the number of an entry comes after the one before.

@@ -16,7 +16,7 @@ use Rattle.vdb_file.proofs.HeadCodes.{voxel_values}
 use Rattle.vdb_tree.proofs.Sizes.{leaf_small}
 use Rattle.vdb_file.proofs.BlockResults.{leaf_result, memory_ended}
 use Rattle.vdb_file.proofs.LoadedBlocks.{background_value, leaf_keeps}
-use Rattle.vdb_file.proofs.loading.blocks.take_leaf.Goals as goal
+use Rattle.vdb_file.proofs.loading.leaf_blocks.take_leaf.Goals as goal
 
 pub take_listed_voxels-requires : goal.take_listed_voxels-requires
 take_listed_voxels-requires g c = ?

@@ -7,7 +7,7 @@ use Rattle.vdb_tree.specs.Layout.{bits_of, cell_at, field_of}
 use Rattle.vdb_tree.specs.Leaves.{with_leaf}
 use Rattle.vdb_tree.specs.declared.refusal.TreeRefusal.TheVariants.{RootLimit}
 use Rattle.vdb_file.proofs.LoadedBlocks.{in_upper, kept_wider, leaf_keeps, no_root_limit}
-use Rattle.vdb_file.proofs.loading.blocks.write_leaf_block.Goals as goal
+use Rattle.vdb_file.proofs.loading.leaf_blocks.write_leaf_block.Goals as goal
 
 pub unreachable-requires : goal.unreachable-requires
 unreachable-requires g c =

@@ -15,7 +15,7 @@ use Rattle.vdb_file.proofs.HeadCodes.{voxel_values}
 use Rattle.vdb_file.proofs.BlockReads.{no_block_head}
 use Rattle.vdb_file.proofs.BlockResults.{memory_ended, memory_failed, one_result, voxels_result}
 use Rattle.vdb_file.proofs.LoadedBlocks.{fill_keeps}
-use Rattle.vdb_file.proofs.loading.blocks.take_leaf_block.Goals as goal
+use Rattle.vdb_file.proofs.loading.leaf_blocks.take_leaf_block.Goals as goal
 
 pub returns-in_err-cell-clause-reads : goal.returns-in_err-cell-clause-reads
 returns-in_err-cell-clause-reads g c =

@@ -8,7 +8,7 @@ use Rattle.vdb_tree.specs.Layout.{bits_of, cell_at, field_of}
 use Rattle.vdb_tree.specs.Outcome.{IsOutcome}
 use Rattle.vdb_tree.specs.declared.refusal.TreeRefusal.TheVariants.{RootLimit}
 use Rattle.vdb_file.proofs.LoadedBlocks.{fill_keeps, in_upper, kept_wider, no_root_limit}
-use Rattle.vdb_file.proofs.loading.blocks.fill_block.Goals as goal
+use Rattle.vdb_file.proofs.loading.leaf_blocks.fill_block.Goals as goal
 
 pub unreachable-requires : goal.unreachable-requires
 unreachable-requires g c =
