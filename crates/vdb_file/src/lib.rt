@@ -4,8 +4,6 @@
 mod fault;
 mod laws;
 mod loading;
-mod output;
-mod save_bodies;
 mod saving;
 
 pub use fault::{LoadFault, SaveFault};

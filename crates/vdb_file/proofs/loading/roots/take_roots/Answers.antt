@@ -23,6 +23,18 @@ returns-then-count-clause-reads g c =
     let above = c.if-count.true in
     too_many_roots g.V.PartialEq.eq g.V.Voxel.bytes_of g.V.Voxel.is_value t.background bits t.limit small c.in_ok-count.count c.in_ok-count.ensures.reads.0 _ _ c.in_ok-count.ensures.reads.1 (omega (arith, value, above)) _
 
+pub take_keyed_roots-requires : goal.take_keyed_roots-requires
+take_keyed_roots-requires g c =
+    let value = c.limit.ensures.value in
+    let below = c.if-count.false in
+    record {
+      ends = c.in_ok-count.ensures.ends;
+      configured = rw c.bits.ensures.value at c.bits.ensures.configured;
+      fresh = c.requires.fresh;
+      value = c.requires.value;
+      few = omega (arith, value, below);
+    }
+
 pub returns-clause-reads : goal.returns-clause-reads
 returns-clause-reads g c =
     let bits = bits_of g.row.U g.row.L g.row.F in
