@@ -30,6 +30,8 @@ pub mod HeadParts
 pub mod TypedGrids
 pub mod KindsOfValues
 pub mod GridParts
+pub mod SceneParts
+pub mod WholeFiles
 pub mod HeadCodes
 pub mod KeyCodes
 pub mod Rows
