@@ -29,6 +29,7 @@ pub mod Beginnings
 pub mod HeadParts
 pub mod TypedGrids
 pub mod KindsOfValues
+pub mod ValueCodes
 pub mod GridParts
 pub mod SceneParts
 pub mod WholeFiles
