@@ -1,4 +1,4 @@
-use Rattle.std.proofs.Common.{◌≡◌, subst}
+use Rattle.std.proofs.Common.{◌≡◌, ap, subst, Err}
 use Rattle.std.proofs.lemmas.Result.{err_from_is_err_and}
 use Rattle.vdb_scene.specs.Grids.{scene_of}
 use Rattle.vdb_file.specs.Faults.{IsInner, IsMagicFault, IsVersionFault}
@@ -40,7 +40,7 @@ returns-in_err-version-clause-magic g c =
 pub returns-in_err-version-clause-version : goal.returns-in_err-version-clause-version
 returns-in_err-version-clause-version g c =
     let p = err_from_is_err_and c.from_residual-in_err-version.result c.from_residual-in_err-version.ensures.1 in
-    rw (p.1, p.2) (λ e. has_other_version _ _ c.in_ok-take_magic.ensures.reads.1.bytes (c.in_err-version.ensures.version e))
+    rw (p.1, p.2) (λ e. let k : c.in_err-version.field-0.0 ≡ Version = cc in has_other_version _ _ c.in_ok-take_magic.ensures.reads.1.bytes (c.in_err-version.ensures.version (ap Err k)))
 
 pub returns-in_err-scene-clause-reads : goal.returns-in_err-scene-clause-reads
 returns-in_err-scene-clause-reads g c =
