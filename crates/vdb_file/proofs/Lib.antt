@@ -30,6 +30,7 @@ pub mod HeadParts
 pub mod TypedGrids
 pub mod KindsOfValues
 pub mod ValueCodes
+pub mod Failures
 pub mod GridParts
 pub mod SceneParts
 pub mod WholeFiles

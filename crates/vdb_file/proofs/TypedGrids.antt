@@ -8,13 +8,15 @@ use Rattle.vdb_value.specs.declared.Cell.{Cell}
 use Rattle.vdb_value.specs.declared.Kind.{Kind}
 use Rattle.vdb_tree.specs.ConstantBlocks.{roots}
 use Rattle.vdb_tree.specs.Field.{Field, as_cell_of, as_field_of, field, off}
+use Rattle.vdb_tree.specs.Layout.{Layout, field_of}
+use Rattle.vdb_scene.specs.Metas.{Pairs}
 use Rattle.vdb_scene.specs.Scalars.{kind_of, scalar_bytes, scalar_eq}
 use Rattle.vdb_scene.specs.Scene.{Grid}
 use Rattle.vdb_scene.specs.declared.scalar.Scalar.{Scalar}
 use Rattle.vdb_file.specs.Bodies.{roots_bytes}
 use Rattle.vdb_file.specs.Scenes.{IsField, is_value_of}
 use Rattle.vdb_file.specs.Spelling.{kind_bytes, kind_code}
-use Rattle.vdb_file.specs.internal.Parts.{Head, IsBody, IsHead, IsLoadedGrid, LoadedGrid, body_bytes, head_code, head_of, loaded_bytes}
+use Rattle.vdb_file.specs.internal.Parts.{Head, IsBody, IsHead, IsLoadedGrid, LoadedGrid, body_bytes, head_code, head_of, loaded, loaded_bytes}
 use Rattle.vdb_file.specs.internal.Reading.{Fails, Place, Took}
 use Rattle.vdb_file.specs.declared.fault.LoadFault.{LoadFault}
 use Rattle.vdb_file.specs.declared.loading.versions.Version.{Version}
@@ -164,3 +166,13 @@ module _ {V : Type 0} (IsValue : V → Type 0) (eq : V → V → Bool) (bytes : 
       → IsBody version (made_grid g) × Took old new (body_bytes version (made_grid g))
   typed_read version old mid new g first h more =
       (made_body version g h, subst (Took old new) (made_text version g h) (took_both old mid new (kind_code kind ∷ []) (loaded_bytes IsValue eq bytes version g) first more))
+
+  -- the grid of a tree, with metadata pairs
+  abbrev tree_grid : Layout V → Pairs → Grid
+  tree_grid t pairs = record { field = as_field_of make (field_of vdb t); limit = t.limit; pairs = pairs }
+
+  -- kind and tree were read
+  pub tree_typed : (version : Version) (old mid new : Place) (t u : Layout V) (pairs : Pairs) → u ≡ t → Took old mid (kind_code kind ∷ []) → IsLoadedGrid IsValue eq bytes version (loaded t pairs)
+      → Took mid new (loaded_bytes IsValue eq bytes version (loaded t pairs)) → IsBody version (tree_grid u pairs) × Took old new (body_bytes version (tree_grid u pairs))
+  tree_typed version old mid new t u pairs e first h more =
+      subst (λ (w : Layout V). IsBody version (tree_grid w pairs) × Took old new (body_bytes version (tree_grid w pairs))) (sym e) (typed_read version old mid new (loaded t pairs) first h more)

@@ -66,7 +66,7 @@ pub no_file : (fault : LoadFault) (known : Option (List ℕ)) → Fails IsFile b
 no_file fault None h claims = tt
 no_file fault (Some bytes) h claims = λ s is file.
     let v = of_version bytes s is file in
-    h.none claims (v.0, s) [] v.1 (subst (λ t. length t ≤ 268435456) v.2.0 v.2.1) (v.2.0 ∙ sym (append-nil (bytes_of_file (v.0, s))))
+    h.none claims (v.0, s) [] v.1 (subst (λ t. length t ≤ 268435456) v.2 v.3) (v.2 ∙ sym (append-nil (bytes_of_file (v.0, s))))
 
 -- all bytes were read
 pub whole_file : (file : Version × Scene) (known : Option (List ℕ)) (mid : Place) → IsFile file → Took (record { known = prepend_known [] known; room = 268435456 }) mid (bytes_of_file file) → IsAtEnd mid.known
