@@ -59,15 +59,17 @@ pub returns-then-more-clause-none : goal.returns-then-more-clause-none
 returns-then-more-clause-none g c claims =
     let known = g.R.Read.remaining (source c.args.reader.now) in
     let file : Version × Scene = (c.in_ok-file.file.0, scene_of c.in_ok-file.file.1) in
-    let took = subst (λ (s : Stock). Took (place s known) _ (bytes_of_file file)) c.new-input.ensures c.in_ok-file.ensures.reads.1 in
-    begins_only known (file_and_more file known _ _ _ c.in_ok-file.ensures.reads.0 took c.in_ok-more.ensures.kept (c.in_ok-more.ensures.some (ap Ok c.if-more.true)))
+    let mid = place c.take_file.new.input (g.R.Read.remaining (source c.take_file.new.reader)) in
+    let took = subst (λ (s : Stock). Took (place s known) mid (bytes_of_file file)) c.new-input.ensures c.in_ok-file.ensures.reads.1 in
+    begins_only known (file_and_more file known (g.R.Read.remaining (source c.fill.new.reader)) mid c.fill.new.self.unread c.in_ok-file.ensures.reads.0 took c.in_ok-more.ensures.kept (c.in_ok-more.ensures.some (ap Ok c.if-more.true)))
 
 pub returns-then-more-clause-trailing : goal.returns-then-more-clause-trailing
 returns-then-more-clause-trailing g c e =
     let known = g.R.Read.remaining (source c.args.reader.now) in
     let file : Version × Scene = (c.in_ok-file.file.0, scene_of c.in_ok-file.file.1) in
-    let took = subst (λ (s : Stock). Took (place s known) _ (bytes_of_file file)) c.new-input.ensures c.in_ok-file.ensures.reads.1 in
-    file_and_more file known _ _ _ c.in_ok-file.ensures.reads.0 took c.in_ok-more.ensures.kept (c.in_ok-more.ensures.some (ap Ok c.if-more.true))
+    let mid = place c.take_file.new.input (g.R.Read.remaining (source c.take_file.new.reader)) in
+    let took = subst (λ (s : Stock). Took (place s known) mid (bytes_of_file file)) c.new-input.ensures c.in_ok-file.ensures.reads.1 in
+    file_and_more file known (g.R.Read.remaining (source c.fill.new.reader)) mid c.fill.new.self.unread c.in_ok-file.ensures.reads.0 took c.in_ok-more.ensures.kept (c.in_ok-more.ensures.some (ap Ok c.if-more.true))
 
 pub returns-clause-scene : goal.returns-clause-scene
 returns-clause-scene g c = scene_is c.in_ok-file.file.0 (scene_of c.in_ok-file.file.1) c.in_ok-file.ensures.reads.0
@@ -76,8 +78,9 @@ pub returns-clause-loaded : goal.returns-clause-loaded
 returns-clause-loaded g c =
     let known = g.R.Read.remaining (source c.args.reader.now) in
     let file : Version × Scene = (c.in_ok-file.file.0, scene_of c.in_ok-file.file.1) in
-    let took = subst (λ (s : Stock). Took (place s known) _ (bytes_of_file file)) c.new-input.ensures c.in_ok-file.ensures.reads.1 in
-    whole_file file known _ c.in_ok-file.ensures.reads.0 took
+    let mid = place c.take_file.new.input (g.R.Read.remaining (source c.take_file.new.reader)) in
+    let took = subst (λ (s : Stock). Took (place s known) mid (bytes_of_file file)) c.new-input.ensures c.in_ok-file.ensures.reads.1 in
+    whole_file file known mid c.in_ok-file.ensures.reads.0 took
     (prepend_known-end _ _ _ c.in_ok-more.ensures.kept (c.in_ok-more.ensures.none (ap Ok c.if-more.false)) (c.in_ok-more.ensures.end (ap Ok c.if-more.false)))
 
 pub returns-clause-end : goal.returns-clause-end
