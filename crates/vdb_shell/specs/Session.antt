@@ -95,12 +95,12 @@ abbrev pub IsSession : Option (List ℕ) → List ℕ → Option Fault → ℕ �
 IsSession file script (Some (Load fault)) code given written last = Refuses fault file × (code ≡ 3) × (given ≡ []) × (written ≡ [])
 IsSession file script fault code given written last = (first : Scene) × Begins file first × PlaysOn first script fault code given written last
 
--- What is saved of the last scene, by the session's fault: all bytes of its spelling; nothing, where it has none or
--- something failed before; and of a writer that failed nothing is said.
+-- What is saved of the last scene, by the session's fault: all bytes of its spelling; nothing, where that is too long or
+-- something failed before; and of a writer that failed nothing is said but that it could have been saved.
 abbrev pub Saves : Option Fault → Scene → Option (List ℕ) → Option (List ℕ) → Type 0
 Saves None last old new = (bytes : List ℕ) × Spells bytes last × Appends old new bytes
 Saves (Some (Save faults.TooLong)) last old new = (file_limit < length (spelling last)) × Keeps old new
-Saves (Some (Save faults.Write)) last old new = Unit {0}
+Saves (Some (Save faults.Write)) last old new = length (spelling last) ≤ file_limit
 Saves (Some fault) last old new = Keeps old new
 
 -- no byte of a file is written

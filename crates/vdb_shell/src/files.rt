@@ -1,7 +1,8 @@
 //! What a session loads before its script, and saves after it.
-ghost use Rattle.std.specs.Prelude.{◌≡◌, ◌<◌, ◌↔◌, Option, Err, IfErr, IfOk, IfSome, IsErr, IsSome, IsTrue, OnOk, false, ℕ, List, length};
-ghost use Rattle.std.specs.Io.KnownBytes.{Appends};
+ghost use Rattle.std.specs.Prelude.{◌≡◌, ◌<◌, ◌↔◌, Option, Err, IfErr, IfOk, IfSome, IsErr, IsSome, IsTrue, OnOk, false, is_some, ℕ, List, length};
+ghost use Rattle.std.specs.Io.KnownBytes.{Appends, IsAtEnd};
 ghost use Rattle.vdb_scene.specs.Grids.{scene_of};
+ghost use Rattle.vdb_scene.specs.Watched.{source};
 ghost use Rattle.vdb_file.specs.Spelling.{Spells, file_limit, spelling};
 ghost use Rattle.vdb_shell.specs.Files.{Begins, Refuses, any_failed, given_file, held};
 
@@ -11,7 +12,8 @@ use vdb_file::{LoadFault, SaveFault, load as load_file, save as save_file};
 use vdb_pool::Steps;
 use vdb_scene::{Scene, Watched};
 
-/// The scene that a session begins with: the one that a scene file spells, where a file is given, else the empty scene.
+/// The scene that a session begins with: the one that a scene file spells, where a file is given, else the empty scene. A file
+/// that no scene has is refused; so is any for want of memory, or where the reader failed.
 pub fn start<R: Read>(
     alloc: Global,
     load: &mut Option<Watched<R>>,
@@ -20,6 +22,10 @@ pub fn start<R: Read>(
     requires fresh { any_failed load.old ≡ false }
     ensures begins { (file : Option (List ℕ)) → given_file R.remaining load.old ≡ Some file → IfOk result (λ scene. Begins file (scene_of scene)) }
     ensures refuses { (file : Option (List ℕ)) → given_file R.remaining load.old ≡ Some file → IfErr result (λ fault. Refuses fault file) }
+    // The whole file is read.
+    ensures end { OnOk result (IfSome load.new (λ file. IsAtEnd (R.remaining (source file)))) }
+    ensures kept { is_some load.new ≡ is_some load.old }
+    // `Read` comes exactly where the reader failed.
     ensures read { (result ≡ Err LoadFault.Read) ↔ IsTrue (any_failed load.new) }
 {
     match load {
@@ -39,6 +45,8 @@ pub fn finish<W: Write>(
     ensures too_long { (result ≡ Err SaveFault.TooLong) ↔ (IsSome save.old × (file_limit < length (spelling (scene_of scene.now)))) }
     ensures untouched { result ≡ Err SaveFault.TooLong → save.new ≡ save.old }
     ensures nowhere { IsErr result → IsSome save.old }
+    ensures kept { is_some save.new ≡ is_some save.old }
+    // `Write` comes exactly where the writer failed.
     ensures write { (result ≡ Err SaveFault.Write) ↔ IsTrue (any_failed save.new) }
 {
     if let Some(writer) = save {

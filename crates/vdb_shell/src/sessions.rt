@@ -1,5 +1,5 @@
 //! Sessions.
-ghost use Rattle.std.specs.Prelude.{◌≡◌, ◌↔◌, false, Option, Some, IfSome, IsSome, IsTrue, ℕ, List};
+ghost use Rattle.std.specs.Prelude.{◌≡◌, ◌↔◌, false, true, Option, Some, IfSome, IsSome, IsTrue, is_some, ℕ, List};
 ghost use Rattle.std.specs.Io.KnownBytes.{Appends, Consumes};
 ghost use Rattle.vdb_scene.specs.Grids.{scene_of};
 ghost use Rattle.vdb_scene.specs.Scene.{Scene as AbstractScene};
@@ -46,11 +46,15 @@ pub fn session<L: Read, R: Read, W: Write, S: Write>(
         × Appends (W.contents (source answers.old)) (W.contents (source answers.new)) written
         × IsSession file bytes result.fault result.status given written last
         × IfSome save.old (λ _. Saves result.fault last (held S.contents save.old) (held S.contents save.new)) }
+    // The status of a fault is its own, also of one that comes after a refused line.
+    ensures status { IfSome result.fault (λ fault. result.status ≡ status_of true (Some fault)) }
     // Where nothing was loaded, script and answers weren't touched.
     ensures unloaded { IsUnloaded result.fault → (script.new ≡ script.old) × (answers.new ≡ answers.old) }
     // Where the scene has no spelling, or a fault came before, the writer of the file wasn't touched.
     ensures unsaved { WritesNoFile result.fault → save.new ≡ save.old }
     ensures nowhere { (fault : SaveFault) → result.fault ≡ Some (Fault.Save fault) → IsSome save.old }
+    ensures load_kept { is_some load.new ≡ is_some load.old }
+    ensures save_kept { is_some save.new ≡ is_some save.old }
     // A fault of reading or writing comes exactly where that reader or writer failed.
     ensures load { (result.fault ≡ Some (Fault.Load LoadFault.Read)) ↔ IsTrue (any_failed load.new) }
     ensures script { (result.fault ≡ Some (Fault.Script ScriptFault.Read)) ↔ IsTrue (has_failed script.new) }
@@ -80,9 +84,11 @@ fn play_and_save<R: Read, W: Write, S: Write>(
         × Consumes (Some bytes) (R.remaining (source script.new)) given
         × Appends (W.contents (source answers.old)) (W.contents (source answers.new)) written
         × PlaysOn (scene_of scene.old) bytes result.fault result.status given written (scene_of scene.new) }
+    ensures status { IfSome result.fault (λ fault. result.status ≡ status_of true (Some fault)) }
     ensures saves { IfSome save.old (λ _. Saves result.fault (scene_of scene.new) (held S.contents save.old) (held S.contents save.new)) }
     ensures unsaved { WritesNoFile result.fault → save.new ≡ save.old }
     ensures nowhere { (fault : SaveFault) → result.fault ≡ Some (Fault.Save fault) → IsSome save.old }
+    ensures kept { is_some save.new ≡ is_some save.old }
     ensures loaded { IsUnloaded result.fault → ⊥ }
     ensures script { (result.fault ≡ Some (Fault.Script ScriptFault.Read)) ↔ IsTrue (has_failed script.new) }
     ensures answers { (result.fault ≡ Some Fault.Answers) ↔ IsTrue (has_failed answers.new) }
