@@ -182,4 +182,5 @@ def main():
     TALLY.end()
 
 
-main()
+if __name__ == "__main__":
+    main()

@@ -35,6 +35,7 @@ FAULTS = {
     "growths": [memory_unasked, memory_hidden, lost_scene, lost_answer, no_growth],
     "files": [],
     "scripts": [],
+    "fuzz": [],
 }
 
 
