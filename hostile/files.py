@@ -1,9 +1,9 @@
 """Scene files that are cut, longer, changed, endless or read and written by calls that fail: files.py [PART..]"""
 import os
 import sys
-import threading
 import spelling
 import vectors
+from feeding import feeding
 from planted import planted
 from program import LOAD_LIMIT, Tally, Workplace
 
@@ -130,25 +130,25 @@ def growths():
         accepted(done, newer, f"{name}, no growth refused")
 
 
-def through(chunks, **given):
+def start():
+    """Each growth refused from the program's own start on: the words of the command line or the file are given up, or all is as
+    if nothing had been refused."""
+    turn, refusals = 0, 1
+    while refusals > 0:
+        turn += 1
+        done = run(NO_SCRIPT, load=vectors.ACTIVE, refuse_growth=turn, count_from_start=1)
+        refusals = done.counts.get("refused-after", -1) + 1
+        end = done.status, done.answers, done.saved
+        given_up = end in ((2, b"", None), (3, b"", None)) and done.errors.count(b"\n") == 1
+        unharmed = end == (0, b"", vectors.ACTIVE) and done.errors == b""
+        TALLY.check(unharmed or (given_up and refusals > 0), f"growth {turn} from the start: {end}, {done.errors!r}")
+    TALLY.check(turn > 1, "no growth was met")
+
+
+def through(chunks):
     """A run whose file to load comes through a pipe, made as it is read."""
-    path = PLACE.folder / "pipe"
-    os.mkfifo(path)
-
-    def feed():
-        try:
-            with open(path, "wb", buffering=0) as pipe:
-                for chunk in chunks:
-                    pipe.write(chunk)
-        except BrokenPipeError:
-            pass
-
-    feeder = threading.Thread(target=feed)
-    feeder.start()
-    done = run(NO_SCRIPT, load=path, seconds=280, **given)
-    feeder.join()
-    path.unlink()
-    return done
+    with feeding(PLACE.folder / "pipe", chunks) as path:
+        return run(NO_SCRIPT, load=path, seconds=280)
 
 
 def endless():
@@ -171,7 +171,7 @@ def too_long():
     TALLY.check(done.saved == b"" and done.counts.get("save-writes") == 0, "bytes went out before too-long")
 
 
-PARTS = [whole, cut, changed, faults, readers, writers, growths, endless, too_long]
+PARTS = [whole, cut, changed, faults, readers, writers, growths, start, endless, too_long]
 
 
 def main():

@@ -1,16 +1,24 @@
 """Scripts that come in pieces, never end or are read and answered by calls that fail: scripts.py [PART..]"""
 import subprocess
 import sys
+from feeding import feeding
 from growths import read_row, script_of
 from planted import planted
 from program import HERE, PROGRAM, SCRIPT_LIMIT, Tally, Workplace
 
 TALLY, PLACE = Tally("scripts"), Workplace()
 GRID = b"grid a i32 0\n"
+MOST_CHUNKS = 2000
 
 
 def run(script, **given):
     return planted("scripts", PLACE.run(script, **given), given)
+
+
+def through(chunks):
+    """A run whose script comes through a pipe, made as it is read."""
+    with feeding(PLACE.folder / "pipe", chunks) as path:
+        return run(path, seconds=280)
 
 
 def row(name):
@@ -118,7 +126,9 @@ def longest():
     path.write_bytes(b"\n" * SCRIPT_LIMIT)
     ended(run(path), 0, b"", b"", "newlines to the limit")
     path.write_bytes(b"\n" * (SCRIPT_LIMIT + 1))
-    ended(run(path), 4, b"vdb: script: too-long\n", b"", "a newline more")
+    longer = run(path)
+    ended(longer, 4, b"vdb: script: too-long\n", b"", "a newline more")
+    within(longer, "a newline more")
     path.write_bytes(b"\n" * (SCRIPT_LIMIT - len(GRID)) + GRID)
     ended(run(path), 0, b"", b"ok\n", "a command that ends at the limit")
     path.write_bytes(b"\n" * (SCRIPT_LIMIT - len(GRID)) + GRID + b"#")
@@ -133,34 +143,15 @@ def longest():
 def endless():
     """Scripts without an end: they are given up one byte past the limit."""
     for first, chunk, answers in [(b"", b"#", b""), (GRID, b"\n", b"ok\n"), (GRID, b"\n \t\r#x\n", b"ok\n")]:
-        report, saved = PLACE.folder / "report", PLACE.folder / "saved"
-        report.unlink(missing_ok=True)
-        saved.unlink(missing_ok=True)
-        environment = {"REPORT": str(report), "LD_PRELOAD": str(PLACE.shim)}
-        words = [PROGRAM, "--save", saved]
-        pipe = subprocess.PIPE
-        with subprocess.Popen(words, stdin=pipe, stdout=pipe, stderr=pipe, env=environment, bufsize=0) as child:
-            feed(child.stdin, first, chunk * (65_536 // len(chunk)))
-            given, errors = child.stdout.read(), child.stderr.read()
-        what = f"{chunk!r} for ever"
-        end = child.returncode, errors, given, saved.exists()
-        TALLY.check(end == (4, b"vdb: script: too-long\n", answers, False), f"{what}: {end}")
+        done = through([first, *[chunk * (65_536 // len(chunk))] * MOST_CHUNKS])
+        ended(done, 4, b"vdb: script: too-long\n", answers, f"{chunk!r} for ever")
+        within(done, f"{chunk!r} for ever")
 
 
-def feed(pipe, first, chunk):
-    """Writes into a pipe until its reader is gone."""
-    try:
-        pipe.write(first)
-        for _ in range(2000):
-            pipe.write(chunk)
-        TALLY.check(False, "the program reads on and on")
-    except BrokenPipeError:
-        TALLY.check(True, "")
-    finally:
-        try:
-            pipe.close()
-        except BrokenPipeError:
-            pass
+def within(done, what):
+    """No more than a byte past the limit was asked for."""
+    asked = done.counts.get("script-furthest", 0)
+    TALLY.check(SCRIPT_LIMIT < asked <= SCRIPT_LIMIT + 1, f"{what}: byte {asked} was asked for")
 
 
 PARTS = [pieces, last_lines, readers, writers, longest, endless]
