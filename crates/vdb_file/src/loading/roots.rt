@@ -57,11 +57,11 @@ pub(crate) fn take_roots<
     ensures ended { result ≡ Err LoadFault.Truncated → IsAtEnd (place input.new (R.remaining (source reader.new))).known }
     ensures failed { has_failed reader.new ≡ (has_failed reader.old || is_read_fault result) }
 {
+    let limit = tree.limit();
     let count = take_u32(input, reader)?;
-    if count > tree.limit() {
+    if count > limit {
         return Err(LoadFault::RootLimit);
     }
-    let _ = tree.bits(); // the proof learns from it how many bits there are
     take_keyed_roots(count, tree, input, reader, steps)
 }
 
@@ -83,7 +83,6 @@ fn take_keyed_roots<
     steps: &mut Steps,
 ) -> Result<(), LoadFault>
     requires ends { EndsWith input.old (R.remaining (source reader.old)) }
-    requires configured { AreBits (bits_of U L F) }
     requires fresh { field_of (bits_of U L F) tree.old ≡ new tree.old.background }
     requires value { V.is_value tree.old.background }
     requires few { count ≤ tree.old.limit }
@@ -96,6 +95,7 @@ fn take_keyed_roots<
     ensures ended { result ≡ Err LoadFault.Truncated → IsAtEnd (place input.new (R.remaining (source reader.new))).known }
     ensures failed { has_failed reader.new ≡ (has_failed reader.old || is_read_fault result) }
 {
+    let _ = tree.bits(); // the proof learns from it how many bits there are
     let mut before = None;
     for _ in 0..count {
         let key = take_next_root(before, tree, input, reader, steps)?;
