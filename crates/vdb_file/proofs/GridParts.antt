@@ -1,19 +1,16 @@
 -- Grids that are read.
-use Rattle.std.proofs.Common.{◌≡◌, ℕ, ◌<◌, ◌≤◌, ◌^◌, Bool, true, List, [], ◌∷◌, ◌++◌, length, refl, sym, ap, subst, ◌∙◌, arith}
+use Rattle.std.proofs.Common.{◌≡◌, ℕ, ◌<◌, ◌≤◌, ◌^◌, Bool, List, [], ◌∷◌, ◌++◌, refl, sym, ap, subst, ◌∙◌, arith}
 use Rattle.std.specs.Prelude.{Option, ⊤}
-use Rattle.std.specs.Int.{w32, to_be_bytes}
 use Rattle.vdb_coord.specs.Blocks.{vdb}
 use Rattle.vdb_value.specs.declared.Kind.{Kind}
 use Rattle.vdb_value.specs.declared.Kind.TheVariants as kinds
-use Rattle.vdb_tree.specs.ConstantBlocks.{roots}
-use Rattle.vdb_tree.specs.Field.{Field, new}
-use Rattle.vdb_tree.specs.Layout.{Layout, field_of}
+use Rattle.vdb_tree.specs.Field.{Field}
 use Rattle.vdb_scene.specs.Scalars.{kind_of, scalar_bytes, scalar_eq}
 use Rattle.vdb_scene.specs.Scene.{Grid}
 use Rattle.vdb_file.specs.Bodies.{roots_bytes}
 use Rattle.vdb_file.specs.Scenes.{IsGrid}
 use Rattle.vdb_file.specs.Spelling.{counted, kind_code}
-use Rattle.vdb_file.specs.internal.Parts.{Head, IsBody, IsHead, IsItem, IsLoadedGrid, IsNamed, IsNext, IsOldHead, LoadedGrid, body_bytes, head_code, head_of, loaded_bytes, name_of, named_bytes}
+use Rattle.vdb_file.specs.internal.Parts.{Head, IsBody, IsHead, IsItem, IsLoadedGrid, IsNamed, IsNext, LoadedGrid, body_bytes, head_code, head_of, loaded_bytes, name_of, named_bytes}
 use Rattle.vdb_file.specs.internal.LoadedFields.{IsWithin}
 use Rattle.vdb_file.specs.internal.Reading.{Fails, Place, Took}
 use Rattle.vdb_file.specs.declared.fault.LoadFault.{LoadFault}
@@ -24,10 +21,6 @@ use Rattle.vdb_file.proofs.Numbers.{says_counted, says_u32}
 use Rattle.vdb_file.proofs.Pairs.{says_pairs}
 use Rattle.vdb_file.proofs.Scenes.{IsVersion, says_grid}
 use Rattle.vdb_file.proofs.Fronts.{fails_after, fails_first, fails_none, fails_turn, took_both}
-
--- a new tree's field
-pub fresh_field : {V : Type 0} (t : Layout V) (background : V) → field_of vdb t ≡ new background → field_of vdb t ≡ new t.background
-fresh_field t background e = e ∙ ap new (sym (ap (λ f. f.background) e))
 
 -- ---- the head of a version says which it is
 

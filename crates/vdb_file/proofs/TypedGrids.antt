@@ -16,7 +16,7 @@ use Rattle.vdb_scene.specs.declared.scalar.Scalar.{Scalar}
 use Rattle.vdb_file.specs.Bodies.{roots_bytes}
 use Rattle.vdb_file.specs.Scenes.{IsField, is_value_of}
 use Rattle.vdb_file.specs.Spelling.{kind_bytes, kind_code}
-use Rattle.vdb_file.specs.internal.Parts.{Head, IsBody, IsHead, IsLoadedGrid, LoadedGrid, body_bytes, head_code, head_of, loaded, loaded_bytes}
+use Rattle.vdb_file.specs.internal.Parts.{IsBody, IsLoadedGrid, LoadedGrid, body_bytes, head_code, head_of, loaded, loaded_bytes}
 use Rattle.vdb_file.specs.internal.Reading.{Fails, Place, Took}
 use Rattle.vdb_file.specs.declared.fault.LoadFault.{LoadFault}
 use Rattle.vdb_file.specs.declared.loading.versions.Version.{Version}

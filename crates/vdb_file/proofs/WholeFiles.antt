@@ -1,5 +1,5 @@
 -- What is known of all bytes of a reader once a file was read from it, or wasn't.
-use Rattle.std.proofs.Common.{◌≡◌, inl, inr, ℕ, ◌+◌, ◌<◌, ◌≤◌, List, [], ◌∷◌, ◌++◌, length, refl, sym, ap, subst, ◌∙◌, append_assoc, append-nil, length-append, arith}
+use Rattle.std.proofs.Common.{◌≡◌, inl, inr, ℕ, ◌<◌, ◌≤◌, List, [], ◌∷◌, ◌++◌, length, refl, sym, ap, subst, ◌∙◌, append-nil, arith}
 use Rattle.std.specs.Prelude.{Option, Some, None, IfSome}
 use Rattle.std.specs.List.{AllByRecursion}
 use Rattle.std.specs.Io.KnownBytes.{Consumes, IsAtEnd, Keeps, prepend_known}
@@ -8,7 +8,7 @@ use Rattle.vdb_file.specs.Faults.{Claims}
 use Rattle.vdb_file.specs.Scenes.{BeginsWithFile, IsGrid, IsScene}
 use Rattle.vdb_file.specs.Spelling.{IsFileOf, IsOldGrid}
 use Rattle.vdb_file.specs.internal.Parts.{IsFile, IsNamed, IsSceneOf, bytes_of_file}
-use Rattle.vdb_file.specs.internal.Reading.{Fails, NoFront, Place, Stock, Took, place}
+use Rattle.vdb_file.specs.internal.Reading.{Fails, Place, Took}
 use Rattle.vdb_file.specs.declared.fault.LoadFault.{LoadFault}
 use Rattle.vdb_file.specs.declared.loading.versions.Version.{Version}
 use Rattle.vdb_file.specs.declared.loading.versions.Version.TheVariants.{One, Two}

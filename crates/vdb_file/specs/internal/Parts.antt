@@ -1,5 +1,5 @@
 -- The parts of a file that are read one after another, each with what it has to be and with its bytes.
-use Rattle.std.specs.Prelude.{◌≡◌, ◌≤◌, ℕ, true, false, List, [], ◌∷◌, ◌++◌, Option, length, map, ⊤, Bool}
+use Rattle.std.specs.Prelude.{◌≡◌, ◌≤◌, ℕ, true, List, [], ◌++◌, Option, length, map, ⊤, Bool}
 use Rattle.std.specs.List.{AllByRecursion, flat_map}
 use Rattle.std.specs.List.Sorted.{IsStrictlySortedBy}
 use Rattle.std.specs.Map.{keys_of}
@@ -11,12 +11,12 @@ use Rattle.vdb_tree.specs.ConstantBlocks.{roots}
 use Rattle.vdb_tree.specs.Field.{Field}
 use Rattle.vdb_tree.specs.Layout.{Layout, field_of}
 use Rattle.vdb_scene.specs.Grids.{grid_with}
-use Rattle.vdb_scene.specs.Metas.{Pairs, is_text}
+use Rattle.vdb_scene.specs.Metas.{Pairs}
 use Rattle.vdb_scene.specs.Names.{is_name}
 use Rattle.vdb_scene.specs.Scalars.{scalar_bytes, scalar_eq}
 use Rattle.vdb_scene.specs.Scene.{Grid, Scene}
 use Rattle.vdb_file.specs.Bodies.{roots_bytes}
-use Rattle.vdb_file.specs.Scenes.{ArePairs, IsField, IsGrid, IsPair}
+use Rattle.vdb_file.specs.Scenes.{ArePairs, IsField}
 use Rattle.vdb_file.specs.Spelling.{counted, file_bytes, grid_bytes, kind_bytes, pairs_bytes}
 use Rattle.vdb_file.specs.internal.Following.{Follows}
 use Rattle.vdb_file.specs.internal.LoadedFields.{IsWithin}

@@ -5,7 +5,7 @@ use Rattle.std.proofs.lemmas.Result.{err_from_is_err_and}
 use Rattle.vdb_scene.specs.Grids.{scene_of}
 use Rattle.vdb_scene.specs.Scene.{Scene}
 use Rattle.vdb_scene.specs.Watched.{source}
-use Rattle.vdb_file.specs.Faults.{Claims, HasOtherMagic, HasOtherVersion, IsFieldFault}
+use Rattle.vdb_file.specs.Faults.{HasOtherMagic, HasOtherVersion, IsFieldFault}
 use Rattle.vdb_file.specs.declared.fault.LoadFault.TheVariants as faults
 use Rattle.vdb_file.specs.declared.loading.versions.Version.{Version}
 use Rattle.vdb_file.specs.internal.Parts.{IsFile, bytes_of_file}

@@ -1,7 +1,5 @@
-use Rattle.std.proofs.Common.{arith}
 use Rattle.std.proofs.lemmas.Result.{err_from_is_err_and}
-use Rattle.vdb_scene.specs.Grids.{scene_of}
-use Rattle.vdb_file.proofs.SceneParts.{grids_read, no_grid_count, no_grids, too_many_grids}
+use Rattle.vdb_file.proofs.SceneParts.{no_grid_count, no_grids}
 use Rattle.vdb_file.proofs.loading.take_scene.Goals as goal
 
 pub returns-in_err-count-clause-reads : goal.returns-in_err-count-clause-reads
