@@ -66,7 +66,8 @@ fn take_leaf_block_at<
     ensures ended { result ≡ Err LoadFault.Truncated → IsAtEnd (place input.new (R.remaining (source reader.new))).known }
     ensures failed { has_failed reader.new ≡ (has_failed reader.old || is_read_fault result) }
 {
-    let corner = entry_corner(p, tree.bits(), Level::Lower, i);
+    let bits = tree.bits();
+    let corner = entry_corner(p, bits, Level::Lower, i);
     take_leaf_block(corner, tree, input, reader, steps)
 }
 
@@ -99,7 +100,8 @@ fn take_next_leaf_block<
     ensures ended { result ≡ Err LoadFault.Truncated → IsAtEnd (place input.new (R.remaining (source reader.new))).known }
     ensures failed { has_failed reader.new ≡ (has_failed reader.old || is_read_fault result) }
 {
-    let i = take_entry_number(tree.bits(), Level::Lower, before, input, reader)?;
+    let bits = tree.bits();
+    let i = take_entry_number(bits, Level::Lower, before, input, reader)?;
     take_leaf_block_at(p, i, tree, input, reader, steps)?;
     Ok(i)
 }
@@ -242,7 +244,8 @@ fn take_lower_block_at<
     ensures ended { result ≡ Err LoadFault.Truncated → IsAtEnd (place input.new (R.remaining (source reader.new))).known }
     ensures failed { has_failed reader.new ≡ (has_failed reader.old || is_read_fault result) }
 {
-    let corner = entry_corner(p, tree.bits(), Level::Upper, i);
+    let bits = tree.bits();
+    let corner = entry_corner(p, bits, Level::Upper, i);
     take_lower_block(corner, tree, input, reader, steps)
 }
 
@@ -275,7 +278,8 @@ fn take_next_lower_block<
     ensures ended { result ≡ Err LoadFault.Truncated → IsAtEnd (place input.new (R.remaining (source reader.new))).known }
     ensures failed { has_failed reader.new ≡ (has_failed reader.old || is_read_fault result) }
 {
-    let i = take_entry_number(tree.bits(), Level::Upper, before, input, reader)?;
+    let bits = tree.bits();
+    let i = take_entry_number(bits, Level::Upper, before, input, reader)?;
     take_lower_block_at(p, i, tree, input, reader, steps)?;
     Ok(i)
 }

@@ -132,7 +132,8 @@ fn take_next_root<
     ensures ended { result ≡ Err LoadFault.Truncated → IsAtEnd (place input.new (R.remaining (source reader.new))).known }
     ensures failed { has_failed reader.new ≡ (has_failed reader.old || is_read_fault result) }
 {
-    let key = take_key(tree.bits(), before, input, reader)?;
+    let bits = tree.bits();
+    let key = take_key(bits, before, input, reader)?;
     take_root_at(key, tree, input, reader, steps)?;
     Ok(key)
 }
@@ -166,7 +167,8 @@ fn take_root_at<
     ensures ended { result ≡ Err LoadFault.Truncated → IsAtEnd (place input.new (R.remaining (source reader.new))).known }
     ensures failed { has_failed reader.new ≡ (has_failed reader.old || is_read_fault result) }
 {
-    let corner = root_corner(key, tree.bits());
+    let bits = tree.bits();
+    let corner = root_corner(key, bits);
     take_root_block(corner, tree, input, reader, steps)
 }
 

@@ -1,4 +1,5 @@
-use Rattle.std.proofs.Common.{◌≡◌, ℕ, ◌∙◌, ◌<◌, ◌≤◌, arith, refl, rules, subst, sym}
+use Rattle.std.proofs.Common.{◌≡◌, ℕ, ◌+◌, ◌∙◌, refl, rules, subst, sym}
+use Rattle.std.specs.Prelude.{None, Some}
 use Rattle.std.proofs.lemmas.Result.{err_from_is_err_and}
 use Rattle.vdb_coord.specs.Blocks.{block_around}
 use Rattle.vdb_coord.specs.declared.Level.TheVariants.{Leaf, Lower, Upper}
@@ -26,23 +27,14 @@ loop-init g c =
     let old = place c.args.input.now (g.R.Read.remaining (source c.args.reader.now)) in
     let configured = c.requires.ready.configured in
     let row = is_lower_row values bits configured p in
-    record { underway = no_entries values bits Lower p (leaf_body g.V.PartialEq.eq g.V.Voxel.bytes_of bits) t.background row f old c.requires.ready.values c.requires.ready.clear; ends = c.requires.ends; limit = refl; failed = refl }
-
-pub take_next_leaf_block-requires : goal.take_next_leaf_block-requires
-take_next_leaf_block-requires g c =
-    let exact = exact_by g.V.PartialEq.eq g.V.Ord.cmp g.met.V.Ord.matches_eq g.met.V.Voxel.exact in
-    let values = voxel_values g.V.PartialEq.eq g.V.Voxel.bytes_of g.V.Voxel.is_value g.V.Voxel.KIND exact g.met.V.Eq.laws.refl g.met.V.Voxel.bytes_known g.met.V.Voxel.bytes_exact in
-    let bits = bits_of g.row.U g.row.L g.row.F in
-    let p = c.args.p in
-    let t = c.args.tree.now in
-    let f = field_of bits t in
-    let old = place c.args.input.now (g.R.Read.remaining (source c.args.reader.now)) in
-    let configured = c.requires.ready.configured in
-    let row = is_lower_row values bits configured p in
-    let s = field_of bits c.loop.tree in
-    let now = place c.loop.input (g.R.Read.remaining (source c.loop.reader)) in
-    let room = subst (λ (n : ℕ). HasRoomAt g.V.PartialEq.eq bits n (block_around bits Upper p) f) (sym c.loop.invariant.limit) c.requires.ready.room in
-    record { ends = c.loop.invariant.ends; ready = entries_ready values bits Lower p (leaf_body g.V.PartialEq.eq g.V.Voxel.bytes_of bits) t.background row f old c.loop.counter c.loop.before s now c.loop.invariant.underway configured Leaf (entry_is_leaf bits p) c.loop.tree.limit room }
+    let under = no_entries values bits Lower p (leaf_body g.V.PartialEq.eq g.V.Voxel.bytes_of bits) t.background row f old c.requires.ready.values c.requires.ready.clear in
+    record {
+      underway = under;
+      ready = entries_ready values bits Lower p (leaf_body g.V.PartialEq.eq g.V.Voxel.bytes_of bits) t.background row f old 0 None f old under configured Leaf (entry_is_leaf bits p) t.limit c.requires.ready.room;
+      ends = c.requires.ends;
+      limit = refl;
+      failed = refl;
+    }
 
 pub returns-in_err-i-clause-reads : goal.returns-in_err-i-clause-reads
 returns-in_err-i-clause-reads g c =
@@ -74,10 +66,16 @@ loop-preserved g c =
     let s = field_of bits c.loop.tree in
     let now = place c.loop.input (g.R.Read.remaining (source c.loop.reader)) in
     let read = c.in_ok-i.ensures.reads in
+    let after = field_of bits c.take_next_leaf_block.new.tree in
+    let next = place c.take_next_leaf_block.new.input (g.R.Read.remaining (source c.take_next_leaf_block.new.reader)) in
+    let under = more_entries values bits Lower p (leaf_body g.V.PartialEq.eq g.V.Voxel.bytes_of bits) t.background row f old c.loop.counter c.loop.before s now c.loop.invariant.underway c.in_ok-i.i next after read.0 read.1 c.in_ok-i.ensures.kept in
+    let limit = c.in_ok-i.ensures.limit ∙ c.loop.invariant.limit in
+    let room = subst (λ (n : ℕ). HasRoomAt g.V.PartialEq.eq bits n (block_around bits Upper p) f) (sym limit) c.requires.ready.room in
     record {
-      underway = more_entries values bits Lower p (leaf_body g.V.PartialEq.eq g.V.Voxel.bytes_of bits) t.background row f old c.loop.counter c.loop.before s now c.loop.invariant.underway c.in_ok-i.i _ (field_of bits c.take_next_leaf_block.new.tree) read.0 read.1 c.in_ok-i.ensures.kept;
+      underway = under;
+      ready = entries_ready values bits Lower p (leaf_body g.V.PartialEq.eq g.V.Voxel.bytes_of bits) t.background row f old (c.loop.counter + 1) (Some c.in_ok-i.i) after next under configured Leaf (entry_is_leaf bits p) c.take_next_leaf_block.new.tree.limit room;
       ends = c.in_ok-i.ensures.ends;
-      limit = c.in_ok-i.ensures.limit ∙ c.loop.invariant.limit;
+      limit = limit;
       failed = search rules;
     }
 

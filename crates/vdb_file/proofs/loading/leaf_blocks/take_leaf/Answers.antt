@@ -19,7 +19,12 @@ use Rattle.vdb_file.proofs.LoadedBlocks.{background_value, leaf_keeps}
 use Rattle.vdb_file.proofs.loading.leaf_blocks.take_leaf.Goals as goal
 
 pub take_listed_voxels-requires : goal.take_listed_voxels-requires
-take_listed_voxels-requires g c = ?
+take_listed_voxels-requires g c =
+    let small = g.met.V.Stored-3.row_small in
+    let fits = leaf_small _ _ g.row.WF _ c.has_leaf_words.ensures.few small.1 small.1 small.0 in
+    let value = rw c.background-background.ensures (background_value g.V.Voxel.is_value c.args.tree.now.background (bits_of g.row.U g.row.L g.row.F) c.args.tree.now c.requires.ready.values) in
+    let leaf = ap (λ (b : Bits). b.leaf) c.bits-bits.ensures.value in
+    (fits, (c.bits-bits.ensures.configured, (leaf, (search rules, (c.has_leaf_words.ensures.few, (value, c.requires.ends))))))
 
 pub returns-in_err-leaf-clause-reads : goal.returns-in_err-leaf-clause-reads
 returns-in_err-leaf-clause-reads g c =

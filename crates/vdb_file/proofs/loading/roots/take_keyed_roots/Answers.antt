@@ -1,4 +1,5 @@
-use Rattle.std.proofs.Common.{◌≡◌, ℕ, ◌∙◌, ◌<◌, ◌≤◌, arith, refl, rules, subst, sym}
+use Rattle.std.proofs.Common.{◌≡◌, ℕ, ◌+◌, ◌∙◌, ◌≤◌, refl, rules, subst, sym}
+use Rattle.std.specs.Prelude.{None, Some}
 use Rattle.std.proofs.lemmas.Result.{err_from_is_err_and}
 use Rattle.vdb_coord.specs.Space.{everywhere}
 use Rattle.vdb_tree.specs.Layout.{bits_of, field_of}
@@ -20,21 +21,14 @@ loop-init g c =
     let f = field_of bits t in
     let old = place c.args.input.now (g.R.Read.remaining (source c.args.reader.now)) in
     let configured = c.requires.configured in
-    record { underway = no_roots values bits configured t.background f old c.requires.fresh c.requires.value; ends = c.requires.ends; limit = refl; failed = refl }
-
-pub take_next_root-requires : goal.take_next_root-requires
-take_next_root-requires g c =
-    let exact = exact_by g.V.PartialEq.eq g.V.Ord.cmp g.met.V.Ord.matches_eq g.met.V.Voxel.exact in
-    let values = voxel_values g.V.PartialEq.eq g.V.Voxel.bytes_of g.V.Voxel.is_value g.V.Voxel.KIND exact g.met.V.Eq.laws.refl g.met.V.Voxel.bytes_known g.met.V.Voxel.bytes_exact in
-    let bits = bits_of g.row.U g.row.L g.row.F in
-    let t = c.args.tree.now in
-    let f = field_of bits t in
-    let old = place c.args.input.now (g.R.Read.remaining (source c.args.reader.now)) in
-    let configured = c.requires.configured in
-    let s = field_of bits c.loop.tree in
-    let now = place c.loop.input (g.R.Read.remaining (source c.loop.reader)) in
-    let most = subst (λ (n : ℕ). c.args.count ≤ n) (sym c.loop.invariant.limit) c.requires.few in
-    record { ends = c.loop.invariant.ends; ready = roots_ready values bits configured t.background f old c.loop.counter c.loop.before s now c.loop.invariant.underway c.args.count c.loop-test.true c.loop.tree.limit most }
+    let under = no_roots values bits configured t.background f old c.requires.fresh c.requires.value in
+    record {
+      underway = under;
+      ready = λ more. roots_ready values bits configured t.background f old 0 None f old under c.args.count more t.limit c.requires.few;
+      ends = c.requires.ends;
+      limit = refl;
+      failed = refl;
+    }
 
 pub returns-in_err-key-clause-reads : goal.returns-in_err-key-clause-reads
 returns-in_err-key-clause-reads g c =
@@ -62,10 +56,16 @@ loop-preserved g c =
     let s = field_of bits c.loop.tree in
     let now = place c.loop.input (g.R.Read.remaining (source c.loop.reader)) in
     let read = c.in_ok-key.ensures.reads in
+    let after = field_of bits c.take_next_root.new.tree in
+    let next = place c.take_next_root.new.input (g.R.Read.remaining (source c.take_next_root.new.reader)) in
+    let under = more_roots values bits configured t.background f old c.loop.counter c.loop.before s now c.loop.invariant.underway c.args.count c.loop-test.true c.in_ok-key.key next after read.0 read.1 c.in_ok-key.ensures.kept in
+    let limit = c.in_ok-key.ensures.limit ∙ c.loop.invariant.limit in
+    let few = subst (λ (n : ℕ). c.args.count ≤ n) (sym limit) c.requires.few in
     record {
-      underway = more_roots values bits configured t.background f old c.loop.counter c.loop.before s now c.loop.invariant.underway c.args.count c.loop-test.true c.in_ok-key.key _ (field_of bits c.take_next_root.new.tree) read.0 read.1 c.in_ok-key.ensures.kept;
+      underway = under;
+      ready = λ more. roots_ready values bits configured t.background f old (c.loop.counter + 1) (Some c.in_ok-key.key) after next under c.args.count more c.take_next_root.new.tree.limit few;
       ends = c.in_ok-key.ensures.ends;
-      limit = c.in_ok-key.ensures.limit ∙ c.loop.invariant.limit;
+      limit = limit;
       failed = search rules;
     }
 
