@@ -9,8 +9,26 @@ use vdb_file::{LoadFault, load};
 use vdb_pool::Steps;
 use vdb_scene::Watched;
 
-/// Grid `a` of i32 with background 0 in version 1, before its root blocks.
-const GRID: &[u8] = b"VDBS\0\x01\0\x01\x01a\x01\0\0\0\0";
+/// A file of two grids in version 1, before them.
+const TWO_GRIDS: &[u8] = b"VDBS\0\x01\0\x02";
+
+/// Grid `a` of truth values with two metadata pairs, before these.
+const TWO_PAIRS: &[u8] = b"VDBS\0\x02\0\x01\x01a\0\0\0\0\x10\0\x02";
+
+/// Grid `a` of i32 with background 0 and two root blocks in version 1, before these.
+const TWO_KEYS: &[u8] = b"VDBS\0\x01\0\x01\x01a\x01\0\0\0\0\0\0\0\x02";
+
+/// The same with one root block, before the two entries of its upper node.
+const TWO_BLOCKS: &[u8] =
+    b"VDBS\0\x01\0\x01\x01a\x01\0\0\0\0\0\0\0\x01\0\0\0\0\0\0\0\0\0\0\0\0\x03\0\x02";
+
+/// The same, before the two entries of a lower node.
+const TWO_LEAVES: &[u8] =
+    b"VDBS\0\x01\0\x01\x01a\x01\0\0\0\0\0\0\0\x01\0\0\0\0\0\0\0\0\0\0\0\0\x03\0\x01\0\0\x03\0\x02";
+
+/// The same, before the two voxels of a leaf.
+const TWO_VOXELS: &[u8] =
+    b"VDBS\0\x01\0\x01\x01a\x01\0\0\0\0\0\0\0\x01\0\0\0\0\0\0\0\0\0\0\0\0\x03\0\x01\0\0\x03\0\x01\0\0\x03\0\x02";
 
 #[test]
 fn a_wrong_byte_has_its_fault(rt: HostRuntime) {
@@ -150,69 +168,63 @@ fn a_further_byte_is_trailing(rt: HostRuntime) {
 #[test]
 fn what_comes_twice_or_too_early_has_its_fault(rt: HostRuntime) {
     let mut steps = Steps::new(&rt);
-    let two_grids = b"VDBS\0\x01\0\x02".as_slice();
-    let two_pairs = b"VDBS\0\x02\0\x01\x01a\0\0\0\0\x10\0\x02".as_slice();
-    let two_keys = joined(&rt, [GRID, b"\0\0\0\x02".as_slice()].as_slice());
-    let two_blocks = joined(&rt, [&OLD_VOXEL[..31], b"\x03\0\x02".as_slice()].as_slice());
-    let two_leaves = joined(&rt, [&OLD_VOXEL[..36], b"\x03\0\x02".as_slice()].as_slice());
-    let two_voxels = joined(&rt, [&OLD_VOXEL[..41], b"\x03\0\x02".as_slice()].as_slice());
     for (front, first, second, fault) in [
         (
-            two_grids,
+            TWO_GRIDS,
             b"\x01b\0\0\0\0\0\0".as_slice(),
             b"\x01b\0\0\0\0\0\0".as_slice(),
             LoadFault::Name,
         ),
         (
-            two_grids,
+            TWO_GRIDS,
             b"\x01b\0\0\0\0\0\0".as_slice(),
             b"\x02a_\0\0\0\0\0\0".as_slice(),
             LoadFault::Name,
         ),
         (
-            two_grids,
+            TWO_GRIDS,
             b"\x02b_\0\0\0\0\0\0".as_slice(),
             b"\x01b\0\0\0\0\0\0".as_slice(),
             LoadFault::Name,
         ),
         (
-            two_pairs,
+            TWO_PAIRS,
             b"\x01k\x01v".as_slice(),
             b"\x01k\x01w".as_slice(),
             LoadFault::Meta,
         ),
         (
-            two_pairs,
+            TWO_PAIRS,
             b"\x01k\x01v".as_slice(),
             b"\x01j\x01v".as_slice(),
             LoadFault::Meta,
         ),
         (
-            two_keys.as_slice(),
+            TWO_KEYS,
             b"\0\0\0\0\0\0\0\0\0\0\0\x01\x02\0\0\0\x05".as_slice(),
             b"\0\0\0\0\0\0\0\0\0\0\0\x01\x02\0\0\0\x05".as_slice(),
             LoadFault::Key,
         ),
         (
-            two_keys.as_slice(),
+            TWO_KEYS,
             b"\0\0\0\0\0\0\0\0\0\0\0\x01\x02\0\0\0\x05".as_slice(),
             b"\0\0\0\0\xff\xff\xff\xff\0\0\0\x02\x02\0\0\0\x05".as_slice(),
             LoadFault::Key,
         ),
         (
-            two_blocks.as_slice(),
+            TWO_BLOCKS,
             b"\0\x01\x02\0\0\0\x05".as_slice(),
             b"\0\x01\x02\0\0\0\x05".as_slice(),
             LoadFault::Index,
         ),
         (
-            two_leaves.as_slice(),
+            TWO_LEAVES,
             b"\0\x01\x02\0\0\0\x05".as_slice(),
             b"\0\0\x02\0\0\0\x05".as_slice(),
             LoadFault::Index,
         ),
         (
-            two_voxels.as_slice(),
+            TWO_VOXELS,
             b"\x01\0\x02\0\0\0\x05".as_slice(),
             b"\0\xff\x02\0\0\0\x05".as_slice(),
             LoadFault::Index,
