@@ -1,11 +1,10 @@
 """Scene files that are cut, longer, changed, endless or read and written by calls that fail: files.py [PART..]"""
-import os
 import sys
 import spelling
 import vectors
 from feeding import feeding
 from planted import planted
-from program import LOAD_LIMIT, Tally, Workplace
+from program import LOAD_LIMIT, Tally, Workplace, some
 
 TALLY, PLACE = Tally("files"), Workplace()
 NO_SCRIPT = b""
@@ -57,7 +56,7 @@ def whole():
 def cut():
     """Each proper prefix is `truncated`, each extension `trailing`, and nothing is saved."""
     for name, text in vectors.CUT.items():
-        for size in range(len(text)):
+        for size in some(range(len(text))):
             refused(run(PLAIN, load=text[:size]), "truncated", f"the first {size} bytes of {name}")
         for more in (b"\x00", b"\xff", b"\n", text, b"\x00" * 70_000):
             refused(run(PLAIN, load=text + more), "trailing", f"{name} and {len(more)} bytes more")
@@ -65,13 +64,11 @@ def cut():
 
 def changed():
     """Each byte of a file set to each other value: a fault, or a scene that saves those very bytes."""
-    text, stride = vectors.ACTIVE, int(os.environ.get("STRIDE", "1"))
-    for at in range(len(text)):
-        for value in range(at % stride, 256, stride):
-            if value != text[at]:
-                other = text[:at] + bytes([value]) + text[at + 1 :]
-                done, wanted = loaded_as(other, f"byte {at} as {value:02x}")
-                TALLY.check(isinstance(wanted, str) or done.saved == other, f"byte {at} as {value:02x}: saved otherwise")
+    text = vectors.ACTIVE
+    for at, value in some((at, value) for at in range(len(text)) for value in range(256) if value != text[at]):
+        other = text[:at] + bytes([value]) + text[at + 1 :]
+        done, wanted = loaded_as(other, f"byte {at} as {value:02x}")
+        TALLY.check(isinstance(wanted, str) or done.saved == other, f"byte {at} as {value:02x}: saved otherwise")
 
 
 def faults():
@@ -88,7 +85,7 @@ def readers():
         for most in (1, 2, 3, 7, len(text)):
             accepted(run(NO_SCRIPT, load=text, read_of_file=1, read_most=most), newer, f"{name} by {most} bytes a call")
         refused(run(PLAIN, load=text, read_of_file=1, read_after=20), "read", f"{name}, failing after 20 bytes")
-        for call in range(1, len(text) + 2):
+        for call in some(range(1, len(text) + 2)):
             wrong = {"read_of_file": 1, "read_most": 1, "read_at": call}
             refused(run(PLAIN, load=text, **wrong), "read", f"{name}, failing at call {call}")
             if call <= len(text):
@@ -108,7 +105,7 @@ def writers():
     text, script = vectors.MADE["with-unit"]
     answers = b"ok\n" * 3
     accepted(run(script, write_of_file=1, write_most=1), text, "one byte a call")
-    for call in range(1, len(text) + 1):
+    for call in some(range(1, len(text) + 1)):
         wrong = {"write_of_file": 1, "write_most": 1, "write_at": call}
         not_saved(run(script, **wrong), "write", answers, f"failing at call {call}")
         not_saved(run(script, **wrong, write_kind="nothing"), "write", answers, f"taking nothing at call {call}")

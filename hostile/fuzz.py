@@ -1,3 +1,4 @@
+#!/usr/bin/env python3
 """Random scripts and mutated files, from a seed: fuzz.py scripts COUNT [SEED], or fuzz.py files COUNT [SEED].
 
 scripts: each random script is played as it is; with prunes, voxelises and look-ups put in and by other accessors; and in two
@@ -8,31 +9,25 @@ import random
 import sys
 import spelling
 from cells import Cells
+from growths import shared_out
 from planted import planted
 from program import Tally, Workplace
 from random_scripts import Script
-
-LONG_ANSWERS = ("list", "slice", "metas")
-
 
 def text_of(lines):
     return "".join(line + "\n" for line in lines).encode()
 
 
-def shared_out(lines, answers):
-    """The answer to each line."""
-    given, rest = [], answers.decode().split("\n")[:-1]
-    rest.reverse()
-    for line in lines:
-        words = line.split()
-        if not words or words[0].startswith("#"):
-            given.append([])
-            continue
-        answer = [rest.pop() if rest else "nothing"]
-        while words[0] in LONG_ANSWERS and rest and not answer[-1].startswith(("end ", "more ", "error ")):
-            answer.append(rest.pop())
-        given.append(answer)
-    return given + ([["too many"]] if rest else [])
+def answers_of(lines, answers):
+    """The answer to each line, as a list of its lines; none for a line that gives none."""
+    given = iter(shared_out([line.encode() for line in lines if is_command(line)], answers))
+    shared = [next(given).decode().splitlines() if is_command(line) else [] for line in lines]
+    whole = sum(map(len, shared)) == answers.count(b"\n")
+    return shared if whole else shared + [["too many"]]
+
+
+def is_command(line):
+    return line.strip() != "" and not line.startswith("#")
 
 
 class Fuzz:
@@ -54,7 +49,7 @@ class Fuzz:
         maker = Script(random.Random(number))
         lines = maker.lines(maker.chance.randint(5, 40))
         plain = self.run(lines)
-        answers = shared_out(lines, plain.answers)
+        answers = answers_of(lines, plain.answers)
         what = f"script {number}"
         self.tally.check(plain.status in (0, 1) and plain.errors == b"", f"{what}: {plain.status}, {plain.errors!r}")
         self.tally.check(["error memory"] not in answers and len(answers) == len(lines), f"{what}: wrong answers")
@@ -75,7 +70,7 @@ class Fuzz:
     def with_more(self, what, maker, lines, answers, saved):
         made = maker.decorated(lines)
         run = self.run([line for line, _ in made])
-        given = shared_out([line for line, _ in made], run.answers)
+        given = answers_of([line for line, _ in made], run.answers)
         kept = [answer for answer, (_, put_in) in zip(given, made) if not put_in] + given[len(made) :]
         self.tally.check(kept == answers, f"{what}: other answers with prune, voxelise and accessors put in")
         self.tally.check(run.saved == saved, f"{what}: another file with prune, voxelise and accessors put in")
@@ -84,7 +79,7 @@ class Fuzz:
         at = maker.chance.randint(0, len(lines))
         first = self.run(lines[:at])
         second = self.run(lines[at:], load=first.saved)
-        given = shared_out(lines[:at], first.answers) + shared_out(lines[at:], second.answers)
+        given = answers_of(lines[:at], first.answers) + answers_of(lines[at:], second.answers)
         self.tally.check(given == answers, f"{what}: other answers when it is saved and loaded after line {at}")
         self.tally.check(second.saved == saved, f"{what}: another file when it is saved and loaded after line {at}")
 

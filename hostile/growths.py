@@ -2,20 +2,27 @@
 
 A growth is a call of malloc or realloc (or of another that gets memory) from the first read on. In each run one growth is
 refused, the first, then the second, until a run meets none; where a row has more than 240 growths the first 120 are refused
-in turn, and then as many again at even distances, with the last three. Each of these runs is checked:
+in turn, and then as many again at even distances, with the last three. TURNS names another number than 120. Each of these
+runs is checked:
 
 - The command during which the growth was refused answers `error memory`, and nothing else does.
 - The scene that stands then saves the same bytes as the scene before that command.
 - Each accessor with a last coordinate gives the same answer there as before.
 - The command given again, and all that follow, have the row's answers.
-- Commands that take no memory, reading, parsing, printing and saving never meet a refusal."""
+- Commands that take no memory, reading, parsing, printing and saving never meet a refusal.
+
+In further runs one growth and all after it are refused. The lines that don't answer `error memory` must then answer, and the
+scene must save, as if the others weren't in the script."""
+import os
 import sys
 from planted import planted
 from program import HERE, Run, Tally, Workplace
 
-IN_TURN = 120
+FOR_GOOD = 20
+IN_TURN = int(os.environ.get("TURNS", "120"))
 NO_MEMORY = {"get", "drop", "prune", "count", "bounds", "list", "slice", "census", "unmeta", "metas"}
 BY_ACCESSOR = {"get", "set", "unset", "only", "state"}
+LONG = (b"list ", b"slice ", b"metas ")
 MEMORY = b"error memory\n"
 
 
@@ -28,6 +35,17 @@ def read_row(path):
         else:
             row.append([line, ""])
     return [(line.encode(), answer.encode()) for line, answer in row]
+
+
+def shared_out(lines, answers):
+    """The answer to each line of a script in which no line is blank or a comment."""
+    given, rest = [], answers.splitlines(keepends=True)[::-1]
+    for line in lines:
+        answer = rest.pop() if rest else b""
+        while line.startswith(LONG) and rest and not answer.splitlines()[-1].startswith((b"end ", b"more ", b"error ")):
+            answer += rest.pop()
+        given.append(answer)
+    return given
 
 
 def script_of(lines):
@@ -80,6 +98,8 @@ class Row:
         self.check(growths > 0, "no growth was met")
         for turn in turns(growths):
             self.one(turn, turn > growths)
+        for turn in range(1, growths + 1, -(-growths // FOR_GOOD)):
+            self.for_good(turn)
 
     def one(self, turn, beyond):
         """The run in which this growth is refused."""
@@ -93,6 +113,17 @@ class Row:
         self.check(line is not None, f"growth {turn} was refused outside any command")
         if line is not None:
             self.refused(turn, line)
+
+    def for_good(self, turn):
+        """The run in which this growth and all after it are refused."""
+        run = self.run(self.lines, refuse_growth=turn, refuse_all_from_there=1)
+        answers = shared_out(self.lines, run.answers)
+        kept = [(line, answer) for line, answer in zip(self.lines, answers) if answer != MEMORY]
+        short = self.run([line for line, _ in kept])
+        what = f"all growths from {turn} on refused"
+        self.check(len(answers) == len(self.lines) > len(kept), f"{what}: {run.status}, {len(kept)} lines")
+        self.check(short.answers == b"".join(answer for _, answer in kept), f"{what}: the other lines answer otherwise")
+        self.check(short.saved == run.saved, f"{what}: the scene is another")
 
     def refused_line(self, written):
         """The place of the line that was carried out once so many bytes of answers had been written."""

@@ -8,6 +8,7 @@ from pathlib import Path
 
 HERE = Path(__file__).resolve().parent
 PROGRAM = os.environ.get("VDB", str(HERE.parent / "crates" / "vdb" / "out" / "vdb"))
+STRIDE = int(os.environ.get("STRIDE", "1"))
 LOAD_LIMIT = 268_435_456
 SCRIPT_LIMIT = 16_777_216
 
@@ -61,6 +62,11 @@ class Workplace:
         path = self.folder / name
         path.write_bytes(content)
         return str(path)
+
+
+def some(cases):
+    """These cases, or, where STRIDE says so, one in so many of them."""
+    return [*cases][::STRIDE]
 
 
 def counts(report):

@@ -4,7 +4,7 @@ import sys
 from feeding import feeding
 from growths import read_row, script_of
 from planted import planted
-from program import HERE, PROGRAM, SCRIPT_LIMIT, Tally, Workplace
+from program import HERE, PROGRAM, SCRIPT_LIMIT, Tally, Workplace, some
 
 TALLY, PLACE = Tally("scripts"), Workplace()
 GRID = b"grid a i32 0\n"
@@ -50,7 +50,7 @@ def pieces():
     """Pieces of 1 to 300 bytes, and answers taken in pieces, change nothing."""
     script, answers, _ = row("two-grids")
     saved = run(script).saved
-    for most in range(1, 301):
+    for most in some(range(1, 301)):
         done = run(script, read_most=most)
         ended(done, 1, b"", answers, f"pieces of {most} bytes")
         TALLY.check(done.saved == saved, f"pieces of {most} bytes: saved otherwise")
@@ -79,7 +79,7 @@ def last_lines():
 def readers():
     """A reader that fails at each of its calls, or ends there."""
     script, _, pairs = row("two-grids")
-    for call in range(1, len(script) // 7 + 3):
+    for call in some(range(1, len(script) // 7 + 3)):
         given = script[: 7 * (call - 1)]
         complete = given.count(b"\n")
         answers = b"".join(answer for _, answer in pairs[:complete])
@@ -100,10 +100,10 @@ def writers():
     """A writer that fails or takes nothing at each of its calls, and one that fails after some bytes."""
     for script, answers in [row("two-grids")[:2], (MIXED, MIXED_ANSWERS)]:
         calls = run(script).counts["answer-writes"]
-        for call in range(1, calls + 1):
+        for call in some(range(1, calls + 1)):
             for kind in ("fail", "nothing"):
                 broken(script, answers, {"write_at": call, "write_kind": kind}, call, None)
-        for size in range(0, len(answers), 3):
+        for size in some(range(0, len(answers), 3)):
             broken(script, answers, {"write_after": size}, None, size)
     taken = run(GRID + b"get a - 5 5 5\n", write_after=3)
     ended(taken, 4, b"vdb: answers: write\n", b"ok\n", "a writer that fails after three bytes")
