@@ -1,19 +1,17 @@
 -- Grids that are read.
-use Rattle.std.proofs.Common.{◌≡◌, ℕ, ◌<◌, ◌≤◌, ◌^◌, Bool, true, List, [], ◌∷◌, ◌++◌, length, refl, sym, ap, subst, ◌∙◌, arith}
+use Rattle.std.proofs.Common.{◌≡◌, ℕ, ◌<◌, ◌≤◌, ◌^◌, Bool, List, [], ◌∷◌, ◌++◌, refl, sym, ap, subst, ◌∙◌, arith}
 use Rattle.std.specs.Prelude.{Option, ⊤}
-use Rattle.std.specs.Int.{w32, to_be_bytes}
 use Rattle.vdb_coord.specs.Blocks.{vdb}
 use Rattle.vdb_value.specs.declared.Kind.{Kind}
 use Rattle.vdb_value.specs.declared.Kind.TheVariants as kinds
-use Rattle.vdb_tree.specs.ConstantBlocks.{roots}
-use Rattle.vdb_tree.specs.Field.{Field, new}
-use Rattle.vdb_tree.specs.Layout.{Layout, field_of}
+use Rattle.vdb_tree.specs.Field.{Field}
 use Rattle.vdb_scene.specs.Scalars.{kind_of, scalar_bytes, scalar_eq}
 use Rattle.vdb_scene.specs.Scene.{Grid}
 use Rattle.vdb_file.specs.Bodies.{roots_bytes}
 use Rattle.vdb_file.specs.Scenes.{IsGrid}
 use Rattle.vdb_file.specs.Spelling.{counted, kind_code}
-use Rattle.vdb_file.specs.internal.Parts.{Head, IsBody, IsHead, IsItem, IsLoaded, IsNamed, IsNext, IsOldHead, IsTreeField, Loaded, body_bytes, head_code, head_of, loaded_bytes, name_of, named_bytes}
+use Rattle.vdb_file.specs.internal.Parts.{Head, IsBody, IsHead, IsItem, IsLoadedGrid, IsNamed, IsNext, LoadedGrid, body_bytes, head_code, head_of, loaded_bytes, name_of, named_bytes}
+use Rattle.vdb_file.specs.internal.LoadedFields.{IsWithin}
 use Rattle.vdb_file.specs.internal.Reading.{Fails, Place, Took}
 use Rattle.vdb_file.specs.declared.fault.LoadFault.{LoadFault}
 use Rattle.vdb_file.specs.declared.loading.versions.Version.{Version}
@@ -23,10 +21,6 @@ use Rattle.vdb_file.proofs.Numbers.{says_counted, says_u32}
 use Rattle.vdb_file.proofs.Pairs.{says_pairs}
 use Rattle.vdb_file.proofs.Scenes.{IsVersion, says_grid}
 use Rattle.vdb_file.proofs.Fronts.{fails_after, fails_first, fails_none, fails_turn, took_both}
-
--- a new tree's field
-pub fresh_field : {V : Type 0} (t : Layout V) (background : V) → field_of vdb t ≡ new background → field_of vdb t ≡ new t.background
-fresh_field t background e = e ∙ ap new (sym (ap (λ f. f.background) e))
 
 -- ---- the head of a version says which it is
 
@@ -50,17 +44,21 @@ named_code version = says_grid (is_version version)
 
 -- ---- a grid of one type
 
-module _ {V : Type 0} (IsValue : V → Type 0) (eq : V → V → Bool) (bytes : V → List ℕ) (code : IsCode IsValue bytes) (version : Version) (fault : LoadFault) (old : Place) where
-  abbrev Is : Loaded V → Type 0
-  Is = IsLoaded IsValue eq bytes version
+-- a field of one background and limit is one of another where these are the same
+pub within_same : {V : Type 0} (eq : V → V → Bool) (IsValue : V → Type 0) (f : Field V) (base other : V) (limit most : ℕ) → base ≡ other → limit ≡ most → IsWithin eq IsValue base vdb limit f → IsWithin eq IsValue other vdb most f
+within_same eq IsValue f base other limit most e l h = subst (λ n. IsWithin eq IsValue other vdb n f) l (subst (λ v. IsWithin eq IsValue v vdb limit f) e h)
 
-  abbrev text : Loaded V → List ℕ
+module _ {V : Type 0} (IsValue : V → Type 0) (eq : V → V → Bool) (bytes : V → List ℕ) (code : IsCode IsValue bytes) (version : Version) (fault : LoadFault) (old : Place) where
+  abbrev Is : LoadedGrid V → Type 0
+  Is = IsLoadedGrid IsValue eq bytes version
+
+  abbrev text : LoadedGrid V → List ℕ
   text = loaded_bytes IsValue eq bytes version
 
-  abbrev behind : Loaded V → List ℕ
+  abbrev behind : LoadedGrid V → List ℕ
   behind g = head_code version g.head ++ roots_bytes eq bytes vdb g.field
 
-  abbrev the_roots : Loaded V → List ℕ
+  abbrev the_roots : LoadedGrid V → List ℕ
   the_roots g = roots_bytes eq bytes vdb g.field
 
   -- the background isn't there
@@ -78,26 +76,26 @@ module _ {V : Type 0} (IsValue : V → Type 0) (eq : V → V → Bool) (bytes : 
 
     -- the root blocks aren't there
     pub no_roots : (two : Place) (head : Head) (base : V) (limit : ℕ) → base ≡ background → limit ≡ head.limit → IsHead version head → Took one two (head_code version head)
-        → Fails (IsTreeField IsValue eq vdb base limit) (roots_bytes eq bytes vdb) fault two → Fails Is text fault old
+        → Fails (IsWithin eq IsValue base vdb limit) (roots_bytes eq bytes vdb) fault two → Fails Is text fault old
     no_roots two head base limit e l is more h =
         after_background (fails_after (λ g. Is g × (background ≡ g.field.background)) behind (head_code version head) (λ g. (head.limit ≡ g.head.limit) × (head.pairs ≡ g.head.pairs)) (λ g. head_code version g.head) the_roots fault one two more
         (λ g p. says_head version head g.head is p.0.head) (λ g p. refl)
-        (fails_turn (λ g. (Is g × (background ≡ g.field.background)) × ((head.limit ≡ g.head.limit) × (head.pairs ≡ g.head.pairs))) the_roots (IsTreeField IsValue eq vdb base limit) (roots_bytes eq bytes vdb) (λ g. g.field) fault two
-        (λ g p. record { background = sym p.0.1 ∙ sym e; values = p.0.0.field.values; outside = p.0.0.field.outside; roots = subst (λ n. roots eq vdb g.field ≤ n) (sym (l ∙ p.1.0)) p.0.0.field.roots })
+        (fails_turn (λ g. (Is g × (background ≡ g.field.background)) × ((head.limit ≡ g.head.limit) × (head.pairs ≡ g.head.pairs))) the_roots (IsWithin eq IsValue base vdb limit) (roots_bytes eq bytes vdb) (λ g. g.field) fault two
+        (λ g p. within_same eq IsValue g.field g.field.background base g.head.limit limit (sym p.0.1 ∙ sym e) (sym (l ∙ p.1.0)) p.0.0.field)
         (λ g p. refl) h))
 
 -- all of it was read
 pub tree_read : {V : Type 0} (IsValue : V → Type 0) (eq : V → V → Bool) (bytes : V → List ℕ) (version : Version) (old one two new : Place) (background base : V) (limit most : ℕ) (head : Head) (f : Field V)
-    → base ≡ background → limit ≡ head.limit → most ≡ limit → IsValue background → IsHead version head → IsTreeField IsValue eq vdb base limit f
+    → base ≡ background → limit ≡ head.limit → most ≡ limit → IsValue background → IsHead version head → IsWithin eq IsValue base vdb limit f
     → Took old one (bytes background) → Took one two (head_code version head) → Took two new (roots_bytes eq bytes vdb f)
-    → let g : Loaded V = record { field = f; head = record { limit = most; pairs = head.pairs } } in IsLoaded IsValue eq bytes version g × Took old new (loaded_bytes IsValue eq bytes version g)
+    → let g : LoadedGrid V = record { field = f; head = record { limit = most; pairs = head.pairs } } in IsLoadedGrid IsValue eq bytes version g × Took old new (loaded_bytes IsValue eq bytes version g)
 tree_read IsValue eq bytes version old one two new background base limit most head f e l m value is field first second third =
-    let same : background ≡ f.background = sym e ∙ sym field.background in
+    let same : background ≡ f.background = sym e ∙ sym field.loaded.values.same in
     let again : head ≡ record { limit = most; pairs = head.pairs } = λ j. record { limit = sym (m ∙ l) j; pairs = head.pairs } in (
       record {
         value = subst IsValue same value;
         head = subst (IsHead version) again is;
-        field = record { background = refl; values = field.values; outside = field.outside; roots = subst (λ n. roots eq vdb f ≤ n) (sym m) field.roots };
+        field = within_same eq IsValue f base f.background limit most (sym field.loaded.values.same) (sym m) field;
       },
       subst (λ v. Took old new (bytes v ++ (head_code version (record { limit = most; pairs = head.pairs }) ++ roots_bytes eq bytes vdb f))) same
           (took_both old one new (bytes background) _ first (took_both one two new (head_code version (record { limit = most; pairs = head.pairs })) (roots_bytes eq bytes vdb f) (subst (λ h. Took one two (head_code version h)) again second) third)),

@@ -1,10 +1,10 @@
 -- Limits and metadata that are read.
-use Rattle.std.proofs.Common.{◌≡◌, ℕ, ◌<◌, ◌≤◌, ◌^◌, List, [], ◌∷◌, ◌++◌, length, refl, sym, subst, ◌∙◌, arith}
+use Rattle.std.proofs.Common.{◌≡◌, ℕ, ◌<◌, ◌^◌, [], refl, sym, subst, arith}
 use Rattle.std.specs.Int.{w32, to_be_bytes}
 use Rattle.vdb_scene.specs.Metas.{Pairs}
 use Rattle.vdb_file.specs.Scenes.{ArePairs}
 use Rattle.vdb_file.specs.Spelling.{pairs_bytes}
-use Rattle.vdb_file.specs.internal.Parts.{Head, IsHead, IsLimit, head_code}
+use Rattle.vdb_file.specs.internal.Parts.{IsHead, IsLimit, head_code}
 use Rattle.vdb_file.specs.internal.Reading.{Fails, Place, Took}
 use Rattle.vdb_file.specs.declared.fault.LoadFault.{LoadFault}
 use Rattle.vdb_file.specs.declared.loading.versions.Version.TheVariants.{One, Two}

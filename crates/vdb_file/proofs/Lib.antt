@@ -29,7 +29,11 @@ pub mod Beginnings
 pub mod HeadParts
 pub mod TypedGrids
 pub mod KindsOfValues
+pub mod ValueCodes
+pub mod Failures
 pub mod GridParts
+pub mod SceneParts
+pub mod WholeFiles
 pub mod HeadCodes
 pub mod KeyCodes
 pub mod Rows

@@ -1,6 +1,6 @@
 -- Bytes behind their count that are read.
 use Rattle.std.proofs.Common.{◌≡◌, ℕ, ◌<◌, ◌≤◌, Bool, true, false, List, [], ◌∷◌, length, refl, sym, subst, ◌∙◌, arith, append-nil}
-use Rattle.std.specs.Prelude.{Option, ◌&&◌, nat_lt, nat_le, ⊤}
+use Rattle.std.specs.Prelude.{◌&&◌, nat_lt, nat_le, ⊤}
 use Rattle.std.specs.List.{list_all}
 use Rattle.std.proofs.lemmas.Bool.{leb-true, ltb-true}
 use Rattle.vdb_scene.specs.Metas.{is_text, is_text_byte}

@@ -8,13 +8,15 @@ use Rattle.vdb_value.specs.declared.Cell.{Cell}
 use Rattle.vdb_value.specs.declared.Kind.{Kind}
 use Rattle.vdb_tree.specs.ConstantBlocks.{roots}
 use Rattle.vdb_tree.specs.Field.{Field, as_cell_of, as_field_of, field, off}
+use Rattle.vdb_tree.specs.Layout.{Layout, field_of}
+use Rattle.vdb_scene.specs.Metas.{Pairs}
 use Rattle.vdb_scene.specs.Scalars.{kind_of, scalar_bytes, scalar_eq}
 use Rattle.vdb_scene.specs.Scene.{Grid}
 use Rattle.vdb_scene.specs.declared.scalar.Scalar.{Scalar}
 use Rattle.vdb_file.specs.Bodies.{roots_bytes}
 use Rattle.vdb_file.specs.Scenes.{IsField, is_value_of}
 use Rattle.vdb_file.specs.Spelling.{kind_bytes, kind_code}
-use Rattle.vdb_file.specs.internal.Parts.{Head, IsBody, IsHead, IsLoaded, IsTreeField, Loaded, body_bytes, head_code, head_of, loaded_bytes}
+use Rattle.vdb_file.specs.internal.Parts.{IsBody, IsLoadedGrid, LoadedGrid, body_bytes, head_code, head_of, loaded, loaded_bytes}
 use Rattle.vdb_file.specs.internal.Reading.{Fails, Place, Took}
 use Rattle.vdb_file.specs.declared.fault.LoadFault.{LoadFault}
 use Rattle.vdb_file.specs.declared.loading.versions.Version.{Version}
@@ -51,7 +53,7 @@ own_field f outside = λ j. record { background = f.background; cell = λ p. cel
 
 module _ {V : Type 0} (IsValue : V → Type 0) (eq : V → V → Bool) (bytes : V → List ℕ) (kind : Kind) (make : V → Scalar) (back : Scalar → V) (is : IsKind IsValue eq bytes kind make back) where
   -- the grid with each value made one of any kind
-  abbrev pub made_grid : Loaded V → Grid
+  abbrev pub made_grid : LoadedGrid V → Grid
   made_grid g = record { field = as_field_of make g.field; limit = g.head.limit; pairs = g.head.pairs }
 
   -- its root blocks and their bytes
@@ -74,28 +76,28 @@ module _ {V : Type 0} (IsValue : V → Type 0) (eq : V → V → Bool) (bytes : 
       ]
 
   -- so a grid of the type may be a grid
-  pub made_body : (version : Version) (g : Loaded V) → IsLoaded IsValue eq bytes version g → IsBody version (made_grid g)
+  pub made_body : (version : Version) (g : LoadedGrid V) → IsLoadedGrid IsValue eq bytes version g → IsBody version (made_grid g)
   made_body version g h = record {
     field = record {
       background = subst (λ k. is_value_of k (make g.field.background) ≡ true) (sym (is.same_kind g.field.background)) (is.value g.field.background h.value);
-      values = λ p. subst (λ k. is_value_of k ((as_field_of make g.field).cell p).value ≡ true) (sym (is.same_kind g.field.background)) (made_values g.field h.value h.field.values p);
+      values = λ p. subst (λ k. is_value_of k ((as_field_of make g.field).cell p).value ≡ true) (sym (is.same_kind g.field.background)) (made_values g.field h.value h.field.loaded.values.values p);
       outside = made_outside (make g.field.background) (λ q. as_cell_of make (g.field.cell q));
     };
-    roots = subst (λ n. n ≤ g.head.limit) (sym (same_roots g.field h.field.outside)) h.field.roots;
+    roots = subst (λ n. n ≤ g.head.limit) (sym (same_roots g.field h.field.loaded.outside)) h.field.few;
     head = h.head;
   }
 
   -- and has its bytes
-  pub made_text : (version : Version) (g : Loaded V) → IsLoaded IsValue eq bytes version g → kind_code kind ∷ loaded_bytes IsValue eq bytes version g ≡ body_bytes version (made_grid g)
+  pub made_text : (version : Version) (g : LoadedGrid V) → IsLoadedGrid IsValue eq bytes version g → kind_code kind ∷ loaded_bytes IsValue eq bytes version g ≡ body_bytes version (made_grid g)
   made_text version g h =
       ap (λ k. kind_code k ∷ loaded_bytes IsValue eq bytes version g) (sym (is.same_kind g.field.background))
       ∙ ap (λ t. kind_code (kind_of (make g.field.background)) ∷ (t ++ (head_code version g.head ++ roots_bytes eq bytes vdb g.field))) (sym (is.same_bytes g.field.background))
-      ∙ ap (λ t. kind_bytes (make g.field.background) ++ (head_code version g.head ++ t)) (sym (same_text g.field h.field.outside))
+      ∙ ap (λ t. kind_bytes (make g.field.background) ++ (head_code version g.head ++ t)) (sym (same_text g.field h.field.loaded.outside))
 
   -- ---- and back
 
   -- the grid with each value made one of the type
-  abbrev typed : Grid → Loaded V
+  abbrev typed : Grid → LoadedGrid V
   typed g = record { field = as_field_of back g.field; head = head_of g }
 
   -- a field of the kind, made one of the type and back
@@ -129,15 +131,13 @@ module _ {V : Type 0} (IsValue : V → Type 0) (eq : V → V → Bool) (bytes : 
   typed_outside : (f : Field Scalar) (p : Coord) → is_inside everywhere p ≡ false → (as_field_of back f).cell p ≡ off (back f.background)
   typed_outside f p e = made_outside (back f.background) (λ q. as_cell_of back (f.cell q)) p e
 
-  typed_loaded : (version : Version) (g : Grid) → IsBody version g → kind_of g.field.background ≡ kind → IsLoaded IsValue eq bytes version (typed g)
+  typed_loaded : (version : Version) (g : Grid) → IsBody version g → kind_of g.field.background ≡ kind → IsLoadedGrid IsValue eq bytes version (typed g)
   typed_loaded version g h same = record {
     value = is.back_value g.field.background (subst (λ k. is_value_of k g.field.background ≡ true) same h.field.background);
     head = h.head;
     field = record {
-      background = refl;
-      values = typed_values g.field h.field same;
-      outside = typed_outside g.field;
-      roots = subst (λ n. n ≤ g.limit) (sym (ap (roots scalar_eq vdb) (same_field_again g.field h.field same)) ∙ same_roots (as_field_of back g.field) (typed_outside g.field)) h.roots;
+      loaded = record { values = record { same = refl; values = typed_values g.field h.field same }; outside = typed_outside g.field };
+      few = subst (λ n. n ≤ g.limit) (sym (ap (roots scalar_eq vdb) (same_field_again g.field h.field same)) ∙ same_roots (as_field_of back g.field) (typed_outside g.field)) h.roots;
     };
   }
 
@@ -153,16 +153,26 @@ module _ {V : Type 0} (IsValue : V → Type 0) (eq : V → V → Bool) (bytes : 
       ∙ ap (λ t. bytes (back g.field.background) ++ (head_code version (head_of g) ++ t)) (same_text (as_field_of back g.field) (typed_outside g.field))
 
   -- the kind was read, and no such grid is behind it
-  pub no_typed : (version : Version) (fault : LoadFault) (old mid : Place) → Took old mid (kind_code kind ∷ []) → Fails (IsLoaded IsValue eq bytes version) (loaded_bytes IsValue eq bytes version) fault mid
+  pub no_typed : (version : Version) (fault : LoadFault) (old mid : Place) → Took old mid (kind_code kind ∷ []) → Fails (IsLoadedGrid IsValue eq bytes version) (loaded_bytes IsValue eq bytes version) fault mid
       → Fails (IsBody version) (body_bytes version) fault old
   no_typed version fault old mid took h =
       fails_after (IsBody version) (body_bytes version) (kind_code kind ∷ []) (λ g. kind ≡ kind_of g.field.background) (λ g. kind_code (kind_of g.field.background) ∷ []) (behind_kind version) fault old mid took
       (λ g p. says_kind kind (kind_of g.field.background)) (λ g p. refl)
-      (fails_turn (λ g. IsBody version g × (kind ≡ kind_of g.field.background)) (behind_kind version) (IsLoaded IsValue eq bytes version) (loaded_bytes IsValue eq bytes version) typed fault mid
+      (fails_turn (λ g. IsBody version g × (kind ≡ kind_of g.field.background)) (behind_kind version) (IsLoadedGrid IsValue eq bytes version) (loaded_bytes IsValue eq bytes version) typed fault mid
       (λ g p. typed_loaded version g p.0 (sym p.1)) (λ g p. typed_text version g p.0 (sym p.1)) h)
 
   -- kind and grid were read
-  pub typed_read : (version : Version) (old mid new : Place) (g : Loaded V) → Took old mid (kind_code kind ∷ []) → IsLoaded IsValue eq bytes version g → Took mid new (loaded_bytes IsValue eq bytes version g)
+  pub typed_read : (version : Version) (old mid new : Place) (g : LoadedGrid V) → Took old mid (kind_code kind ∷ []) → IsLoadedGrid IsValue eq bytes version g → Took mid new (loaded_bytes IsValue eq bytes version g)
       → IsBody version (made_grid g) × Took old new (body_bytes version (made_grid g))
   typed_read version old mid new g first h more =
       (made_body version g h, subst (Took old new) (made_text version g h) (took_both old mid new (kind_code kind ∷ []) (loaded_bytes IsValue eq bytes version g) first more))
+
+  -- the grid of a tree, with metadata pairs
+  abbrev tree_grid : Layout V → Pairs → Grid
+  tree_grid t pairs = record { field = as_field_of make (field_of vdb t); limit = t.limit; pairs = pairs }
+
+  -- kind and tree were read
+  pub tree_typed : (version : Version) (old mid new : Place) (t u : Layout V) (pairs : Pairs) → u ≡ t → Took old mid (kind_code kind ∷ []) → IsLoadedGrid IsValue eq bytes version (loaded t pairs)
+      → Took mid new (loaded_bytes IsValue eq bytes version (loaded t pairs)) → IsBody version (tree_grid u pairs) × Took old new (body_bytes version (tree_grid u pairs))
+  tree_typed version old mid new t u pairs e first h more =
+      subst (λ (w : Layout V). IsBody version (tree_grid w pairs) × Took old new (body_bytes version (tree_grid w pairs))) (sym e) (typed_read version old mid new (loaded t pairs) first h more)

@@ -36,8 +36,8 @@ use std::io::Read;
 use vdb_pool::Steps;
 use vdb_scene::{GRID_LIMIT, Scene, Watched};
 
-/// Reads the scene of a file of either version (OpenVDB's `io::Stream`), all of whose bytes the reader has. Whoever reads on finds
-/// the reader at its end. 65,536 bytes at a time are asked for, and at most one beyond the 268,435,456 that a file may have.
+/// Reads the scene of a file of either version (OpenVDB's `io::Stream`), all of whose bytes the reader has: after a scene the
+/// reader is at its end. 65,536 bytes at a time are asked for, and at most one beyond the 268,435,456 that a file may have.
 ///
 /// The fields are read in their order, and the first fault is answered: `TooLong` for a field that would end past the most bytes
 /// of a file, `Truncated` where the reader ends before the field does, or what its bytes are refused for. `Trailing` says that a
@@ -50,6 +50,7 @@ pub fn load<R: Read>(
 ) -> Result<Scene, LoadFault>
     ensures scene { IfOk result (λ scene. IsScene (scene_of scene)) }
     ensures loaded { IfOk result (λ scene. IfSome (R.remaining (source reader.old)) (λ bytes. IsFileOf bytes (scene_of scene))) }
+    ensures end { OnOk result (IsAtEnd (R.remaining (source reader.new))) }
     ensures none { IfErr result (λ fault. Claims fault → IfSome (R.remaining (source reader.old)) (λ bytes. (s : AbstractScene) → IsScene s → IsFileOf bytes s → ⊥)) }
     ensures magic { result ≡ Err LoadFault.Magic → IfSome (R.remaining (source reader.old)) HasOtherMagic }
     ensures version { result ≡ Err LoadFault.Version → IfSome (R.remaining (source reader.old)) HasOtherVersion }

@@ -1,5 +1,5 @@
 -- The parts of a file that are read one after another, each with what it has to be and with its bytes.
-use Rattle.std.specs.Prelude.{◌≡◌, ◌≤◌, ℕ, true, false, List, [], ◌∷◌, ◌++◌, Option, length, map, ⊤, Bool}
+use Rattle.std.specs.Prelude.{◌≡◌, ◌≤◌, ℕ, true, List, [], ◌++◌, Option, length, map, ⊤, Bool}
 use Rattle.std.specs.List.{AllByRecursion, flat_map}
 use Rattle.std.specs.List.Sorted.{IsStrictlySortedBy}
 use Rattle.std.specs.Map.{keys_of}
@@ -7,21 +7,19 @@ use Rattle.std.specs.Int.{w16, w32, to_be_bytes}
 use Rattle.std.specs.Ordering.{nat_cmp}
 use Rattle.std.specs.Cmp.Lexicographic.{slice_cmp}
 use Rattle.vdb_coord.specs.Blocks.{vdb}
-use Rattle.vdb_coord.specs.Space.{everywhere, is_inside}
-use Rattle.vdb_coord.specs.declared.Bits.{Bits}
-use Rattle.vdb_coord.specs.declared.Coord.{Coord}
 use Rattle.vdb_tree.specs.ConstantBlocks.{roots}
-use Rattle.vdb_tree.specs.Field.{Field, off}
+use Rattle.vdb_tree.specs.Field.{Field}
 use Rattle.vdb_tree.specs.Layout.{Layout, field_of}
 use Rattle.vdb_scene.specs.Grids.{grid_with}
-use Rattle.vdb_scene.specs.Metas.{Pairs, is_text}
+use Rattle.vdb_scene.specs.Metas.{Pairs}
 use Rattle.vdb_scene.specs.Names.{is_name}
 use Rattle.vdb_scene.specs.Scalars.{scalar_bytes, scalar_eq}
 use Rattle.vdb_scene.specs.Scene.{Grid, Scene}
 use Rattle.vdb_file.specs.Bodies.{roots_bytes}
-use Rattle.vdb_file.specs.Scenes.{ArePairs, IsField, IsGrid, IsPair}
+use Rattle.vdb_file.specs.Scenes.{ArePairs, IsField}
 use Rattle.vdb_file.specs.Spelling.{counted, file_bytes, grid_bytes, kind_bytes, pairs_bytes}
 use Rattle.vdb_file.specs.internal.Following.{Follows}
+use Rattle.vdb_file.specs.internal.LoadedFields.{IsWithin}
 use Rattle.vdb_file.specs.declared.loading.grids.Named.{Named}
 use Rattle.vdb_file.specs.declared.loading.grid_head.Head.{Head as CodeHead}
 use Rattle.vdb_file.specs.declared.loading.versions.Version.{Version}
@@ -98,31 +96,24 @@ pub record IsHead (version : Version) (h : Head) : Type 0 where
 
 -- ---- fields
 
--- a field that a tree of this background and this limit may have
-pub record IsTreeField {V : Type 0} (IsValue : V → Type 0) (eq : V → V → Bool) (bits : Bits) (base : V) (limit : ℕ) (f : Field V) : Type 0 where
-  pub background : f.background ≡ base
-  pub values : (p : Coord) → IsValue (f.cell p).value
-  pub outside : (p : Coord) → is_inside everywhere p ≡ false → f.cell p ≡ off f.background
-  pub roots : roots eq bits f ≤ limit
-
 -- a field with what stands before its root blocks
-pub record Loaded (V : Type 0) : Type 0 where
+pub record LoadedGrid (V : Type 0) : Type 0 where
   pub field : Field V
   pub head : Head
 
 -- that of a tree, with its limit and these pairs
-abbrev pub loaded : {V : Type 0} → Layout V → Pairs → Loaded V
+abbrev pub loaded : {V : Type 0} → Layout V → Pairs → LoadedGrid V
 loaded t pairs = record { field = field_of vdb t; head = record { limit = t.limit; pairs = pairs } }
 
 module _ {V : Type 0} (IsValue : V → Type 0) (eq : V → V → Bool) (value_bytes : V → List ℕ) (version : Version) where
   -- what a grid of one type of values may be
-  pub record IsLoaded (g : Loaded V) : Type 0 where
+  pub record IsLoadedGrid (g : LoadedGrid V) : Type 0 where
     pub value : IsValue g.field.background
     pub head : IsHead version g.head
-    pub field : IsTreeField IsValue eq vdb g.field.background g.head.limit g.field
+    pub field : IsWithin eq IsValue g.field.background vdb g.head.limit g.field
 
   -- its bytes behind the kind
-  abbrev pub loaded_bytes : Loaded V → List ℕ
+  abbrev pub loaded_bytes : LoadedGrid V → List ℕ
   loaded_bytes g = value_bytes g.field.background ++ (head_code version g.head ++ roots_bytes eq value_bytes vdb g.field)
 
 -- ---- grids

@@ -6,7 +6,7 @@ ghost use Rattle.vdb_coord.specs.Blocks.{vdb};
 ghost use Rattle.vdb_scene.specs.Grids.{grid_with};
 ghost use Rattle.vdb_scene.specs.Watched.{has_failed, source};
 ghost use Rattle.vdb_file.specs.Faults.{IsInner, is_read_fault};
-ghost use Rattle.vdb_file.specs.internal.Parts.{IsBody, IsItem, IsLoaded, IsNamed, body_bytes, loaded, loaded_bytes, name_of, named_bytes, named_view};
+ghost use Rattle.vdb_file.specs.internal.Parts.{IsBody, IsItem, IsLoadedGrid, IsNamed, body_bytes, loaded, loaded_bytes, name_of, named_bytes, named_view};
 ghost use Rattle.vdb_file.specs.internal.Reading.{EndsWith, Reads, place};
 
 use crate::fault::LoadFault;
@@ -34,7 +34,7 @@ fn take_tree<V: Stored<512> + Stored<64> + Stored<8>, R: Read>(
 ) -> Result<(Tree<V>, Metas), LoadFault>
     requires ends { EndsWith input.old (R.remaining (source reader.old)) }
     ensures ends { EndsWith input.new (R.remaining (source reader.new)) }
-    ensures reads { Reads (λ r. loaded r.0 r.1) (IsLoaded V.is_value V.eq V.bytes_of version) (loaded_bytes V.is_value V.eq V.bytes_of version) result
+    ensures reads { Reads (λ r. loaded r.0 r.1) (IsLoadedGrid V.is_value V.eq V.bytes_of version) (loaded_bytes V.is_value V.eq V.bytes_of version) result
         (place input.old (R.remaining (source reader.old))) (place input.new (R.remaining (source reader.new))) }
     ensures inner { IfErr result IsInner }
     ensures ended { result ≡ Err LoadFault.Truncated → IsAtEnd (place input.new (R.remaining (source reader.new))).known }

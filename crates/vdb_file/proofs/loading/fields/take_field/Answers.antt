@@ -1,4 +1,4 @@
-use Rattle.std.proofs.Common.{rules, ◌≡◌, ◌<◌, ◌≤◌, length, take, Ok, refl, ap, subst, arith, length-take}
+use Rattle.std.proofs.Common.{rules, ◌≡◌, ◌<◌, length, take, Ok, refl, ap, subst, arith, length-take}
 use Rattle.std.proofs.lemmas.Grind.{common_steps}
 use Rattle.vdb_scene.specs.Watched.{source}
 use Rattle.vdb_file.specs.internal.Reading.{Took, place}

@@ -1,5 +1,5 @@
 use Rattle.std.proofs.lemmas.Result.{err_from_is_err_and}
-use Rattle.vdb_file.proofs.PairParts.{no_pair_count, no_pairs, pairs_read}
+use Rattle.vdb_file.proofs.PairParts.{no_pair_count}
 use Rattle.vdb_file.proofs.loading.metas.take_pairs.Goals as goal
 
 pub returns-in_err-count-clause-reads : goal.returns-in_err-count-clause-reads

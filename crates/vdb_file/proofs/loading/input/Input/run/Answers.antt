@@ -1,5 +1,4 @@
-use Rattle.std.proofs.Common.{◌∙◌, sym, ap, drop, arith}
-use Rattle.std.specs.List.{slice_range}
+use Rattle.std.proofs.Common.{◌∙◌, ap, drop, arith}
 use Rattle.vdb_file.specs.internal.Reading.{Stock}
 use Rattle.vdb_file.proofs.FieldBytes.{later_part}
 use Rattle.vdb_file.proofs.loading.input.Input.run.Goals as goal
