@@ -5,6 +5,7 @@ ghost use Rattle.vdb_scene.specs.Watched.{has_failed};
 mod command_lines;
 mod faults;
 mod files;
+mod kept;
 mod layouts;
 mod limits;
 mod lists;

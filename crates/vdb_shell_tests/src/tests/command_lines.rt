@@ -8,12 +8,37 @@ fn a_command_line_names_files(rt: HostRuntime) {
     for (line, load, save, script) in [
         (["vdb"].as_slice(), None, None, None),
         (["vdb", "g"].as_slice(), None, None, Some("g")),
-        (["vdb", "--load", "f", "g"].as_slice(), Some("f"), None, Some("g")),
+        (
+            ["vdb", "--load", "f", "g"].as_slice(),
+            Some("f"),
+            None,
+            Some("g"),
+        ),
         (["vdb", "--load=f"].as_slice(), Some("f"), None, None),
-        (["vdb", "g", "--save", "h", "--load=f"].as_slice(), Some("f"), Some("h"), Some("g")),
-        (["vdb", "--save", "f", "--load", "f"].as_slice(), Some("f"), Some("f"), None),
-        (["vdb", "--load=f=g", "--save=", "-"].as_slice(), Some("f=g"), Some(""), Some("-")),
-        (["vdb", "--load", "f", "--", "--save"].as_slice(), Some("f"), None, Some("--save")),
+        (
+            ["vdb", "g", "--save", "h", "--load=f"].as_slice(),
+            Some("f"),
+            Some("h"),
+            Some("g"),
+        ),
+        (
+            ["vdb", "--save", "f", "--load", "f"].as_slice(),
+            Some("f"),
+            Some("f"),
+            None,
+        ),
+        (
+            ["vdb", "--load=f=g", "--save=", "-"].as_slice(),
+            Some("f=g"),
+            Some(""),
+            Some("-"),
+        ),
+        (
+            ["vdb", "--load", "f", "--", "--save"].as_slice(),
+            Some("f"),
+            None,
+            Some("--save"),
+        ),
         ([].as_slice(), None, None, None),
     ] {
         let expected = Words { load, save, script };
@@ -28,17 +53,45 @@ fn a_command_line_names_files(rt: HostRuntime) {
 fn a_wrong_command_line_is_refused(rt: HostRuntime) {
     for (line, kind, status) in [
         (["vdb", "--load"].as_slice(), ErrorKind::InvalidValue, 2),
-        (["vdb", "g", "--save"].as_slice(), ErrorKind::InvalidValue, 2),
-        (["vdb", "--load", "--save", "f"].as_slice(), ErrorKind::InvalidValue, 2),
-        (["vdb", "--load", "f", "--load", "g"].as_slice(), ErrorKind::ArgumentConflict, 2),
-        (["vdb", "--save=f", "--save=f"].as_slice(), ErrorKind::ArgumentConflict, 2),
-        (["vdb", "--lod", "f"].as_slice(), ErrorKind::UnknownArgument, 2),
+        (
+            ["vdb", "g", "--save"].as_slice(),
+            ErrorKind::InvalidValue,
+            2,
+        ),
+        (
+            ["vdb", "--load", "--save", "f"].as_slice(),
+            ErrorKind::InvalidValue,
+            2,
+        ),
+        (
+            ["vdb", "--load", "f", "--load", "g"].as_slice(),
+            ErrorKind::ArgumentConflict,
+            2,
+        ),
+        (
+            ["vdb", "--save=f", "--save=f"].as_slice(),
+            ErrorKind::ArgumentConflict,
+            2,
+        ),
+        (
+            ["vdb", "--lod", "f"].as_slice(),
+            ErrorKind::UnknownArgument,
+            2,
+        ),
         (["vdb", "-l", "f"].as_slice(), ErrorKind::UnknownArgument, 2),
         (["vdb", "f", "g"].as_slice(), ErrorKind::UnknownArgument, 2),
-        (["vdb", "--load=f", "g", "h"].as_slice(), ErrorKind::UnknownArgument, 2),
+        (
+            ["vdb", "--load=f", "g", "h"].as_slice(),
+            ErrorKind::UnknownArgument,
+            2,
+        ),
         (["vdb", "--help"].as_slice(), ErrorKind::DisplayHelp, 0),
         (["vdb", "-h", "--lod"].as_slice(), ErrorKind::DisplayHelp, 0),
-        (["vdb", "--version"].as_slice(), ErrorKind::DisplayVersion, 0),
+        (
+            ["vdb", "--version"].as_slice(),
+            ErrorKind::DisplayVersion,
+            0,
+        ),
         (["vdb", "-V"].as_slice(), ErrorKind::DisplayVersion, 0),
     ] {
         match words(rt.alloc(), line) {

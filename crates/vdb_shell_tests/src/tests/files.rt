@@ -1,6 +1,9 @@
 //! Sessions that load a scene and save one, and the line and the status of each fault of a file.
 
-use super::{FIRST, Picky, Slow};
+ghost use Rattle.std.specs.Prelude.{◌≡◌, false};
+ghost use Rattle.vdb_shell.specs.Files.{any_failed};
+
+use super::{Endless, FIRST, Picky, Slow};
 use std::process::Abort;
 use vdb_file::{LoadFault, SaveFault};
 use vdb_pool::Steps;
@@ -20,15 +23,28 @@ const VOXEL: &[u8] =
 const EMPTY: &[u8] = b"VDBS\0\x02\0\0";
 
 /// Makes a grid of which the spelling would be too long, four times.
-const FOUR_BIG: &[u8] = b"grid a bool false\nfill a 0 0 0 0 4095 4095 true on\ncopy a b\ncopy a c\ncopy a d\n";
+const FOUR_BIG: &[u8] =
+    b"grid a bool false\nfill a 0 0 0 0 4095 4095 true on\ncopy a b\ncopy a c\ncopy a d\n";
 
 #[test]
 fn each_fault_of_a_file_has_its_line_and_its_status(rt: HostRuntime) {
     for (fault, line, number) in [
-        (Fault::Load(LoadFault::Truncated), "vdb: load: truncated", 3u8),
+        (
+            Fault::Load(LoadFault::Truncated),
+            "vdb: load: truncated",
+            3u8,
+        ),
         (Fault::Load(LoadFault::Trailing), "vdb: load: trailing", 3),
-        (Fault::Load(LoadFault::RootLimit), "vdb: load: root-limit", 3),
-        (Fault::Load(LoadFault::ConstantNode), "vdb: load: constant-node", 3),
+        (
+            Fault::Load(LoadFault::RootLimit),
+            "vdb: load: root-limit",
+            3,
+        ),
+        (
+            Fault::Load(LoadFault::ConstantNode),
+            "vdb: load: constant-node",
+            3,
+        ),
         (Fault::Load(LoadFault::Memory), "vdb: load: memory", 3),
         (Fault::Load(LoadFault::Read), "vdb: load: read", 3),
         (Fault::Script(ScriptFault::Read), "vdb: script: read", 4),
@@ -46,10 +62,10 @@ fn each_fault_of_a_file_has_its_line_and_its_status(rt: HostRuntime) {
 
 /// What a session leaves: how it ended, its answers and what was saved.
 #[derive(Drop)]
-struct Left {
-    outcome: Outcome,
-    answers: Vec<u8>,
-    saved: Vec<u8>,
+pub(super) struct Left {
+    pub(super) outcome: Outcome,
+    pub(super) answers: Vec<u8>,
+    pub(super) saved: Vec<u8>,
 }
 
 /// A reader over memory that gives pieces of `step` bytes, and fails at its call numbered `fails_at`.
@@ -65,12 +81,35 @@ fn slow(bytes: &[u8], step: usize, fails_at: u64) -> Slow<'_> {
 /// The bytes that a writer took, where it was there.
 fn taken(rt: &(impl Abort + AllocGlobal), writer: Option<&[u8]>) -> Vec<u8> {
     let mut bytes = Vec::new(rt.alloc());
-    bytes.extend_from_slice(writer.unwrap_or(&[])).expect(rt, "memory");
+    bytes
+        .extend_from_slice(writer.unwrap_or(&[]))
+        .expect(rt, "memory");
     bytes
 }
 
+/// The reader of a scene file, if there is one.
+fn reader_of(file: Option<&[u8]>, step: usize) -> Option<Watched<Slow<'_>>>
+    ensures { any_failed result ≡ false }
+{
+    match file {
+        Some(bytes) => Some(Watched::new(slow(bytes, step, 0))),
+        None => None,
+    }
+}
+
+/// A place for what is saved, if anything is to be.
+fn writer_for(rt: &impl AllocGlobal, saves: bool) -> Option<Watched<Vec<u8>>>
+    ensures { any_failed result ≡ false }
+{
+    if saves {
+        Some(Watched::new(Vec::new(rt.alloc())))
+    } else {
+        None
+    }
+}
+
 /// Carries out a session over memory, with pieces of `step` bytes.
-fn carry_out(
+pub(super) fn carry_out(
     rt: &(impl Abort + AllocGlobal),
     file: Option<&[u8]>,
     script: &[u8],
@@ -78,15 +117,18 @@ fn carry_out(
     step: usize,
     steps: &mut Steps,
 ) -> Left {
-    let mut load = file.map(|bytes| Watched::new(slow(bytes, step, 0)));
+    let mut load = reader_of(file, step);
     let mut reader = Watched::new(slow(script, step, 0));
     let mut writer = Watched::new(Vec::new(rt.alloc()));
-    let mut save = if saves {
-        Some(Watched::new(Vec::new(rt.alloc())))
-    } else {
-        None
-    };
-    let outcome = session(rt.alloc(), &mut load, &mut reader, &mut writer, &mut save, steps);
+    let mut save = writer_for(rt, saves);
+    let outcome = session(
+        rt.alloc(),
+        &mut load,
+        &mut reader,
+        &mut writer,
+        &mut save,
+        steps,
+    );
     let saved = taken(rt, save.as_ref().map(|kept| kept.get_ref().as_slice()));
     let answers = taken(rt, Some(writer.get_ref().as_slice()));
     Left {
@@ -103,8 +145,18 @@ fn a_loaded_scene_is_played_on_and_saved(rt: HostRuntime) {
         (None, b"".as_slice(), b"".as_slice(), EMPTY),
         (Some(EMPTY), b"".as_slice(), b"".as_slice(), EMPTY),
         (Some(OLD_VOXEL), b"".as_slice(), b"".as_slice(), VOXEL),
-        (Some(VOXEL), b"get a - 1 2 3\nget a - 1 2 4\n".as_slice(), b"value 5 on\nvalue 0 off\n".as_slice(), VOXEL),
-        (None, b"grid a i32 0\nset a - 1 2 3 5\nvoxelise a 0 0 0 127 127 127\n".as_slice(), b"ok\nok\nok\n".as_slice(), VOXEL),
+        (
+            Some(VOXEL),
+            b"get a - 1 2 3\nget a - 1 2 4\n".as_slice(),
+            b"value 5 on\nvalue 0 off\n".as_slice(),
+            VOXEL,
+        ),
+        (
+            None,
+            b"grid a i32 0\nset a - 1 2 3 5\nvoxelise a 0 0 0 127 127 127\n".as_slice(),
+            b"ok\nok\nok\n".as_slice(),
+            VOXEL,
+        ),
         (Some(VOXEL), b"drop a".as_slice(), b"ok\n".as_slice(), EMPTY),
     ] {
         for step in [1, 5, 4096] {
@@ -121,11 +173,21 @@ fn a_loaded_scene_is_played_on_and_saved(rt: HostRuntime) {
 fn a_scene_is_saved_after_a_refused_line_and_only_where_a_file_is_named(rt: HostRuntime) {
     let mut steps = Steps::new(&rt);
     for saves in [false, true] {
-        let left = carry_out(&rt, Some(VOXEL), b"get b - 0 0 0\n", saves, 4096, &mut steps);
+        let left = carry_out(
+            &rt,
+            Some(VOXEL),
+            b"get b - 0 0 0\n",
+            saves,
+            4096,
+            &mut steps,
+        );
         assert_eq!(rt; left.outcome.status, 1);
         assert!(rt; left.outcome.fault.is_none());
         assert_eq!(rt; left.answers.as_slice(), b"error no-grid\n".as_slice());
-        assert_eq!(rt; left.saved.as_slice(), if saves { VOXEL } else { b"".as_slice() });
+        assert_eq!(rt;
+            left.saved.as_slice(),
+            if saves { VOXEL } else { b"".as_slice() }
+        );
     }
 }
 
@@ -135,7 +197,10 @@ fn of_a_file_that_spells_no_scene_no_line_is_read(rt: HostRuntime) {
     for length in 0..VOXEL.len() {
         let left = carry_out(&rt, Some(&VOXEL[..length]), FIRST, true, 7, &mut steps);
         assert_eq!(rt; left.outcome.status, 3);
-        assert!(rt; left.outcome.fault == Some(Fault::Load(LoadFault::Truncated)), "at {length}");
+        assert!(rt;
+            left.outcome.fault == Some(Fault::Load(LoadFault::Truncated)),
+            "at {length}"
+        );
         assert_eq!(rt; left.answers.as_slice(), b"".as_slice());
         assert_eq!(rt; left.saved.as_slice(), b"".as_slice());
     }
@@ -156,11 +221,21 @@ fn a_scene_file_that_cannot_be_read_stops_the_session(rt: HostRuntime) {
         let mut reader = Watched::new(slow(FIRST, 4096, 0));
         let mut writer = Watched::new(Vec::new(rt.alloc()));
         let mut save = Some(Watched::new(Vec::new(rt.alloc())));
-        let outcome = session(rt.alloc(), &mut load, &mut reader, &mut writer, &mut save, &mut steps);
+        let outcome = session(
+            rt.alloc(),
+            &mut load,
+            &mut reader,
+            &mut writer,
+            &mut save,
+            &mut steps,
+        );
         // a reader may be asked for more than the last field, but never after a failed call
         if outcome.fault.is_some() {
             assert_eq!(rt; outcome.status, 3);
-            assert!(rt; outcome.fault == Some(Fault::Load(LoadFault::Read)), "at call {fails_at}");
+            assert!(rt;
+                outcome.fault == Some(Fault::Load(LoadFault::Read)),
+                "at call {fails_at}"
+            );
             assert!(rt; load.as_ref().map(|file| file.failed()) == Some(true));
             assert_eq!(rt; reader.get_ref().calls, 0);
             assert_eq!(rt; writer.get_ref().as_slice(), b"".as_slice());
@@ -184,11 +259,129 @@ fn after_a_fault_of_the_script_nothing_is_saved(rt: HostRuntime) {
         fails_at: 0,
         fails: true,
     }));
-    let outcome = session(rt.alloc(), &mut load, &mut reader, &mut writer, &mut save, &mut steps);
+    let outcome = session(
+        rt.alloc(),
+        &mut load,
+        &mut reader,
+        &mut writer,
+        &mut save,
+        &mut steps,
+    );
     assert_eq!(rt; outcome.status, 4);
     assert!(rt; outcome.fault == Some(Fault::Script(ScriptFault::Read)));
     assert_eq!(rt; writer.get_ref().as_slice(), b"ok\n".as_slice());
     assert!(rt; save.as_ref().map(|file| file.get_ref().calls) == Some(0));
+}
+
+/// A writer that fails, or takes nothing, at its call of this number.
+fn picky(rt: &impl AllocGlobal, fails_at: u64, fails: bool) -> Picky {
+    Picky {
+        taken: Vec::new(rt.alloc()),
+        step: 64,
+        calls: 0,
+        fails_at,
+        fails,
+    }
+}
+
+#[test]
+fn after_a_fault_of_the_answers_nothing_is_saved(rt: HostRuntime) {
+    let mut steps = Steps::new(&rt);
+    for fails in [true, false] {
+        for fails_at in 1..4u64 {
+            let mut load: Option<Watched<&[u8]>> = None;
+            let mut reader = Watched::new(FIRST);
+            let mut writer = Watched::new(picky(&rt, fails_at, fails));
+            let mut save = Some(Watched::new(picky(&rt, 0, true)));
+            let outcome = session(
+                rt.alloc(),
+                &mut load,
+                &mut reader,
+                &mut writer,
+                &mut save,
+                &mut steps,
+            );
+            assert_eq!(rt; outcome.status, 4);
+            assert!(rt; outcome.fault == Some(Fault::Answers), "at call {fails_at}");
+            assert!(rt; writer.failed());
+            assert!(rt; save.as_ref().map(|file| file.get_ref().calls) == Some(0));
+        }
+    }
+}
+
+#[test]
+fn after_a_script_without_end_nothing_is_saved(rt: HostRuntime) {
+    let mut steps = Steps::new(&rt);
+    let mut load = Some(Watched::new(VOXEL));
+    let mut reader = Watched::new(Endless {
+        bytes: b"drop a\n".as_slice(),
+        then: b'\n',
+    });
+    let mut writer = Watched::new(Vec::new(rt.alloc()));
+    let mut save = Some(Watched::new(picky(&rt, 0, true)));
+    let outcome = session(
+        rt.alloc(),
+        &mut load,
+        &mut reader,
+        &mut writer,
+        &mut save,
+        &mut steps,
+    );
+    assert_eq!(rt; outcome.status, 4);
+    assert!(rt; outcome.fault == Some(Fault::Script(ScriptFault::TooLong)));
+    assert_eq!(rt; writer.get_ref().as_slice(), b"ok\n".as_slice());
+    assert!(rt; save.as_ref().map(|file| file.get_ref().calls) == Some(0));
+}
+
+#[test]
+fn a_fault_of_the_file_is_that_of_the_session(rt: HostRuntime) {
+    let mut steps = Steps::new(&rt);
+    for (file, fault, line) in [
+        (
+            b"VDBT\0\x02\0\0".as_slice(),
+            LoadFault::Magic,
+            "vdb: load: magic",
+        ),
+        (
+            b"VDBS\0\x03\0\0".as_slice(),
+            LoadFault::Version,
+            "vdb: load: version",
+        ),
+        (
+            b"VDBS\0\x02\0\x41".as_slice(),
+            LoadFault::Name,
+            "vdb: load: name",
+        ),
+        (
+            b"VDBS\0\x02\0\x01\x01a\x03".as_slice(),
+            LoadFault::Kind,
+            "vdb: load: kind",
+        ),
+        (
+            b"VDBS\0\x02\0\x01\x01a\0\x02".as_slice(),
+            LoadFault::Value,
+            "vdb: load: value",
+        ),
+        (
+            b"VDBS\0\x02\0\x01\x01a\0\x01\0\0\0\0".as_slice(),
+            LoadFault::Limit,
+            "vdb: load: limit",
+        ),
+        (
+            b"VDBS\0\x02\0\x01\x01a\0\x01\0\0\0\x01\x11".as_slice(),
+            LoadFault::Meta,
+            "vdb: load: meta",
+        ),
+    ] {
+        let left = carry_out(&rt, Some(file), FIRST, true, 3, &mut steps);
+        assert_eq!(rt; left.outcome.status, 3);
+        let found = left.outcome.fault;
+        assert!(rt; found == Some(Fault::Load(fault)), "{line}: {found:?}");
+        let text = format!(in rt.alloc(); "{}", Fault::Load(fault)).expect(&rt, "memory");
+        assert_eq!(rt; text.as_str(), line);
+        assert_eq!(rt; left.answers.as_slice(), b"".as_slice());
+        assert_eq!(rt; left.saved.as_slice(), b"".as_slice());
+    }
 }
 
 #[test]
@@ -205,7 +398,14 @@ fn a_writer_of_the_file_that_fails_is_a_save_fault(rt: HostRuntime) {
             fails_at: 3,
             fails,
         }));
-        let outcome = session(rt.alloc(), &mut load, &mut reader, &mut writer, &mut save, &mut steps);
+        let outcome = session(
+            rt.alloc(),
+            &mut load,
+            &mut reader,
+            &mut writer,
+            &mut save,
+            &mut steps,
+        );
         assert_eq!(rt; outcome.status, 4);
         assert!(rt; outcome.fault == Some(Fault::Save(SaveFault::Write)));
         assert_eq!(rt; writer.get_ref().as_slice(), b"value 5 on\n".as_slice());

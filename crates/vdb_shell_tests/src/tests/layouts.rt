@@ -1,7 +1,7 @@
 //! Random scripts with prunes and voxelisings put in anywhere, which must not change an answer.
 
-use super::random::Draws;
 use super::play_alone;
+use super::random::Draws;
 use std::alloc::AllocError;
 use std::process::Abort;
 use vdb_pool::Steps;
