@@ -112,14 +112,14 @@ fn random_scenes_are_kept(rt: HostRuntime) -> Result<(), AllocError> {
     let mut steps = Steps::new(&rt);
     for (kind, values) in kinds() {
         for turns_of_a_prune in [0, 2, 20] {
-            for state in 0..4u64 {
+            for state in 0..2u64 {
                 let mut draws = Draws { state };
                 let mut trial = Trial::new(rt.alloc(), kind, values)?;
-                for turn in 0..300u64 {
+                for turn in 0..200u64 {
                     trial.take_turn(turn, turns_of_a_prune, &mut draws)?;
                 }
                 let first = mem::replace(&mut trial.script, Vec::new(rt.alloc()));
-                for turn in 300..600u64 {
+                for turn in 200..400u64 {
                     trial.take_turn(turn, turns_of_a_prune, &mut draws)?;
                 }
                 let second = trial.script.as_slice();
