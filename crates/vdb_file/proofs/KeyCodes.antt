@@ -1,5 +1,5 @@
 -- Keys of root blocks: what their bytes say.
-use Rattle.std.proofs.Common.{◌≡◌, ℕ, ◌+◌, ◌<◌, ◌^◌, ℤ, List, [], ◌++◌, length, refl, sym, ap, subst, ◌∙◌, append-nil, arith}
+use Rattle.std.proofs.Common.{◌≡◌, ℕ, ◌+◌, ℤ, List, [], ◌++◌, refl, sym, subst, append-nil}
 use Rattle.std.specs.Prelude.{FitsSigned, Option}
 use Rattle.std.specs.Int.{w32}
 use Rattle.vdb_coord.specs.Entries.{AreBits}
@@ -10,8 +10,8 @@ use Rattle.vdb_file.specs.Bodies.{key_bytes}
 use Rattle.vdb_file.specs.declared.fault.LoadFault.{LoadFault}
 use Rattle.vdb_file.specs.internal.Loading.{IsKey}
 use Rattle.vdb_file.specs.internal.Reading.{Fails, Place, Took}
-use Rattle.vdb_file.proofs.Numbers.{FitsKey, says_i32, says_key}
-use Rattle.vdb_file.proofs.Fronts.{fails_after, fails_first, fails_long, fails_none, fails_turn, took_both}
+use Rattle.vdb_file.proofs.Numbers.{says_i32, says_key}
+use Rattle.vdb_file.proofs.Fronts.{fails_after, fails_first, fails_none, fails_turn, took_both}
 use Rattle.vdb_file.proofs.Roots.{key_fits}
 
 -- each component is one of 32 bits
@@ -21,10 +21,7 @@ AreThree k = FitsSigned w32 k.x × FitsSigned w32 k.y × FitsSigned w32 k.z
 abbrev number : ℤ → List ℕ
 number = number_bytes w32
 
--- there is no room for three
-pub no_room : (fault : LoadFault) (old : Place) → old.room < 12 → Fails AreThree key_bytes fault old
-no_room fault old short = fails_long AreThree key_bytes fault old (λ k p. let l : length (key_bytes k) ≡ 12 = refl in omega (arith, l, short))
-
+-- no first number is ahead
 pub no_x : (fault : LoadFault) (old : Place) → Fails (FitsSigned w32) number fault old → Fails AreThree key_bytes fault old
 no_x fault old h = fails_first AreThree key_bytes (FitsSigned w32) number (λ k. k.x) (λ k. number k.y ++ number k.z) fault old (λ k p. p.0) (λ k p. refl) h
 

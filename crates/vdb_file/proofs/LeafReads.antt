@@ -1,12 +1,12 @@
 -- The voxels of a leaf block, read one after another into a leaf.
-use Rattle.std.proofs.Common.{◌≡◌, ℕ, zero, suc, ◌+◌, ◌*◌, ◌<◌, ◌≤◌, ◌^◌, Bool, true, false, not, List, [], ◌∷◌, ◌++◌, length, length-append, append_assoc, refl, sym, ap, subst, ◌∙◌, ◌⊎◌, inl, inr, arith}
-use Rattle.std.specs.Prelude.{◌↔◌, Option, Some, None, Result, Ok, Err, if◌then◌else◌}
+use Rattle.std.proofs.Common.{◌≡◌, ℕ, zero, suc, ◌+◌, ◌*◌, ◌<◌, ◌^◌, Bool, true, false, not, List, [], ◌∷◌, ◌++◌, length, length-append, refl, sym, ap, subst, ◌∙◌, ◌⊎◌, inl, inr, arith}
+use Rattle.std.specs.Prelude.{◌↔◌, Option, Some, None, if◌then◌else◌}
 use Rattle.std.specs.Int.{w16, to_be_bytes}
-use Rattle.std.specs.List.{AllByRecursion, Contains, filter, flat_map}
+use Rattle.std.specs.List.{flat_map}
 use Rattle.std.specs.Ordering.{nat_cmp}
 use Rattle.std.proofs.lemmas.Bool.{cases_Bool}
 use Rattle.std.proofs.lemmas.List.{get_or_default}
-use Rattle.vdb_coord.specs.Blocks.{block, block_around, block_number, entries, entry_numbers, offset, sub_block}
+use Rattle.vdb_coord.specs.Blocks.{block, block_around, block_number, entries, offset, sub_block}
 use Rattle.vdb_coord.specs.Entries.{AreBits}
 use Rattle.vdb_coord.specs.Space.{Box, coord_eq, is_inside}
 use Rattle.vdb_coord.specs.declared.Bits.{Bits}
@@ -22,22 +22,21 @@ use Rattle.vdb_value.specs.declared.Cell.{Cell}
 use Rattle.vdb_tree.specs.ConstantBlocks.{cell_eq, is_background, is_constant}
 use Rattle.vdb_tree.specs.Field.{Field, off}
 use Rattle.vdb_tree.proofs.Uniform.{cell_exact, cell_same, uniform_cells, uniform_from}
-use Rattle.vdb_file.specs.Bodies.{cell_bytes, entries_bytes, listed, voxel_body}
+use Rattle.vdb_file.specs.Bodies.{cell_bytes, listed, voxel_body}
 use Rattle.vdb_file.specs.declared.fault.LoadFault.{LoadFault}
 use Rattle.vdb_file.specs.internal.Following.{Follows}
 use Rattle.vdb_file.specs.internal.LeafVoxels.{HasValues, IsMixed, IsVoxel, leaf_field, voxel_bytes, voxel_count, voxels_bytes}
 use Rattle.vdb_file.specs.internal.Loading.{IsIndex, IsSpelled}
-use Rattle.vdb_file.specs.internal.Reading.{Fails, Place, Reads, Took}
+use Rattle.vdb_file.specs.internal.Reading.{Fails, Place, Took}
 use Rattle.vdb_file.proofs.Unambiguous.{IsCode}
 use Rattle.vdb_file.proofs.Numbers.{says_u16}
-use Rattle.vdb_file.proofs.Kept.{at_kept, few_kept}
 use Rattle.vdb_file.proofs.Agreement.{Agree, AreValues, is_held}
 use Rattle.vdb_file.proofs.Ordered.{by_member, last_more, last_of, none_kept}
-use Rattle.vdb_file.proofs.Fronts.{fails_after, fails_first, fails_turn, took_both, took_nothing}
+use Rattle.vdb_file.proofs.Fronts.{fails_after, fails_first, fails_turn, took_nothing}
 use Rattle.vdb_file.proofs.RowFrames.{below_member, corner_in_block, member_below}
-use Rattle.vdb_file.proofs.Rows.{Adds, Row, adds_outside, held, held_more, texts, texts_more}
-use Rattle.vdb_file.proofs.RowReads.{IsNextOf, after_count, count_fails, entry_bytes, entry_read, no_count, no_row, row_bytes, whole, within}
-use Rattle.vdb_file.proofs.RowInstances.{agree_from_entries, few_held, is_leaf_row, leaf_row, numbers_count}
+use Rattle.vdb_file.proofs.Rows.{Adds, Row, adds_outside, held, held_more, texts_more}
+use Rattle.vdb_file.proofs.RowReads.{IsNextOf, entry_bytes, entry_read, no_row, within}
+use Rattle.vdb_file.proofs.RowInstances.{agree_from_entries, is_leaf_row, leaf_row}
 
 -- ---- tests and numbers
 
@@ -55,11 +54,6 @@ same_or_other (suc i) (suc j) = elim (same_or_other i j) [
   | inl e ↦ inl (ap suc e)
   | inr differ ↦ inr (λ e. differ (omega (arith, e)))
 ]
-
--- a list of no length is empty
-no_members : {K : Type 0} (xs : List K) → 0 ≡ length xs → xs ≡ []
-no_members [] e = refl
-no_members (x ∷ xs) e = absurd (omega (arith, e))
 
 -- a leaf has as many entries as its block
 pub entries_are : (bits : Bits) (leaf_bits : ℕ) → bits.leaf ≡ leaf_bits → entries bits Leaf ≡ entry_count leaf_bits
@@ -280,52 +274,3 @@ module _ {V : Type 0} {eq : V → V → Bool} {value_bytes : V → List ℕ} {P 
         let any : cell_in d leaf i ≡ cell_in (off background) leaf i = λ j. record { value = value j; on = (cell_in d leaf i).on } in
         any ∙ sym (entry_cell leaf i less) ∙ uniform_cells eq values.exact values.itself (shown leaf) box c h (at i).min inside in
         let e = (given c).1 constant in absurd cc)
-
-    -- ---- the voxels behind their count
-
-    abbrev pub node_bytes : Field V → List ℕ
-    node_bytes f = entries_bytes eq value_bytes bits f (voxel_body eq value_bytes bits f) Leaf box
-
-    -- a number of 16 bits counts them
-    few_voxels : (f : Field V) → length (held eq row f) < 2 ^ 16
-    few_voxels f = few_held eq bits few Leaf box (voxel_body eq value_bytes bits) f
-
-    module _ (fault : LoadFault) (old : Place) where
-      -- no number of 16 bits is ahead
-      pub no_number : Fails (λ n. n < 2 ^ 16) (to_be_bytes w16) fault old → Fails (IsMixed eq P background bits p) node_bytes fault old
-      no_number h =
-          count_fails values (is_leaf_row values bits few p) background (to_be_bytes w16) (λ n. n < 2 ^ 16) says_u16 (IsMixed eq P background bits p) (λ f r. r.values) (λ f r. few_voxels f) fault old h
-
-      module _ (mid : Place) where
-        -- none of the voxels is said to be listed
-        pub count_of_none : Took old mid (to_be_bytes w16 0) → Fails (IsMixed eq P background bits p) node_bytes fault old
-        count_of_none took =
-            no_count values (is_leaf_row values bits few p) background (to_be_bytes w16) (λ n. n < 2 ^ 16) says_u16 (IsMixed eq P background bits p) (λ f r. r.values) (λ f r. few_voxels f) fault old mid 0 (omega arith) took
-            (λ f r e. clash (is_constant eq f box) (all_background f (no_members (held eq row f) e)) r.differs)
-          where
-            all_background : (f : Field V) → held eq row f ≡ [] → is_constant eq f box ≡ true
-            all_background f none =
-                constant_from f (off f.background) (λ q inside.
-                let i = offset bits Leaf q in
-                let less = offset_below bits Leaf q in
-                let never : is_held eq row.box f i ≡ true → ⊥ = at_kept (λ _. ⊥) (is_held eq row.box f) row.keys (subst (AllByRecursion (λ (_ : ℕ). ⊥)) (sym none) tt) i (below_member bits Leaf i less) in
-                let flat : is_background eq f (at i) ≡ true = not_false (is_background eq f (at i)) never in
-                uniform_cells eq values.exact values.itself f (at i) (off f.background) flat q (entry_holds bits Leaf p q i less (number_in_block bits Leaf (block_number bits Leaf p) q inside) refl))
-              where
-                not_false : (b : Bool) → (not b ≡ true → ⊥) → b ≡ true
-                not_false true h = refl
-                not_false false h = absurd (h refl)
-
-        -- more than there are
-        pub count_of_more : (n : ℕ) → n < 2 ^ 16 → entries bits Leaf < n → Took old mid (to_be_bytes w16 n) → Fails (IsMixed eq P background bits p) node_bytes fault old
-        count_of_more n small more took =
-            no_count values (is_leaf_row values bits few p) background (to_be_bytes w16) (λ n. n < 2 ^ 16) says_u16 (IsMixed eq P background bits p) (λ f r. r.values) (λ f r. few_voxels f) fault old mid n small took
-            (λ f r e. let most = few_kept (is_held eq row.box f) row.keys in let all = numbers_count bits Leaf in omega (arith, e, most, all, more))
-
-    -- a count, and what was read behind it
-    pub counted_voxels : {X : Type 0} (view : X → Field V) (result : Result X LoadFault) (old mid new : Place) (n : ℕ) → n < 2 ^ 16 → Took old mid (to_be_bytes w16 n)
-        → Reads view (IsListed n) (voxels_bytes eq value_bytes bits p) result mid new → Reads view (IsMixed eq P background bits p) node_bytes result old new
-    counted_voxels view (Ok x) old mid new n small took h =
-        (h.0.0, whole eq row (to_be_bytes w16) (view x) n old new h.0.1 (took_both old mid new (to_be_bytes w16 n) (voxels_bytes eq value_bytes bits p (view x)) took h.1))
-    counted_voxels view (Err fault) old mid new n small took h =
-        after_count values (is_leaf_row values bits few p) background (to_be_bytes w16) (λ n. n < 2 ^ 16) says_u16 (IsMixed eq P background bits p) (λ f r. r.values) (λ f r. few_voxels f) fault old mid n small took h

@@ -9,7 +9,7 @@ use Rattle.vdb_coord.proofs.Places.{offset_below}
 use Rattle.vdb_file.proofs.Kept.{few_kept}
 use Rattle.vdb_file.proofs.RowFrames.{below_member, member_below}
 use Rattle.std.specs.List.Sorted.{IsStrictlySortedBy}
-use Rattle.std.specs.Int.{w16, w32, to_be_bytes}
+use Rattle.std.specs.Int.{w16, to_be_bytes}
 use Rattle.std.specs.Ordering.{nat_cmp}
 use Rattle.std.proofs.lemmas.Cmp.{nat_cmp_total}
 use Rattle.vdb_coord.specs.Blocks.{block, block_around, block_number, block_numbers, entries, entry_numbers, offset, sub_block}
@@ -24,7 +24,7 @@ use Rattle.vdb_coord.proofs.Members.{coord_total}
 use Rattle.vdb_coord.proofs.Nesting.{corner_inside, in_entry, same_block}
 use Rattle.vdb_tree.specs.Field.{Field}
 use Rattle.vdb_tree.proofs.Constants.{entries_few}
-use Rattle.vdb_file.specs.Bodies.{entries_bytes, key_bytes, leaf_body, lower_body, root_body, roots_bytes, voxel_body}
+use Rattle.vdb_file.specs.Bodies.{key_bytes, leaf_body, lower_body, root_body, voxel_body}
 use Rattle.vdb_file.proofs.Unambiguous.{Says}
 use Rattle.vdb_file.proofs.Numbers.{FitsKey, says_key, says_u16}
 use Rattle.vdb_file.proofs.Agreement.{Agree, AreAlike, AreValues, is_held}
@@ -34,7 +34,6 @@ use Rattle.vdb_file.proofs.Sorted.{coordinates_sorted}
 use Rattle.vdb_file.proofs.Ordered.{at_member}
 use Rattle.vdb_file.proofs.RowFrames.{leaf_same, lower_same, root_same, voxel_same}
 use Rattle.vdb_file.proofs.Rows.{IsRow, Row, held}
-use Rattle.vdb_file.proofs.RowReads.{row_bytes}
 
 -- ---- the entries of a block
 
@@ -114,10 +113,6 @@ module _ {V : Type 0} {eq : V → V → Bool} {value_bytes : V → List ℕ} {P 
       (λ f g i h e a. let at = entry_is_lower bits c i h in subst (λ b. body f b ≡ body g b) at (lower_same values f g e bits (corner i) (subst (λ b. Agree f g b) (sym at) a)))
       (λ f g alike i h. subst (λ b. Says (body f b) (body g b) (Agree f g b)) (entry_is_lower bits c i h) (says_lower values bits few f g alike (corner i)))
 
-  -- behind their count they are what a file has
-  leaf_bytes : (f : Field V) → row_bytes eq leaf_row (to_be_bytes w16) f ≡ entries_bytes eq value_bytes bits f (voxel_body eq value_bytes bits f) Leaf (block_around bits Leaf c)
-  leaf_bytes f = refl
-
   -- fields that agree in all entries agree in the block
   pub agree_from_entries : (level : Level) (f g : Field V) → ((i : ℕ) → Contains (entry_numbers bits level) i → Agree f g (sub_block bits level (block_around bits level c) i)) → Agree f g (block_around bits level c)
   agree_from_entries level f g all = record {
@@ -152,8 +147,3 @@ is_root_row {V = V} {eq = eq} {value_bytes = value_bytes} values bits few = reco
       subst (λ b. body f b ≡ body g b) at (root_same values f g e bits (block bits Upper k).min (subst (λ b. Agree f g b) (sym at) a));
   says = λ f g alike k m. says_root_block values bits few f g alike k;
 }
-
--- behind their count they are what a file has
-pub root_row_bytes : {V : Type 0} (eq : V → V → Bool) (value_bytes : V → List ℕ) (bits : Bits) (f : Field V) → roots_bytes eq value_bytes bits f ≡ row_bytes eq (root_row eq value_bytes bits) (to_be_bytes w32) f
-unfolding roots_bytes
-root_row_bytes eq value_bytes bits f = refl

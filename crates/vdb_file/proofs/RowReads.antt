@@ -1,12 +1,11 @@
 -- The entries of a row, read one after another.
 use Rattle.std.proofs.Common.{◌≡◌, ℕ, suc, zero, ◌<◌, Bool, true, false, not, List, [], ◌∷◌, ◌++◌, length, take, drop, refl, sym, ap, subst, ◌∙◌, append_assoc, append-nil, length-append, length-take, take-append-drop, arith}
-use Rattle.std.specs.Prelude.{Option, Some, None, IfSome}
+use Rattle.std.specs.Prelude.{Option, None}
 use Rattle.std.specs.List.{AllByRecursion, Contains, flat_map}
 use Rattle.std.proofs.lemmas.Grind.{flat_map-append}
 use Rattle.std.proofs.lemmas.List.Elements.{filter_passes, recursion_from_All}
 use Rattle.std.proofs.lemmas.List.Kept.{IsStrictlySortedBy-filter}
 use Rattle.std.specs.List.Sorted.{IsStrictlySortedBy}
-use Rattle.vdb_coord.specs.Space.{Box}
 use Rattle.vdb_tree.specs.ConstantBlocks.{is_background}
 use Rattle.vdb_tree.specs.Field.{Field}
 use Rattle.vdb_file.specs.declared.fault.LoadFault.{LoadFault}
@@ -16,7 +15,7 @@ use Rattle.vdb_file.specs.internal.Reading.{Fails, NoFront, Place, Took}
 use Rattle.vdb_file.proofs.Unambiguous.{IsCode, Says, says_each, says_map, says_then}
 use Rattle.vdb_file.proofs.Agreement.{Agree, AreAlike, AreValues, is_held, says_listed, says_one}
 use Rattle.vdb_file.proofs.Ordered.{by_member, last_of, next_follows}
-use Rattle.vdb_file.proofs.Fronts.{fails_after, fails_first, fails_none, fails_turn, some_turn, took_both}
+use Rattle.vdb_file.proofs.Fronts.{fails_after, fails_none, some_turn, took_both}
 use Rattle.vdb_file.proofs.Rows.{IsRow, Row, are_alike, behind_key, held, held_members, texts}
 
 -- what may come next in a row: a key past the one before, and a field that holds anything but the background in its box
@@ -25,10 +24,6 @@ pub record IsNextOf {V K : Type 0} (eq : V → V → Bool) (P : V → Type 0) (r
   pub follows : Follows row.cmp before e.0
   pub values : HasValues P background e.1
   pub held : is_background eq e.1 (row.box e.0) ≡ false
-
--- what may stand in the box of a key
-abbrev pub IsHeldIn : {V : Type 0} → (V → V → Bool) → (V → Type 0) → V → Box → Field V → Type 0
-IsHeldIn eq P background b f = HasValues P background f × (is_background eq f b ≡ false)
 
 -- ---- lists
 
@@ -79,36 +74,6 @@ abbrev pub row_bytes : {V K : Type 0} → (V → V → Bool) → Row V K → (�
 row_bytes eq row count f = count (length (held eq row f)) ++ texts eq row f
 
 module _ {V K : Type 0} {eq : V → V → Bool} {value_bytes : V → List ℕ} {P : V → Type 0} {Q : K → Type 0} {row : Row V K} (values : AreValues eq value_bytes P) (is : IsRow P Q row) (background : V) where
-  -- ---- an entry
-
-  module _ (before : Option K) (fault : LoadFault) where
-    abbrev NoEntry : Place → Type 0
-    NoEntry place = Fails (IsNextOf eq P row background before) (entry_bytes row) fault place
-
-    -- no key is ahead
-    pub key_fails : (old : Place) → Fails Q row.code fault old → NoEntry old
-    key_fails old h =
-        fails_first (IsNextOf eq P row background before) (entry_bytes row) Q row.code (λ e. e.0) (λ e. row.body e.1 (row.box e.0)) fault old (λ e p. is.fits e.0 p.member) (λ e p. refl) h
-
-    module _ (old mid : Place) (k : K) (fits : Q k) (took : Took old mid (row.code k)) where
-      -- a key was read
-      key_read : Fails (λ e. IsNextOf eq P row background before e × (k ≡ e.0)) (λ e. row.body e.1 (row.box e.0)) fault mid → NoEntry old
-      key_read h =
-          fails_after (IsNextOf eq P row background before) (entry_bytes row) (row.code k) (λ e. k ≡ e.0) (λ e. row.code e.0) (λ e. row.body e.1 (row.box e.0)) fault old mid took
-          (λ e p. is.is_code k e.0 fits (is.fits e.0 p.member)) (λ e p. refl) h
-
-      -- a key was read that can't come next
-      pub no_key : (Contains row.keys k → Follows row.cmp before k → ⊥) → NoEntry old
-      no_key none =
-          key_read (fails_none (λ e. IsNextOf eq P row background before e × (k ≡ e.0)) (λ e. row.body e.1 (row.box e.0)) fault mid
-          (λ e p. none (subst (Contains row.keys) (sym p.1) p.0.member) (subst (Follows row.cmp before) (sym p.1) p.0.follows)))
-
-      -- a key was read, and no text for its box is ahead
-      pub after_key : Fails (IsHeldIn eq P background (row.box k)) (λ f. row.body f (row.box k)) fault mid → NoEntry old
-      after_key h =
-          key_read (fails_turn (λ e. IsNextOf eq P row background before e × (k ≡ e.0)) (λ e. row.body e.1 (row.box e.0)) (IsHeldIn eq P background (row.box k)) (λ f. row.body f (row.box k)) (λ e. e.1) fault mid
-          (λ e p. (p.0.values, subst (λ l. is_background eq e.1 (row.box l) ≡ false) (sym p.1) p.0.held)) (λ e p. ap (λ l. row.body e.1 (row.box l)) (sym p.1)) h)
-
   -- ---- all of them behind their count, of the fields that have R
 
   module _ (count : ℕ → List ℕ) (N : ℕ → Type 0) (is_count : IsCode N count)
@@ -116,24 +81,7 @@ module _ {V K : Type 0} {eq : V → V → Bool} {value_bytes : V → List ℕ} {
     abbrev NoRow : Type 0
     NoRow = Fails R (row_bytes eq row count) fault old
 
-    -- no count is ahead
-    pub count_fails : Fails N count fault old → NoRow
-    count_fails h = fails_first R (row_bytes eq row count) N count (λ f. length (held eq row f)) (texts eq row) fault old few (λ f r. refl) h
-
     module _ (mid : Place) where
-      -- a count was read, and the texts of no field with so many are ahead
-      pub after_count : (n : ℕ) → N n → Took old mid (count n) → Fails (λ f. R f × (length (held eq row f) ≡ n)) (texts eq row) fault mid → NoRow
-      after_count n fits took h =
-          fails_after R (row_bytes eq row count) (count n) (λ f. length (held eq row f) ≡ n) (λ f. count (length (held eq row f))) (texts eq row) fault old mid took
-          (λ f r. says_map (λ e. sym e) (is_count n (length (held eq row f)) fits (few f r))) (λ f r. refl) h
-
-      -- a count was read that none of the fields has
-      pub no_count : (n : ℕ) → N n → Took old mid (count n) → ((f : Field V) → R f → n ≡ length (held eq row f) → ⊥) → NoRow
-      no_count n fits took none =
-          fails_after R (row_bytes eq row count) (count n) (λ f. n ≡ length (held eq row f)) (λ f. count (length (held eq row f))) (texts eq row) fault old mid took
-          (λ f r. is_count n (length (held eq row f)) fits (few f r)) (λ f r. refl)
-          (fails_none (λ f. R f × (n ≡ length (held eq row f))) (texts eq row) fault mid (λ f p. none f p.0 p.1))
-
       module _ (g : Field V) (of : HasValues P background g) where
         -- both fields are of this background and these values
         alike : (f : Field V) → R f → AreAlike P g f
@@ -214,10 +162,6 @@ module _ {V K : Type 0} {eq : V → V → Bool} {value_bytes : V → List ℕ} {
             (is_count (length (held eq row g)) (length (held eq row f)) fits (few f r)))
             (λ f r. sym (append-nil (row_bytes eq row count f)))
             (fails_none (λ f. R f × All f) (λ f. []) fault mid (λ f p. none f p.0 p.1))
-
--- as many entries as the count says are all of them
-pub whole : {V K : Type 0} (eq : V → V → Bool) (row : Row V K) (count : ℕ → List ℕ) (g : Field V) (n : ℕ) (old mid : Place) → length (held eq row g) ≡ n → Took old mid (count n ++ texts eq row g) → Took old mid (row_bytes eq row count g)
-whole eq row count g n old mid e took = subst (λ m. Took old mid (count m ++ texts eq row g)) (sym e) took
 
 -- one more entry was read
 pub entry_read : {V K : Type 0} (eq : V → V → Bool) (row : Row V K) (count : ℕ → List ℕ) (n : ℕ) (f g : Field V) (k : K) (a b c : Place)

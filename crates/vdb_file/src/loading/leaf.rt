@@ -2,20 +2,16 @@
 
 ghost use Rattle.std.specs.Prelude.{◌≡◌, ◌*◌, ◌≤◌, ◌||◌, Err, IfErr};
 ghost use Rattle.std.specs.Io.KnownBytes.{IsAtEnd};
-ghost use Rattle.vdb_coord.specs.Blocks.{block_around};
 ghost use Rattle.vdb_coord.specs.Entries.{AreBits};
 ghost use Rattle.vdb_coord.specs.declared.Coord.{Coord};
-ghost use Rattle.vdb_coord.specs.declared.Level.TheVariants.{Leaf as leaf_level};
 ghost use Rattle.vdb_node.specs.Nodes.{entry_count};
 ghost use Rattle.vdb_scene.specs.Watched.{has_failed, source};
-ghost use Rattle.vdb_file.specs.Bodies.{entries_bytes, voxel_body};
 ghost use Rattle.vdb_file.specs.Faults.{IsInner, is_read_fault};
 ghost use Rattle.vdb_file.specs.internal.LeafVoxels.{IsMixed, IsVoxel, leaf_field, voxel_bytes, voxel_count, voxels_bytes};
 ghost use Rattle.vdb_file.specs.internal.Reading.{EndsWith, Reads, place};
 
 use crate::fault::LoadFault;
 use crate::loading::block_head::{take_cell, take_index};
-use crate::loading::fields::take_u16;
 use crate::loading::input::Input;
 use std::alloc::Global;
 use std::io::Read;
@@ -23,38 +19,6 @@ use vdb_coord::{Bits, Level};
 use vdb_node::{Leaf, Stored};
 use vdb_scene::Watched;
 use vdb_value::{Cell, Voxel};
-
-/// Reads how many voxels of a leaf block aren't the background, and these, where the cells of the block differ. It gives a leaf with them.
-pub(crate) fn take_voxels<V: Stored<WF>, R: Read, const F: u32, const WF: usize>(
-    alloc: Global,
-    bits: Bits,
-    background: V,
-    input: &mut Input,
-    reader: &mut Watched<R>,
-) -> Result<Leaf<V, F, WF>, LoadFault>
-    requires configured { AreBits bits }
-    requires leaf { bits.leaf ≡ F }
-    requires room { entry_count F ≤ 64 * WF }
-    requires few_words { WF ≤ 512 }
-    requires value { V.is_value background }
-    requires ends { EndsWith input.old (R.remaining (source reader.old)) }
-    ensures ends { EndsWith input.new (R.remaining (source reader.new)) }
-    ensures reads { (p : Coord) → Reads (leaf_field bits p background) (IsMixed V.eq V.is_value background bits p)
-        (λ f. entries_bytes V.eq V.bytes_of bits f (voxel_body V.eq V.bytes_of bits f) leaf_level (block_around bits leaf_level p)) result
-        (place input.old (R.remaining (source reader.old))) (place input.new (R.remaining (source reader.new))) }
-    ensures inner { IfErr result IsInner }
-    ensures ended { result ≡ Err LoadFault.Truncated → IsAtEnd (place input.new (R.remaining (source reader.new))).known }
-    ensures failed { has_failed reader.new ≡ (has_failed reader.old || is_read_fault result) }
-{
-    let count = take_u16(input, reader)?;
-    if count == 0 {
-        return Err(LoadFault::Index);
-    }
-    if count > bits.entries(Level::Leaf) {
-        return Err(LoadFault::Index);
-    }
-    take_listed_voxels(alloc, bits, background, count, input, reader)
-}
 
 /// Reads so many voxels of a leaf block whose cells differ, all that aren't the background. It gives a leaf with them.
 pub(crate) fn take_listed_voxels<V: Stored<WF>, R: Read, const F: u32, const WF: usize>(
