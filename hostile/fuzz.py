@@ -1,9 +1,10 @@
 #!/usr/bin/env python3
-"""Random scripts and mutated files, from a seed: fuzz.py scripts COUNT [SEED], or fuzz.py files COUNT [SEED].
+"""Random scripts and mutated files, from a seed: fuzz.py scripts|memory|files COUNT [SEED].
 
 scripts: each random script is played as it is; with prunes, voxelises and look-ups put in and by other accessors; and in two
 sessions, the second of which loads what the first saved. Answers and saved bytes must be the same, and must be those that
-cells.py, a model apart from the program, gives for single voxels. files: what a random script saved is changed, and the
+cells.py, a model apart from the program, gives for single voxels. memory: one growth of a random script is refused, or one and
+all after it; the other lines must answer, and the scene must save, as if the refused lines weren't there. files: what a random script saved is changed, and the
 program must answer the fault, or save the bytes, that spelling.py says."""
 import random
 import sys
@@ -83,6 +84,26 @@ class Fuzz:
         self.tally.check(given == answers, f"{what}: other answers when it is saved and loaded after line {at}")
         self.tally.check(second.saved == saved, f"{what}: another file when it is saved and loaded after line {at}")
 
+    def memory(self, count):
+        for number in range(self.seed, self.seed + count):
+            maker = Script(random.Random(number))
+            lines = maker.lines(maker.chance.randint(5, 40))
+            growths = self.run(lines).counts.get("growths", 0)
+            if growths > 0:
+                self.short_of_memory(f"script {number}", lines, maker.chance.randint(1, growths), number % 2)
+
+    def short_of_memory(self, what, lines, turn, for_good):
+        run = self.run(lines, refuse_growth=turn, refuse_all_from_there=for_good)
+        answers = answers_of(lines, run.answers)
+        kept = [(line, answer) for line, answer in zip(lines, answers) if answer != ["error memory"]]
+        short = self.run([line for line, _ in kept])
+        left_out = len(lines) - len(kept)
+        self.tally.check(left_out == 1 or (for_good and left_out > 1), f"{what}: {left_out} lines are refused")
+        self.tally.check(run.status == 1 and run.errors == b"", f"{what}: status {run.status}, {run.errors!r}")
+        other = answers_of([line for line, _ in kept], short.answers)
+        self.tally.check(other == [answer for _, answer in kept], f"{what}: other answers, growth {turn} refused")
+        self.tally.check(run.saved == short.saved, f"{what}: another file, growth {turn} refused")
+
     def files(self, count):
         """Files changed in ten ways each, made by scripts whose files are short."""
         number, done = self.seed, 0
@@ -117,7 +138,7 @@ def changed(chance, text):
 
 def main():
     fuzz = Fuzz(int(sys.argv[3]) if len(sys.argv) > 3 else 0)
-    {"scripts": fuzz.scripts, "files": fuzz.files}[sys.argv[1]](int(sys.argv[2]))
+    {"scripts": fuzz.scripts, "memory": fuzz.memory, "files": fuzz.files}[sys.argv[1]](int(sys.argv[2]))
     fuzz.tally.end()
 
 

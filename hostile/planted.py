@@ -135,7 +135,7 @@ def planted(subject, run, wrong):
 
 def main():
     """Tries each planted fault, or those named. The check must end with failed checks, and not by an error of its own. It
-    tries one case in seven."""
+    tries one case in seven, and ends at the first that fails."""
     here, passed, failed = Path(__file__).resolve().parent, 0, 0
     for name, words, _ in FAULTS:
         if len(sys.argv) > 1 and name not in sys.argv[1:]:

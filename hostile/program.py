@@ -3,6 +3,7 @@ import os
 import subprocess
 import sys
 import tempfile
+import time
 from dataclasses import dataclass, field
 from pathlib import Path
 
@@ -50,9 +51,11 @@ class Workplace:
         environment = {"REPORT": str(report), "LD_PRELOAD": str(self.shim)}
         environment.update((name.upper(), str(value)) for name, value in wrong.items())
         with open(self.kept("script", script), "rb") as given:
-            done = subprocess.run(
-                [PROGRAM, *words], stdin=given, capture_output=True, env=environment, timeout=seconds, close_fds=False
-            )
+            how = {"stdin": given, "capture_output": True, "env": environment, "timeout": seconds, "close_fds": False}
+            try:
+                done = subprocess.run([PROGRAM, *words], **how)
+            except subprocess.TimeoutExpired:
+                return Run(-1, b"", f"no end in {seconds} seconds".encode(), None)
         return Run(done.returncode, done.stdout, done.stderr, saved.read_bytes() if saved.exists() else None, counts(report))
 
     def kept(self, name, content):
@@ -82,18 +85,21 @@ class Tally:
     """The checks that passed and failed."""
 
     def __init__(self, subject):
-        self.subject, self.passed, self.failed = subject, 0, 0
+        self.subject, self.passed, self.failed, self.began = subject, 0, 0, time.monotonic()
 
     def check(self, holds, what):
-        """Counts one check; one that fails is printed."""
+        """Counts one check; one that fails is printed, and ends the run where a fault is planted."""
         if holds:
             self.passed += 1
             return
         self.failed += 1
         if self.failed <= 20:
             print(f"FAILED {self.subject}: {what}")
+        if "PLANTED" in os.environ:
+            self.end()
 
     def end(self):
-        """Prints the line on which `run` counts, and ends with its status."""
+        """Prints the time that it took and the line on which `run` counts, and ends with its status."""
+        print(f"{self.subject}: {time.monotonic() - self.began:.0f} seconds")
         print(f"{self.subject}: {self.passed} passed, {self.failed} failed", flush=True)
         sys.exit(1 if self.failed else 0)
