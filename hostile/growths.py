@@ -9,7 +9,7 @@ runs is checked:
 - The scene that stands then saves the same bytes as the scene before that command.
 - Each accessor with a last coordinate gives the same answer there as before.
 - The command given again, and all that follow, have the row's answers.
-- Commands that take no memory, reading, parsing, printing and saving never meet a refusal.
+- Commands that take no memory, lines marked as such in the row, reading, parsing, printing and saving never meet a refusal.
 
 In further runs one growth and all after it are refused. The lines that don't answer `error memory` must then answer, and the
 scene must save, as if the others weren't in the script."""
@@ -23,18 +23,22 @@ IN_TURN = int(os.environ.get("TURNS", "120"))
 NO_MEMORY = {"get", "drop", "prune", "count", "bounds", "list", "slice", "census", "unmeta", "metas"}
 BY_ACCESSOR = {"get", "set", "unset", "only", "state"}
 LONG = (b"list ", b"slice ", b"metas ")
+NONE = "        takes no memory"
 MEMORY = b"error memory\n"
 
 
 def read_row(path):
-    """A row's lines, each with the text that answers it. In the file an answer is indented by four spaces."""
-    row = []
+    """A row's lines, each with the text that answers it, and the places of those marked as taking no memory. In the file an
+    answer is indented by four spaces, the mark by eight."""
+    row, without = [], set()
     for line in path.read_text().splitlines():
-        if line.startswith("    "):
+        if line == NONE:
+            without.add(len(row) - 1)
+        elif line.startswith("    "):
             row[-1][1] += line[4:] + "\n"
         else:
             row.append([line, ""])
-    return [(line.encode(), answer.encode()) for line, answer in row]
+    return [(line.encode(), answer.encode()) for line, answer in row], without
 
 
 def shared_out(lines, answers):
@@ -78,7 +82,7 @@ class Row:
 
     def __init__(self, name, place, tally):
         self.name, self.place, self.tally = name, place, tally
-        row = read_row(HERE / "rows" / f"{name}.txt")
+        row, self.without = read_row(HERE / "rows" / f"{name}.txt")
         self.lines = [line for line, _ in row]
         self.answers = [answer for _, answer in row]
         self.before = {}
@@ -137,7 +141,8 @@ class Row:
         """The growth falls into the line at this place: the scene and the accessors then, and the line given again."""
         what = f"growth {turn}, line {place + 1}"
         line = self.lines[place]
-        self.check(line.split()[0].decode() not in NO_MEMORY, f"{what}: {line.decode()} took memory")
+        takes_none = line.split()[0].decode() in NO_MEMORY or place in self.without
+        self.check(not takes_none, f"{what}: {line.decode()} takes memory")
         asked = probes(self.lines[: place + 1], [*self.answers[:place], MEMORY])
         saved, given = self.stood_before(place, asked)
         lines = [*self.lines[: place + 1], *asked]

@@ -23,7 +23,7 @@ def through(chunks):
 
 def row(name):
     """A row's script and its answers, whole and line by line."""
-    pairs = read_row(HERE / "rows" / f"{name}.txt")
+    pairs, _ = read_row(HERE / "rows" / f"{name}.txt")
     return script_of([line for line, _ in pairs]), b"".join(answer for _, answer in pairs), pairs
 
 
