@@ -1,3 +1,4 @@
+#!/usr/bin/env python3
 """Scene files that are cut, longer, changed, endless or read and written by calls that fail: files.py [PART..]"""
 import sys
 import spelling

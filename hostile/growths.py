@@ -1,8 +1,9 @@
+#!/usr/bin/env python3
 """Refuses each growth of each row in turn: growths.py [ROW..]. A row is a script with its answers, in rows/.
 
 A growth is a call of malloc or realloc (or of another that gets memory) from the first read on. In each run one growth is
-refused, the first, then the second, until a run meets none; where a row has more than 240 growths the first 120 are refused
-in turn, and then as many again at even distances, with the last three. TURNS names another number than 120. Each of these
+refused, the first, then the second, until a run meets none; where a row has more than 120 growths the first 60 are refused
+in turn, and then as many again at even distances, with the last three. TURNS names another number than 60. Each of these
 runs is checked:
 
 - The command during which the growth was refused answers `error memory`, and nothing else does.
@@ -19,7 +20,7 @@ from planted import planted
 from program import HERE, Run, Tally, Workplace
 
 FOR_GOOD = 20
-IN_TURN = int(os.environ.get("TURNS", "120"))
+IN_TURN = int(os.environ.get("TURNS", "60"))
 NO_MEMORY = {"get", "drop", "prune", "count", "bounds", "list", "slice", "census", "unmeta", "metas"}
 BY_ACCESSOR = {"get", "set", "unset", "only", "state"}
 LONG = (b"list ", b"slice ", b"metas ")

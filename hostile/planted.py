@@ -1,3 +1,4 @@
+#!/usr/bin/env python3
 """Faults planted on purpose: each changes what a run gave to what a program that breaks a promise would have given, and the
 check of that promise must fail. `planted.py` tries each of them: in a run of a check, PLANTED names the one to plant."""
 import os

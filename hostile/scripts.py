@@ -1,3 +1,4 @@
+#!/usr/bin/env python3
 """Scripts that come in pieces, never end or are read and answered by calls that fail: scripts.py [PART..]"""
 import subprocess
 import sys
