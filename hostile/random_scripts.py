@@ -13,21 +13,28 @@ WRONG = ["", "# a comment", "nothing a", "set a 9 0 0 0 1", "get a - 0 0 2147483
 
 
 class Script:
-    """Makes lines one behind another. It knows the kind of each grid, as far as its lines are accepted."""
+    """Makes lines one behind another. It knows the kind of each grid, as far as its lines are accepted. Whole root blocks are
+    filled in some scripts alone, in which nothing is dilated or eroded, since that would make millions of leaves."""
 
     def __init__(self, chance):
-        self.chance, self.kinds = chance, {}
+        self.chance, self.kinds, self.last = chance, {}, [0, 0, 0]
+        self.large = chance.random() < 0.3
 
     def part(self):
         return self.chance.choice(FAR if self.chance.random() < 0.02 else EDGES)
 
     def point(self):
-        return " ".join(str(self.part()) for _ in range(3))
+        """A place, often one near the last."""
+        if self.chance.random() < 0.5:
+            self.last = [at + self.chance.randint(-3, 3) for at in self.last]
+        else:
+            self.last = [self.part() for _ in range(3)]
+        return " ".join(str(at) for at in self.last)
 
     def box(self, most):
         """A box of a few voxels in two directions, or with edges of blocks, of at most `most` root blocks a side."""
         if self.chance.random() < 0.3:
-            span = self.chance.choice([8, 128, 4096])
+            span = self.chance.choice([8, 128, 4096 if self.large else 128])
             low = [self.chance.randint(-2, 2) * span for _ in range(3)]
             high = [at + span * self.chance.randint(1, most) - 1 for at in low]
         else:
@@ -39,7 +46,8 @@ class Script:
         return " ".join(str(at) for at in low + high)
 
     def name(self):
-        return self.chance.choice(NAMES)
+        """A name, mostly one of a grid that is there."""
+        return self.chance.choice(sorted(self.kinds) if self.kinds and self.chance.random() < 0.95 else NAMES)
 
     def value(self, name):
         kind = self.kinds.get(name, "i32")
@@ -52,9 +60,9 @@ class Script:
         return self.chance.choice(["-", "-", "0", "1", "7"])
 
     def grid(self):
-        name, kind = self.name(), self.chance.choice(["bool", "i32", "i64"])
+        name, kind = self.chance.choice(NAMES), self.chance.choice(["bool", "i32", "i32", "i64"])
         self.kinds.setdefault(name, kind)
-        limit = self.chance.choice(["", "", " 1", " 2", " 3", " 65536", " 0"])
+        limit = self.chance.choice(["", "", "", " 1", " 2", " 4", " 8", " 65536", " 0"])
         return f"grid {name} {kind} {self.chance.choice(VALUES[kind])}{limit}"
 
     def write(self):
@@ -70,17 +78,18 @@ class Script:
         return f"{self.chance.choice(PAIRS)} {self.name()} {self.name()}"
 
     def turns(self):
-        return f"{self.chance.choice(['dilate', 'erode'])} {self.name()} {self.chance.choice([1, 1, 2, 3, 0])}"
+        turns = 17 if self.large else self.chance.choice([1, 1, 2, 3, 0])
+        return f"{self.chance.choice(['dilate', 'erode'])} {self.name()} {turns}"
 
     def whole(self):
-        word = self.chance.choice(["clip", "copy", "drop", "prune", "voxelise"])
+        word = self.chance.choice(["clip", "clip", "copy", "copy", "drop", "prune", "voxelise"])
         if word in ("drop", "prune"):
             name = self.name()
             if word == "drop":
                 self.kinds.pop(name, None)
             return f"{word} {name}"
         if word == "copy":
-            source, made = self.name(), self.name()
+            source, made = self.name(), self.chance.choice(NAMES)
             if source in self.kinds:
                 self.kinds.setdefault(made, self.kinds[source])
             return f"copy {source} {made}"
@@ -124,7 +133,7 @@ class Script:
         return self.chance.choice(makers)()
 
     def lines(self, count):
-        return [self.grid(), self.grid(), *(self.line() for _ in range(count))]
+        return [self.grid(), self.grid(), self.grid(), *(self.line() for _ in range(count))]
 
     def decorated(self, lines):
         """The lines with others put in that change no cell, and with other accessors. Each with whether it was put in."""
