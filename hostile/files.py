@@ -1,6 +1,7 @@
 #!/usr/bin/env python3
 """Scene files that are cut, longer, changed, endless or read and written by calls that fail: files.py [PART..]"""
 import sys
+from itertools import chain
 import spelling
 import vectors
 from feeding import feeding
@@ -155,10 +156,20 @@ def endless():
     refused(through(vectors.without_end(b"\n")), "magic", "an endless file of newlines")
     refused(through(vectors.without_end(vectors.ACTIVE, b"\x00")), "trailing", "a file with endless zeros behind it")
     for version in (1, 2):
-        long = through(vectors.four_planes(version))
+        long = through(vectors.planes(version))
         refused(long, "too-long", f"four grids of a plane each, version {version}")
         asked = long.counts.get("load-furthest", 0)
         TALLY.check(0 < asked <= LOAD_LIMIT + 1, f"version {version}: byte {asked} was asked for")
+
+
+def limit():
+    """A file of just as many bytes as one may have; a byte behind it is `trailing`, a byte more in it is `too-long`."""
+    TALLY.check(sum(map(len, vectors.at_limit())) == LOAD_LIMIT, "the file at the limit is made otherwise")
+    done = through(vectors.at_limit())
+    TALLY.check(done.status == 0 and done.errors == b"", f"a file at the limit: status {done.status}, {done.errors!r}")
+    TALLY.check(done.saved == b"".join(vectors.at_limit()), "a file at the limit is saved otherwise")
+    refused(through(chain(vectors.at_limit(), [b"\x00"])), "trailing", "a file at the limit and a byte behind it")
+    refused(through(vectors.at_limit(1)), "too-long", "a file a byte longer")
 
 
 def too_long():
@@ -169,7 +180,7 @@ def too_long():
     TALLY.check(done.saved == b"" and done.counts.get("save-writes") == 0, "bytes went out before too-long")
 
 
-PARTS = [whole, cut, changed, faults, readers, writers, growths, start, endless, too_long]
+PARTS = [whole, cut, changed, faults, readers, writers, growths, start, endless, limit, too_long]
 
 
 def main():

@@ -111,6 +111,7 @@ FAULTS = [
     ("start-memory-hidden", ["files", "start"], taken(b"error: out of memory\n")),
     ("long-file-taken", ["files", "endless"], taken(b"vdb: load: too-long\n")),
     ("long-file-read-on", ["files", "endless"], read_too_far),
+    ("longest-file-lost", ["files", "limit"], byte_lost),
     ("long-scene-saved", ["files", "too_long"], taken(b"vdb: save: too-long\n")),
     ("piece-lost", ["scripts", "pieces"], piece_lost),
     ("read-after-end", ["scripts", "last_lines"], asked_again),

@@ -149,13 +149,27 @@ def without_end(*parts):
         yield last
 
 
-def four_planes(version):
-    """Four grids of truth values, each true and active in the plane of x = 0 of one root block: longer than the limit."""
+def planes(version, lowers=1024, leaves=0, pairs=()):
+    """Four grids of truth values, each true and active in the plane of x = 0 of one root block. The last has so many lower nodes
+    of the plane and a last one of so many leaves, and these pairs of a key and a text."""
     leaf = b"\x03\x00\x40" + b"".join(index.to_bytes(2, "big") + b"\x02\x01" for index in range(64))
-    lower = b"\x03\x01\x00" + b"".join(index.to_bytes(2, "big") + leaf for index in range(256))
+    entries = [index.to_bytes(2, "big") + leaf for index in range(256)]
+    lower = b"\x03\x01\x00" + b"".join(entries)
     yield spelled("56444253") + version.to_bytes(2, "big") + b"\x00\x04"
-    for name in b"abcd":
-        yield b"\x01" + bytes([name]) + b"\x00\x00" + (spelled("00001000 00") if version == 2 else b"") + b"\x00\x00\x00\x01"
-        yield bytes(12) + b"\x03\x04\x00"
-        for index in range(1024):
+    for name, count, parts, metas in [(b"a", 1024, 0, ()), (b"b", 1024, 0, ()), (b"c", 1024, 0, ()), (b"d", lowers, leaves, pairs)]:
+        yield b"\x01" + name + b"\x00\x00" + (spelled("00001000") + pair_bytes(metas) if version == 2 else b"")
+        yield b"\x00\x00\x00\x01" + bytes(12) + b"\x03" + (count + (parts > 0)).to_bytes(2, "big")
+        for index in range(count):
             yield index.to_bytes(2, "big") + lower
+        if parts > 0:
+            yield count.to_bytes(2, "big") + b"\x03" + parts.to_bytes(2, "big") + b"".join(entries[:parts])
+
+
+def pair_bytes(pairs):
+    return bytes([len(pairs)]) + b"".join(bytes([len(part)]) + part for pair in pairs for part in pair)
+
+
+def at_limit(more=0):
+    """A scene whose file has 268,435,456 bytes, and so many more."""
+    pairs = [(key, b"x" * 64) for key in (b"a", b"b", b"c")] + [(b"d", b"x" * (32 + more))]
+    return planes(2, 945, 58, pairs)
