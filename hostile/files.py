@@ -6,7 +6,7 @@ import spelling
 import vectors
 from feeding import feeding
 from planted import planted
-from program import LOAD_LIMIT, Tally, Workplace, some
+from program import LOAD_LIMIT, PATIENCE, Tally, Workplace, some
 
 TALLY, PLACE = Tally("files"), Workplace()
 NO_SCRIPT = b""
@@ -147,7 +147,7 @@ def start():
 def through(chunks):
     """A run whose file to load comes through a pipe, made as it is read."""
     with feeding(PLACE.folder / "pipe", chunks) as path:
-        return run(NO_SCRIPT, load=path, seconds=280)
+        return run(NO_SCRIPT, load=path, seconds=max(PATIENCE, 280))
 
 
 def endless():
@@ -175,7 +175,7 @@ def limit():
 def too_long():
     """A scene that has no file: the fault comes before the first byte, and the file is empty."""
     plane = b"grid a bool false\nfill a 0 0 0 0 4095 4095 true on\n"
-    done = run(plane + b"copy a b\ncopy a c\ncopy a d\n", seconds=280)
+    done = run(plane + b"copy a b\ncopy a c\ncopy a d\n", seconds=max(PATIENCE, 280))
     not_saved(done, "too-long", b"ok\n" * 5, "four grids of a plane each")
     TALLY.check(done.saved == b"" and done.counts.get("save-writes") == 0, "bytes went out before too-long")
 

@@ -10,6 +10,7 @@ from pathlib import Path
 HERE = Path(__file__).resolve().parent
 PROGRAM = os.environ.get("VDB", str(HERE.parent / "crates" / "vdb" / "out" / "vdb"))
 STRIDE = int(os.environ.get("STRIDE", "1"))
+PATIENCE = int(os.environ.get("PATIENCE", "60"))
 LOAD_LIMIT = 268_435_456
 SCRIPT_LIMIT = 16_777_216
 
@@ -22,7 +23,7 @@ class Run:
     status: int
     answers: bytes
     errors: bytes
-    saved: bytes | None
+    saved: "bytes | None"
     counts: dict = field(default_factory=dict)
 
 
@@ -37,9 +38,9 @@ class Workplace:
         self.shim = self.folder / "refuse.so"
         subprocess.run(["gcc", "-O2", "-shared", "-fPIC", "-o", self.shim, HERE / "refuse.c"], check=True)
 
-    def run(self, script, load=None, save_as=None, seconds=60, **wrong):
-        """Plays a script (bytes, or the path of a file to be its standard input) on what `load` holds (bytes, or the path of a
-        file to load), and saves as `save_as` or in a file of its own. What is to go wrong is named as in refuse.c, in small
+    def run(self, script, load=None, save_as=None, seconds=PATIENCE, named=False, **wrong):
+        """Plays a script (bytes, or the path of a file) from standard input or `named` as a word, on what `load` holds (bytes, or
+        the path of a file to load), and saves as `save_as` or in a file of its own. What is to go wrong is named as in refuse.c, in small
         letters."""
         report, saved, words = self.folder / "report", Path(save_as or self.folder / "saved"), []
         report.unlink(missing_ok=True)
@@ -50,7 +51,9 @@ class Workplace:
         words += ["--save", str(saved)]
         environment = {"REPORT": str(report), "LD_PRELOAD": str(self.shim)}
         environment.update((name.upper(), str(value)) for name, value in wrong.items())
-        with open(self.kept("script", script), "rb") as given:
+        path = self.kept("script", script)
+        words += [path] if named else []
+        with open("/dev/null" if named else path, "rb") as given:
             how = {"stdin": given, "capture_output": True, "env": environment, "timeout": seconds, "close_fds": False}
             try:
                 done = subprocess.run([PROGRAM, *words], **how)

@@ -1,11 +1,10 @@
 #!/usr/bin/env python3
 """Scripts that come in pieces, never end or are read and answered by calls that fail: scripts.py [PART..]"""
-import subprocess
 import sys
 from feeding import feeding
 from growths import read_row, script_of
 from planted import planted
-from program import HERE, PROGRAM, SCRIPT_LIMIT, Tally, Workplace, some
+from program import HERE, PATIENCE, SCRIPT_LIMIT, Tally, Workplace, some
 
 TALLY, PLACE = Tally("scripts"), Workplace()
 GRID = b"grid a i32 0\n"
@@ -19,7 +18,7 @@ def run(script, **given):
 def through(chunks):
     """A run whose script comes through a pipe, made as it is read."""
     with feeding(PLACE.folder / "pipe", chunks) as path:
-        return run(path, seconds=280)
+        return run(path, seconds=max(PATIENCE, 280))
 
 
 def row(name):
@@ -92,9 +91,20 @@ def readers():
         done = run(script, **wrong, read_kind="nothing")
         ended(done, plain.status, plain.errors, plain.answers, f"a reader that ends at call {call}")
         TALLY.check(done.saved == plain.saved, f"a reader that ends at call {call}: saved otherwise")
-    missing = subprocess.run([PROGRAM, PLACE.folder / "missing"], capture_output=True)
-    end = missing.returncode, missing.stdout, missing.stderr
-    TALLY.check(end == (4, b"", b"vdb: script: read\n"), f"a script that isn't there: {end}")
+
+
+def by_name():
+    """A script that is a file named by a word: in pieces, failing at a call, missing."""
+    script, answers, pairs = row("two-grids")
+    for most in (1, 7, 300):
+        ended(run(script, named=True, read_of_file=1, read_most=most), 1, b"", answers, f"a file in pieces of {most} bytes")
+    for call in some(range(1, len(script) // 7 + 3)):
+        complete = script[: 7 * (call - 1)].count(b"\n")
+        failed = run(script, named=True, read_of_file=1, read_most=7, read_at=call)
+        told = b"".join(answer for _, answer in pairs[:complete])
+        ended(failed, 4, b"vdb: script: read\n", told, f"a file that fails at call {call}")
+    missing = run(PLACE.folder / "missing", named=True)
+    ended(missing, 4, b"vdb: script: read\n", b"", "a script that isn't there")
 
 
 def writers():
@@ -155,7 +165,7 @@ def within(done, what):
     TALLY.check(SCRIPT_LIMIT < asked <= SCRIPT_LIMIT + 1, f"{what}: byte {asked} was asked for")
 
 
-PARTS = [pieces, last_lines, readers, writers, longest, endless]
+PARTS = [pieces, last_lines, readers, by_name, writers, longest, endless]
 
 
 def main():
