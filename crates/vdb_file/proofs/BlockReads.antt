@@ -1,13 +1,13 @@
 -- A block is read: its head, and then its entries where its cells differ.
-use Rattle.std.proofs.Common.{◌≡◌, ℕ, ◌+◌, ◌<◌, ◌≤◌, ◌^◌, Bool, true, false, not, List, [], ◌∷◌, ◌++◌, length, refl, sym, ap, subst, ◌∙◌, arith, inl, inr, append-nil}
+use Rattle.std.proofs.Common.{◌≡◌, ℕ, ◌<◌, ◌≤◌, ◌^◌, Bool, true, false, not, List, [], ◌∷◌, ◌++◌, length, refl, sym, ap, subst, ◌∙◌, arith, inl, inr, append-nil}
 use Rattle.std.specs.Prelude.{if◌then◌else◌}
-use Rattle.std.specs.List.{AllByRecursion, Contains, flat_map}
+use Rattle.std.specs.List.{AllByRecursion}
 use Rattle.std.specs.Int.{w16, to_be_bytes}
 use Rattle.std.proofs.lemmas.Bool.{cases_Bool}
 use Rattle.std.proofs.lemmas.List.FromFn.{length-range_with_len}
 use Rattle.vdb_coord.specs.Blocks.{block_around, entries, entry_numbers, sub_block}
 use Rattle.vdb_coord.specs.Entries.{AreBits}
-use Rattle.vdb_coord.specs.Space.{Box, is_inside}
+use Rattle.vdb_coord.specs.Space.{Box}
 use Rattle.vdb_coord.specs.declared.Bits.{Bits}
 use Rattle.vdb_coord.specs.declared.Coord.{Coord}
 use Rattle.vdb_coord.specs.declared.Level.{Level}
@@ -15,25 +15,25 @@ use Rattle.vdb_value.specs.declared.Cell.{Cell}
 use Rattle.vdb_tree.specs.ConstantBlocks.{cell_eq, is_background, is_constant, is_uniform}
 use Rattle.vdb_tree.specs.Field.{Field, off}
 use Rattle.vdb_tree.proofs.Constants.{entries_few}
-use Rattle.vdb_tree.proofs.Uniform.{cell_exact, cell_same, uniform_cells, uniform_from}
+use Rattle.vdb_tree.proofs.Uniform.{cell_exact, uniform_cells, uniform_from}
 use Rattle.vdb_file.specs.Bodies.{block_bytes, cell_bytes, listed}
 use Rattle.vdb_file.specs.declared.fault.LoadFault.{LoadFault}
 use Rattle.vdb_file.specs.declared.loading.block_head.Head.{Head}
 use Rattle.vdb_file.specs.declared.loading.block_head.Head.TheVariants.{Node, One}
 use Rattle.vdb_file.specs.internal.LeafVoxels.{HasValues}
-use Rattle.vdb_file.specs.internal.Loading.{IsHead, IsSpelled, head_bytes}
+use Rattle.vdb_file.specs.internal.Loading.{IsHead, head_bytes}
 use Rattle.vdb_file.specs.internal.LoadedFields.{ShowsIn, ShowsInEach}
 use Rattle.vdb_file.specs.internal.Reading.{Fails, Place, Took}
 use Rattle.vdb_file.specs.internal.Written.{numbered}
-use Rattle.vdb_file.proofs.Unambiguous.{IsCode, Says, says_fixed, says_map}
+use Rattle.vdb_file.proofs.Unambiguous.{says_fixed, says_map}
 use Rattle.vdb_file.proofs.Agreement.{Agree, AreValues, is_held}
 use Rattle.vdb_file.proofs.Fronts.{fails_after, fails_first, fails_turn, took_both}
 use Rattle.vdb_file.proofs.HeadCodes.{says_head}
 use Rattle.vdb_file.proofs.Kept.{at_kept, few_kept}
 use Rattle.vdb_file.proofs.RowFrames.{below_member, constant_same, corner_in_block, member_below}
-use Rattle.vdb_file.proofs.RowInstances.{agree_from_entries, few_held, node_row}
+use Rattle.vdb_file.proofs.RowInstances.{agree_from_entries, node_row}
 use Rattle.vdb_file.proofs.RowReads.{no_row}
-use Rattle.vdb_file.proofs.Rows.{IsRow, texts}
+use Rattle.vdb_file.proofs.Rows.{IsRow}
 
 -- the numbers of the entries of a block are as many as it has
 numbers_count : (bits : Bits) (level : Level) → length (entry_numbers bits level) ≡ entries bits level

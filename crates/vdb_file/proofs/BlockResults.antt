@@ -1,8 +1,7 @@
 -- What a block that was read leaves, by what the last call of its reader answered.
-use Rattle.std.proofs.Common.{◌≡◌, ℕ, ◌<◌, ◌≤◌, Bool, true, false, List, ◌||◌, length, refl, sym, ap, subst, ◌∙◌}
+use Rattle.std.proofs.Common.{◌≡◌, ℕ, ◌≤◌, Bool, true, false, List, ◌||◌, length, refl, sym, ap, subst, ◌∙◌}
 use Rattle.std.specs.Prelude.{Result, Ok, Err, IfErr, OnOk}
 use Rattle.std.specs.List.{Contains}
-use Rattle.std.specs.Io.KnownBytes.{IsAtEnd}
 use Rattle.vdb_coord.specs.Blocks.{block_around, entries, entry_numbers, sub_block}
 use Rattle.vdb_coord.specs.Entries.{AreBits}
 use Rattle.vdb_coord.specs.Space.{Box, everywhere, is_inside}
@@ -12,7 +11,7 @@ use Rattle.vdb_coord.specs.declared.Level.{Level}
 use Rattle.vdb_coord.specs.declared.Level.TheVariants.{Leaf}
 use Rattle.vdb_node.specs.Leaf.{Leaf as LeafOf}
 use Rattle.vdb_value.specs.declared.Cell.{Cell}
-use Rattle.vdb_tree.specs.ConstantBlocks.{cell_eq, is_constant}
+use Rattle.vdb_tree.specs.ConstantBlocks.{is_constant}
 use Rattle.vdb_tree.specs.Field.{Field, field, fill}
 use Rattle.vdb_tree.specs.Leaves.{with_leaf}
 use Rattle.vdb_file.specs.Bodies.{block_bytes, leaf_body, listed, voxel_body}
@@ -22,7 +21,7 @@ use Rattle.vdb_file.specs.declared.fault.LoadFault.TheVariants.{Memory, Truncate
 use Rattle.vdb_file.specs.declared.loading.block_head.Head.TheVariants.{Node, One}
 use Rattle.vdb_file.specs.internal.LeafVoxels.{HasValues, IsMixed, leaf_field, voxel_count, voxels_bytes}
 use Rattle.vdb_file.specs.internal.Loading.{IsSpelled, head_bytes}
-use Rattle.vdb_file.specs.internal.LoadedFields.{KeptOutside, ShowsIn, ShowsInEach}
+use Rattle.vdb_file.specs.internal.LoadedFields.{ShowsIn, ShowsInEach}
 use Rattle.vdb_file.specs.internal.Reading.{Fails, Place, Reads, Took}
 use Rattle.vdb_file.specs.internal.Written.{numbered}
 use Rattle.vdb_file.proofs.Agreement.{Agree, AreValues}
@@ -30,7 +29,7 @@ use Rattle.vdb_file.proofs.BlockReads.{no_block_list, node_read, node_shows, one
 use Rattle.vdb_file.proofs.Fronts.{fails_silent, fails_turn}
 use Rattle.vdb_file.proofs.LoadedBlocks.{fill_constant, fill_corner, fill_shows, fill_values, leaf_agrees, leaf_values}
 use Rattle.vdb_file.proofs.RowFrames.{agree_in_entry, constant_same, corner_in_block, listed_same, member_below}
-use Rattle.vdb_file.proofs.RowInstances.{is_leaf_row, leaf_row}
+use Rattle.vdb_file.proofs.RowInstances.{is_leaf_row}
 use Rattle.vdb_file.proofs.Rows.{texts_same}
 
 -- ---- refusals of memory

@@ -1,15 +1,12 @@
 -- Values, cells, heads and numbers: what their bytes say.
-use Rattle.std.proofs.Common.{◌≡◌, ℕ, ◌<◌, ◌≤◌, ◌^◌, Bool, true, false, ◌&&◌, ◌==◌, List, [], ◌∷◌, ◌++◌, length, refl, sym, ap, subst, ◌∙◌, arith, rules, append-nil}
-use Rattle.std.specs.Prelude.{if◌then◌else◌, IsTrue, Option, Some, None, ⊤}
+use Rattle.std.proofs.Common.{◌≡◌, ℕ, ◌<◌, ◌≤◌, ◌^◌, Bool, true, false, ◌&&◌, ◌==◌, List, [], ◌∷◌, ◌++◌, length, refl, sym, ap, subst, ◌∙◌, arith, append-nil}
+use Rattle.std.specs.Prelude.{if◌then◌else◌, IsTrue, ⊤}
 use Rattle.std.specs.Int.{w16, to_be_bytes}
-use Rattle.std.specs.declared.cmp.Ordering.{Ordering}
-use Rattle.std.proofs.Math.Bool.{beq}
 use Rattle.std.proofs.lemmas.Bool.Decides.{nat_tests}
 use Rattle.vdb_value.specs.Values.{are_bytes_of, byte_count}
 use Rattle.vdb_value.specs.declared.Cell.{Cell}
 use Rattle.vdb_value.specs.declared.Kind.{Kind}
 use Rattle.vdb_value.specs.declared.Kind.TheVariants as kinds
-use Rattle.vdb_tree.specs.ConstantBlocks.{cell_eq}
 use Rattle.vdb_tree.specs.Field.{off}
 use Rattle.vdb_tree.proofs.Uniform.{cell_same}
 use Rattle.vdb_file.specs.Bodies.{cell_bytes}
@@ -21,7 +18,7 @@ use Rattle.vdb_file.specs.internal.Reading.{Fails, Place, Took}
 use Rattle.vdb_file.proofs.Unambiguous.{IsCode, Says, says_after, says_fixed, says_map, says_never}
 use Rattle.vdb_file.proofs.Agreement.{AreValues, says_cell}
 use Rattle.vdb_file.proofs.Numbers.{says_u16}
-use Rattle.vdb_file.proofs.Fronts.{fails_after, fails_first, fails_none, fails_turn}
+use Rattle.vdb_file.proofs.Fronts.{fails_after, fails_none, fails_turn}
 
 -- ---- values
 

@@ -1,5 +1,5 @@
 -- Keys of root blocks: what their bytes say.
-use Rattle.std.proofs.Common.{◌≡◌, ℕ, ◌+◌, ℤ, List, [], ◌++◌, refl, sym, subst, append-nil}
+use Rattle.std.proofs.Common.{◌≡◌, ℕ, ℤ, List, [], ◌++◌, refl, sym, subst, append-nil}
 use Rattle.std.specs.Prelude.{FitsSigned, Option}
 use Rattle.std.specs.Int.{w32}
 use Rattle.vdb_coord.specs.Entries.{AreBits}

@@ -6,7 +6,7 @@ use Rattle.std.specs.List.{flat_map}
 use Rattle.std.specs.Ordering.{nat_cmp}
 use Rattle.std.proofs.lemmas.Bool.{cases_Bool}
 use Rattle.std.proofs.lemmas.List.{get_or_default}
-use Rattle.vdb_coord.specs.Blocks.{block, block_around, block_number, entries, offset, sub_block}
+use Rattle.vdb_coord.specs.Blocks.{block_around, block_number, entries, offset, sub_block}
 use Rattle.vdb_coord.specs.Entries.{AreBits}
 use Rattle.vdb_coord.specs.Space.{Box, coord_eq, is_inside}
 use Rattle.vdb_coord.specs.declared.Bits.{Bits}

@@ -1,8 +1,8 @@
 -- Fields in which one box was given other cells.
-use Rattle.std.proofs.Common.{◌≡◌, ℕ, ◌<◌, ◌≤◌, Bool, true, false, List, refl, sym, ap, subst, ◌∙◌, arith, inl, inr, IsTrue}
+use Rattle.std.proofs.Common.{◌≡◌, ℕ, ◌<◌, Bool, true, false, List, refl, sym, ap, subst, ◌∙◌, arith, inl, inr}
 use Rattle.std.proofs.lemmas.Bool.{cases_Bool}
-use Rattle.std.specs.Prelude.{if◌then◌else◌, pos, Result, Ok, Err}
-use Rattle.vdb_coord.specs.Blocks.{block, block_around, block_number, entries, key, offset, sub_block}
+use Rattle.std.specs.Prelude.{if◌then◌else◌, pos, Result, Err}
+use Rattle.vdb_coord.specs.Blocks.{block, block_around, block_number, entries, offset, sub_block}
 use Rattle.vdb_coord.specs.Entries.{AreBits}
 use Rattle.vdb_coord.specs.Space.{Box, coord, coord_eq, everywhere, is_inside}
 use Rattle.vdb_coord.specs.declared.Bits.{Bits}
@@ -14,7 +14,7 @@ use Rattle.vdb_coord.proofs.Members.{coord_equiv, coord_exact}
 use Rattle.vdb_coord.proofs.Nesting.{in_entry, inside_numbered, lower_from_leaf, number_in_block, upper_from_lower}
 use Rattle.vdb_node.specs.Leaf.{cell_in, Leaf as LeafOf}
 use Rattle.vdb_value.specs.declared.Cell.{Cell}
-use Rattle.vdb_tree.specs.ConstantBlocks.{cell_eq, is_background, is_constant, is_uniform, roots}
+use Rattle.vdb_tree.specs.ConstantBlocks.{cell_eq, is_background, is_constant, roots}
 use Rattle.vdb_tree.specs.Field.{Field, field, fill, off}
 use Rattle.vdb_tree.specs.Layout.{Layout, field_of}
 use Rattle.vdb_tree.specs.Leaves.{with_leaf}
@@ -23,7 +23,7 @@ use Rattle.vdb_tree.specs.declared.refusal.TreeRefusal.{TreeRefusal}
 use Rattle.vdb_tree.specs.declared.refusal.TreeRefusal.TheVariants.{RootLimit}
 use Rattle.vdb_tree.proofs.Uniform.{cell_same, uniform_cells, uniform_from}
 use Rattle.vdb_file.specs.internal.LeafVoxels.{HasValues, leaf_field}
-use Rattle.vdb_file.specs.internal.LoadedFields.{HasRoomAt, KeptOutside, ShowsIn}
+use Rattle.vdb_file.specs.internal.LoadedFields.{HasRoomAt, KeptOutside}
 use Rattle.vdb_file.proofs.Agreement.{Agree, AreValues}
 use Rattle.vdb_file.proofs.RowFrames.{corner_in_block}
 

@@ -1,5 +1,5 @@
 -- A number or a key is read, and then the block that it stands for.
-use Rattle.std.proofs.Common.{◌≡◌, ℕ, ◌≤◌, ◌<◌, ◌^◌, Bool, List, ◌++◌, refl, sym, ap, subst, arith}
+use Rattle.std.proofs.Common.{◌≡◌, ℕ, ◌<◌, ◌^◌, Bool, List, refl, sym, ap, subst, arith}
 use Rattle.std.specs.Prelude.{Option}
 use Rattle.std.specs.Int.{w16, to_be_bytes}
 use Rattle.vdb_coord.specs.Blocks.{entries}

@@ -1,10 +1,10 @@
 -- The root blocks of a field are read one after another.
-use Rattle.std.proofs.Common.{◌≡◌, ℕ, ◌+◌, ◌<◌, ◌≤◌, ◌^◌, Bool, true, false, not, List, [], ◌∷◌, ◌++◌, length, length-append, refl, sym, ap, subst, ◌∙◌, arith, inl, inr}
+use Rattle.std.proofs.Common.{◌≡◌, ℕ, ◌+◌, ◌<◌, ◌≤◌, ◌^◌, Bool, true, false, List, [], ◌∷◌, ◌++◌, length, length-append, refl, sym, ap, subst, ◌∙◌, arith, inl, inr}
 use Rattle.std.specs.Prelude.{if◌then◌else◌, Option, Some, None, Result, Ok, Err}
 use Rattle.std.specs.List.{Contains, flat_map}
 use Rattle.std.specs.Int.{w32, to_be_bytes}
 use Rattle.std.proofs.lemmas.Bool.{cases_Bool}
-use Rattle.vdb_coord.specs.Blocks.{block, block_around, block_number, block_numbers}
+use Rattle.vdb_coord.specs.Blocks.{block, block_around, block_numbers}
 use Rattle.vdb_coord.specs.Entries.{AreBits}
 use Rattle.vdb_coord.specs.Space.{Box, coord_cmp, coordinates, everywhere, is_inside}
 use Rattle.vdb_coord.specs.declared.Bits.{Bits}
@@ -18,18 +18,17 @@ use Rattle.vdb_tree.specs.Field.{Field, field, new, off}
 use Rattle.vdb_tree.proofs.Uniform.{uniform_from}
 use Rattle.vdb_file.specs.Bodies.{key_bytes, root_body, roots_bytes}
 use Rattle.vdb_file.specs.declared.fault.LoadFault.{LoadFault}
-use Rattle.vdb_file.specs.internal.LeafVoxels.{HasValues}
 use Rattle.vdb_file.specs.internal.Loading.{IsKey}
-use Rattle.vdb_file.specs.internal.LoadedFields.{AreReady, HasRoomAt, IsLoaded, IsNext, IsReady, IsWithin, KeptOutside, ShowsIn, ShowsInEach, next_bytes}
+use Rattle.vdb_file.specs.internal.LoadedFields.{AreReady, HasRoomAt, IsNext, IsReady, IsWithin, KeptOutside, ShowsIn, ShowsInEach, next_bytes}
 use Rattle.vdb_file.specs.internal.Reading.{Fails, Place, Reads, Took}
 use Rattle.vdb_file.specs.internal.Following.{Follows}
 use Rattle.vdb_file.proofs.Ordered.{last_of}
-use Rattle.vdb_file.proofs.Numbers.{FitsKey, says_u32}
+use Rattle.vdb_file.proofs.Numbers.{says_u32}
 use Rattle.vdb_file.proofs.Agreement.{Agree, AreValues, both_uniform}
 use Rattle.vdb_file.proofs.Fronts.{fails_after, fails_first, fails_none, fails_turn, took_both}
 use Rattle.vdb_file.proofs.RowInstances.{inside_member, is_root_row, member_inside, root_row}
 use Rattle.vdb_file.proofs.RowLoops.{IsUnderway, more_underway, next_clear, no_next, none_underway}
-use Rattle.vdb_file.proofs.Rows.{Adds, adds_outside, held, held_more, held_same, texts}
+use Rattle.vdb_file.proofs.Rows.{adds_outside, held, held_more, held_same}
 
 -- ---- the root blocks behind their count
 

@@ -1,7 +1,7 @@
 -- A row that is read entry by entry into a field.
-use Rattle.std.proofs.Common.{◌≡◌, ℕ, ◌+◌, ◌<◌, ◌^◌, Bool, true, false, not, List, [], ◌∷◌, ◌++◌, length, refl, sym, ap, subst, ◌∙◌, arith, inl, inr, length-append}
+use Rattle.std.proofs.Common.{◌≡◌, ℕ, ◌+◌, ◌<◌, Bool, true, false, not, List, [], ◌∷◌, length, refl, sym, ap, subst, ◌∙◌, arith, inl, inr, length-append}
 use Rattle.std.specs.Prelude.{Option, Some, None}
-use Rattle.std.specs.List.{AllByRecursion, Contains, flat_map}
+use Rattle.std.specs.List.{Contains, flat_map}
 use Rattle.std.specs.declared.cmp.Ordering.TheVariants.{Less}
 use Rattle.std.proofs.lemmas.Bool.{cases_Bool}
 use Rattle.std.proofs.lemmas.List.Kept.{IsStrictlySortedBy-filter}
@@ -14,8 +14,8 @@ use Rattle.vdb_file.specs.internal.Following.{Follows}
 use Rattle.vdb_file.specs.internal.LeafVoxels.{HasValues}
 use Rattle.vdb_file.specs.internal.LoadedFields.{IsNext, KeptOutside, ShowsIn, ShowsInEach, next_bytes}
 use Rattle.vdb_file.specs.internal.Reading.{Fails, Place, Took}
-use Rattle.vdb_file.proofs.Unambiguous.{IsCode, says_fixed, says_map}
-use Rattle.vdb_file.proofs.Agreement.{Agree, AreValues, is_held}
+use Rattle.vdb_file.proofs.Unambiguous.{says_fixed, says_map}
+use Rattle.vdb_file.proofs.Agreement.{AreValues, is_held}
 use Rattle.vdb_file.proofs.Fronts.{fails_turn, took_nothing}
 use Rattle.vdb_file.proofs.Kept.{at_kept}
 use Rattle.vdb_file.proofs.LoadedBlocks.{kept_all, kept_both, kept_wider}

@@ -1,7 +1,6 @@
 -- The voxels of a leaf block that is read.
-use Rattle.std.specs.Prelude.{◌≡◌, ℕ, ◌<◌, Bool, true, false, if◌then◌else◌, List, ◌++◌, length, Option}
+use Rattle.std.specs.Prelude.{◌≡◌, ℕ, Bool, false, if◌then◌else◌, List, ◌++◌, length, Option}
 use Rattle.std.specs.Int.{w16, to_be_bytes}
-use Rattle.std.specs.Ordering.{nat_cmp}
 use Rattle.vdb_coord.specs.Blocks.{block_around, block_number, offset, sub_block}
 use Rattle.vdb_coord.specs.Space.{coord_eq}
 use Rattle.vdb_coord.specs.declared.Bits.{Bits}

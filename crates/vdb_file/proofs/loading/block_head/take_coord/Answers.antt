@@ -1,8 +1,6 @@
-use Rattle.std.proofs.Common.{◌≡◌, ◌<◌, rules, arith, SFits, w32}
+use Rattle.std.proofs.Common.{SFits, w32}
 use Rattle.std.proofs.lemmas.Result.{err_from_is_err_and}
 use Rattle.std.proofs.lemmas.Int.{to_z-of_z}
-use Rattle.vdb_scene.specs.Watched.{source}
-use Rattle.vdb_file.specs.internal.Reading.{place}
 use Rattle.vdb_file.proofs.KeyCodes.{no_x, no_y, no_z, three_read}
 use Rattle.vdb_file.proofs.loading.block_head.take_coord.Goals as goal
 

@@ -1,6 +1,6 @@
-use Rattle.std.proofs.Common.{◌≡◌, ◌≤◌, ◌<◌, ◌^◌, rules, arith}
+use Rattle.std.proofs.Common.{◌≤◌, arith}
 use Rattle.std.proofs.lemmas.Result.{err_from_is_err_and}
-use Rattle.vdb_file.proofs.HeadCodes.{no_number, no_u16}
+use Rattle.vdb_file.proofs.HeadCodes.{no_u16}
 use Rattle.vdb_file.proofs.loading.block_head.take_count.Goals as goal
 
 pub returns-in_err-count-clause-reads : goal.returns-in_err-count-clause-reads

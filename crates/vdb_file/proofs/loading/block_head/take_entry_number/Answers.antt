@@ -1,4 +1,3 @@
-use Rattle.std.proofs.Common.{◌≡◌}
 use Rattle.vdb_file.proofs.loading.block_head.take_entry_number.Goals as goal
 
 pub returns-clause-reads : goal.returns-clause-reads

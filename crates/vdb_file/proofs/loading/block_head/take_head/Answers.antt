@@ -1,9 +1,6 @@
-use Rattle.std.proofs.Common.{◌≡◌, ◌∷◌, [], rules, subst}
-use Rattle.std.specs.Prelude.{false, true}
 use Rattle.std.proofs.lemmas.Result.{err_from_is_err_and}
-use Rattle.vdb_file.specs.internal.Reading.{Took}
 use Rattle.vdb_tree.proofs.Uniform.{exact_by}
-use Rattle.vdb_file.proofs.HeadCodes.{no_head_tag, no_node, no_one, voxel_values}
+use Rattle.vdb_file.proofs.HeadCodes.{no_node, voxel_values}
 use Rattle.vdb_file.proofs.loading.block_head.take_head.Goals as goal
 
 pub returns-in_err-take_count-in-3-clause-reads : goal.returns-in_err-take_count-in-3-clause-reads

@@ -1,4 +1,4 @@
-use Rattle.std.proofs.Common.{◌≡◌, ◌∙◌, true, false, ap, rules, sym}
+use Rattle.std.proofs.Common.{◌≡◌, ◌∙◌, true, false, ap, sym}
 use Rattle.std.proofs.lemmas.Result.{err_from_is_err_and}
 use Rattle.vdb_coord.specs.Entries.{numbers_over}
 use Rattle.vdb_coord.specs.Space.{Box, is_inside}

@@ -1,6 +1,6 @@
 use Rattle.std.proofs.Common.{◌≡◌}
 use Rattle.vdb_coord.specs.Blocks.{block_around, entries}
-use Rattle.vdb_coord.specs.declared.Level.TheVariants.{Leaf, Lower, Upper}
+use Rattle.vdb_coord.specs.declared.Level.TheVariants.{Leaf, Lower}
 use Rattle.vdb_tree.specs.Layout.{bits_of, field_of}
 use Rattle.vdb_scene.specs.Watched.{has_failed, source}
 use Rattle.vdb_file.specs.Bodies.{leaf_body}

@@ -1,8 +1,8 @@
-use Rattle.std.proofs.Common.{◌≡◌, ℕ, ◌+◌, ◌∙◌, refl, rules, subst, sym}
+use Rattle.std.proofs.Common.{ℕ, ◌+◌, ◌∙◌, refl, rules, subst, sym}
 use Rattle.std.specs.Prelude.{None, Some}
 use Rattle.std.proofs.lemmas.Result.{err_from_is_err_and}
 use Rattle.vdb_coord.specs.Blocks.{block_around}
-use Rattle.vdb_coord.specs.declared.Level.TheVariants.{Leaf, Lower, Upper}
+use Rattle.vdb_coord.specs.declared.Level.TheVariants.{Lower, Upper}
 use Rattle.vdb_tree.specs.Layout.{bits_of, field_of}
 use Rattle.vdb_tree.proofs.Uniform.{exact_by}
 use Rattle.vdb_scene.specs.Watched.{source}

@@ -1,6 +1,6 @@
-use Rattle.std.proofs.Common.{◌≡◌, rules}
+use Rattle.std.proofs.Common.{rules}
 use Rattle.std.proofs.lemmas.Result.{err_from_is_err_and}
-use Rattle.vdb_coord.specs.declared.Level.TheVariants.{Lower, Upper}
+use Rattle.vdb_coord.specs.declared.Level.TheVariants.{Lower}
 use Rattle.vdb_tree.specs.Layout.{bits_of, field_of}
 use Rattle.vdb_tree.proofs.Uniform.{exact_by}
 use Rattle.vdb_file.specs.Bodies.{leaf_body}

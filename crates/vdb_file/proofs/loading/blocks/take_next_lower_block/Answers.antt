@@ -1,8 +1,7 @@
-use Rattle.std.proofs.Common.{◌≡◌, ap, rules, sym}
 use Rattle.std.specs.Int.{w16, to_be_bytes}
 use Rattle.std.proofs.lemmas.Result.{err_from_is_err_and}
 use Rattle.vdb_coord.specs.Blocks.{entries}
-use Rattle.vdb_coord.specs.declared.Level.TheVariants.{Lower, Upper}
+use Rattle.vdb_coord.specs.declared.Level.TheVariants.{Upper}
 use Rattle.vdb_tree.specs.Layout.{bits_of, field_of}
 use Rattle.vdb_file.specs.Bodies.{lower_body}
 use Rattle.vdb_file.specs.internal.LoadedFields.{entry_box}

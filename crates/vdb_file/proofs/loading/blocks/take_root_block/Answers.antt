@@ -1,19 +1,15 @@
-use Rattle.std.proofs.Common.{◌≡◌, ◌∙◌, ◌<◌, ◌≤◌, ap, arith, refl, rules, subst, sym}
-use Rattle.std.specs.Prelude.{Err, Some, None}
+use Rattle.std.proofs.Common.{rules, subst, sym}
 use Rattle.std.proofs.lemmas.Result.{err_from_is_err_and, on_ok_weaker}
-use Rattle.vdb_coord.specs.Blocks.{block_around, entries, sub_block}
-use Rattle.vdb_coord.specs.Space.{Box}
-use Rattle.vdb_coord.specs.declared.Level.TheVariants.{Leaf, Lower, Upper}
+use Rattle.vdb_coord.specs.Blocks.{block_around}
+use Rattle.vdb_coord.specs.declared.Level.TheVariants.{Upper}
 use Rattle.vdb_coord.proofs.Meeting.{fits_everywhere}
 use Rattle.vdb_tree.specs.Layout.{bits_of, cell_at, field_of}
 use Rattle.vdb_tree.proofs.Uniform.{exact_by}
-use Rattle.vdb_scene.specs.Watched.{source}
-use Rattle.vdb_file.specs.Bodies.{leaf_body, lower_body, root_body, voxel_body}
+use Rattle.vdb_file.specs.Bodies.{lower_body}
 use Rattle.vdb_file.specs.internal.LoadedFields.{KeptOutside}
-use Rattle.vdb_file.specs.internal.Reading.{Took, place}
 use Rattle.vdb_file.proofs.HeadCodes.{voxel_values}
 use Rattle.vdb_file.proofs.BlockReads.{no_block_head}
-use Rattle.vdb_file.proofs.BlockResults.{memory_ended, memory_failed, node_result, one_result}
+use Rattle.vdb_file.proofs.BlockResults.{memory_ended, node_result, one_result}
 use Rattle.vdb_file.proofs.LoadedBlocks.{fill_keeps}
 use Rattle.vdb_file.proofs.loading.blocks.take_root_block.Goals as goal
 

@@ -1,10 +1,7 @@
-use Rattle.std.proofs.Common.{◌≡◌, ℕ, ◌^◌, refl}
-use Rattle.std.specs.Prelude.{Option}
 use Rattle.std.specs.Int.{w16, to_be_bytes}
 use Rattle.std.proofs.lemmas.Result.{err_from_is_err_and}
 use Rattle.vdb_scene.specs.Watched.{source}
 use Rattle.vdb_file.specs.Bodies.{cell_bytes}
-use Rattle.vdb_file.specs.internal.LeafVoxels.{IsVoxel, voxel_bytes}
 use Rattle.vdb_file.specs.internal.Reading.{place}
 use Rattle.vdb_file.proofs.LeafReads.{no_cell, no_index}
 use Rattle.vdb_file.proofs.Fronts.{took_both}

@@ -1,4 +1,4 @@
-use Rattle.std.proofs.Common.{◌≡◌, ◌∙◌, ap, subst}
+use Rattle.std.proofs.Common.{◌∙◌, ap, subst}
 use Rattle.std.specs.Prelude.{Err}
 use Rattle.vdb_coord.specs.Blocks.{block_around}
 use Rattle.vdb_coord.specs.Space.{Box}
@@ -6,7 +6,6 @@ use Rattle.vdb_coord.specs.declared.Level.TheVariants.{Upper}
 use Rattle.vdb_tree.specs.Field.{fill}
 use Rattle.vdb_tree.specs.Layout.{bits_of, cell_at, field_of}
 use Rattle.vdb_tree.specs.Outcome.{IsOutcome}
-use Rattle.vdb_tree.specs.declared.refusal.TreeRefusal.TheVariants.{RootLimit}
 use Rattle.vdb_file.proofs.LoadedBlocks.{fill_keeps, in_upper, kept_wider, no_root_limit}
 use Rattle.vdb_file.proofs.loading.leaf_blocks.fill_block.Goals as goal
 

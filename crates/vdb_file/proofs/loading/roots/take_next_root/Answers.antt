@@ -1,4 +1,3 @@
-use Rattle.std.proofs.Common.{◌≡◌, ap, rules, sym}
 use Rattle.std.proofs.lemmas.Result.{err_from_is_err_and}
 use Rattle.vdb_coord.specs.Blocks.{block}
 use Rattle.vdb_coord.specs.declared.Level.TheVariants.{Upper}

@@ -1,8 +1,6 @@
-use Rattle.std.proofs.Common.{◌≡◌, ◌<◌, ◌≤◌, ◌^◌, arith, rules}
+use Rattle.std.proofs.Common.{◌<◌, ◌^◌, arith, rules}
 use Rattle.std.proofs.lemmas.Result.{err_from_is_err_and}
-use Rattle.vdb_tree.specs.Layout.{bits_of, cell_at, field_of}
-use Rattle.vdb_scene.specs.Watched.{source}
-use Rattle.vdb_file.specs.internal.Reading.{place}
+use Rattle.vdb_tree.specs.Layout.{bits_of, cell_at}
 use Rattle.vdb_file.proofs.RootReads.{no_root_count, roots_result, too_many_roots}
 use Rattle.vdb_file.proofs.loading.roots.take_roots.Goals as goal
 

@@ -1,4 +1,4 @@
-use Rattle.std.proofs.Common.{◌≡◌, ◌≤◌, ◌-◌, ℕ, length, not}
+use Rattle.std.proofs.Common.{◌≡◌, ◌≤◌, ◌-◌, length, not}
 use Rattle.vdb_coord.specs.Blocks.{block_around, entries, sub_block}
 use Rattle.vdb_tree.specs.ConstantBlocks.{is_background}
 use Rattle.vdb_tree.specs.Layout.{bits_of, field_of}

@@ -1,4 +1,4 @@
-use Rattle.std.proofs.Common.{◌≡◌, ◌≤◌, ◌∙◌, arith, ap, sym, length, rules}
+use Rattle.std.proofs.Common.{◌≡◌, ◌∙◌, arith, ap, sym, length, rules}
 use Rattle.std.proofs.lemmas.Result.{on_ok_weaker}
 use Rattle.vdb_coord.specs.Blocks.{block_around, entries}
 use Rattle.vdb_coord.specs.declared.Level.TheVariants.{Leaf}

@@ -1,4 +1,4 @@
-use Rattle.std.proofs.Common.{arith, ◌≡◌, ◌∙◌, ℕ, ap, sym, subst, rules}
+use Rattle.std.proofs.Common.{arith, ◌≡◌, ◌∙◌, ℕ, sym, subst, rules}
 use Rattle.vdb_node.specs.Leaf.{cell_in}
 use Rattle.vdb_scene.specs.Watched.{source}
 use Rattle.vdb_file.specs.Bodies.{cell_bytes}

@@ -3,7 +3,6 @@ use Rattle.std.proofs.lemmas.Result.{on_ok_weaker}
 use Rattle.std.specs.Int.{w32}
 use Rattle.vdb_value.specs.Values.{number_bytes}
 use Rattle.vdb_file.proofs.Outputs.{puts_same, puts_then}
-use Rattle.vdb_file.proofs.MadeBodies.{made_roots}
 use Rattle.vdb_file.proofs.saving.nodes.put_key.Goals as goal
 
 pub returns-clause-puts : goal.returns-clause-puts
