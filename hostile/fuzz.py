@@ -3,9 +3,9 @@
 
 scripts: each random script is played as it is; with prunes, voxelises and look-ups put in and by other accessors; and in two
 sessions, the second of which loads what the first saved. Answers and saved bytes must be the same, and must be those that
-cells.py, a model apart from the program, gives for single voxels. memory: one growth of a random script is refused, or one and
-all after it; the other lines must answer, and the scene must save, as if the refused lines weren't there. files: what a random script saved is changed, and the
-program must answer the fault, or save the bytes, that spelling.py says."""
+cells.py, a model apart from the program, gives for single voxels. memory: one growth of a random script is refused, or one
+and all after it; the other lines must answer, and the scene must save, as if the refused lines weren't there. files: what a
+random script saved is changed, and the program must answer the fault, or save the bytes, that spelling.py says."""
 import random
 import sys
 import spelling

@@ -143,7 +143,8 @@ def main():
         if len(sys.argv) > 1 and name not in sys.argv[1:]:
             continue
         call = [sys.executable, here / f"{words[0]}.py", *words[1:]]
-        done = subprocess.run(call, env={**os.environ, "STRIDE": "7", "TURNS": "5", "PLANTED": name}, capture_output=True, text=True)
+        given = {**os.environ, "STRIDE": "7", "TURNS": "5", "PLANTED": name}
+        done = subprocess.run(call, env=given, capture_output=True, text=True)
         if done.returncode == 1 and re.search(r": \d+ passed, [1-9]\d* failed\n$", done.stdout):
             passed += 1
         else:

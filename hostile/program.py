@@ -39,9 +39,9 @@ class Workplace:
         subprocess.run(["gcc", "-O2", "-shared", "-fPIC", "-o", self.shim, HERE / "refuse.c"], check=True)
 
     def run(self, script, load=None, save_as=None, seconds=PATIENCE, named=False, **wrong):
-        """Plays a script (bytes, or the path of a file) from standard input or `named` as a word, on what `load` holds (bytes, or
-        the path of a file to load), and saves as `save_as` or in a file of its own. What is to go wrong is named as in refuse.c, in small
-        letters."""
+        """Plays a script (bytes, or the path of a file) from standard input or `named` as a word, on what `load` holds
+        (bytes, or the path of a file to load), and saves as `save_as` or in a file of its own. What is to go wrong is named
+        as in refuse.c, in small letters."""
         report, saved, words = self.folder / "report", Path(save_as or self.folder / "saved"), []
         report.unlink(missing_ok=True)
         if save_as is None:

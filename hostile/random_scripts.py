@@ -122,7 +122,9 @@ class Script:
 
     def meta(self):
         name, key = self.name(), self.chance.choice(KEYS)
-        return f"unmeta {name} {key}" if self.chance.random() < 0.3 else f"meta {name} {key} {self.chance.choice(['mm', '#', '~~'])}"
+        if self.chance.random() < 0.3:
+            return f"unmeta {name} {key}"
+        return f"meta {name} {key} {self.chance.choice(['mm', '#', '~~'])}"
 
     def wrong(self):
         return self.chance.choice(WRONG)

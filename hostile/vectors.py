@@ -150,13 +150,14 @@ def without_end(*parts):
 
 
 def planes(version, lowers=1024, leaves=0, pairs=()):
-    """Four grids of truth values, each true and active in the plane of x = 0 of one root block. The last has so many lower nodes
-    of the plane and a last one of so many leaves, and these pairs of a key and a text."""
+    """Four grids of truth values, each true and active in the plane of x = 0 of one root block. The last grid has so
+    many lower nodes of the plane and a last one of so many leaves, and these pairs of a key and a text."""
     leaf = b"\x03\x00\x40" + b"".join(index.to_bytes(2, "big") + b"\x02\x01" for index in range(64))
     entries = [index.to_bytes(2, "big") + leaf for index in range(256)]
     lower = b"\x03\x01\x00" + b"".join(entries)
     yield spelled("56444253") + version.to_bytes(2, "big") + b"\x00\x04"
-    for name, count, parts, metas in [(b"a", 1024, 0, ()), (b"b", 1024, 0, ()), (b"c", 1024, 0, ()), (b"d", lowers, leaves, pairs)]:
+    whole = [(name, 1024, 0, ()) for name in (b"a", b"b", b"c")]
+    for name, count, parts, metas in [*whole, (b"d", lowers, leaves, pairs)]:
         yield b"\x01" + name + b"\x00\x00" + (spelled("00001000") + pair_bytes(metas) if version == 2 else b"")
         yield b"\x00\x00\x00\x01" + bytes(12) + b"\x03" + (count + (parts > 0)).to_bytes(2, "big")
         for index in range(count):
