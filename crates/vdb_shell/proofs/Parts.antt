@@ -12,9 +12,9 @@ use Rattle.vdb_file.specs.declared.fault.LoadFault.{LoadFault}
 use Rattle.vdb_file.specs.declared.fault.SaveFault.{SaveFault}
 use Rattle.vdb_file.proofs.Scenes.{one_scene}
 use Rattle.vdb_shell.specs.Files.{Begins, Refuses}
-use Rattle.vdb_shell.specs.Session.{IsSession, PlaysFrom, PlaysOn, Saves, of_script, status}
+use Rattle.vdb_shell.specs.Session.{IsSession, IsUnloaded, PlaysFrom, PlaysOn, Saves, of_script, status}
 use Rattle.vdb_shell.specs.declared.fault.Fault.{Fault}
-use Rattle.vdb_shell.specs.declared.fault.Fault.TheVariants.{Load, Save}
+use Rattle.vdb_shell.specs.declared.fault.Fault.TheVariants.{Answers, Load, Save, Script}
 
 -- ---- before the script
 
@@ -50,7 +50,16 @@ refuses (Err f) remaining file given none = refuses_one remaining file f given n
 pub unloaded : (file : Option (List ℕ)) (script : List ℕ) (fault : Option Fault) (f : LoadFault) (code : ℕ) (last : Scene) → fault ≡ Some (Load f) → Refuses f file → code ≡ 3 → IsSession file script fault code [] [] last
 unloaded file script fault f code last is none three = subst (λ h. IsSession file script h code [] [] last) (sym is) (none, three, refl, refl)
 
--- and saves nothing
+-- one that loads a scene
+pub loaded_session : (file : Option (List ℕ)) (script : List ℕ) (fault : Option Fault) (code : ℕ) (given written : List ℕ) (last : Scene) → (IsUnloaded fault → ⊥)
+    → (first : Scene) → Begins file first → PlaysOn first script fault code given written last → IsSession file script fault code given written last
+loaded_session file script None code given written last reached first begun played = (first, begun, played)
+loaded_session file script (Some (Load f)) code given written last reached first begun played = absurd (reached tt)
+loaded_session file script (Some (Script f)) code given written last reached first begun played = (first, begun, played)
+loaded_session file script (Some Answers) code given written last reached first begun played = (first, begun, played)
+loaded_session file script (Some (Save f)) code given written last reached first begun played = (first, begun, played)
+
+-- and one that doesn't saves nothing
 pub saves_nothing : {D : Type 0} (given : Option D) (fault : Option Fault) (f : LoadFault) (last : Scene) (known : Option (List ℕ)) → fault ≡ Some (Load f) → IfSome given (λ d. Saves fault last known known)
 saves_nothing None fault f last known is = tt
 saves_nothing (Some d) fault f last known is = subst (λ h. Saves h last known known) (sym is) (same known)
