@@ -1,4 +1,4 @@
-use Rattle.std.proofs.Common.{◌≡◌, refl, sym, subst, [], Some}
+use Rattle.std.proofs.Common.{refl, sym, subst, [], Some}
 use Rattle.std.specs.Io.KnownBytes.{Consumes}
 use Rattle.std.proofs.KnownBytes.{Appends-nil}
 use Rattle.vdb_scene.specs.Grids.{scene_of}
