@@ -126,7 +126,9 @@ class Row:
         kept = [(line, answer) for line, answer in zip(self.lines, answers) if answer != MEMORY]
         short = self.run([line for line, _ in kept])
         what = f"all growths from {turn} on refused"
-        self.check(len(answers) == len(self.lines) > len(kept), f"{what}: {run.status}, {len(kept)} lines")
+        # where every command that is short of memory is refused in any case, none need say so
+        is_told = len(kept) < len(self.lines) or any(answer.startswith(b"error ") for answer in self.answers)
+        self.check(len(answers) == len(self.lines) and is_told, f"{what}: {run.status}, {len(kept)} lines")
         self.check(short.answers == b"".join(answer for _, answer in kept), f"{what}: the other lines answer otherwise")
         self.check(short.saved == run.saved, f"{what}: the scene is another")
 
@@ -148,7 +150,11 @@ class Row:
         saved, given = self.stood_before(place, asked)
         lines = [*self.lines[: place + 1], *asked]
         then = self.run(lines, refuse_growth=turn)
-        wanted = b"".join(self.answers[:place]) + MEMORY + given
+        before = b"".join(self.answers[:place])
+        # a command that is refused in any case may be refused for that
+        refusal = self.answers[place]
+        is_other = refusal.startswith(b"error ") and then.answers.startswith(before + refusal)
+        wanted = before + (refusal if is_other else MEMORY) + given
         self.check(then.answers == wanted, f"{what}: the refused command and the probes after it answer otherwise")
         self.check(then.saved == saved, f"{what}: the scene is not the one before")
         again = self.run([*lines, *self.lines[place:]], refuse_growth=turn)
