@@ -1,35 +1,155 @@
-//! `vdb` plays a script on sparse voxel grids: it reads the script from standard input, and writes the answer to each
-//! command to standard output before it reads the next.
+//! `vdb` plays a script on sparse voxel grids: it loads a scene file, if one is named, reads the script from a file or from
+//! standard input, writes the answer to each command to standard output before it reads the next, and saves the scene in the
+//! end, if a file for it is named.
 #![tactic(auto)]
 
-use std::process::ExitCode;
-use std::{env, io};
-use vdb_pool::Steps;
-use vdb_scene::Watched;
-use vdb_shell::session;
+ghost use Rattle.std.specs.Prelude.{◌≡◌, IfOk, false};
+ghost use Rattle.vdb_shell.specs.Files.{any_failed};
 
-/// The exit status of a wrong command line.
+use std::fs::File;
+use std::process::ExitCode;
+use std::{env, fs, io};
+use vdb_file::{LoadFault, SaveFault};
+use vdb_pool::Steps;
+use vdb_scene::{Scene, Watched};
+use vdb_script::ScriptFault;
+use vdb_shell::{Fault, Played, Words, finish, play, start, status, words};
+
+/// The exit status of a command line that is refused.
 const USAGE: u8 = 2;
 
 fn main(rt: HostRuntime) -> ExitCode {
-    if has_words(&rt) {
-        let _ = eprintln!(rt; "vdb: usage: vdb < SCRIPT");
-        return ExitCode::from(USAGE);
+    match collected(&rt) {
+        Ok(given) => run(&rt, given.as_slice()),
+        Err(_) => out_of_memory(&rt),
     }
-    let mut script = Watched::new(rt.stdin());
-    let mut answers = Watched::new(io::writer(&rt));
-    let mut steps = Steps::new(&rt);
-    let outcome = session(rt.alloc(), &mut script, &mut answers, &mut steps);
-    if let Some(fault) = outcome.fault {
-        let _ = eprintln!(rt; "{fault}");
-    }
-    ExitCode::from(outcome.status)
 }
 
-/// Whether the command line has a word beside the program's name, or can't be read for lack of memory.
-fn has_words(rt: &HostRuntime) -> bool {
-    match env::args(rt) {
-        Ok(words) => words.count() > 1,
-        Err(_) => true,
+/// The words of the command line, the program's name first.
+fn collected(rt: &HostRuntime) -> io::Result<Vec<String>> {
+    Ok(env::args(rt)?.collect(rt.alloc())?)
+}
+
+/// Reads the command line, and does what it says.
+fn run(rt: &HostRuntime, given: &[String]) -> ExitCode {
+    let texts: Vec<&str> = match given.iter().map(|word| word.as_str()).collect(rt.alloc()) {
+        Ok(texts) => texts,
+        Err(_) => return out_of_memory(rt),
+    };
+    match words(rt.alloc(), texts.as_slice()) {
+        Ok(named) => told(rt, carry_out(rt, &named)),
+        Err(fault) => refused(rt, &fault),
+    }
+}
+
+/// Tells that there is too little memory to read the command line.
+fn out_of_memory(rt: &HostRuntime) -> ExitCode {
+    let _ = eprintln!(rt; "error: out of memory");
+    ExitCode::from(USAGE)
+}
+
+/// Prints why there is nothing to do: help and the version to standard output, a fault to standard error.
+fn refused(rt: &HostRuntime, fault: &clap::Error) -> ExitCode {
+    let _ = fault.print(rt);
+    ExitCode::from(if fault.use_stderr() { USAGE } else { 0 })
+}
+
+/// Tells what ended the session early, if anything did.
+fn told(rt: &HostRuntime, played: Played) -> ExitCode {
+    if let Some(fault) = &played.fault {
+        let _ = eprintln!(rt; "{fault}");
+    }
+    ExitCode::from(status(played.refused, played.fault.as_ref()))
+}
+
+/// Loads, plays and saves what the words name, each file opened only when it is its turn.
+fn carry_out(rt: &HostRuntime, named: &Words<'_>) -> Played {
+    let mut steps = Steps::new(rt);
+    let mut scene = match load(rt, named.load, &mut steps) {
+        Ok(scene) => scene,
+        Err(fault) => {
+            return Played {
+                refused: false,
+                fault: Some(Fault::Load(fault)),
+            };
+        }
+    };
+    let played = play_named(rt, named.script, &mut scene, &mut steps);
+    if played.fault.is_some() {
+        return played;
+    }
+    match save(rt, named.save, &scene, &mut steps) {
+        Ok(()) => played,
+        Err(fault) => Played {
+            refused: played.refused,
+            fault: Some(Fault::Save(fault)),
+        },
+    }
+}
+
+/// The scene that the script begins with. A file that can't be opened can't be read.
+fn load(rt: &HostRuntime, path: Option<&str>, steps: &mut Steps) -> Result<Scene, LoadFault> {
+    let mut file = opened(rt, path)?;
+    start(rt.alloc(), &mut file, steps)
+}
+
+/// The scene file, if one is named.
+fn opened(rt: &HostRuntime, path: Option<&str>) -> Result<Option<Watched<File>>, LoadFault>
+    ensures { IfOk result (λ file. any_failed file ≡ false) }
+{
+    let Some(path) = path else {
+        return Ok(None);
+    };
+    match fs::open(rt, path) {
+        Ok(file) => Ok(Some(Watched::new(file))),
+        Err(_) => Err(LoadFault::Read),
+    }
+}
+
+/// Plays the script, which is standard input where no file is named. A file that can't be opened can't be read.
+fn play_named(
+    rt: &HostRuntime,
+    path: Option<&str>,
+    scene: &mut Scene,
+    steps: &mut Steps,
+) -> Played {
+    let mut answers = Watched::new(io::writer(rt));
+    let Some(path) = path else {
+        let mut script = Watched::new(rt.stdin());
+        return play(rt.alloc(), scene, &mut script, &mut answers, steps);
+    };
+    match fs::open(rt, path) {
+        Ok(file) => {
+            let mut script = Watched::new(file);
+            play(rt.alloc(), scene, &mut script, &mut answers, steps)
+        }
+        Err(_) => Played {
+            refused: false,
+            fault: Some(Fault::Script(ScriptFault::Read)),
+        },
+    }
+}
+
+/// Saves the scene, where a file for it is named. A file that can't be created can't be written.
+fn save(
+    rt: &HostRuntime,
+    path: Option<&str>,
+    scene: &Scene,
+    steps: &mut Steps,
+) -> Result<(), SaveFault> {
+    let mut file = created(rt, path)?;
+    finish(scene, &mut file, steps)
+}
+
+/// The file to save in, made anew, if one is named.
+fn created(rt: &HostRuntime, path: Option<&str>) -> Result<Option<Watched<File>>, SaveFault>
+    ensures { IfOk result (λ file. any_failed file ≡ false) }
+{
+    let Some(path) = path else {
+        return Ok(None);
+    };
+    match fs::create(rt, path) {
+        Ok(file) => Ok(Some(Watched::new(file))),
+        Err(_) => Err(SaveFault::Write),
     }
 }

@@ -1,8 +1,8 @@
 -- The voxels of a leaf that aren't the background.
-use Rattle.std.proofs.Common.{◌≡◌, ℕ, ◌+◌, ◌<◌, ◌≤◌, Bool, true, false, not, List, ◌∷◌, [], ◌++◌, arith, refl, sym, ap, subst, ◌∙◌, length, IsTrue}
+use Rattle.std.proofs.Common.{◌≡◌, ℕ, ◌+◌, ◌<◌, Bool, true, false, not, List, ◌++◌, refl, sym, ap, subst, ◌∙◌, length}
 use Rattle.std.specs.Prelude.{◌↔◌, IfSome, Option, Some, None, is_some}
 use Rattle.std.specs.Int.{w16, to_be_bytes}
-use Rattle.vdb_coord.specs.Blocks.{block_around, block_number, entries, node_bits, offset, sub_block}
+use Rattle.vdb_coord.specs.Blocks.{block_around, block_number, entries, node_bits, offset}
 use Rattle.vdb_coord.specs.Entries.{AreBits}
 use Rattle.vdb_coord.specs.Space.{Box, everywhere, is_inside}
 use Rattle.vdb_coord.specs.declared.Bits.{Bits}

@@ -1,8 +1,7 @@
 -- The entries of a block that hold anything but the background.
-use Rattle.std.proofs.Common.{◌≡◌, ◌⊎◌, inl, inr, ℕ, ◌+◌, ◌-◌, ◌<◌, ◌≤◌, Bool, true, false, not, List, arith, refl, sym, ap, subst, ◌∙◌, length, IsTrue}
-use Rattle.std.specs.Prelude.{Option, Some, None}
-use Rattle.vdb_coord.specs.Blocks.{block, block_around, block_number, entries, entry_numbers, offset, sub_block}
-use Rattle.vdb_coord.specs.Space.{Box, is_inside}
+use Rattle.std.proofs.Common.{◌≡◌, ◌⊎◌, inl, inr, ℕ, ◌+◌, ◌<◌, ◌≤◌, Bool, true, false, not, List, arith, refl, sym, ap, subst, ◌∙◌}
+use Rattle.vdb_coord.specs.Blocks.{block, block_around, entries, entry_numbers, offset, sub_block}
+use Rattle.vdb_coord.specs.Space.{Box}
 use Rattle.vdb_coord.specs.declared.Bits.{Bits}
 use Rattle.vdb_coord.specs.declared.Coord.{Coord}
 use Rattle.vdb_coord.specs.declared.Level.{Level}

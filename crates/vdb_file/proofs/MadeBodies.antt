@@ -1,5 +1,5 @@
 -- A field whose values are made others is spelled alike, where its values are.
-use Rattle.std.proofs.Common.{◌≡◌, ℕ, Bool, not, cond, if◌then◌else◌, List, ◌∷◌, ◌++◌, refl, sym, ap, ◌∙◌, length, filter}
+use Rattle.std.proofs.Common.{◌≡◌, ℕ, Bool, not, if◌then◌else◌, List, ◌∷◌, ◌++◌, ap, ◌∙◌, length, filter}
 use Rattle.std.specs.List.{flat_map}
 use Rattle.std.specs.Int.{w16, w32, to_be_bytes}
 use Rattle.std.proofs.Math.Path.{fun_ext}
@@ -10,10 +10,10 @@ use Rattle.vdb_coord.specs.declared.Coord.{Coord}
 use Rattle.vdb_coord.specs.declared.Level.{Level}
 use Rattle.vdb_coord.specs.declared.Level.TheVariants.{Leaf, Lower, Upper}
 use Rattle.vdb_tree.specs.ConstantBlocks.{is_background, is_constant, root_keys, roots}
-use Rattle.vdb_tree.specs.Field.{Field, as_cell_of, as_field_of, field, off}
+use Rattle.vdb_tree.specs.Field.{Field, as_field_of, field, off}
 use Rattle.vdb_tree.proofs.AsFieldOf.{as_field_of_cell, as_field_of_constant, as_field_of_uniform}
 use Rattle.vdb_value.specs.declared.Cell.{Cell}
-use Rattle.vdb_file.specs.Bodies.{block_bytes, cell_bytes, key_bytes, leaf_body, listed, lower_body, root_body, roots_bytes, voxel_body}
+use Rattle.vdb_file.specs.Bodies.{block_bytes, cell_bytes, key_bytes, listed, root_body, roots_bytes}
 
 module _ {V U : Type 0} (make : V → U) (background : V) (cells : Coord → Cell V) (eq : V → V → Bool) (made_eq : U → U → Bool) (same : (v w : V) → made_eq (make v) (make w) ≡ eq v w)
     (bytes : V → List ℕ) (made_bytes : U → List ℕ) (same_bytes : (v : V) → made_bytes (make v) ≡ bytes v) (bits : Bits) where
@@ -47,7 +47,7 @@ module _ {V U : Type 0} (make : V → U) (background : V) (cells : Coord → Cel
   made_root : root_body made_eq made_bytes bits made ≡ root_body eq bytes bits f
   made_root = made_block _ _ (made_block _ _ (made_block _ _ (fun_ext (λ b. made_cell b.min)) Leaf) Lower) Upper
 
-  made_keys : root_keys made_eq bits made ≡ root_keys eq bits f
+  pub made_keys : root_keys made_eq bits made ≡ root_keys eq bits f
   made_keys = ap (λ test. filter test (coordinates (block_numbers bits Upper))) (fun_ext (λ k. ap not (made_background (block bits Upper k))))
 
   -- the root blocks are spelled alike

@@ -1,9 +1,9 @@
 -- Bytes that are put and bytes that are written.
-use Rattle.std.proofs.Common.{◌≡◌, ℕ, ◌+◌, ◌-◌, ◌^◌, ◌<◌, ◌≤◌, List, [], ◌∷◌, ◌++◌, Option, Some, None, arith, refl, sym, ap, subst, ◌∙◌, append_assoc, append-nil, length, length-append, length-drop, min, take, drop, slice_range, take_all}
+use Rattle.std.proofs.Common.{◌≡◌, ℕ, ◌+◌, ◌-◌, ◌^◌, List, [], ◌++◌, Option, arith, sym, ap, subst, ◌∙◌, length, length-append, length-drop, min, take, drop, slice_range, take_all}
 use lib.Seq.{take-add}
-use Rattle.std.specs.Io.KnownBytes.{Appends, append_known}
+use Rattle.std.specs.Io.KnownBytes.{Appends}
 use Rattle.std.proofs.KnownBytes.{Appends-nil, Appends-trans}
-use Rattle.vdb_file.specs.internal.Written.{Kept, Puts, Sent, sent}
+use Rattle.vdb_file.specs.internal.Written.{Puts, Sent}
 
 -- ---- writing
 

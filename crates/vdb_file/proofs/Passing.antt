@@ -1,11 +1,11 @@
 -- The numbers that pass a test, gathered one after another.
 use Rattle.std.proofs.Common.{◌≡◌, ◌⊎◌, inl, inr, ℕ, zero, suc, ◌+◌, ◌-◌, ◌<◌, ◌≤◌, Bool, true, false, cond, not, List, [], ◌∷◌, ◌++◌, arith, refl, sym, ap, subst, ◌∙◌, append-nil, length, length-append, filter, take_all}
-use Rattle.std.specs.Prelude.{Option, Some, None, take}
+use Rattle.std.specs.Prelude.{Option, Some, take}
 use Rattle.std.specs.List.{flat_map, range_with_len, slice_get}
 use Rattle.std.specs.Int.{w16, to_be_bytes}
 use Rattle.std.proofs.lemmas.Grind.{flat_map-append}
 use Rattle.std.proofs.lemmas.List.Elements.{filter-append}
-use Rattle.vdb_node.specs.Entries.{IsFirstWithout, IsFirstWithoutAt}
+use Rattle.vdb_node.specs.Entries.{IsFirstWithoutAt}
 use Rattle.vdb_file.specs.internal.Written.{Puts, Sent, numbered, passing}
 use Rattle.vdb_file.proofs.Outputs.{puts_same, puts_then}
 

@@ -1,5 +1,5 @@
 -- The body of a block is put: the one cell, or the entries one after another.
-use Rattle.std.proofs.Common.{◌≡◌, ℕ, ◌+◌, ◌<◌, ◌≤◌, Bool, true, false, if◌then◌else◌, List, [], ◌∷◌, ◌++◌, refl, sym, ap, subst, ◌∙◌, length}
+use Rattle.std.proofs.Common.{◌≡◌, ℕ, ◌+◌, ◌<◌, ◌≤◌, Bool, true, false, List, ◌∷◌, ◌++◌, sym, subst, ◌∙◌, length}
 use Rattle.std.specs.Int.{w16, to_be_bytes}
 use Rattle.vdb_coord.specs.Blocks.{block_around, entries, sub_block}
 use Rattle.vdb_coord.specs.Space.{Box}
@@ -7,7 +7,7 @@ use Rattle.vdb_coord.specs.declared.Bits.{Bits}
 use Rattle.vdb_coord.specs.declared.Coord.{Coord}
 use Rattle.vdb_coord.specs.declared.Level.{Level}
 use Rattle.vdb_node.specs.Entries.{IsFirstWithoutAt}
-use Rattle.vdb_tree.specs.ConstantBlocks.{is_background, is_constant}
+use Rattle.vdb_tree.specs.ConstantBlocks.{is_constant}
 use Rattle.vdb_tree.specs.Field.{Field}
 use Rattle.vdb_value.specs.declared.Cell.{Cell}
 use Rattle.vdb_file.specs.Bodies.{block_bytes, cell_bytes, listed}

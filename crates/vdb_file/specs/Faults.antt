@@ -1,5 +1,8 @@
--- What the faults of saving say.
-use Rattle.std.specs.Prelude.{Bool, true, false, Result, Ok, Err}
+-- What the faults of loading and of saving say.
+use Rattle.std.specs.Prelude.{◌≡◌, ℕ, ◌<◌, ◌^◌, Bool, true, false, Result, Ok, Err, List, ◌++◌, length, codes, ⊤}
+use Rattle.std.specs.Int.{w16, to_be_bytes}
+use Rattle.vdb_file.specs.declared.fault.LoadFault.{LoadFault}
+use Rattle.vdb_file.specs.declared.fault.LoadFault.TheVariants as loads
 use Rattle.vdb_file.specs.declared.fault.SaveFault.{SaveFault}
 use Rattle.vdb_file.specs.declared.fault.SaveFault.TheVariants.{TooLong, Write}
 
@@ -8,3 +11,68 @@ abbrev pub is_write_fault : {X : Type 0} → Result X SaveFault → Bool
 is_write_fault (Ok x) = false
 is_write_fault (Err Write) = true
 is_write_fault (Err TooLong) = false
+
+-- whether it is the fault of a reader
+abbrev pub is_read_fault : {X : Type 0} → Result X LoadFault → Bool
+is_read_fault (Ok x) = false
+is_read_fault (Err loads.Read) = true
+is_read_fault (Err fault) = false
+
+-- a fault says something of the bytes, unless a growth was refused or the reader failed
+abbrev pub Claims : LoadFault → Type 0
+Claims loads.Memory = ⊥
+Claims loads.Read = ⊥
+Claims fault = ⊤
+
+-- a fault of a field behind the version
+abbrev pub IsInner : LoadFault → Type 0
+IsInner loads.Magic = ⊥
+IsInner loads.Version = ⊥
+IsInner loads.Trailing = ⊥
+IsInner fault = ⊤
+
+-- a fault of the first field
+abbrev pub IsMagicFault : LoadFault → Type 0
+IsMagicFault loads.Version = ⊥
+IsMagicFault loads.Trailing = ⊥
+IsMagicFault fault = ⊤
+
+-- a fault of the second
+abbrev pub IsVersionFault : LoadFault → Type 0
+IsVersionFault loads.Magic = ⊥
+IsVersionFault loads.Trailing = ⊥
+IsVersionFault fault = ⊤
+
+-- a fault of some field
+abbrev pub IsFieldFault : LoadFault → Type 0
+IsFieldFault loads.Trailing = ⊥
+IsFieldFault fault = ⊤
+
+-- a fault of a name or of a metadata pair
+abbrev pub IsOfForm : LoadFault → Type 0
+IsOfForm loads.Name = ⊤
+IsOfForm loads.Meta = ⊤
+IsOfForm fault = ⊥
+
+-- the first four bytes aren't `VDBS`
+pub record HasOtherMagic (bytes : List ℕ) : Type 0 where
+  pub magic : List ℕ
+  pub rest : List ℕ
+  pub begins : bytes ≡ magic ++ rest
+  pub four : length magic ≡ 4
+  pub differs : magic ≡ codes "VDBS" → ⊥
+
+-- the first two bytes are no version's
+pub record StartsWithOther (bytes : List ℕ) : Type 0 where
+  pub number : ℕ
+  pub rest : List ℕ
+  pub begins : bytes ≡ to_be_bytes w16 number ++ rest
+  pub small : number < 2 ^ 16
+  pub not_one : number ≡ 1 → ⊥
+  pub not_two : number ≡ 2 → ⊥
+
+-- the two bytes behind `VDBS` are no version's
+pub record HasOtherVersion (bytes : List ℕ) : Type 0 where
+  pub behind : List ℕ
+  pub begins : bytes ≡ codes "VDBS" ++ behind
+  pub other : StartsWithOther behind

@@ -1,5 +1,5 @@
 -- Which abstract scenes a scene can be: those that files spell.
-use Rattle.std.specs.Prelude.{◌≡◌, ◌≤◌, ℕ, Bool, true, false, List, length}
+use Rattle.std.specs.Prelude.{◌≡◌, ◌≤◌, ℕ, Bool, true, false, List, ◌∷◌, ◌++◌, length}
 use Rattle.std.specs.List.{AllByRecursion}
 use Rattle.std.specs.List.Sorted.{IsStrictlySortedBy}
 use Rattle.std.specs.Map.{keys_of}
@@ -17,6 +17,7 @@ use Rattle.vdb_scene.specs.Metas.{HasRisingKeys, Pairs, is_text}
 use Rattle.vdb_scene.specs.Names.{is_name}
 use Rattle.vdb_scene.specs.Scalars.{kind_of, scalar_eq}
 use Rattle.vdb_scene.specs.Scene.{Grid, Scene}
+use Rattle.vdb_file.specs.Spelling.{IsFileOf}
 use Rattle.vdb_scene.specs.declared.scalar.Scalar.{Scalar}
 use Rattle.vdb_scene.specs.declared.scalar.Scalar.TheVariants.{Bool as truth, I32, I64}
 
@@ -58,3 +59,13 @@ pub record IsScene (s : Scene) : Type 0 where
   pub few : length s ≤ 64
   pub in_order : IsStrictlySortedBy (slice_cmp nat_cmp) (keys_of s)
   pub grids : AllByRecursion IsGrid s
+
+-- a file of some scene, and a byte or more behind it
+pub record BeginsWithFile (bytes : List ℕ) : Type 0 where
+  pub scene : Scene
+  pub file : List ℕ
+  pub byte : ℕ
+  pub rest : List ℕ
+  pub is_scene : IsScene scene
+  pub is_file : IsFileOf file scene
+  pub begins : bytes ≡ file ++ (byte ∷ rest)

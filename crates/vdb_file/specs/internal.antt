@@ -1,3 +1,8 @@
 -- Words of private functions and of proofs alone: no public contract needs them.
 pub mod Written
 pub mod Following
+pub mod Reading
+pub mod Parts
+pub mod Loading
+pub mod LeafVoxels
+pub mod LoadedFields

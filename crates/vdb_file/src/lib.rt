@@ -3,10 +3,10 @@
 
 mod fault;
 mod laws;
-mod output;
-mod save_bodies;
+mod loading;
 mod saving;
 
 pub use fault::{LoadFault, SaveFault};
 pub use laws::spelling_laws;
+pub use loading::load;
 pub use saving::{FILE_LIMIT, length, save};

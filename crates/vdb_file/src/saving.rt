@@ -17,9 +17,14 @@ ghost use Rattle.vdb_file.specs.Faults.{is_write_fault};
 ghost use Rattle.vdb_file.specs.Spelling.{counted, file_limit, grid_bytes, head_bytes, kind_bytes, pairs_bytes, spelling};
 ghost use Rattle.vdb_file.specs.internal.Written.{Puts, sent};
 
+mod leaves;
+mod nodes;
+mod output;
+
 use crate::fault::SaveFault;
-use crate::output::{COUNTING, Output, WRITING};
-use crate::save_bodies::{put_roots, put_value};
+use crate::saving::leaves::put_value;
+use crate::saving::nodes::put_roots;
+use crate::saving::output::{COUNTING, Output, WRITING};
 use std::io;
 use std::io::Write;
 use vdb_pool::Steps;

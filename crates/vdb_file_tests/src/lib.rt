@@ -1,4 +1,4 @@
-//! Tests of saved scenes, by public calls alone.
+//! Tests of saved and loaded scenes, by public calls alone.
 #![tactic(auto)]
 
 #[cfg(test)]

@@ -1,15 +1,26 @@
-//! Scenes saved as files.
+//! Scenes saved as files, and loaded from them.
 
-use std::io;
-use std::io::Write;
+mod loading;
+mod readers;
+mod refused;
+mod saving;
+
 use std::process::Abort;
-use vdb_file::{SaveFault, length, save};
+use vdb_coord::Coord;
+use vdb_file::{LoadFault, length, load, save};
 use vdb_pool::Steps;
-use vdb_scene::{Answer, Command, Corners, Literal, MetaText, Name, Num, Point, Scene, Watched};
-use vdb_value::Kind;
+use vdb_scene::{Name, Scalar, Scene, Watched};
+use vdb_value::Cell;
+
+/// The empty scene, in version 1.
+const OLD_EMPTY: &[u8] = b"VDBS\0\x01\0\0";
 
 /// The empty scene.
 const EMPTY: &[u8] = b"VDBS\0\x02\0\0";
+
+/// Grid `a` of i32 with background 0, in which (1, 2, 3) is 5, active, in version 1.
+const OLD_VOXEL: &[u8] =
+    b"VDBS\0\x01\0\x01\x01a\x01\0\0\0\0\0\0\0\x01\0\0\0\0\0\0\0\0\0\0\0\0\x03\0\x01\0\0\x03\0\x01\0\0\x03\0\x01\0\x53\x02\0\0\0\x05";
 
 /// Grid `a` of i32 with background 0, in which (1, 2, 3) is 5, active.
 const VOXEL: &[u8] =
@@ -18,6 +29,30 @@ const VOXEL: &[u8] =
 /// The same with the metadata pair `unit mm`.
 const WITH_PAIR: &[u8] =
     b"VDBS\0\x02\0\x01\x01a\x01\0\0\0\0\0\0\x10\0\x01\x04unit\x02mm\0\0\0\x01\0\0\0\0\0\0\0\0\0\0\0\0\x03\0\x01\0\0\x03\0\x01\0\0\x03\0\x01\0\x53\x02\0\0\0\x05";
+
+/// Grid `a` of i32 with background 0, in which (1, 2, 3) is 5, inactive, in version 1.
+const OLD_INACTIVE: &[u8] =
+    b"VDBS\0\x01\0\x01\x01a\x01\0\0\0\0\0\0\0\x01\0\0\0\0\0\0\0\0\0\0\0\0\x03\0\x01\0\0\x03\0\x01\0\0\x03\0\x01\0\x53\x01\0\0\0\x05";
+
+/// The same in version 2.
+const INACTIVE: &[u8] =
+    b"VDBS\0\x02\0\x01\x01a\x01\0\0\0\0\0\0\x10\0\0\0\0\0\x01\0\0\0\0\0\0\0\0\0\0\0\0\x03\0\x01\0\0\x03\0\x01\0\0\x03\0\x01\0\x53\x01\0\0\0\x05";
+
+/// Grid `m` of truth values with background true, in which (0, 0, 0) is true, active, in version 1.
+const OLD_TRUTH: &[u8] =
+    b"VDBS\0\x01\0\x01\x01m\0\x01\0\0\0\x01\0\0\0\0\0\0\0\0\0\0\0\0\x03\0\x01\0\0\x03\0\x01\0\0\x03\0\x01\0\0\x02\x01";
+
+/// The same in version 2.
+const TRUTH: &[u8] =
+    b"VDBS\0\x02\0\x01\x01m\0\x01\0\0\x10\0\0\0\0\0\x01\0\0\0\0\0\0\0\0\0\0\0\0\x03\0\x01\0\0\x03\0\x01\0\0\x03\0\x01\0\0\x02\x01";
+
+/// Grid `a` of i32 with background 0, in which (-1, -1, -1) is 7, active, in version 1.
+const OLD_CORNER: &[u8] =
+    b"VDBS\0\x01\0\x01\x01a\x01\0\0\0\0\0\0\0\x01\xff\xff\xff\xff\xff\xff\xff\xff\xff\xff\xff\xff\x03\0\x01\x7f\xff\x03\0\x01\x0f\xff\x03\0\x01\x01\xff\x02\0\0\0\x07";
+
+/// The same in version 2.
+const CORNER: &[u8] =
+    b"VDBS\0\x02\0\x01\x01a\x01\0\0\0\0\0\0\x10\0\0\0\0\0\x01\xff\xff\xff\xff\xff\xff\xff\xff\xff\xff\xff\xff\x03\0\x01\x7f\xff\x03\0\x01\x0f\xff\x03\0\x01\x01\xff\x02\0\0\0\x07";
 
 /// Grid `a` of i32 with background 0, in which the lower block at the origin is 3, active.
 const BLOCK: &[u8] =
@@ -28,71 +63,30 @@ const BLOCK: &[u8] =
 const TWO: &[u8] =
     b"VDBS\0\x02\0\x02\x01a\x02\xff\xff\xff\xff\xff\xff\xff\xff\0\0\0\x02\0\0\0\0\x01\xff\xff\xff\xff\xff\xff\xff\xff\xff\xff\xff\xff\x03\0\x01\x7f\xff\x03\0\x01\x0f\xff\x03\0\x01\x01\xff\x01\0\0\0\0\0\0\0\x07\x02b_\0\0\0\0\x10\0\0\0\0\0\x01\0\0\0\0\0\0\0\0\0\0\0\0\x03\0\x01\0\0\x03\0\x01\0\0\x03\0\x01\0\0\x02\x01";
 
-/// A writer that takes so many bytes and then fails.
-#[derive(Drop)]
-struct Short {
-    left: usize,
-}
-
-impl Write for Short {
-    fn write(&mut self, buf: &[u8]) -> io::Result<usize> {
-        if self.left == 0 {
-            return Err(io::Error::from(io::ErrorKind::Other));
-        }
-        let taken = buf.len().min(self.left);
-        self.left -= taken;
-        Ok(taken)
-    }
-
-    fn flush(&mut self) -> io::Result<()> {
-        Ok(())
-    }
-}
-
-/// A number of a line.
-fn near(value: i64) -> Literal {
-    Literal::Number(Num::Near(value))
-}
-
 /// A name.
 fn name(rt: &impl Abort, bytes: &[u8]) -> Name {
     Name::new(bytes).expect(rt, "the bytes are a name")
 }
 
-/// A coordinate of a line.
-fn point(x: i64, y: i64, z: i64) -> Point {
-    Point {
-        x: Num::Near(x),
-        y: Num::Near(y),
-        z: Num::Near(z),
+/// Bytes one after another.
+fn joined(rt: &(impl Abort + AllocGlobal), parts: &[&[u8]]) -> Vec<u8> {
+    let mut bytes = Vec::new(rt.alloc());
+    for part in parts {
+        bytes.extend_from_slice(part).expect(rt, "memory");
     }
+    bytes
 }
 
-/// Carries out a command that isn't refused.
-fn carry_out(rt: &impl Abort, scene: &mut Scene, command: &Command, steps: &mut Steps) {
-    match scene.apply(command, steps) {
-        Answer::Done => {}
-        _ => assert!(rt; false),
+/// Bytes of which some have other values, each at its place.
+fn changed(rt: &(impl Abort + AllocGlobal), file: &[u8], changes: &[(usize, u8)]) -> Vec<u8> {
+    let mut bytes = joined(rt, [file].as_slice());
+    for change in changes {
+        match bytes.get_mut(change.0) {
+            Some(byte) => *byte = change.1,
+            None => assert!(rt; false, "no byte {}", change.0),
+        }
     }
-}
-
-/// Makes a grid.
-fn add(
-    rt: &impl Abort,
-    scene: &mut Scene,
-    name: Name,
-    kind: Kind,
-    background: Literal,
-    limit: Option<Num>,
-    steps: &mut Steps,
-) {
-    let command = Command::Grid {
-        name,
-        kind,
-        background,
-        limit,
-    };
-    carry_out(rt, scene, &command, steps);
+    bytes
 }
 
 /// Whether saving the scene gives these bytes, as many as `length` says.
@@ -105,147 +99,34 @@ fn saves(rt: &(impl Abort + AllocGlobal), scene: &Scene, bytes: &[u8], steps: &m
         && !writer.failed()
 }
 
-/// A scene with grid `a` of i32 with background 0.
-fn with_grid(rt: &(impl Abort + AllocGlobal), steps: &mut Steps) -> Scene {
-    let mut scene = Scene::new(rt.alloc());
-    let a = name(rt, b"a");
-    add(rt, &mut scene, a, Kind::I32, near(0), None, steps);
+/// The scene of a file, all of which is read.
+fn loaded(rt: &(impl Abort + AllocGlobal), file: &[u8], steps: &mut Steps) -> Scene {
+    let mut reader = Watched::new(file);
+    let scene = load(rt.alloc(), &mut reader, steps).expect(rt, "the bytes spell a scene");
+    assert!(rt; reader.get_ref().is_empty());
+    assert!(rt; !reader.failed());
     scene
 }
 
-/// The same, in which (1, 2, 3) is 5, active.
-fn with_voxel(rt: &(impl Abort + AllocGlobal), steps: &mut Steps) -> Scene {
-    let mut scene = with_grid(rt, steps);
-    let set = Command::Set {
-        name: name(rt, b"a"),
-        accessor: None,
-        at: point(1, 2, 3),
-        value: near(5),
-    };
-    carry_out(rt, &mut scene, &set, steps);
-    scene
-}
-
-#[test]
-fn the_empty_scene_has_eight_bytes(rt: HostRuntime) {
-    let mut steps = Steps::new(&rt);
-    assert!(rt; saves(&rt, &Scene::new(rt.alloc()), EMPTY, &mut steps));
-}
-
-#[test]
-fn a_voxel_is_spelled_by_its_path(rt: HostRuntime) {
-    let mut steps = Steps::new(&rt);
-    let mut scene = with_voxel(&rt, &mut steps);
-    assert!(rt; saves(&rt, &scene, VOXEL, &mut steps));
-    let unit = name(&rt, b"unit");
-    let text = MetaText::new(b"mm").expect(&rt, "the text has its form");
-    let put = scene.set_meta(&name(&rt, b"a"), unit, text);
-    assert!(rt; put == Ok(()));
-    assert!(rt; saves(&rt, &scene, WITH_PAIR, &mut steps));
-}
-
-#[test]
-fn a_writer_that_fails_is_told(rt: HostRuntime) {
-    let mut steps = Steps::new(&rt);
-    let scene = with_voxel(&rt, &mut steps);
-    for left in 0..VOXEL.len() {
-        let mut writer = Watched::new(Short { left });
-        assert!(rt; save(&scene, &mut writer, &mut steps) == Err(SaveFault::Write));
-        assert!(rt; writer.failed());
+/// Why bytes aren't loaded; `None` where they are.
+fn fault_of(rt: &(impl Abort + AllocGlobal), file: &[u8], steps: &mut Steps) -> Option<LoadFault> {
+    let mut reader = Watched::new(file);
+    match load(rt.alloc(), &mut reader, steps) {
+        Ok(_) => None,
+        Err(fault) => Some(fault),
     }
-    let mut writer = Watched::new(Short { left: VOXEL.len() });
-    assert!(rt; save(&scene, &mut writer, &mut steps) == Ok(56));
 }
 
-#[test]
-fn nodes_of_one_cell_do_not_show(rt: HostRuntime) {
-    let mut steps = Steps::new(&rt);
-    let mut scene = with_grid(&rt, &mut steps);
-    let corners = Corners {
-        min: point(0, 0, 0),
-        max: point(127, 127, 127),
-    };
-    let a = name(&rt, b"a");
-    let fill = Command::Fill {
-        name: a,
-        corners,
-        value: near(3),
-        on: true,
-    };
-    carry_out(&rt, &mut scene, &fill, &mut steps);
-    assert!(rt; saves(&rt, &scene, BLOCK, &mut steps));
-    let voxelise = Command::Voxelise { name: a, corners };
-    carry_out(&rt, &mut scene, &voxelise, &mut steps);
-    assert!(rt; saves(&rt, &scene, BLOCK, &mut steps));
-}
-
-#[test]
-fn grids_of_each_kind_come_by_their_names(rt: HostRuntime) {
-    let mut steps = Steps::new(&rt);
-    let mut scene = Scene::new(rt.alloc());
-    let b = name(&rt, b"b_");
-    add(
-        &rt,
-        &mut scene,
-        b,
-        Kind::Bool,
-        Literal::Truth(false),
-        None,
-        &mut steps,
-    );
-    let a = name(&rt, b"a");
-    let limit = Some(Num::Near(2));
-    add(&rt, &mut scene, a, Kind::I64, near(-1), limit, &mut steps);
-    let unset = Command::Unset {
-        name: a,
-        accessor: None,
-        at: point(-1, -1, -1),
-        value: near(7),
-    };
-    carry_out(&rt, &mut scene, &unset, &mut steps);
-    let set = Command::Set {
-        name: b,
-        accessor: None,
-        at: point(0, 0, 0),
-        value: Literal::Truth(true),
-    };
-    carry_out(&rt, &mut scene, &set, &mut steps);
-    assert!(rt; saves(&rt, &scene, TWO, &mut steps));
-}
-
-#[test]
-fn a_scene_that_is_too_long_leaves_the_writer(rt: HostRuntime) {
-    let mut steps = Steps::new(&rt);
-    let mut scene = Scene::new(rt.alloc());
-    let a = name(&rt, b"a");
-    add(
-        &rt,
-        &mut scene,
-        a,
-        Kind::Bool,
-        Literal::Truth(false),
-        None,
-        &mut steps,
-    );
-    let fill = Command::Fill {
-        name: a,
-        corners: Corners {
-            min: point(0, 0, 0),
-            max: point(0, 4095, 4095),
-        },
-        value: Literal::Truth(true),
-        on: true,
-    };
-    carry_out(&rt, &mut scene, &fill, &mut steps);
-    for bytes in [b"b".as_slice(), b"c".as_slice(), b"d".as_slice()] {
-        let copy = Command::Copy {
-            from: a,
-            to: name(&rt, bytes),
-        };
-        carry_out(&rt, &mut scene, &copy, &mut steps);
+/// What a scene's grid holds at a coordinate; `None` where the scene has no such grid.
+fn cell_of(
+    rt: &impl Abort,
+    scene: &Scene,
+    grid: &[u8],
+    at: Coord,
+    steps: &mut Steps,
+) -> Option<Cell<Scalar>> {
+    match scene.get(&name(rt, grid)) {
+        Some(grid) => Some(grid.get(at, steps)),
+        None => None,
     }
-    assert_eq!(rt; length(&scene, &mut steps), 273_698_936);
-    let mut writer = Watched::new(Vec::new(rt.alloc()));
-    assert!(rt; save(&scene, &mut writer, &mut steps) == Err(SaveFault::TooLong));
-    assert!(rt; writer.get_ref().is_empty());
 }

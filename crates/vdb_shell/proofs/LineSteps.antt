@@ -1,8 +1,7 @@
 -- What a line that was read does.
-use Rattle.std.proofs.Common.{◌≡◌, refl, sym, ap, ◌∙◌, subst, ℕ, ◌<◌, Bool, true, false, ◌||◌, List, [], ◌∷◌, ◌++◌, length, cond, Option, Some, None, Result, Ok, Err, arith, append-nil}
+use Rattle.std.proofs.Common.{◌≡◌, refl, sym, ap, ◌∙◌, subst, ℕ, ◌<◌, Bool, true, false, ◌||◌, List, [], ◌∷◌, length, cond, Option, Some, Result, Ok, Err, arith, append-nil}
 use Rattle.std.specs.Prelude.{nat_lt}
 use Rattle.std.specs.Io.KnownBytes.{Appends}
-use Rattle.std.proofs.KnownBytes.{Appends-nil}
 use Rattle.std.proofs.lemmas.Bool.Decides.{nat_tests}
 use Rattle.vdb_scene.specs.Doing.{ShowsStep}
 use Rattle.vdb_scene.specs.Scene.{Scene}

@@ -1,20 +1,18 @@
 -- One turn of playing a script: a line whose answer went out, and one whose answer didn't.
-use Rattle.std.proofs.Common.{◌≡◌, refl, sym, ap, ◌∙◌, subst, ℕ, Bool, true, false, ◌||◌, is_err, List, [], ◌∷◌, ◌++◌, ◌^◌, Option, Some, None, Result, Ok, Err, append-nil}
-use Rattle.std.specs.List.{list_any}
+use Rattle.std.proofs.Common.{◌≡◌, refl, sym, ap, ◌∙◌, subst, ℕ, Bool, true, false, ◌||◌, is_err, List, [], ◌∷◌, ◌++◌, ◌^◌, Option, Some, None, Result, Ok, Err}
 use Rattle.std.specs.Io.KnownBytes.{Appends, Consumes, prepend_known}
 use Rattle.std.proofs.KnownBytes.{Appends-nil, Appends-trans}
 use Rattle.std.proofs.lemmas.Grind.{flat_map-append}
 use Rattle.vdb_scene.specs.Scene.{Scene}
 use Rattle.vdb_scene.specs.Replies.{Reply}
 use Rattle.vdb_script.specs.Reading.{YieldsEnd, YieldsLine, YieldsPart, YieldsTooMuch, Stock, budget}
-use Rattle.vdb_script.specs.Run.{TakesLine, read}
 use Rattle.vdb_script.specs.Text.{answers_text, text}
 use Rattle.vdb_script.specs.Writing.{HasCut}
 use Rattle.vdb_script.specs.declared.output.WriteFault.{WriteFault}
 use Rattle.vdb_script.specs.declared.source.ScriptFault.{ScriptFault}
 use Rattle.vdb_script.specs.declared.source.ScriptFault.TheVariants.{Read, TooLong}
 use Rattle.vdb_shell.specs.internal.Answering.{GoesOut, TakesTurn, is_read_ending}
-use Rattle.vdb_shell.specs.Session.{PlaysFrom, is_refused}
+use Rattle.vdb_shell.specs.Session.{PlaysFrom}
 use Rattle.vdb_shell.specs.declared.fault.Fault.{Fault}
 use Rattle.vdb_shell.specs.declared.playing.Turn.{Turn}
 use Rattle.vdb_shell.specs.declared.fault.Fault.TheVariants.{Answers, Script}

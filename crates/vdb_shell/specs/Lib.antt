@@ -1,3 +1,5 @@
 -- Sessions.
+pub mod CommandLine
+pub mod Files
 pub mod Session
 pub mod internal

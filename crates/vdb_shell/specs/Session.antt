@@ -1,14 +1,18 @@
--- What a session reads, carries out and answers.
+-- What a session loads, carries out, answers and saves.
 use Rattle.std.specs.Prelude.{◌≡◌, ℕ, ◌^◌, ◌<◌, ◌≤◌, ◌+◌, Bool, true, false, if◌then◌else◌, List, [], ◌∷◌, ◌++◌, length, take, Option, Some, None}
 use Rattle.std.specs.List.{list_any}
 use Rattle.vdb_scene.specs.Scene.{Scene}
 use Rattle.vdb_scene.specs.Replies.{Reply, Done, Refused, Value, Listing, Slice, Count, Bounds, Census, Pairs}
+use Rattle.std.specs.Io.KnownBytes.{Appends, Keeps}
+use Rattle.vdb_file.specs.Spelling.{Spells, file_limit, spelling}
+use Rattle.vdb_file.specs.declared.fault.SaveFault.TheVariants as faults
 use Rattle.vdb_script.specs.Lines.{lines, script_lines, whole_lines}
 use Rattle.vdb_script.specs.Run.{Run}
 use Rattle.vdb_script.specs.Text.{answers_text, text}
 use Rattle.vdb_script.specs.declared.source.ScriptFault.TheVariants as script_faults
 use Rattle.vdb_shell.specs.declared.fault.Fault.{Fault}
-use Rattle.vdb_shell.specs.declared.fault.Fault.TheVariants.{Script, Answers}
+use Rattle.vdb_shell.specs.declared.fault.Fault.TheVariants.{Load, Script, Answers, Save}
+use Rattle.vdb_shell.specs.Files.{Begins, Refuses}
 
 -- whether an answer is a refusal
 abbrev pub is_refused : Reply → Bool
@@ -22,9 +26,12 @@ is_refused (Bounds box) = false
 is_refused (Census counts) = false
 is_refused (Pairs pairs) = false
 
--- the exit status: 4 after a fault, else 1 where a line was refused, else 0
+-- the exit status: 3 where nothing was loaded, 4 after another fault, else 1 where a line was refused, else 0
 abbrev pub status : Bool → Option Fault → ℕ
-status refused (Some fault) = 4
+status refused (Some (Load fault)) = 3
+status refused (Some (Script fault)) = 4
+status refused (Some Answers) = 4
+status refused (Some (Save fault)) = 4
 status refused None = if refused then 1 else 0
 
 -- the prefix is the first bytes of the whole
@@ -48,6 +55,9 @@ Plays s script (Some Answers) given written replies last =
     (n : ℕ) × (before : List Reply) × (final : Reply) × (part : List ℕ)
     × (n ≤ length (lines given)) × Run s (take n (script_lines script)) replies last
     × (replies ≡ before ++ final ∷ []) × (written ≡ answers_text before ++ part) × IsPrefixOf part (text final)
+-- no other fault ends a script
+Plays s script (Some (Load fault)) given written replies last = ⊥
+Plays s script (Some (Save fault)) given written replies last = ⊥
 
 -- From the scene s on: the answers and the last scene of a run over the script, as far as the fault lets it go; at most
 -- one byte past the limit is asked for; and whether some line was refused.
@@ -57,9 +67,44 @@ pub record PlaysFrom (s : Scene) (script : List ℕ) (fault : Option Fault) (any
   pub few : length given ≤ 2 ^ 24 + 1
   pub refused : any_refused ≡ list_any is_refused replies
 
--- A session plays the script from the empty scene, and its status tells how it ended.
-pub record IsSession (script : List ℕ) (fault : Option Fault) (code : ℕ) (given written : List ℕ) : Type 0 where
+-- it is a fault of a script or of its answers
+abbrev pub IsOfScript : Fault → Type 0
+IsOfScript (Load fault) = ⊥
+IsOfScript (Script fault) = Unit {0}
+IsOfScript Answers = Unit {0}
+IsOfScript (Save fault) = ⊥
+
+-- the fault that ended the script: none where the scene couldn't be saved, since it was played whole
+abbrev pub of_script : Option Fault → Option Fault
+of_script (Some (Save fault)) = None
+of_script fault = fault
+
+-- whether the script was reached
+abbrev pub IsUnloaded : Option Fault → Type 0
+IsUnloaded (Some (Load fault)) = Unit {0}
+IsUnloaded _ = ⊥
+
+-- From the scene s on: the script is played, and the status tells how the session ended.
+pub record PlaysOn (s : Scene) (script : List ℕ) (fault : Option Fault) (code : ℕ) (given written : List ℕ) (last : Scene) : Type 0 where
   pub refused : Bool
-  pub last : Scene
-  pub plays : PlaysFrom [] script fault refused given written last
+  pub plays : PlaysFrom s script (of_script fault) refused given written last
   pub status : code ≡ status refused fault
+
+-- The whole session: where nothing could be loaded, nothing is read of the script.
+abbrev pub IsSession : Option (List ℕ) → List ℕ → Option Fault → ℕ → List ℕ → List ℕ → Scene → Type 0
+IsSession file script (Some (Load fault)) code given written last = Refuses fault file × (code ≡ 3) × (given ≡ []) × (written ≡ [])
+IsSession file script fault code given written last = (first : Scene) × Begins file first × PlaysOn first script fault code given written last
+
+-- What is saved of the last scene, by the session's fault: all bytes of its spelling; nothing, where that is too long or
+-- something failed before; and of a writer that failed nothing is said but that it could have been saved.
+abbrev pub Saves : Option Fault → Scene → Option (List ℕ) → Option (List ℕ) → Type 0
+Saves None last old new = (bytes : List ℕ) × Spells bytes last × Appends old new bytes
+Saves (Some (Save faults.TooLong)) last old new = (file_limit < length (spelling last)) × Keeps old new
+Saves (Some (Save faults.Write)) last old new = length (spelling last) ≤ file_limit
+Saves (Some fault) last old new = Keeps old new
+
+-- no byte of a file is written
+abbrev pub WritesNoFile : Option Fault → Type 0
+WritesNoFile None = ⊥
+WritesNoFile (Some (Save faults.Write)) = ⊥
+WritesNoFile (Some fault) = Unit {0}

@@ -4,24 +4,32 @@ ghost use Rattle.std.specs.Option.{option_copied};
 ghost use Rattle.vdb_shell.specs.Session.{status as status_of};
 
 use thiserror::Error;
+use vdb_file::{LoadFault, SaveFault};
 use vdb_script::ScriptFault;
 
 /// Why a session ends early. Its text is the line that the program writes to standard error.
 #[derive(Clone, Copy, Debug, PartialEq, Eq, Error)]
 pub enum Fault {
+    /// The scene file can't be read, or spells no scene.
+    #[error("vdb: load: {0}")]
+    Load(LoadFault),
     /// The rest of the script can't be read, or is too long.
     #[error("vdb: script: {0}")]
     Script(ScriptFault),
     /// The answers can't be written.
     #[error("vdb: answers: write")]
     Answers,
+    /// The scene can't be written, or its file would be too long.
+    #[error("vdb: save: {0}")]
+    Save(SaveFault),
 }
 
-/// The exit status of a session: 4 after a fault, else 1 where some line was refused, else 0.
+/// The exit status of a session: 3 where nothing was loaded, 4 after another fault, else 1 where some line was refused, else 0.
 pub fn status(refused: bool, fault: Option<&Fault>) -> u8
     ensures { result ≡ status_of refused (option_copied fault.entry) }
 {
     match fault {
+        Some(Fault::Load(_)) => 3,
         Some(_) => 4,
         None => u8::from(refused),
     }

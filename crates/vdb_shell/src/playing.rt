@@ -1,5 +1,5 @@
 //! A script that is played on a scene, line by line.
-ghost use Rattle.std.specs.Prelude.{◌≡◌, ◌<◌, ◌||◌, ◌↔◌, false, true, Some, None, Err, IfOk, OnOk, OnErr, IsTrue, is_err, ℕ, List, length};
+ghost use Rattle.std.specs.Prelude.{◌≡◌, ◌<◌, ◌||◌, ◌↔◌, false, true, Some, None, Err, IfOk, IfSome, OnOk, OnErr, IsTrue, is_err, ℕ, List, length};
 ghost use Rattle.std.specs.Io.KnownBytes.{Appends, Consumes};
 ghost use Rattle.vdb_scene.specs.Grids.{scene_of};
 ghost use Rattle.vdb_scene.specs.Shown.{Shows};
@@ -9,7 +9,7 @@ ghost use Rattle.vdb_script.specs.Reading.{EndsWith, YieldsEnd, YieldsLine, Yiel
 ghost use Rattle.vdb_script.specs.Text.{text};
 ghost use Rattle.vdb_script.specs.Writing.{Writes};
 ghost use Rattle.vdb_shell.specs.internal.Answering.{TakesTurn, is_read_ending};
-ghost use Rattle.vdb_shell.specs.Session.{PlaysFrom, is_refused};
+ghost use Rattle.vdb_shell.specs.Session.{IsOfScript, PlaysFrom, is_refused};
 
 use crate::Fault;
 use std::alloc::Global;
@@ -55,7 +55,9 @@ pub fn play<R: Read, W: Write>(
         × Consumes (Some bytes) (R.remaining (source script.new)) given
         × Appends (W.contents (source answers.old)) (W.contents (source answers.new)) written
         × PlaysFrom (scene_of scene.old) bytes result.fault result.refused given written (scene_of scene.new) }
-    // A fault of reading or writing comes exactly where that reader or writer failed.
+    // A fault is one of the script or of its answers, and one of reading or writing comes exactly where that reader or writer
+    // failed.
+    ensures faults { IfSome result.fault IsOfScript }
     ensures script { (result.fault ≡ Some (Fault.Script ScriptFault.Read)) ↔ IsTrue (has_failed script.new) }
     ensures answers { (result.fault ≡ Some Fault.Answers) ↔ IsTrue (has_failed answers.new) }
 {

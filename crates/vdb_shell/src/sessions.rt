@@ -1,12 +1,16 @@
 //! Sessions.
-ghost use Rattle.std.specs.Prelude.{◌≡◌, ◌↔◌, false, Some, IsTrue, ℕ, List};
+ghost use Rattle.std.specs.Prelude.{◌≡◌, ◌↔◌, false, true, Option, Some, IfSome, IsSome, IsTrue, is_some, ℕ, List};
 ghost use Rattle.std.specs.Io.KnownBytes.{Appends, Consumes};
+ghost use Rattle.vdb_scene.specs.Grids.{scene_of};
+ghost use Rattle.vdb_scene.specs.Scene.{Scene as AbstractScene};
 ghost use Rattle.vdb_scene.specs.Watched.{has_failed, source};
-ghost use Rattle.vdb_shell.specs.Session.{IsSession};
+ghost use Rattle.vdb_shell.specs.Files.{any_failed, given_file, held};
+ghost use Rattle.vdb_shell.specs.Session.{IsSession, IsUnloaded, PlaysOn, Saves, WritesNoFile, status as status_of};
 
-use crate::{Fault, play, status};
+use crate::{Fault, finish, play, start, status};
 use std::alloc::Global;
 use std::io::{Read, Write};
+use vdb_file::{LoadFault, SaveFault};
 use vdb_pool::Steps;
 use vdb_scene::{Scene, Watched};
 use vdb_script::ScriptFault;
@@ -14,35 +18,99 @@ use vdb_script::ScriptFault;
 /// How a session ended.
 #[derive(Clone, Copy, Debug, PartialEq, Eq)]
 pub struct Outcome {
-    /// The exit status: 0, 1 where some line was refused, or 4 after a fault.
+    /// The exit status: 0, 1 where some line was refused, 3 where nothing was loaded, or 4 after another fault.
     pub status: u8,
     /// What ended it early, if anything did.
     pub fault: Option<Fault>,
 }
 
-/// Plays a script on the empty scene, and tells how it ended.
-pub fn session<R: Read, W: Write>(
+/// Loads a scene, plays a script on it and saves it: `start`, `play` and `finish` in order, as far as no fault comes.
+pub fn session<L: Read, R: Read, W: Write, S: Write>(
     alloc: Global,
+    load: &mut Option<Watched<L>>,
     script: &mut Watched<R>,
     answers: &mut Watched<W>,
+    save: &mut Option<Watched<S>>,
+    steps: &mut Steps,
+) -> Outcome
+    requires load_fresh { any_failed load.old ≡ false }
+    requires script_fresh { has_failed script.old ≡ false }
+    requires answers_fresh { has_failed answers.old ≡ false }
+    requires save_fresh { any_failed save.old ≡ false }
+    // Whatever pieces the readers give, the answers are those of an abstract scene over the script's lines, from the scene that
+    // the file spells on, and what is saved is the spelling of the scene after them.
+    ensures session { (file : Option (List ℕ)) → given_file L.remaining load.old ≡ Some file →
+        (bytes : List ℕ) → R.remaining (source script.old) ≡ Some bytes →
+        (given written : List ℕ) × (last : AbstractScene)
+        × Consumes (Some bytes) (R.remaining (source script.new)) given
+        × Appends (W.contents (source answers.old)) (W.contents (source answers.new)) written
+        × IsSession file bytes result.fault result.status given written last
+        × IfSome save.old (λ _. Saves result.fault last (held S.contents save.old) (held S.contents save.new)) }
+    // The status of a fault is its own, also of one that comes after a refused line.
+    ensures status { IfSome result.fault (λ fault. result.status ≡ status_of true (Some fault)) }
+    // Where nothing was loaded, script and answers weren't touched.
+    ensures unloaded { IsUnloaded result.fault → (script.new ≡ script.old) × (answers.new ≡ answers.old) }
+    // Where the scene has no spelling, or a fault came before, the writer of the file wasn't touched.
+    ensures unsaved { WritesNoFile result.fault → save.new ≡ save.old }
+    ensures nowhere { (fault : SaveFault) → result.fault ≡ Some (Fault.Save fault) → IsSome save.old }
+    ensures load_kept { is_some load.new ≡ is_some load.old }
+    ensures save_kept { is_some save.new ≡ is_some save.old }
+    // A fault of reading or writing comes exactly where that reader or writer failed.
+    ensures load { (result.fault ≡ Some (Fault.Load LoadFault.Read)) ↔ IsTrue (any_failed load.new) }
+    ensures script { (result.fault ≡ Some (Fault.Script ScriptFault.Read)) ↔ IsTrue (has_failed script.new) }
+    ensures answers { (result.fault ≡ Some Fault.Answers) ↔ IsTrue (has_failed answers.new) }
+    ensures save { (result.fault ≡ Some (Fault.Save SaveFault.Write)) ↔ IsTrue (any_failed save.new) }
+{
+    match start(alloc, load, steps) {
+        Ok(mut scene) => play_and_save(alloc, &mut scene, script, answers, save, steps),
+        Err(fault) => ended(false, Some(Fault::Load(fault))),
+    }
+}
+
+/// Plays a script on a scene and saves what it leaves: `play` and `finish`, as far as no fault comes.
+fn play_and_save<R: Read, W: Write, S: Write>(
+    alloc: Global,
+    scene: &mut Scene,
+    script: &mut Watched<R>,
+    answers: &mut Watched<W>,
+    save: &mut Option<Watched<S>>,
     steps: &mut Steps,
 ) -> Outcome
     requires script_fresh { has_failed script.old ≡ false }
     requires answers_fresh { has_failed answers.old ≡ false }
-    // The answers are those of an abstract scene over the script's lines, whatever pieces the reader gives.
-    ensures session { (bytes : List ℕ) → R.remaining (source script.old) ≡ Some bytes →
+    requires save_fresh { any_failed save.old ≡ false }
+    ensures plays { (bytes : List ℕ) → R.remaining (source script.old) ≡ Some bytes →
         (given written : List ℕ)
         × Consumes (Some bytes) (R.remaining (source script.new)) given
         × Appends (W.contents (source answers.old)) (W.contents (source answers.new)) written
-        × IsSession bytes result.fault result.status given written }
-    // A fault of reading or writing comes exactly where that reader or writer failed.
+        × PlaysOn (scene_of scene.old) bytes result.fault result.status given written (scene_of scene.new) }
+    ensures status { IfSome result.fault (λ fault. result.status ≡ status_of true (Some fault)) }
+    ensures saves { IfSome save.old (λ _. Saves result.fault (scene_of scene.new) (held S.contents save.old) (held S.contents save.new)) }
+    ensures unsaved { WritesNoFile result.fault → save.new ≡ save.old }
+    ensures nowhere { (fault : SaveFault) → result.fault ≡ Some (Fault.Save fault) → IsSome save.old }
+    ensures kept { is_some save.new ≡ is_some save.old }
+    ensures loaded { IsUnloaded result.fault → ⊥ }
     ensures script { (result.fault ≡ Some (Fault.Script ScriptFault.Read)) ↔ IsTrue (has_failed script.new) }
     ensures answers { (result.fault ≡ Some Fault.Answers) ↔ IsTrue (has_failed answers.new) }
+    ensures save { (result.fault ≡ Some (Fault.Save SaveFault.Write)) ↔ IsTrue (any_failed save.new) }
 {
-    let mut scene = Scene::new(alloc);
-    let played = play(alloc, &mut scene, script, answers, steps);
+    let played = play(alloc, scene, script, answers, steps);
+    if played.fault.is_some() {
+        return ended(played.refused, played.fault);
+    }
+    match finish(scene, save, steps) {
+        Ok(()) => ended(played.refused, None),
+        Err(fault) => ended(played.refused, Some(Fault::Save(fault))),
+    }
+}
+
+/// The outcome of a session, by whether some line was refused, and what ended it early.
+fn ended(refused: bool, fault: Option<Fault>) -> Outcome
+    ensures fault { result.fault ≡ fault }
+    ensures status { result.status ≡ status_of refused fault }
+{
     Outcome {
-        status: status(played.refused, played.fault.as_ref()),
-        fault: played.fault,
+        status: status(refused, fault.as_ref()),
+        fault,
     }
 }

@@ -1,7 +1,11 @@
 //! Sessions over memory, over readers and writers that fail, and over readers that never end.
-ghost use Rattle.std.specs.Prelude.{Some};
+ghost use Rattle.std.specs.Prelude.{◌≡◌, Some, false};
+ghost use Rattle.vdb_scene.specs.Watched.{has_failed};
 
+mod command_lines;
 mod faults;
+mod files;
+mod kept;
 mod layouts;
 mod limits;
 mod lists;
@@ -17,7 +21,7 @@ use std::process::Abort;
 use vdb_pool::Steps;
 use vdb_scene::Watched;
 use vdb_script::ScriptFault;
-use vdb_shell::{Fault, session, status};
+use vdb_shell::{Fault, Outcome, session, status};
 
 /// A reader over memory that gives at most `step` bytes at once, and fails at its call numbered `fails_at`.
 #[derive(Drop)]
@@ -87,6 +91,21 @@ impl Write for Picky {
     }
 }
 
+/// A session that neither loads nor saves.
+fn play_alone<R: Read, W: Write>(
+    rt: &impl AllocGlobal,
+    script: &mut Watched<R>,
+    answers: &mut Watched<W>,
+    steps: &mut Steps,
+) -> Outcome
+    requires script_fresh { has_failed script.old ≡ false }
+    requires answers_fresh { has_failed answers.old ≡ false }
+{
+    let mut load: Option<Watched<&[u8]>> = None;
+    let mut save: Option<Watched<Vec<u8>>> = None;
+    session(rt.alloc(), &mut load, script, answers, &mut save, steps)
+}
+
 /// Plays a script that is given in pieces of `step` bytes, and checks its answers and its status.
 fn expect(
     rt: &(impl Abort + AllocGlobal),
@@ -103,7 +122,7 @@ fn expect(
         fails_at: 0,
     });
     let mut writer = Watched::new(Vec::new(rt.alloc()));
-    let outcome = session(rt.alloc(), &mut reader, &mut writer, steps);
+    let outcome = play_alone(rt, &mut reader, &mut writer, steps);
     assert_eq!(rt; outcome.status, status);
     assert!(rt; outcome.fault.is_none());
     assert_eq!(rt; writer.get_ref().as_slice(), answers);
@@ -354,7 +373,7 @@ fn a_reader_that_fails_ends_the_script(rt: HostRuntime) {
             fails_at,
         });
         let mut writer = Watched::new(Vec::new(rt.alloc()));
-        let outcome = session(rt.alloc(), &mut reader, &mut writer, &mut steps);
+        let outcome = play_alone(&rt, &mut reader, &mut writer, &mut steps);
         let answers = if fails_at <= 3 {
             b"".as_slice()
         } else if fails_at <= 7 {
@@ -388,7 +407,7 @@ fn a_writer_that_fails_ends_the_script(rt: HostRuntime) {
                 fails_at,
                 fails,
             });
-            let outcome = session(rt.alloc(), &mut reader, &mut writer, &mut steps);
+            let outcome = play_alone(&rt, &mut reader, &mut writer, &mut steps);
             let went_out = match fails_at {
                 1 => 0,
                 2 => 3,
@@ -421,7 +440,7 @@ fn a_writer_may_take_one_byte_at_once(rt: HostRuntime) {
         fails_at: 0,
         fails: true,
     });
-    let outcome = session(rt.alloc(), &mut reader, &mut writer, &mut steps);
+    let outcome = play_alone(&rt, &mut reader, &mut writer, &mut steps);
     assert_eq!(rt; outcome.status, 0);
     assert_eq!(rt;
         writer.get_ref().taken.as_slice(),
@@ -438,7 +457,7 @@ fn a_script_without_end_is_stopped(rt: HostRuntime) {
     ] {
         let mut reader = Watched::new(Endless { bytes, then });
         let mut writer = Watched::new(Vec::new(rt.alloc()));
-        let outcome = session(rt.alloc(), &mut reader, &mut writer, &mut steps);
+        let outcome = play_alone(&rt, &mut reader, &mut writer, &mut steps);
         assert_eq!(rt; outcome.status, 4);
         assert!(rt; outcome.fault == Some(Fault::Script(ScriptFault::TooLong)));
         assert_eq!(rt; writer.get_ref().as_slice(), answers);

@@ -1,14 +1,14 @@
 //! The line on standard error and the exit status of each end that a session can have, and what a session asks for after a
 //! fault.
 
-use super::{Endless, FIRST, Picky, Slow};
+use super::{Endless, FIRST, Picky, Slow, play_alone};
 use std::alloc::AllocError;
 use std::io::{Read, Write};
 use std::process::Abort;
 use vdb_pool::Steps;
 use vdb_scene::Watched;
 use vdb_script::ScriptFault;
-use vdb_shell::{Fault, session, status};
+use vdb_shell::{Fault, status};
 
 const READ: Option<Fault> = Some(Fault::Script(ScriptFault::Read));
 
@@ -56,7 +56,7 @@ fn expect_end<R: Read + Drop, W: Write + Drop>(
 ) -> Result<(), AllocError> {
     let mut reader = Watched::new(script);
     let mut writer = Watched::new(answers);
-    let outcome = session(rt.alloc(), &mut reader, &mut writer, steps);
+    let outcome = play_alone(rt, &mut reader, &mut writer, steps);
     let text = match outcome.fault {
         Some(fault) => format!(in rt.alloc(); "{}", fault)?,
         None => String::new(rt.alloc()),
@@ -139,7 +139,7 @@ fn a_failed_reader_is_not_asked_again(rt: HostRuntime) {
             fails_at,
         });
         let mut writer = Watched::new(Vec::new(rt.alloc()));
-        let outcome = session(rt.alloc(), &mut reader, &mut writer, &mut steps);
+        let outcome = play_alone(&rt, &mut reader, &mut writer, &mut steps);
         assert!(rt; outcome.fault == READ);
         assert_eq!(rt; reader.get_ref().calls, fails_at);
     }
@@ -157,7 +157,7 @@ fn a_failed_writer_is_not_asked_again(rt: HostRuntime) {
         for fails_at in 1..=9u64 {
             let mut reader = Watched::new(LISTED);
             let mut writer = Watched::new(picky(&rt, fails_at, fails));
-            let outcome = session(rt.alloc(), &mut reader, &mut writer, &mut steps);
+            let outcome = play_alone(&rt, &mut reader, &mut writer, &mut steps);
             assert!(rt; outcome.fault == WRITE);
             assert_eq!(rt; writer.get_ref().calls, fails_at);
         }

@@ -1,7 +1,7 @@
 //! Random scripts with prunes and voxelisings put in anywhere, which must not change an answer.
 
+use super::play_alone;
 use super::random::Draws;
-use super::session;
 use std::alloc::AllocError;
 use std::process::Abort;
 use vdb_pool::Steps;
@@ -104,7 +104,7 @@ fn played(
     script(&mut lines, grid, seed)?;
     let mut reader = Watched::new(lines.as_slice());
     let mut writer = Watched::new(Vec::new(rt.alloc()));
-    let outcome = session(rt.alloc(), &mut reader, &mut writer, steps);
+    let outcome = play_alone(rt, &mut reader, &mut writer, steps);
     assert!(rt; outcome.fault.is_none());
     let mut answers = Vec::new(rt.alloc());
     answers.extend_from_slice(writer.get_ref().as_slice())?;

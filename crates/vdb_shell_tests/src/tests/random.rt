@@ -3,7 +3,7 @@
 ghost use Rattle.std.specs.Prelude.{◌<◌};
 
 use super::{add_line, expect};
-use std::alloc::AllocError;
+use std::alloc::{AllocError, Global};
 use vdb_pool::Steps;
 
 /// What is drawn next: numbers by Knuth's generator of 64 bits.
@@ -82,16 +82,81 @@ fn a_stretch<'a>(number: usize) -> Stretch<'a> {
 
 /// A script, the answers that are wanted, and the voxels.
 #[derive(Drop)]
-struct Trial<'a> {
+pub(super) struct Trial<'a> {
     accessors: [&'a [u8]; 3],
     components: [&'a [u8]; 4],
     values: [&'a [u8]; 3],
     voxels: [Wanted; 64],
-    script: Vec<u8>,
-    answers: Vec<u8>,
+    pub(super) script: Vec<u8>,
+    pub(super) answers: Vec<u8>,
 }
 
 impl<'a> Trial<'a> {
+    /// A grid `a` of a kind, whose background is the first of the values.
+    pub(super) fn new(
+        alloc: Global,
+        kind: &'a [u8],
+        values: [&'a [u8]; 3],
+    ) -> Result<Trial<'a>, AllocError> {
+        let mut script = Vec::new(alloc);
+        let made = [b"grid".as_slice(), b"a".as_slice(), kind, values[0]];
+        add_line(&mut script, made.as_slice())?;
+        let mut answers = Vec::new(alloc);
+        add_line(&mut answers, [b"ok".as_slice()].as_slice())?;
+        // two leaf blocks, two lower nodes' blocks and two root blocks, at both sides of 0
+        let components = [
+            b"-1".as_slice(),
+            b"0".as_slice(),
+            b"7".as_slice(),
+            b"4096".as_slice(),
+        ];
+        Ok(Trial {
+            accessors: [b"-".as_slice(), b"0".as_slice(), b"7".as_slice()],
+            components,
+            values,
+            voxels: [Wanted {
+                value: 0,
+                on: false,
+            }; 64],
+            script,
+            answers,
+        })
+    }
+
+    /// Adds the commands of a turn: one on a voxel, and in some turns others that change many voxels or none.
+    pub(super) fn take_turn(
+        &mut self,
+        turn: u64,
+        turns_of_a_prune: u64,
+        draws: &mut Draws,
+    ) -> Result<(), AllocError> {
+        let command = draws.below(8);
+        self.turn(command, draws)?;
+        if turn % 7 == 3 {
+            self.fill(draws)?;
+        }
+        if turn % 60 == 30 {
+            self.clip(draws)?;
+        }
+        if turns_of_a_prune > 0 && turn % turns_of_a_prune == 0 {
+            self.add(b"prune a\n", b"ok\n")?;
+        }
+        if turn % 100 == 99 {
+            self.add(b"voxelise a -1 -1 -1 8 8 8\n", b"ok\n")?;
+        }
+        if turn % 500 == 249 {
+            // a copy of a copy goes on in the grid's place
+            self.add(b"copy a b\ndrop a\ncopy b a\ndrop b\n", b"ok\nok\nok\nok\n")?;
+        }
+        Ok(())
+    }
+
+    /// Adds lines and their answers.
+    fn add(&mut self, lines: &[u8], answers: &[u8]) -> Result<(), AllocError> {
+        self.script.extend_from_slice(lines)?;
+        self.answers.extend_from_slice(answers)
+    }
+
     /// Adds a command on a voxel, and its answer. Commands 0 to 4 write, any other looks up.
     fn turn(&mut self, command: usize, draws: &mut Draws) -> Result<(), AllocError> {
         let accessor = self.accessors[draws.below(3)];
@@ -212,73 +277,39 @@ impl<'a> Trial<'a> {
     }
 }
 
+/// The values of grids of truth values, of numbers of 32 bits and of numbers of 64 bits, each behind the word of its kind.
+pub(super) fn kinds<'a>() -> [(&'a [u8], [&'a [u8]; 3]); 3] {
+    [
+        (
+            b"bool".as_slice(),
+            [b"false".as_slice(), b"true".as_slice(), b"true".as_slice()],
+        ),
+        (
+            b"i32".as_slice(),
+            [b"0".as_slice(), b"7".as_slice(), b"-2147483648".as_slice()],
+        ),
+        (
+            b"i64".as_slice(),
+            [
+                b"-9223372036854775808".as_slice(),
+                b"0".as_slice(),
+                b"9223372036854775807".as_slice(),
+            ],
+        ),
+    ]
+}
+
 #[test]
 fn random_scripts_beside_a_map(rt: HostRuntime) -> Result<(), AllocError> {
     let mut steps = Steps::new(&rt);
-    let accessors = [b"-".as_slice(), b"0".as_slice(), b"7".as_slice()];
-    // two leaf blocks, two lower nodes' blocks and two root blocks, at both sides of 0
-    let components = [
-        b"-1".as_slice(),
-        b"0".as_slice(),
-        b"7".as_slice(),
-        b"4096".as_slice(),
-    ];
-    let bools = [b"false".as_slice(), b"true".as_slice(), b"true".as_slice()];
-    let small = [b"0".as_slice(), b"7".as_slice(), b"-2147483648".as_slice()];
-    let wide = [
-        b"-9223372036854775808".as_slice(),
-        b"0".as_slice(),
-        b"9223372036854775807".as_slice(),
-    ];
-    for (kind, values) in [
-        (b"bool".as_slice(), bools),
-        (b"i32".as_slice(), small),
-        (b"i64".as_slice(), wide),
-    ] {
+    for (kind, values) in kinds() {
         for turns_of_a_prune in [0, 1, 2, 20] {
             let mut draws = Draws {
                 state: turns_of_a_prune,
             };
-            let mut trial = Trial {
-                accessors,
-                components,
-                values,
-                voxels: [Wanted {
-                    value: 0,
-                    on: false,
-                }; 64],
-                script: Vec::new(rt.alloc()),
-                answers: Vec::new(rt.alloc()),
-            };
-            let made = [b"grid".as_slice(), b"a".as_slice(), kind, values[0]];
-            add_line(&mut trial.script, made.as_slice())?;
-            add_line(&mut trial.answers, [b"ok".as_slice()].as_slice())?;
+            let mut trial = Trial::new(rt.alloc(), kind, values)?;
             for turn in 0..2000u64 {
-                let command = draws.below(8);
-                trial.turn(command, &mut draws)?;
-                if turn % 7 == 3 {
-                    trial.fill(&mut draws)?;
-                }
-                if turn % 60 == 30 {
-                    trial.clip(&mut draws)?;
-                }
-                if turns_of_a_prune > 0 && turn % turns_of_a_prune == 0 {
-                    trial.script.extend_from_slice(b"prune a\n")?;
-                    trial.answers.extend_from_slice(b"ok\n")?;
-                }
-                if turn % 100 == 99 {
-                    trial
-                        .script
-                        .extend_from_slice(b"voxelise a -1 -1 -1 8 8 8\n")?;
-                    trial.answers.extend_from_slice(b"ok\n")?;
-                }
-                if turn % 500 == 249 {
-                    // a copy of a copy goes on in the grid's place
-                    trial
-                        .script
-                        .extend_from_slice(b"copy a b\ndrop a\ncopy b a\ndrop b\n")?;
-                    trial.answers.extend_from_slice(b"ok\nok\nok\nok\n")?;
-                }
+                trial.take_turn(turn, turns_of_a_prune, &mut draws)?;
             }
             expect(
                 &rt,

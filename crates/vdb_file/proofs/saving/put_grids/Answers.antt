@@ -1,4 +1,4 @@
-use Rattle.std.proofs.Common.{◌≡◌, length, refl, arith, rules}
+use Rattle.std.proofs.Common.{refl, arith, rules}
 use Rattle.vdb_scene.specs.Grids.{scene_of}
 use Rattle.vdb_file.specs.Spelling.{grid_bytes, head_bytes}
 use Rattle.vdb_file.proofs.Outputs.{puts_none}

@@ -1,6 +1,5 @@
-use Rattle.std.proofs.Common.{◌≡◌, ◌∙◌, ◌++◌, sym, ap}
+use Rattle.std.proofs.Common.{◌∙◌, ◌++◌, sym, ap}
 use Rattle.std.proofs.lemmas.Result.{on_ok_weaker}
-use Rattle.std.specs.Map.Iter.{deref_pair}
 use Rattle.vdb_file.specs.Spelling.{counted}
 use Rattle.vdb_file.proofs.Outputs.{puts_same}
 use Rattle.vdb_file.proofs.Passing.{same_some}

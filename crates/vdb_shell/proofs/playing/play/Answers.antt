@@ -2,7 +2,7 @@ use Rattle.std.proofs.Common.{◌∙◌, sym, ap, refl, rules, Err, Some}
 use Rattle.std.proofs.KnownBytes.{prepend_known-nil}
 use Rattle.vdb_scene.specs.Watched.{has_failed, source}
 use Rattle.vdb_script.specs.Reading.{Position, ahead, budget}
-use Rattle.vdb_shell.proofs.Turns.{ended_at, never_failed, told_cut, told_end, told_fault, told_more, told_none}
+use Rattle.vdb_shell.proofs.Turns.{ended_at, never_failed, told_cut, told_fault, told_more, told_none}
 use Rattle.vdb_shell.proofs.playing.play.Goals as goal
 
 pub lines-init : goal.lines-init

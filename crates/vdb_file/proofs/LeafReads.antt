@@ -1,0 +1,276 @@
+-- The voxels of a leaf block, read one after another into a leaf.
+use Rattle.std.proofs.Common.{◌≡◌, ℕ, zero, suc, ◌+◌, ◌*◌, ◌<◌, ◌^◌, Bool, true, false, not, List, [], ◌∷◌, ◌++◌, length, length-append, refl, sym, ap, subst, ◌∙◌, ◌⊎◌, inl, inr, arith}
+use Rattle.std.specs.Prelude.{◌↔◌, Option, Some, None, if◌then◌else◌}
+use Rattle.std.specs.Int.{w16, to_be_bytes}
+use Rattle.std.specs.List.{flat_map}
+use Rattle.std.specs.Ordering.{nat_cmp}
+use Rattle.std.proofs.lemmas.Bool.{cases_Bool}
+use Rattle.std.proofs.lemmas.List.{get_or_default}
+use Rattle.vdb_coord.specs.Blocks.{block_around, block_number, entries, offset, sub_block}
+use Rattle.vdb_coord.specs.Entries.{AreBits}
+use Rattle.vdb_coord.specs.Space.{Box, coord_eq, is_inside}
+use Rattle.vdb_coord.specs.declared.Bits.{Bits}
+use Rattle.vdb_coord.specs.declared.Coord.{Coord}
+use Rattle.vdb_coord.specs.declared.Level.TheVariants.{Leaf}
+use Rattle.vdb_coord.proofs.Boxes.{not_true}
+use Rattle.vdb_coord.proofs.Members.{coord_equiv, coord_exact}
+use Rattle.vdb_coord.proofs.Nesting.{corner_inside, corner_of_entry, entry_holds, in_entry, inside_numbered, number_in_block, voxel_from_leaf}
+use Rattle.vdb_coord.proofs.Places.{entries_is, offset_below}
+use Rattle.vdb_node.specs.Leaf.{IsConstantLeaf, Leaf as LeafOf, SetsVoxel, cell_in}
+use Rattle.vdb_node.specs.Nodes.{entry_count}
+use Rattle.vdb_value.specs.declared.Cell.{Cell}
+use Rattle.vdb_tree.specs.ConstantBlocks.{cell_eq, is_background, is_constant}
+use Rattle.vdb_tree.specs.Field.{Field, off}
+use Rattle.vdb_tree.proofs.Uniform.{cell_exact, cell_same, uniform_cells, uniform_from}
+use Rattle.vdb_file.specs.Bodies.{cell_bytes, listed, voxel_body}
+use Rattle.vdb_file.specs.declared.fault.LoadFault.{LoadFault}
+use Rattle.vdb_file.specs.internal.Following.{Follows}
+use Rattle.vdb_file.specs.internal.LeafVoxels.{HasValues, IsMixed, IsVoxel, leaf_field, voxel_bytes, voxel_count, voxels_bytes}
+use Rattle.vdb_file.specs.internal.Loading.{IsIndex, IsSpelled}
+use Rattle.vdb_file.specs.internal.Reading.{Fails, Place, Took}
+use Rattle.vdb_file.proofs.Unambiguous.{IsCode}
+use Rattle.vdb_file.proofs.Numbers.{says_u16}
+use Rattle.vdb_file.proofs.Agreement.{Agree, AreValues, is_held}
+use Rattle.vdb_file.proofs.Ordered.{by_member, last_more, last_of, none_kept}
+use Rattle.vdb_file.proofs.Fronts.{fails_after, fails_first, fails_turn, took_nothing}
+use Rattle.vdb_file.proofs.RowFrames.{below_member, corner_in_block, member_below}
+use Rattle.vdb_file.proofs.Rows.{Adds, Row, adds_outside, held, held_more, texts_more}
+use Rattle.vdb_file.proofs.RowReads.{IsNextOf, entry_bytes, entry_read, no_row, within}
+use Rattle.vdb_file.proofs.RowInstances.{agree_from_entries, is_leaf_row, leaf_row}
+
+-- ---- tests and numbers
+
+-- a test has one answer
+clash : (b : Bool) → b ≡ true → b ≡ false → ⊥
+clash true p q = cc
+clash false p q = cc
+
+-- two numbers are one or not
+same_or_other : (i j : ℕ) → (i ≡ j) ⊎ ((i ≡ j) → ⊥)
+same_or_other zero zero = inl refl
+same_or_other zero (suc j) = inr (λ e. absurd (omega (arith, e)))
+same_or_other (suc i) zero = inr (λ e. absurd (omega (arith, e)))
+same_or_other (suc i) (suc j) = elim (same_or_other i j) [
+  | inl e ↦ inl (ap suc e)
+  | inr differ ↦ inr (λ e. differ (omega (arith, e)))
+]
+
+-- a leaf has as many entries as its block
+pub entries_are : (bits : Bits) (leaf_bits : ℕ) → bits.leaf ≡ leaf_bits → entries bits Leaf ≡ entry_count leaf_bits
+entries_are bits leaf_bits e = entries_is bits Leaf ∙ ap (λ (n : ℕ). 2 ^ (3 * n)) e
+
+-- ---- one voxel
+
+module _ {V : Type 0} (eq : V → V → Bool) (value_bytes : V → List ℕ) (P : V → Type 0) (background : V) (most : ℕ) (before : Option ℕ) (fault : LoadFault) (old : Place) where
+  -- no number is ahead
+  pub no_index : Fails (IsIndex most before) (to_be_bytes w16) fault old → Fails (IsVoxel eq P background most before) (voxel_bytes eq value_bytes) fault old
+  no_index h =
+      fails_first (IsVoxel eq P background most before) (voxel_bytes eq value_bytes) (IsIndex most before) (to_be_bytes w16) (λ e. e.0) (λ e. cell_bytes eq value_bytes e.1) fault old (λ e is. is.index) (λ e is. refl) h
+
+  -- a number was read, and no cell is ahead
+  pub no_cell : most < 2 ^ 16 → (mid : Place) (i : ℕ) → IsIndex most before i → Took old mid (to_be_bytes w16 i) → Fails (IsSpelled eq P background) (cell_bytes eq value_bytes) fault mid → Fails (IsVoxel eq P background most before) (voxel_bytes eq value_bytes) fault old
+  no_cell small mid i index took h =
+      fails_after (IsVoxel eq P background most before) (voxel_bytes eq value_bytes) (to_be_bytes w16 i) (λ e. i ≡ e.0) (λ e. to_be_bytes w16 e.0) (λ e. cell_bytes eq value_bytes e.1) fault old mid took
+      (λ e is. let within = index.within in let other = is.index.within in says_u16 i e.0 (omega (arith, within, small)) (omega (arith, other, small))) (λ e is. refl)
+      (fails_turn (λ e. IsVoxel eq P background most before e × (i ≡ e.0)) (λ e. cell_bytes eq value_bytes e.1) (IsSpelled eq P background) (cell_bytes eq value_bytes) (λ e. e.1) fault mid (λ e is. is.0.cell) (λ e is. refl) h)
+
+-- ---- a leaf as a field
+
+module _ {V : Type 0} (bits : Bits) (p : Coord) (background : V) (leaf : LeafOf V) where
+  -- within the block the field has the leaf's cells
+  pub leaf_cell : (q : Coord) → block_number bits Leaf q ≡ block_number bits Leaf p → (leaf_field bits p background leaf).cell q ≡ cell_in (off background) leaf (offset bits Leaf q)
+  leaf_cell q e =
+      let here : coord_eq (block_number bits Leaf p) (block_number bits Leaf q) ≡ true = ap (coord_eq (block_number bits Leaf p)) e ∙ coord_equiv.refl (block_number bits Leaf p) in
+      ap (λ (b : Bool). if b then cell_in (off background) leaf (offset bits Leaf q) else off background) here
+
+  -- and elsewhere none
+  pub other_cell : (q : Coord) → coord_eq (block_number bits Leaf p) (block_number bits Leaf q) ≡ false → (leaf_field bits p background leaf).cell q ≡ off background
+  other_cell q e = ap (λ (b : Bool). if b then cell_in (off background) leaf (offset bits Leaf q) else off background) e
+
+-- each cell of the leaf has a value with P
+abbrev pub AreCells : {V : Type 0} → (V → Type 0) → Bits → V → LeafOf V → Type 0
+AreCells P bits background leaf = (i : ℕ) → i < entries bits Leaf → P (cell_in (off background) leaf i).value
+
+-- what was read so far: so many voxels, the last of them with this number
+pub record HasRead {V : Type 0} (eq : V → V → Bool) (value_bytes : V → List ℕ) (bits : Bits) (background : V) (p : Coord) (leaf : LeafOf V) (old now : Place) (n : ℕ) (before : Option ℕ) : Type 0 where
+  pub took : Took old now (voxels_bytes eq value_bytes bits p (leaf_field bits p background leaf))
+  pub count : voxel_count eq value_bytes bits p (leaf_field bits p background leaf) ≡ n
+  pub last : before ≡ last_of None (listed eq value_bytes bits (leaf_field bits p background leaf) Leaf (block_around bits Leaf p))
+
+module _ {V : Type 0} {eq : V → V → Bool} {value_bytes : V → List ℕ} {P : V → Type 0} (values : AreValues eq value_bytes P) (bits : Bits) (few : AreBits bits) (background : V) where
+  -- so it is at first
+  pub first_cells : (leaf : LeafOf V) → P background → (n : ℕ) → entries bits Leaf ≡ n → IsConstantLeaf leaf n (off background) → AreCells P bits background leaf
+  first_cells leaf fits n e constant i less = subst (λ (c : Cell V). P c.value) (sym (constant (off background) i (omega (arith, less, e)))) fits
+
+  -- and after one more cell
+  pub more_cells : (old new : LeafOf V) (i : ℕ) (cell : Cell V) → SetsVoxel old new i cell → P cell.value → AreCells P bits background old → AreCells P bits background new
+  more_cells old new i cell sets fits cells j less = elim (same_or_other j i) [
+    | inl e ↦ subst (λ (c : Cell V). P c.value) (sym (ap (cell_in (off background) new) e ∙ sets.changed (off background))) fits
+    | inr differ ↦ subst (λ (c : Cell V). P c.value) (sym (sets.others (off background) j differ)) (cells j less)
+  ]
+
+  module _ (p : Coord) where
+    abbrev box : Box
+    box = block_around bits Leaf p
+
+    abbrev at : ℕ → Box
+    at i = sub_block bits Leaf box i
+
+    abbrev row : Row V ℕ
+    row = leaf_row values bits few p
+
+    abbrev shown : LeafOf V → Field V
+    shown leaf = leaf_field bits p background leaf
+
+    -- the field has such values too
+    pub shown_values : (leaf : LeafOf V) → P background → AreCells P bits background leaf → HasValues P background (shown leaf)
+    shown_values leaf fits cells = record {
+      same = refl;
+      values = λ q. elim (cases_Bool (coord_eq (block_number bits Leaf p) (block_number bits Leaf q))) [
+        | inl here ↦
+            subst (λ (c : Cell V). P c.value) (sym (leaf_cell bits p background leaf q (sym (coord_exact (block_number bits Leaf p) (block_number bits Leaf q) here)))) (cells (offset bits Leaf q) (offset_below bits Leaf q))
+        | inr there ↦ subst (λ (c : Cell V). P c.value) (sym (other_cell bits p background leaf q there)) fits
+      ];
+    }
+
+    -- ---- the entries, which are single voxels
+
+    -- an entry has the leaf's cell
+    entry_cell : (leaf : LeafOf V) (i : ℕ) → i < entries bits Leaf → (shown leaf).cell (at i).min ≡ cell_in (off background) leaf i
+    entry_cell leaf i less = let c = corner_of_entry bits Leaf p i less in leaf_cell bits p background leaf (at i).min c.0 ∙ ap (cell_in (off background) leaf) c.1
+
+    -- it is background where its cell is
+    background_from : (f : Field V) (i : ℕ) → i < entries bits Leaf → f.cell (at i).min ≡ off f.background → is_background eq f (at i) ≡ true
+    background_from f i less e =
+        let c = corner_of_entry bits Leaf p i less in
+        uniform_from eq values.exact values.itself f (at i) (off f.background)
+        (λ q inside. let k = in_entry bits Leaf p q i less inside in ap f.cell (voxel_from_leaf bits q (at i).min (k.0 ∙ sym c.0) (k.1 ∙ sym c.1)) ∙ e)
+
+    -- and only there
+    background_gives : (f : Field V) (i : ℕ) → is_background eq f (at i) ≡ true → f.cell (at i).min ≡ off f.background
+    background_gives f i h = uniform_cells eq values.exact values.itself f (at i) (off f.background) h (at i).min (corner_inside bits Leaf box i)
+
+    -- so it is held where its cell is another
+    held_from : (f : Field V) (i : ℕ) (c : Cell V) → f.background ≡ background → f.cell (at i).min ≡ c → cell_eq eq c (off background) ≡ false → is_background eq f (at i) ≡ false
+    held_from f i c e here other =
+        not_true (is_background eq f (at i))
+        (λ h. clash (cell_eq eq c (off background)) (cell_same eq values.exact values.itself c (off background) (sym here ∙ background_gives f i h ∙ ap off e)) other)
+
+    -- and only there, too
+    held_gives : (f : Field V) (i : ℕ) → i < entries bits Leaf → f.background ≡ background → is_background eq f (at i) ≡ false → cell_eq eq (f.cell (at i).min) (off background) ≡ false
+    held_gives f i less e h =
+        not_true (cell_eq eq (f.cell (at i).min) (off background))
+        (λ same. clash (is_background eq f (at i)) (background_from f i less (cell_exact eq values.exact values.itself (f.cell (at i).min) (off background) same ∙ ap off (sym e))) h)
+
+    -- a block of one cell is constant
+    constant_from : (f : Field V) (c : Cell V) → ((q : Coord) → is_inside box q ≡ true → f.cell q ≡ c) → is_constant eq f box ≡ true
+    constant_from f c all = uniform_from eq values.exact values.itself f box (f.cell box.min) (λ q inside. all q inside ∙ sym (all box.min (corner_in_block bits Leaf p)))
+
+    -- so is the block of any field with the cells of a leaf of one cell
+    constant_leaf : (f : Field V) (leaf : LeafOf V) (c : Cell V) → ((d : Cell V) (i : ℕ) → i < entries bits Leaf → cell_in d leaf i ≡ c) → Agree (shown leaf) f box → is_constant eq f box ≡ true
+    constant_leaf f leaf c constant agree =
+        constant_from f c (λ q inside.
+        sym (agree.same q inside) ∙ leaf_cell bits p background leaf q (number_in_block bits Leaf (block_number bits Leaf p) q inside) ∙ constant (off background) (offset bits Leaf q) (offset_below bits Leaf q))
+
+    -- ---- what was read so far
+
+    -- nothing at first
+    pub none_read : (leaf : LeafOf V) (old : Place) (n : ℕ) → entries bits Leaf ≡ n → IsConstantLeaf leaf n (off background) → HasRead eq value_bytes bits background p leaf old old 0 None
+    none_read leaf old n e constant =
+        let empty : held eq row (shown leaf) ≡ [] =
+        none_kept (is_held eq row.box (shown leaf)) row.keys
+        (by_member (λ i. is_held eq row.box (shown leaf) i ≡ false) row.keys
+        (λ i m. let less = member_below bits Leaf i m in
+        ap not (background_from (shown leaf) i less (entry_cell leaf i less ∙ constant (off background) i (omega (arith, less, e)))))) in
+        record {
+          took = subst (λ (ks : List ℕ). Took old old (flat_map (λ i. to_be_bytes w16 i ++ voxel_body eq value_bytes bits (shown leaf) (at i)) ks)) (sym empty) (took_nothing old);
+          count = ap length empty;
+          last = sym (ap (last_of None) empty);
+        }
+
+    module _ (old new : LeafOf V) (i : ℕ) (cell : Cell V) (sets : SetsVoxel old new i cell) (less : i < entries bits Leaf) (other : cell_eq eq cell (off background) ≡ false) where
+      -- the entry has the new cell
+      new_cell : (shown new).cell (at i).min ≡ cell
+      new_cell = entry_cell new i less ∙ sets.changed (off background)
+
+      -- all others keep theirs
+      kept : (q : Coord) → is_inside (at i) q ≡ false → (shown old).cell q ≡ (shown new).cell q
+      kept q outside = elim (cases_Bool (coord_eq (block_number bits Leaf p) (block_number bits Leaf q))) [
+        | inl here ↦
+            let e = sym (coord_exact (block_number bits Leaf p) (block_number bits Leaf q) here) in
+            leaf_cell bits p background old q e
+            ∙ sym (sets.others (off background) (offset bits Leaf q) (λ same. clash (is_inside (at i) q) (entry_holds bits Leaf p q i less e same) outside))
+            ∙ sym (leaf_cell bits p background new q e)
+        | inr there ↦ other_cell bits p background old q there ∙ sym (other_cell bits p background new q there)
+      ]
+
+      -- so one more entry is held
+      adds : Adds eq row (shown old) (shown new) i
+      adds = adds_outside (is_leaf_row values bits few p) (shown old) (shown new) i (below_member bits Leaf i less) refl kept (held_from (shown new) i cell refl new_cell other)
+
+      -- one more voxel was read
+      pub voxel_read : (a b c : Place) (n : ℕ) (before : Option ℕ) → HasRead eq value_bytes bits background p old a b n before → Follows nat_cmp before i → Took b c (voxel_bytes eq value_bytes (i, cell)) → HasRead eq value_bytes bits background p new a c (n + 1) (Some i)
+      voxel_read a b c n before r follows took =
+          let is = is_leaf_row values bits few p in
+          let member = below_member bits Leaf i less in
+          let next : Follows nat_cmp (last_of None (held eq row (shown old))) i = subst (λ (l : Option ℕ). Follows nat_cmp l i) r.last follows in
+          let more = held_more values is (shown old) (shown new) i member next adds in
+          let size : length (held eq row (shown old)) ≡ n = r.count in
+          let grown : length (held eq row (shown new)) ≡ n + 1 = let e = ap length more in omega (arith, e, size, length-append (held eq row (shown old)) (i ∷ [])) in
+          record {
+            took = entry_read eq row (λ _. []) 0 (shown old) (shown new) i a b c (texts_more values is (shown old) (shown new) i member next adds) r.took
+                (subst (λ (x : Cell V). Took b c (to_be_bytes w16 i ++ cell_bytes eq value_bytes x)) (sym new_cell) took);
+            count = grown;
+            last = sym (ap (last_of None) more ∙ last_more None (held eq row (shown old)) i);
+          }
+
+    -- ---- faults
+
+    -- the fields of which so many voxels are listed
+    abbrev pub IsListed : ℕ → Field V → Type 0
+    IsListed count f = IsMixed eq P background bits p f × (voxel_count eq value_bytes bits p f ≡ count)
+
+    -- no text at all says the one number there is
+    no_text : (count : ℕ) → IsCode (λ n. n ≡ count) (λ (n : ℕ). [])
+    no_text count a b pa pb = record { same = λ x y e. (pa ∙ sym pb, e) }
+
+    -- no voxel is ahead, so no entry is
+    voxel_fails : (most : ℕ) → most ≡ entries bits Leaf → (before : Option ℕ) (fault : LoadFault) (mid : Place) → Fails (IsVoxel eq P background most before) (voxel_bytes eq value_bytes) fault mid
+        → Fails (IsNextOf eq P row background before) (entry_bytes row) fault mid
+    voxel_fails most all before fault mid h =
+        fails_turn (IsNextOf eq P row background before) (entry_bytes row) (IsVoxel eq P background most before) (voxel_bytes eq value_bytes) (λ e. (e.0, e.1.cell (at e.0).min)) fault mid
+        (λ e next. let less = member_below bits Leaf e.0 next.member in
+        record {
+          index = record { within = omega (arith, less, all); later = next.follows };
+          cell = record { value = next.values.values (at e.0).min; other = held_gives e.1 e.0 less next.values.same next.held };
+        })
+        (λ e next. refl) h
+
+    module _ (leaf : LeafOf V) (fits : P background) (cells : AreCells P bits background leaf) (fault : LoadFault) (old mid : Place) (n count : ℕ) (before : Option ℕ) (read : HasRead eq value_bytes bits background p leaf old mid n before) where
+      -- a voxel was wanted, and none is ahead
+      pub voxels_fail : n < count → (most : ℕ) → most ≡ entries bits Leaf → Fails (IsVoxel eq P background most before) (voxel_bytes eq value_bytes) fault mid → Fails (IsListed count) (voxels_bytes eq value_bytes bits p) fault old
+      voxels_fail more most all h =
+          let size : length (held eq row (shown leaf)) ≡ n = read.count in
+          within values (is_leaf_row values bits few p) background (λ _. []) (λ m. m ≡ count) (no_text count) (IsListed count) (λ f r. r.0.values) (λ f r. r.1) fault old mid (shown leaf) (shown_values leaf fits cells) count refl
+          (omega (arith, size, more)) read.took (subst (λ (b : Option ℕ). Fails (IsNextOf eq P row background b) (entry_bytes row) fault mid) read.last (voxel_fails most all before fault mid h))
+
+      -- all voxels are one cell
+      pub voxels_alike : n ≡ count → (c : Cell V) (m : ℕ) → entries bits Leaf ≡ m → IsConstantLeaf leaf m c → Fails (IsListed count) (voxels_bytes eq value_bytes bits p) fault old
+      voxels_alike done c m all constant =
+          no_row values (is_leaf_row values bits few p) background (λ _. []) (λ k. k ≡ count) (no_text count) (IsListed count) (λ f r. r.0.values) (λ f r. r.1) fault old mid (shown leaf) (shown_values leaf fits cells)
+          (read.count ∙ done) read.took
+          (λ f r agree. clash (is_constant eq f box)
+          (constant_leaf f leaf c (λ d i less. constant d i (omega (arith, less, all))) (agree_from_entries values bits few p Leaf (shown leaf) f agree)) r.0.differs)
+
+    -- a leaf whose voxels differ
+    pub voxels_differ : (leaf : LeafOf V) (m : ℕ) → entries bits Leaf ≡ m → length leaf.values ≡ m → ((c : Cell V) → (◌≡◌ {A = Option (Cell V)} None (Some c)) ↔ IsConstantLeaf leaf m c) → is_constant eq (shown leaf) box ≡ false
+    voxels_differ leaf m all size given =
+        not_true (is_constant eq (shown leaf) box)
+        (λ h. let c = (shown leaf).cell box.min in
+        let constant : IsConstantLeaf leaf m c = λ d i l.
+        let less : i < entries bits Leaf = omega (arith, l, all) in
+        let inside = inside_numbered bits Leaf (block_number bits Leaf p) (at i).min (corner_of_entry bits Leaf p i less).0 in
+        let value = get_or_default leaf.values i d.value background (omega (arith, l, size)) in
+        let any : cell_in d leaf i ≡ cell_in (off background) leaf i = λ j. record { value = value j; on = (cell_in d leaf i).on } in
+        any ∙ sym (entry_cell leaf i less) ∙ uniform_cells eq values.exact values.itself (shown leaf) box c h (at i).min inside in
+        let e = (given c).1 constant in absurd cc)

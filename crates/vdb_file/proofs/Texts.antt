@@ -1,0 +1,55 @@
+-- Bytes behind their count that are read.
+use Rattle.std.proofs.Common.{◌≡◌, ℕ, ◌<◌, ◌≤◌, Bool, true, false, List, [], ◌∷◌, length, refl, sym, subst, ◌∙◌, arith, append-nil}
+use Rattle.std.specs.Prelude.{◌&&◌, nat_lt, nat_le, ⊤}
+use Rattle.std.specs.List.{list_all}
+use Rattle.std.proofs.lemmas.Bool.{leb-true, ltb-true}
+use Rattle.vdb_scene.specs.Metas.{is_text, is_text_byte}
+use Rattle.vdb_scene.specs.Names.{is_lower, is_name, is_name_byte}
+use Rattle.vdb_file.specs.Spelling.{counted}
+use Rattle.vdb_file.specs.internal.Reading.{Fails, Place, Took}
+use Rattle.vdb_file.specs.declared.fault.LoadFault.{LoadFault}
+use Rattle.vdb_file.proofs.Unambiguous.{says_byte, says_fixed}
+use Rattle.vdb_file.proofs.Fronts.{fails_after, fails_first, fails_none, fails_turn, took_both}
+
+third : (a b c : Bool) → (a && b && c) ≡ true → c ≡ true
+third true true c h = h
+third true false c h = cc
+third false b c h = cc
+
+-- a name has few bytes
+pub few_of_name : (name : List ℕ) → is_name name ≡ true → length name ≤ 16
+few_of_name [] h = cc
+few_of_name (b ∷ bytes) h = let lt = ltb-true (length bytes) 16 (third (is_lower b) (list_all is_name_byte bytes) (nat_lt (length bytes) 16) h) in omega (arith, lt)
+
+-- and so has a text
+pub few_of_text : (text : List ℕ) → is_text text ≡ true → length text ≤ 64
+few_of_text text h = leb-true (length text) 64 (third (list_all is_text_byte text) (nat_le 1 (length text)) (nat_le (length text) 64) h)
+
+-- count and bytes were read
+pub counted_read : (old mid new : Place) (len : ℕ) (bytes : List ℕ) → Took old mid (len ∷ []) → Took mid new bytes → length bytes ≡ len → Took old new (counted bytes)
+counted_read old mid new len bytes first more same = subst (λ n. Took old new (n ∷ bytes)) (sym same) (took_both old mid new (len ∷ []) bytes first more)
+
+module _ (P : List ℕ → Type 0) (fault : LoadFault) (old : Place) where
+  -- the count isn't there
+  pub no_count : Fails (λ n. ⊤) (λ n. n ∷ []) fault old → Fails P counted fault old
+  no_count h = fails_first P counted (λ n. ⊤) (λ n. n ∷ []) (λ t. length t) (λ t. t) fault old (λ t p. tt) (λ t p. refl) h
+
+  module _ (mid : Place) (len : ℕ) (took : Took old mid (len ∷ [])) where
+    -- the count was read
+    after_count : Fails (λ t. P t × (len ≡ length t)) (λ t. t) fault mid → Fails P counted fault old
+    after_count h = fails_after P counted (len ∷ []) (λ t. len ≡ length t) (λ t. length t ∷ []) (λ t. t) fault old mid took (λ t p. says_byte len (length t)) (λ t p. refl) h
+
+    -- no text is so long
+    pub no_length : (most : ℕ) → ((t : List ℕ) → P t → length t ≤ most) → most < len → Fails P counted fault old
+    no_length most few h = after_count (fails_none (λ t. P t × (len ≡ length t)) (λ t. t) fault mid (λ t p. let short = few t p.0 in absurd (omega (arith, short, p.1, h))))
+
+    -- the bytes aren't there
+    pub no_bytes : Fails (λ bytes. length bytes ≡ len) (λ bytes. bytes) fault mid → Fails P counted fault old
+    no_bytes h = after_count (fails_turn (λ t. P t × (len ≡ length t)) (λ t. t) (λ bytes. length bytes ≡ len) (λ bytes. bytes) (λ t. t) fault mid (λ t p. sym p.1) (λ t p. refl) h)
+
+    -- the bytes were read, and are no such text
+    pub no_text : (new : Place) (bytes : List ℕ) → Took mid new bytes → length bytes ≡ len → (P bytes → ⊥) → Fails P counted fault old
+    no_text new bytes more same none =
+        after_count (fails_after (λ t. P t × (len ≡ length t)) (λ t. t) bytes (λ t. bytes ≡ t) (λ t. t) (λ t. []) fault mid new more
+        (λ t p. says_fixed bytes t (same ∙ p.1)) (λ t p. sym (append-nil t))
+        (fails_none (λ t. (P t × (len ≡ length t)) × (bytes ≡ t)) (λ t. []) fault new (λ t p. none (subst P (sym p.1) p.0.0))))

@@ -1,0 +1,95 @@
+use Rattle.std.proofs.Common.{ℕ, ◌+◌, ◌∙◌, refl, rules, subst, sym}
+use Rattle.std.specs.Prelude.{None, Some}
+use Rattle.std.proofs.lemmas.Result.{err_from_is_err_and}
+use Rattle.vdb_coord.specs.Blocks.{block_around}
+use Rattle.vdb_coord.specs.declared.Level.TheVariants.{Leaf, Lower, Upper}
+use Rattle.vdb_tree.specs.Layout.{bits_of, field_of}
+use Rattle.vdb_tree.proofs.Uniform.{exact_by}
+use Rattle.vdb_scene.specs.Watched.{source}
+use Rattle.vdb_file.specs.Bodies.{leaf_body}
+use Rattle.vdb_file.specs.internal.LoadedFields.{HasRoomAt}
+use Rattle.vdb_file.specs.internal.Reading.{place}
+use Rattle.vdb_file.proofs.Bodies.{entry_is_leaf}
+use Rattle.vdb_file.proofs.BlockLoops.{entries_ready, more_entries, no_entries, no_next_entry}
+use Rattle.vdb_file.proofs.HeadCodes.{voxel_values}
+use Rattle.vdb_file.proofs.RowInstances.{is_lower_row}
+use Rattle.vdb_file.proofs.RowLoops.{all_underway}
+use Rattle.vdb_file.proofs.loading.blocks.take_leaf_blocks.Goals as goal
+
+pub loop-init : goal.loop-init
+loop-init g c =
+    let exact = exact_by g.V.PartialEq.eq g.V.Ord.cmp g.met.V.Ord.matches_eq g.met.V.Voxel.exact in
+    let values = voxel_values g.V.PartialEq.eq g.V.Voxel.bytes_of g.V.Voxel.is_value g.V.Voxel.KIND exact g.met.V.Eq.laws.refl g.met.V.Voxel.bytes_known g.met.V.Voxel.bytes_exact in
+    let bits = bits_of g.row.U g.row.L g.row.F in
+    let p = c.args.p in
+    let t = c.args.tree.now in
+    let f = field_of bits t in
+    let old = place c.args.input.now (g.R.Read.remaining (source c.args.reader.now)) in
+    let configured = c.requires.ready.configured in
+    let row = is_lower_row values bits configured p in
+    let under = no_entries values bits Lower p (leaf_body g.V.PartialEq.eq g.V.Voxel.bytes_of bits) t.background row f old c.requires.ready.values c.requires.ready.clear in
+    record {
+      underway = under;
+      ready = entries_ready values bits Lower p (leaf_body g.V.PartialEq.eq g.V.Voxel.bytes_of bits) t.background row f old 0 None f old under configured Leaf (entry_is_leaf bits p) t.limit c.requires.ready.room;
+      ends = c.requires.ends;
+      limit = refl;
+      failed = refl;
+    }
+
+pub returns-in_err-i-clause-reads : goal.returns-in_err-i-clause-reads
+returns-in_err-i-clause-reads g c =
+    let exact = exact_by g.V.PartialEq.eq g.V.Ord.cmp g.met.V.Ord.matches_eq g.met.V.Voxel.exact in
+    let values = voxel_values g.V.PartialEq.eq g.V.Voxel.bytes_of g.V.Voxel.is_value g.V.Voxel.KIND exact g.met.V.Eq.laws.refl g.met.V.Voxel.bytes_known g.met.V.Voxel.bytes_exact in
+    let bits = bits_of g.row.U g.row.L g.row.F in
+    let p = c.args.p in
+    let t = c.args.tree.now in
+    let f = field_of bits t in
+    let old = place c.args.input.now (g.R.Read.remaining (source c.args.reader.now)) in
+    let configured = c.requires.ready.configured in
+    let row = is_lower_row values bits configured p in
+    let s = field_of bits c.loop.tree in
+    let now = place c.loop.input (g.R.Read.remaining (source c.loop.reader)) in
+    let e = err_from_is_err_and c.from_residual.result c.from_residual.ensures.1 in
+    rw (e.1, e.2) (no_next_entry values bits Lower p (leaf_body g.V.PartialEq.eq g.V.Voxel.bytes_of bits) t.background row f old c.loop.counter c.loop.before s now c.loop.invariant.underway c.args.count c.loop-test.true c.in_err-i.field-0.0 c.in_err-i.ensures.reads)
+
+pub loop-preserved : goal.loop-preserved
+loop-preserved g c =
+    let exact = exact_by g.V.PartialEq.eq g.V.Ord.cmp g.met.V.Ord.matches_eq g.met.V.Voxel.exact in
+    let values = voxel_values g.V.PartialEq.eq g.V.Voxel.bytes_of g.V.Voxel.is_value g.V.Voxel.KIND exact g.met.V.Eq.laws.refl g.met.V.Voxel.bytes_known g.met.V.Voxel.bytes_exact in
+    let bits = bits_of g.row.U g.row.L g.row.F in
+    let p = c.args.p in
+    let t = c.args.tree.now in
+    let f = field_of bits t in
+    let old = place c.args.input.now (g.R.Read.remaining (source c.args.reader.now)) in
+    let configured = c.requires.ready.configured in
+    let row = is_lower_row values bits configured p in
+    let s = field_of bits c.loop.tree in
+    let now = place c.loop.input (g.R.Read.remaining (source c.loop.reader)) in
+    let read = c.in_ok-i.ensures.reads in
+    let after = field_of bits c.take_next_leaf_block.new.tree in
+    let next = place c.take_next_leaf_block.new.input (g.R.Read.remaining (source c.take_next_leaf_block.new.reader)) in
+    let under = more_entries values bits Lower p (leaf_body g.V.PartialEq.eq g.V.Voxel.bytes_of bits) t.background row f old c.loop.counter c.loop.before s now c.loop.invariant.underway c.in_ok-i.i next after read.0 read.1 c.in_ok-i.ensures.kept in
+    let limit = c.in_ok-i.ensures.limit ∙ c.loop.invariant.limit in
+    let room = subst (λ (n : ℕ). HasRoomAt g.V.PartialEq.eq bits n (block_around bits Upper p) f) (sym limit) c.requires.ready.room in
+    record {
+      underway = under;
+      ready = entries_ready values bits Lower p (leaf_body g.V.PartialEq.eq g.V.Voxel.bytes_of bits) t.background row f old (c.loop.counter + 1) (Some c.in_ok-i.i) after next under configured Leaf (entry_is_leaf bits p) c.take_next_leaf_block.new.tree.limit room;
+      ends = c.in_ok-i.ensures.ends;
+      limit = limit;
+      failed = search rules;
+    }
+
+pub returns-clause-reads : goal.returns-clause-reads
+returns-clause-reads g c =
+    let exact = exact_by g.V.PartialEq.eq g.V.Ord.cmp g.met.V.Ord.matches_eq g.met.V.Voxel.exact in
+    let values = voxel_values g.V.PartialEq.eq g.V.Voxel.bytes_of g.V.Voxel.is_value g.V.Voxel.KIND exact g.met.V.Eq.laws.refl g.met.V.Voxel.bytes_known g.met.V.Voxel.bytes_exact in
+    let bits = bits_of g.row.U g.row.L g.row.F in
+    let p = c.args.p in
+    let t = c.args.tree.now in
+    let f = field_of bits t in
+    let old = place c.args.input.now (g.R.Read.remaining (source c.args.reader.now)) in
+    let configured = c.requires.ready.configured in
+    let row = is_lower_row values bits configured p in
+    let s = field_of bits c.loop.tree in
+    let now = place c.loop.input (g.R.Read.remaining (source c.loop.reader)) in
+    all_underway values row t.background (block_around bits Lower p) f old c.loop.counter c.loop.before s now c.loop.invariant.underway c.args.count (search rules)

@@ -1,0 +1,19 @@
+use Rattle.std.proofs.Common.{◌≡◌, ◌≤◌, ◌-◌, length, take}
+use Rattle.vdb_scene.specs.Watched.{has_failed, source}
+use Rattle.vdb_file.specs.internal.Reading.{EndsWith, Took, place}
+use Rattle.vdb_file.proofs.loading.fields.take_field.Given as goal
+
+-- the front of the field was read
+abbrev pub invariant-loop-at : goal.invariant-loop-at
+invariant-loop-at g l = record {
+  took : Took (place l.fn.input (g.R.Read.remaining (source l.fn.reader))) (place l.input (g.R.Read.remaining (source l.reader))) (take l.at l.field);
+  ends : EndsWith l.input (g.R.Read.remaining (source l.reader));
+  within : l.at ≤ length l.field;
+  same : length l.field ≡ length l.fn.field;
+  fits : length l.fn.field ≤ l.fn.input.room;
+  failed : has_failed l.reader ≡ has_failed l.fn.reader;
+}
+
+-- the bytes that are wanted
+abbrev pub decreases-loop-at : goal.decreases-loop-at
+decreases-loop-at g l = length l.field - l.at

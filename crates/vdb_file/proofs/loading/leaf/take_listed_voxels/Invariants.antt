@@ -1,0 +1,16 @@
+use Rattle.std.proofs.Common.{◌≡◌}
+use Rattle.vdb_coord.specs.declared.Coord.{Coord}
+use Rattle.vdb_scene.specs.Watched.{has_failed, source}
+use Rattle.vdb_file.specs.internal.Reading.{EndsWith, place}
+use Rattle.vdb_file.proofs.LeafReads.{AreCells, HasRead}
+use Rattle.vdb_file.proofs.loading.leaf.take_listed_voxels.Given as goal
+
+-- the voxels so far were read into the leaf, whichever block it is that of, and the next is to follow the last of them
+abbrev pub invariant-loop : goal.invariant-loop
+invariant-loop g l = record {
+  ends : EndsWith l.input (g.R.Read.remaining (source l.reader));
+  failed : has_failed l.reader ≡ has_failed l.fn.reader;
+  cells : AreCells g.V.Voxel.is_value l.fn.bits l.background l.leaf;
+  each : (p : Coord) → HasRead g.V.PartialEq.eq g.V.Voxel.bytes_of l.fn.bits l.background p l.leaf
+      (place l.fn.input (g.R.Read.remaining (source l.fn.reader))) (place l.input (g.R.Read.remaining (source l.reader))) l.counter l.before;
+}

@@ -1,0 +1,20 @@
+use Rattle.std.proofs.Common.{◌≡◌, length}
+use Rattle.std.specs.Prelude.{None}
+use Rattle.std.specs.List.{flat_map}
+use Rattle.vdb_scene.specs.Watched.{has_failed, source}
+use Rattle.vdb_file.specs.Scenes.{IsPair}
+use Rattle.vdb_file.specs.internal.Parts.{name_of, pair_bytes}
+use Rattle.vdb_file.specs.internal.Reading.{EndsWith, Took, place}
+use Rattle.vdb_file.proofs.Items.{IsChain, last_of}
+use Rattle.vdb_file.proofs.loading.metas.take_each_pair.Given as goal
+
+-- the pairs so far were read, and the next is to follow the last of them
+abbrev pub invariant-loop : goal.invariant-loop
+invariant-loop g l = record {
+  took : Took (place l.fn.input (g.R.Read.remaining (source l.fn.reader))) (place l.input (g.R.Read.remaining (source l.reader))) (flat_map pair_bytes l.metas);
+  ends : EndsWith l.input (g.R.Read.remaining (source l.reader));
+  count : length l.metas ≡ l.counter;
+  chain : IsChain IsPair name_of None l.metas;
+  before : l.before ≡ last_of IsPair name_of None l.metas;
+  failed : has_failed l.reader ≡ has_failed l.fn.reader;
+}

@@ -1,0 +1,153 @@
+//! A scene, loaded from a file.
+
+ghost use Rattle.std.specs.Prelude.{◌≡◌, ◌≤◌, ◌||◌, ℕ, List, codes, Err, IfErr, IfOk, IfSome, OnOk};
+ghost use Rattle.std.specs.Int.{w16, to_be_bytes};
+ghost use Rattle.std.specs.Io.KnownBytes.{IsAtEnd};
+ghost use Rattle.std.specs.List.{flat_map};
+ghost use Rattle.vdb_scene.specs.Grids.{grid_with, scene_of};
+ghost use Rattle.vdb_scene.specs.Scene.{Scene as AbstractScene, with_grid};
+ghost use Rattle.vdb_scene.specs.Watched.{has_failed, source};
+ghost use Rattle.vdb_file.specs.Faults.{Claims, HasOtherMagic, HasOtherVersion, IsFieldFault, IsInner, is_read_fault};
+ghost use Rattle.vdb_file.specs.Scenes.{BeginsWithFile, IsScene};
+ghost use Rattle.vdb_file.specs.Spelling.{IsFileOf};
+ghost use Rattle.vdb_file.specs.internal.Parts.{AreItems, IsFile, IsNamed, IsSceneOf, bytes_of_file, name_of, named_bytes, named_view, scene_bytes};
+ghost use Rattle.vdb_file.specs.internal.Reading.{EndsWith, Reads, place};
+
+mod block_head;
+mod blocks;
+mod fields;
+mod grid_head;
+mod grids;
+mod input;
+mod leaf;
+mod leaf_blocks;
+mod metas;
+mod names;
+mod roots;
+mod versions;
+
+use crate::fault::LoadFault;
+use crate::loading::fields::take_u16;
+use crate::loading::grids::{Named, take_named};
+use crate::loading::input::Input;
+use crate::loading::versions::{Version, take_magic, take_version};
+use std::alloc::Global;
+use std::io::Read;
+use vdb_pool::Steps;
+use vdb_scene::{GRID_LIMIT, Scene, Watched};
+
+/// Reads the scene of a file of either version (OpenVDB's `io::Stream`), all of whose bytes the reader has: after a scene the
+/// reader is at its end. 65,536 bytes at a time are asked for, and at most one beyond the 268,435,456 that a file may have.
+///
+/// The fields are read in their order, and the first fault is answered: `TooLong` for a field that would end past the most bytes
+/// of a file, `Truncated` where the reader ends before the field does, or what its bytes are refused for. `Trailing` says that a
+/// byte follows the last field. `Memory` may stand in place of a scene or of a fault of a later field; `Read` says that the reader
+/// failed. A fault but those two comes only where no scene has a file of these bytes.
+pub fn load<R: Read>(
+    alloc: Global,
+    reader: &mut Watched<R>,
+    steps: &mut Steps,
+) -> Result<Scene, LoadFault>
+    ensures scene { IfOk result (λ scene. IsScene (scene_of scene)) }
+    ensures loaded { IfOk result (λ scene. IfSome (R.remaining (source reader.old)) (λ bytes. IsFileOf bytes (scene_of scene))) }
+    ensures end { OnOk result (IsAtEnd (R.remaining (source reader.new))) }
+    ensures none { IfErr result (λ fault. Claims fault → IfSome (R.remaining (source reader.old)) (λ bytes. (s : AbstractScene) → IsScene s → IsFileOf bytes s → ⊥)) }
+    ensures magic { result ≡ Err LoadFault.Magic → IfSome (R.remaining (source reader.old)) HasOtherMagic }
+    ensures version { result ≡ Err LoadFault.Version → IfSome (R.remaining (source reader.old)) HasOtherVersion }
+    ensures truncated { result ≡ Err LoadFault.Truncated → IsAtEnd (R.remaining (source reader.new)) }
+    ensures trailing { result ≡ Err LoadFault.Trailing → IfSome (R.remaining (source reader.old)) BeginsWithFile }
+    ensures failed { has_failed reader.new ≡ (has_failed reader.old || is_read_fault result) }
+{
+    let mut input = Input::new();
+    let file = take_file(alloc, &mut input, reader, steps)?;
+    let more = input.fill(reader)?;
+    if more {
+        return Err(LoadFault::Trailing);
+    }
+    Ok(file.1)
+}
+
+/// Reads all fields of a file.
+fn take_file<R: Read>(
+    alloc: Global,
+    input: &mut Input,
+    reader: &mut Watched<R>,
+    steps: &mut Steps,
+) -> Result<(Version, Scene), LoadFault>
+    requires ends { EndsWith input.old (R.remaining (source reader.old)) }
+    ensures ends { EndsWith input.new (R.remaining (source reader.new)) }
+    ensures reads { Reads (λ r. (r.0, scene_of r.1)) IsFile bytes_of_file result
+        (place input.old (R.remaining (source reader.old))) (place input.new (R.remaining (source reader.new))) }
+    ensures fault { IfErr result IsFieldFault }
+    ensures magic { result ≡ Err LoadFault.Magic → IfSome (place input.old (R.remaining (source reader.old))).known HasOtherMagic }
+    ensures version { result ≡ Err LoadFault.Version → IfSome (place input.old (R.remaining (source reader.old))).known HasOtherVersion }
+    ensures ended { result ≡ Err LoadFault.Truncated → IsAtEnd (place input.new (R.remaining (source reader.new))).known }
+    ensures failed { has_failed reader.new ≡ (has_failed reader.old || is_read_fault result) }
+{
+    take_magic(input, reader)?;
+    let version = take_version(input, reader)?;
+    let scene = take_scene(alloc, input, reader, version, steps)?;
+    Ok((version, scene))
+}
+
+/// Reads the grids behind their count.
+fn take_scene<R: Read>(
+    alloc: Global,
+    input: &mut Input,
+    reader: &mut Watched<R>,
+    version: Version,
+    steps: &mut Steps,
+) -> Result<Scene, LoadFault>
+    requires ends { EndsWith input.old (R.remaining (source reader.old)) }
+    ensures ends { EndsWith input.new (R.remaining (source reader.new)) }
+    ensures reads { Reads scene_of (IsSceneOf version) (scene_bytes version) result
+        (place input.old (R.remaining (source reader.old))) (place input.new (R.remaining (source reader.new))) }
+    ensures inner { IfErr result IsInner }
+    ensures ended { result ≡ Err LoadFault.Truncated → IsAtEnd (place input.new (R.remaining (source reader.new))).known }
+    ensures failed { has_failed reader.new ≡ (has_failed reader.old || is_read_fault result) }
+{
+    let count = take_u16(input, reader)?;
+    if count as usize > GRID_LIMIT {
+        return Err(LoadFault::Name);
+    }
+    let scene = take_grids(alloc, input, reader, version, count, steps)?;
+    Ok(scene)
+}
+
+/// Reads so many grids.
+fn take_grids<R: Read>(
+    alloc: Global,
+    input: &mut Input,
+    reader: &mut Watched<R>,
+    version: Version,
+    count: u16,
+    steps: &mut Steps,
+) -> Result<Scene, LoadFault>
+    requires ends { EndsWith input.old (R.remaining (source reader.old)) }
+    ensures ends { EndsWith input.new (R.remaining (source reader.new)) }
+    ensures reads { Reads scene_of (AreItems (IsNamed version) name_of count) (flat_map (named_bytes version)) result
+        (place input.old (R.remaining (source reader.old))) (place input.new (R.remaining (source reader.new))) }
+    ensures inner { IfErr result IsInner }
+    ensures ended { result ≡ Err LoadFault.Truncated → IsAtEnd (place input.new (R.remaining (source reader.new))).known }
+    ensures failed { has_failed reader.new ≡ (has_failed reader.old || is_read_fault result) }
+{
+    let mut scene = Scene::new(alloc);
+    let mut before = None;
+    for _ in 0..count {
+        let named = take_named(alloc, input, reader, version, before, steps)?;
+        before = Some(named.name);
+        add(&mut scene, named)?;
+    }
+    Ok(scene)
+}
+
+/// Adds a grid whose name is greater than all others, of which there are few.
+fn add(scene: &mut Scene, named: Named) -> Result<(), LoadFault>
+    ensures ok { OnOk result (scene_of scene.new ≡ with_grid (scene_of scene.old) named.name (grid_with named.grid named.metas)) }
+    ensures err { IfErr result (λ fault. fault ≡ LoadFault.Memory) }
+{
+    match scene.insert_with(named.name, named.grid, named.metas) {
+        Ok(()) => Ok(()),
+        Err(_) => Err(LoadFault::Memory),
+    }
+}

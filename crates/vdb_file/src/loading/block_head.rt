@@ -1,0 +1,236 @@
+//! What stands at the front of the blocks of a file and of their entries.
+
+ghost use Rattle.std.specs.Prelude.{◌≡◌, ◌≤◌, ◌||◌, ◌↔◌, Err, FitsSigned, IfErr, IsTrue};
+ghost use Rattle.std.specs.Int.{w16, w32, to_be_bytes};
+ghost use Rattle.std.specs.Io.KnownBytes.{IsAtEnd};
+ghost use Rattle.std.specs.Ordering.{nat_cmp};
+ghost use Rattle.vdb_coord.specs.Blocks.{entries};
+ghost use Rattle.vdb_coord.specs.Entries.{AreBits};
+ghost use Rattle.vdb_coord.specs.Space.{coord_cmp};
+ghost use Rattle.vdb_scene.specs.Watched.{has_failed, source};
+ghost use Rattle.vdb_file.specs.Bodies.{cell_bytes, key_bytes};
+ghost use Rattle.vdb_file.specs.Faults.{IsInner, is_read_fault};
+ghost use Rattle.vdb_file.specs.internal.Following.{Follows};
+ghost use Rattle.vdb_file.specs.internal.Loading.{IsHead, IsIndex, IsKey, IsSpelled, head_bytes};
+ghost use Rattle.vdb_file.specs.internal.Reading.{EndsWith, Reads, place};
+
+use crate::fault::LoadFault;
+use crate::loading::fields::{take_u8, take_u16, take_value};
+use crate::loading::input::Input;
+use std::io::Read;
+use vdb_coord::{Bits, Bounds, Coord, Level};
+use vdb_scene::Watched;
+use vdb_value::{Cell, Voxel};
+
+/// What stands at the front of a block.
+#[derive(Clone, Copy)]
+pub(crate) enum Head<V> {
+    /// The one cell of the block.
+    One(Cell<V>),
+    /// How many of its entries hold anything but the background, where its cells differ.
+    Node(u16),
+}
+
+/// Reads the value of a cell of this state, which isn't the background.
+fn take_state<V: Voxel, R: Read>(
+    on: bool,
+    background: V,
+    input: &mut Input,
+    reader: &mut Watched<R>,
+) -> Result<Cell<V>, LoadFault>
+    requires ends { EndsWith input.old (R.remaining (source reader.old)) }
+    ensures ends { EndsWith input.new (R.remaining (source reader.new)) }
+    ensures reads { Reads (λ c. c) (λ c. IsSpelled V.eq V.is_value background c × (c.on ≡ on)) (λ c. V.bytes_of c.value) result
+        (place input.old (R.remaining (source reader.old))) (place input.new (R.remaining (source reader.new))) }
+    ensures inner { IfErr result IsInner }
+    ensures ended { result ≡ Err LoadFault.Truncated → IsAtEnd (place input.new (R.remaining (source reader.new))).known }
+    ensures failed { has_failed reader.new ≡ (has_failed reader.old || is_read_fault result) }
+{
+    let value = take_value::<V, R>(input, reader)?;
+    if !on && value == background {
+        return Err(LoadFault::Background);
+    }
+    Ok(Cell { value, on })
+}
+
+/// Reads a cell that isn't the background.
+pub(crate) fn take_cell<V: Voxel, R: Read>(
+    background: V,
+    input: &mut Input,
+    reader: &mut Watched<R>,
+) -> Result<Cell<V>, LoadFault>
+    requires ends { EndsWith input.old (R.remaining (source reader.old)) }
+    ensures ends { EndsWith input.new (R.remaining (source reader.new)) }
+    ensures reads { Reads (λ c. c) (IsSpelled V.eq V.is_value background) (cell_bytes V.eq V.bytes_of) result
+        (place input.old (R.remaining (source reader.old))) (place input.new (R.remaining (source reader.new))) }
+    ensures inner { IfErr result IsInner }
+    ensures ended { result ≡ Err LoadFault.Truncated → IsAtEnd (place input.new (R.remaining (source reader.new))).known }
+    ensures failed { has_failed reader.new ≡ (has_failed reader.old || is_read_fault result) }
+{
+    let tag = take_u8(input, reader)?;
+    match tag {
+        1 => take_state(false, background, input, reader),
+        2 => take_state(true, background, input, reader),
+        _ => Err(LoadFault::Tag),
+    }
+}
+
+/// Reads how many entries of a block are listed, one at least and this many at most.
+fn take_count<R: Read>(
+    most: u16,
+    input: &mut Input,
+    reader: &mut Watched<R>,
+) -> Result<u16, LoadFault>
+    requires ends { EndsWith input.old (R.remaining (source reader.old)) }
+    ensures ends { EndsWith input.new (R.remaining (source reader.new)) }
+    ensures reads { Reads (λ n. n) (λ n. (1 ≤ n) × (n ≤ most)) (to_be_bytes w16) result
+        (place input.old (R.remaining (source reader.old))) (place input.new (R.remaining (source reader.new))) }
+    ensures inner { IfErr result IsInner }
+    ensures ended { result ≡ Err LoadFault.Truncated → IsAtEnd (place input.new (R.remaining (source reader.new))).known }
+    ensures failed { has_failed reader.new ≡ (has_failed reader.old || is_read_fault result) }
+{
+    let count = take_u16(input, reader)?;
+    if count == 0 {
+        return Err(LoadFault::Index);
+    }
+    if count > most {
+        return Err(LoadFault::Index);
+    }
+    Ok(count)
+}
+
+/// Reads what stands at the front of a block with this many entries.
+pub(crate) fn take_head<V: Voxel, R: Read>(
+    background: V,
+    most: u16,
+    input: &mut Input,
+    reader: &mut Watched<R>,
+) -> Result<Head<V>, LoadFault>
+    requires ends { EndsWith input.old (R.remaining (source reader.old)) }
+    ensures ends { EndsWith input.new (R.remaining (source reader.new)) }
+    ensures reads { Reads (λ h. h) (IsHead V.eq V.is_value background most) (head_bytes V.eq V.bytes_of) result
+        (place input.old (R.remaining (source reader.old))) (place input.new (R.remaining (source reader.new))) }
+    ensures inner { IfErr result IsInner }
+    ensures ended { result ≡ Err LoadFault.Truncated → IsAtEnd (place input.new (R.remaining (source reader.new))).known }
+    ensures failed { has_failed reader.new ≡ (has_failed reader.old || is_read_fault result) }
+{
+    let tag = take_u8(input, reader)?;
+    match tag {
+        1 => Ok(Head::One(take_state(false, background, input, reader)?)),
+        2 => Ok(Head::One(take_state(true, background, input, reader)?)),
+        3 => Ok(Head::Node(take_count(most, input, reader)?)),
+        _ => Err(LoadFault::Tag),
+    }
+}
+
+/// Reads the number of an entry, of this many, that comes after the one before.
+pub(crate) fn take_index<R: Read>(
+    most: u16,
+    before: Option<u16>,
+    input: &mut Input,
+    reader: &mut Watched<R>,
+) -> Result<u16, LoadFault>
+    requires ends { EndsWith input.old (R.remaining (source reader.old)) }
+    ensures ends { EndsWith input.new (R.remaining (source reader.new)) }
+    ensures reads { Reads (λ i. i) (IsIndex most before) (to_be_bytes w16) result
+        (place input.old (R.remaining (source reader.old))) (place input.new (R.remaining (source reader.new))) }
+    ensures inner { IfErr result IsInner }
+    ensures ended { result ≡ Err LoadFault.Truncated → IsAtEnd (place input.new (R.remaining (source reader.new))).known }
+    ensures failed { has_failed reader.new ≡ (has_failed reader.old || is_read_fault result) }
+{
+    let i = take_u16(input, reader)?;
+    if i >= most {
+        return Err(LoadFault::Index);
+    }
+    if !index_follows(before, i) {
+        return Err(LoadFault::Index);
+    }
+    Ok(i)
+}
+
+/// Reads the number of an entry of one of the level's nodes, which comes after the one before.
+pub(crate) fn take_entry_number<R: Read>(
+    bits: Bits,
+    level: Level,
+    before: Option<u16>,
+    input: &mut Input,
+    reader: &mut Watched<R>,
+) -> Result<u16, LoadFault>
+    requires configured { AreBits bits }
+    requires ends { EndsWith input.old (R.remaining (source reader.old)) }
+    ensures ends { EndsWith input.new (R.remaining (source reader.new)) }
+    ensures reads { Reads (λ i. i) (IsIndex (entries bits level) before) (to_be_bytes w16) result
+        (place input.old (R.remaining (source reader.old))) (place input.new (R.remaining (source reader.new))) }
+    ensures inner { IfErr result IsInner }
+    ensures ended { result ≡ Err LoadFault.Truncated → IsAtEnd (place input.new (R.remaining (source reader.new))).known }
+    ensures failed { has_failed reader.new ≡ (has_failed reader.old || is_read_fault result) }
+{
+    let most = bits.entries(level);
+    take_index(most, before, input, reader)
+}
+
+/// Whether the number of an entry comes after the one before.
+fn index_follows(before: Option<u16>, i: u16) -> bool
+    ensures { IsTrue result ↔ Follows nat_cmp before i }
+{
+    match before {
+        Some(last) => last < i,
+        None => true,
+    }
+}
+
+/// Reads three signed numbers, as one field of twelve bytes.
+fn take_coord<R: Read>(input: &mut Input, reader: &mut Watched<R>) -> Result<Coord, LoadFault>
+    requires ends { EndsWith input.old (R.remaining (source reader.old)) }
+    ensures ends { EndsWith input.new (R.remaining (source reader.new)) }
+    ensures reads { Reads (λ k. k) (λ k. FitsSigned w32 k.x × FitsSigned w32 k.y × FitsSigned w32 k.z) key_bytes result
+        (place input.old (R.remaining (source reader.old))) (place input.new (R.remaining (source reader.new))) }
+    ensures inner { IfErr result IsInner }
+    ensures ended { result ≡ Err LoadFault.Truncated → IsAtEnd (place input.new (R.remaining (source reader.new))).known }
+    ensures failed { has_failed reader.new ≡ (has_failed reader.old || is_read_fault result) }
+{
+    if input.room() < 12 {
+        return Err(LoadFault::TooLong);
+    }
+    let x = take_value::<i32, R>(input, reader)?;
+    let y = take_value::<i32, R>(input, reader)?;
+    let z = take_value::<i32, R>(input, reader)?;
+    Ok(Coord { x, y, z })
+}
+
+/// Reads the key of a root block, which comes after the one before.
+pub(crate) fn take_key<R: Read>(
+    bits: Bits,
+    before: Option<Coord>,
+    input: &mut Input,
+    reader: &mut Watched<R>,
+) -> Result<Coord, LoadFault>
+    requires configured { AreBits bits }
+    requires ends { EndsWith input.old (R.remaining (source reader.old)) }
+    ensures ends { EndsWith input.new (R.remaining (source reader.new)) }
+    ensures reads { Reads (λ k. k) (IsKey bits before) key_bytes result
+        (place input.old (R.remaining (source reader.old))) (place input.new (R.remaining (source reader.new))) }
+    ensures inner { IfErr result IsInner }
+    ensures ended { result ≡ Err LoadFault.Truncated → IsAtEnd (place input.new (R.remaining (source reader.new))).known }
+    ensures failed { has_failed reader.new ≡ (has_failed reader.old || is_read_fault result) }
+{
+    let key = take_coord(input, reader)?;
+    let keys = Bounds::all().block_numbers_in(bits, Level::Upper);
+    if !keys.contains(key) {
+        return Err(LoadFault::Key);
+    }
+    if !key_follows(before, &key) {
+        return Err(LoadFault::Key);
+    }
+    Ok(key)
+}
+
+/// Whether a key comes after the one before.
+fn key_follows(before: Option<Coord>, key: &Coord) -> bool
+    ensures { IsTrue result ↔ Follows coord_cmp before key.now }
+{
+    match before {
+        Some(last) => last < *key,
+        None => true,
+    }
+}

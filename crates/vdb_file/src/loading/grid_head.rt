@@ -1,0 +1,92 @@
+//! What a file has between a grid's background and its root blocks.
+
+ghost use Rattle.std.specs.Prelude.{◌≡◌, ◌↔◌, ◌||◌, Err, IfErr, IsTrue};
+ghost use Rattle.std.specs.Int.{w32, to_be_bytes};
+ghost use Rattle.std.specs.Io.KnownBytes.{IsAtEnd};
+ghost use Rattle.vdb_scene.specs.Watched.{has_failed, source};
+ghost use Rattle.vdb_file.specs.Faults.{IsInner, is_read_fault};
+ghost use Rattle.vdb_file.specs.internal.Parts.{IsHead, IsLimit, head_code, head_view};
+ghost use Rattle.vdb_file.specs.internal.Reading.{EndsWith, Reads, place};
+
+use crate::fault::LoadFault;
+use crate::loading::fields::take_u32;
+use crate::loading::input::Input;
+use crate::loading::metas::take_pairs;
+use crate::loading::versions::Version;
+use std::alloc::Global;
+use std::io::Read;
+use vdb_scene::{MOST_ROOT_LIMIT, Metas, ROOT_LIMIT, Watched};
+
+/// The limit of a grid's root blocks, and its metadata pairs.
+#[derive(Drop)]
+pub(crate) struct Head {
+    pub(crate) limit: u32,
+    pub(crate) metas: Metas,
+}
+
+/// Whether a grid may have this limit.
+fn is_limit(limit: u32) -> bool
+    ensures { IsTrue result ↔ IsLimit limit }
+{
+    0 < limit && limit <= MOST_ROOT_LIMIT
+}
+
+/// Reads a limit.
+fn take_limit<R: Read>(input: &mut Input, reader: &mut Watched<R>) -> Result<u32, LoadFault>
+    requires ends { EndsWith input.old (R.remaining (source reader.old)) }
+    ensures ends { EndsWith input.new (R.remaining (source reader.new)) }
+    ensures reads { Reads (λ limit. limit) IsLimit (to_be_bytes w32) result
+        (place input.old (R.remaining (source reader.old))) (place input.new (R.remaining (source reader.new))) }
+    ensures inner { IfErr result IsInner }
+    ensures ended { result ≡ Err LoadFault.Truncated → IsAtEnd (place input.new (R.remaining (source reader.new))).known }
+    ensures failed { has_failed reader.new ≡ (has_failed reader.old || is_read_fault result) }
+{
+    let limit = take_u32(input, reader)?;
+    if !is_limit(limit) {
+        return Err(LoadFault::Limit);
+    }
+    Ok(limit)
+}
+
+/// Reads what version 2 has there.
+fn take_new_head<R: Read>(
+    alloc: Global,
+    input: &mut Input,
+    reader: &mut Watched<R>,
+) -> Result<Head, LoadFault>
+    requires ends { EndsWith input.old (R.remaining (source reader.old)) }
+    ensures ends { EndsWith input.new (R.remaining (source reader.new)) }
+    ensures reads { Reads head_view (IsHead Version.Two) (head_code Version.Two) result
+        (place input.old (R.remaining (source reader.old))) (place input.new (R.remaining (source reader.new))) }
+    ensures inner { IfErr result IsInner }
+    ensures ended { result ≡ Err LoadFault.Truncated → IsAtEnd (place input.new (R.remaining (source reader.new))).known }
+    ensures failed { has_failed reader.new ≡ (has_failed reader.old || is_read_fault result) }
+{
+    let limit = take_limit(input, reader)?;
+    let metas = take_pairs(alloc, input, reader)?;
+    Ok(Head { limit, metas })
+}
+
+/// Reads what a version has there: nothing in version 1, all of whose grids have one limit and no pairs.
+pub(crate) fn take_head<R: Read>(
+    alloc: Global,
+    input: &mut Input,
+    reader: &mut Watched<R>,
+    version: Version,
+) -> Result<Head, LoadFault>
+    requires ends { EndsWith input.old (R.remaining (source reader.old)) }
+    ensures ends { EndsWith input.new (R.remaining (source reader.new)) }
+    ensures reads { Reads head_view (IsHead version) (head_code version) result
+        (place input.old (R.remaining (source reader.old))) (place input.new (R.remaining (source reader.new))) }
+    ensures inner { IfErr result IsInner }
+    ensures ended { result ≡ Err LoadFault.Truncated → IsAtEnd (place input.new (R.remaining (source reader.new))).known }
+    ensures failed { has_failed reader.new ≡ (has_failed reader.old || is_read_fault result) }
+{
+    match version {
+        Version::One => Ok(Head {
+            limit: ROOT_LIMIT,
+            metas: Metas::new(alloc),
+        }),
+        Version::Two => take_new_head(alloc, input, reader),
+    }
+}

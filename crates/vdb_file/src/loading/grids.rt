@@ -1,0 +1,116 @@
+//! The grids of a file.
+
+ghost use Rattle.std.specs.Prelude.{◌≡◌, ◌||◌, Err, IfErr};
+ghost use Rattle.std.specs.Io.KnownBytes.{IsAtEnd};
+ghost use Rattle.vdb_coord.specs.Blocks.{vdb};
+ghost use Rattle.vdb_scene.specs.Grids.{grid_with};
+ghost use Rattle.vdb_scene.specs.Watched.{has_failed, source};
+ghost use Rattle.vdb_file.specs.Faults.{IsInner, is_read_fault};
+ghost use Rattle.vdb_file.specs.internal.Parts.{IsBody, IsItem, IsLoadedGrid, IsNamed, body_bytes, loaded, loaded_bytes, name_of, named_bytes, named_view};
+ghost use Rattle.vdb_file.specs.internal.Reading.{EndsWith, Reads, place};
+
+use crate::fault::LoadFault;
+use crate::loading::fields::{take_u8, take_value};
+use crate::loading::grid_head::take_head;
+use crate::loading::input::Input;
+use crate::loading::names::take_name;
+use crate::loading::roots::take_roots;
+use crate::loading::versions::Version;
+use std::alloc::Global;
+use std::io::Read;
+use vdb_grid::Grid;
+use vdb_node::Stored;
+use vdb_pool::Steps;
+use vdb_scene::{AnyGrid, Metas, Name, Watched};
+use vdb_tree::Tree;
+
+/// Reads a grid of one type of values behind its kind: a tree and its metadata pairs.
+fn take_tree<V: Stored<512> + Stored<64> + Stored<8>, R: Read>(
+    alloc: Global,
+    input: &mut Input,
+    reader: &mut Watched<R>,
+    version: Version,
+    steps: &mut Steps,
+) -> Result<(Tree<V>, Metas), LoadFault>
+    requires ends { EndsWith input.old (R.remaining (source reader.old)) }
+    ensures ends { EndsWith input.new (R.remaining (source reader.new)) }
+    ensures reads { Reads (λ r. loaded r.0 r.1) (IsLoadedGrid V.is_value V.eq V.bytes_of version) (loaded_bytes V.is_value V.eq V.bytes_of version) result
+        (place input.old (R.remaining (source reader.old))) (place input.new (R.remaining (source reader.new))) }
+    ensures inner { IfErr result IsInner }
+    ensures ended { result ≡ Err LoadFault.Truncated → IsAtEnd (place input.new (R.remaining (source reader.new))).known }
+    ensures failed { has_failed reader.new ≡ (has_failed reader.old || is_read_fault result) }
+{
+    let background = take_value::<V, R>(input, reader)?;
+    let head = take_head(alloc, input, reader, version)?;
+    let mut tree = Tree::new(alloc, background, head.limit);
+    take_roots(&mut tree, input, reader, steps)?;
+    Ok((tree, head.metas))
+}
+
+/// Reads a grid behind its name.
+fn take_grid<R: Read>(
+    alloc: Global,
+    input: &mut Input,
+    reader: &mut Watched<R>,
+    version: Version,
+    steps: &mut Steps,
+) -> Result<(AnyGrid, Metas), LoadFault>
+    requires ends { EndsWith input.old (R.remaining (source reader.old)) }
+    ensures ends { EndsWith input.new (R.remaining (source reader.new)) }
+    ensures reads { Reads (λ r. grid_with r.0 r.1) (IsBody version) (body_bytes version) result
+        (place input.old (R.remaining (source reader.old))) (place input.new (R.remaining (source reader.new))) }
+    ensures inner { IfErr result IsInner }
+    ensures ended { result ≡ Err LoadFault.Truncated → IsAtEnd (place input.new (R.remaining (source reader.new))).known }
+    ensures failed { has_failed reader.new ≡ (has_failed reader.old || is_read_fault result) }
+{
+    let kind = take_u8(input, reader)?;
+    match kind {
+        0 => {
+            let truths = take_tree::<bool, R>(alloc, input, reader, version, steps)?;
+            Ok((AnyGrid::Bool(Grid::from_tree(truths.0)), truths.1))
+        }
+        1 => {
+            let numbers = take_tree::<i32, R>(alloc, input, reader, version, steps)?;
+            Ok((AnyGrid::I32(Grid::from_tree(numbers.0)), numbers.1))
+        }
+        2 => {
+            let longs = take_tree::<i64, R>(alloc, input, reader, version, steps)?;
+            Ok((AnyGrid::I64(Grid::from_tree(longs.0)), longs.1))
+        }
+        _ => Err(LoadFault::Kind),
+    }
+}
+
+/// A grid under its name, with its metadata pairs.
+#[derive(Drop)]
+pub(crate) struct Named {
+    pub(crate) name: Name,
+    pub(crate) grid: AnyGrid,
+    pub(crate) metas: Metas,
+}
+
+/// Reads a grid under its name, which comes after `before`.
+pub(crate) fn take_named<R: Read>(
+    alloc: Global,
+    input: &mut Input,
+    reader: &mut Watched<R>,
+    version: Version,
+    before: Option<Name>,
+    steps: &mut Steps,
+) -> Result<Named, LoadFault>
+    requires ends { EndsWith input.old (R.remaining (source reader.old)) }
+    ensures ends { EndsWith input.new (R.remaining (source reader.new)) }
+    ensures reads { Reads named_view (IsItem (IsNamed version) name_of before) (named_bytes version) result
+        (place input.old (R.remaining (source reader.old))) (place input.new (R.remaining (source reader.new))) }
+    ensures inner { IfErr result IsInner }
+    ensures ended { result ≡ Err LoadFault.Truncated → IsAtEnd (place input.new (R.remaining (source reader.new))).known }
+    ensures failed { has_failed reader.new ≡ (has_failed reader.old || is_read_fault result) }
+{
+    let name = take_name(input, reader, before, LoadFault::Name)?;
+    let read = take_grid(alloc, input, reader, version, steps)?;
+    Ok(Named {
+        name,
+        grid: read.0,
+        metas: read.1,
+    })
+}

@@ -1,0 +1,125 @@
+//! The bytes of a file on their way from a reader.
+
+ghost use Rattle.std.specs.Prelude.{◌≡◌, ◌+◌, ◌++◌, ◌-◌, ◌<◌, ◌≤◌, ◌||◌, true, false, [], is_err, length, min, take, drop, IfErr, Ok, OnOk};
+ghost use Rattle.std.specs.Io.KnownBytes.{IsAtEnd, Keeps, prepend_known};
+ghost use Rattle.vdb_scene.specs.Watched.{has_failed, source};
+ghost use Rattle.vdb_file.specs.Faults.{is_read_fault};
+ghost use Rattle.vdb_file.specs.internal.Reading.{EndsWith};
+
+use crate::fault::LoadFault;
+use std::io::Read;
+use std::marker::Model;
+use vdb_scene::Watched;
+
+/// The most bytes that are asked for at once.
+const PAGE: usize = 65536;
+
+/// The most bytes that the fields of a file may have.
+const MOST_BYTES: usize = 268_435_456;
+
+/// Bytes that a reader gave and that no field has yet, and how many bytes the fields may still have. At most one byte beyond those
+/// is asked for.
+#[derive(Drop)]
+pub(crate) struct Input {
+    page: [u8; PAGE],
+    start: usize,
+    end: usize,
+    room: usize,
+    ended: bool,
+}
+
+impl Model for Input {
+    ghost use Rattle.std.specs.Prelude.{◌≤◌, slice_range};
+    ghost use Rattle.vdb_file.specs.internal.Reading.{Stock};
+
+    ghost Value = { Stock };
+
+    ghost view = { λ s. record { unread = slice_range s.page s.start s.end; room = s.room; ended = s.ended } };
+
+    ghost invariant = { λ s. (s.start ≤ s.end) × (s.end ≤ 65536) × (s.room ≤ 268435456) };
+}
+
+impl Input {
+    /// No bytes, with room for all of a file.
+    pub(crate) fn new() -> Self
+        ensures { result ≡ record { unread = []; room = MOST_BYTES; ended = false } }
+    {
+        Input {
+            page: [0; PAGE],
+            start: 0,
+            end: 0,
+            room: MOST_BYTES,
+            ended: false,
+        }
+    }
+
+    /// How many bytes the fields that are still to come may have.
+    pub(crate) fn room(&self) -> usize
+        ensures { result ≡ self.now.room }
+    {
+        self.room
+    }
+
+    /// Whether there is an unread byte. Where there is none the reader is asked for more, unless it has said that it has none.
+    pub(crate) fn fill<R: Read>(&mut self, reader: &mut Watched<R>) -> Result<bool, LoadFault>
+        requires ends { EndsWith self.old (R.remaining (source reader.old)) }
+        ensures ends { EndsWith self.new (R.remaining (source reader.new)) }
+        ensures some { result ≡ Ok true → 0 < length self.new.unread }
+        ensures none { result ≡ Ok false → self.new.unread ≡ [] }
+        ensures end { result ≡ Ok false → IsAtEnd (R.remaining (source reader.new)) }
+        ensures kept { OnOk result (Keeps (prepend_known self.old.unread (R.remaining (source reader.old)))
+            (prepend_known self.new.unread (R.remaining (source reader.new)))) }
+        ensures room { self.new.room ≡ self.old.room }
+        ensures read { IfErr result (λ fault. fault ≡ LoadFault.Read) }
+        ensures failed { has_failed reader.new ≡ (has_failed reader.old || is_read_fault result) }
+    {
+        if self.start < self.end {
+            return Ok(true);
+        }
+        self.refill(reader)?;
+        Ok(self.start < self.end)
+    }
+
+    /// Asks the reader for bytes where none is unread, unless it has said that it has no more.
+    fn refill<R: Read>(&mut self, reader: &mut Watched<R>) -> Result<(), LoadFault>
+        requires unread { self.old.unread ≡ [] }
+        requires ends { EndsWith self.old (R.remaining (source reader.old)) }
+        ensures ends { EndsWith self.new (R.remaining (source reader.new)) }
+        ensures marks { OnOk result (self.new.unread ≡ [] → self.new.ended ≡ true) }
+        ensures kept { OnOk result (Keeps (prepend_known self.old.unread (R.remaining (source reader.old)))
+            (prepend_known self.new.unread (R.remaining (source reader.new)))) }
+        ensures room { self.new.room ≡ self.old.room }
+        ensures read { IfErr result (λ fault. fault ≡ LoadFault.Read) }
+        ensures failed { has_failed reader.new ≡ (has_failed reader.old || is_err result) }
+    {
+        if self.ended {
+            return Ok(());
+        }
+        let wanted = (self.room + 1).min(PAGE); // a byte beyond the room tells a file that is too long
+        let came = match reader.read(&mut self.page[..wanted]) {
+            Ok(came) => came,
+            Err(_) => return Err(LoadFault::Read),
+        };
+        self.start = 0;
+        self.end = came;
+        self.ended = came == 0;
+        Ok(())
+    }
+
+    /// Takes as many unread bytes as there are and as a field, from one place on, still wants, and answers how many.
+    pub(crate) fn run(&mut self, field: &mut [u8], at: usize) -> usize
+        requires { at ≤ length field.old }
+        ensures count { result ≡ min (length field.old - at) (length self.old.unread) }
+        ensures field { take (at + result) field.new ≡ take at field.old ++ take result self.old.unread }
+        ensures unread { self.new.unread ≡ drop result self.old.unread }
+        ensures room { self.new.room ≡ self.old.room - result }
+        ensures ended { self.new.ended ≡ self.old.ended }
+    {
+        let count = (field.len() - at).min(self.end - self.start);
+        let next = self.start + count;
+        field[at..at + count].copy_from_slice(&self.page[self.start..next]);
+        self.start = next;
+        self.room = self.room.saturating_sub(count);
+        count
+    }
+}

@@ -1,0 +1,182 @@
+//! The root blocks of a tree, as they are read from a file.
+
+ghost use Rattle.std.specs.Prelude.{◌≡◌, ◌≤◌, ◌++◌, ◌||◌, Err, IfErr, IfOk, IsTrue, OnOk};
+ghost use Rattle.std.specs.Io.KnownBytes.{IsAtEnd};
+ghost use Rattle.std.specs.List.{flat_map};
+ghost use Rattle.vdb_coord.specs.Blocks.{block, block_numbers};
+ghost use Rattle.vdb_coord.specs.Entries.{AreBits};
+ghost use Rattle.vdb_coord.specs.Space.{coordinates, is_inside};
+ghost use Rattle.vdb_coord.specs.declared.Level.TheVariants.{Upper};
+ghost use Rattle.vdb_tree.specs.ConstantBlocks.{root_keys};
+ghost use Rattle.vdb_tree.specs.Field.{new};
+ghost use Rattle.vdb_tree.specs.Layout.{bits_of, field_of};
+ghost use Rattle.vdb_scene.specs.Watched.{has_failed, source};
+ghost use Rattle.vdb_file.specs.Bodies.{key_bytes, root_body, roots_bytes};
+ghost use Rattle.vdb_file.specs.Faults.{IsInner, is_read_fault};
+ghost use Rattle.vdb_file.specs.internal.LoadedFields.{AreReady, IsNext, IsReady, IsWithin, KeptOutside, ShowsIn, ShowsInEach, next_bytes};
+ghost use Rattle.vdb_file.specs.internal.Loading.{IsKey};
+ghost use Rattle.vdb_file.specs.internal.Reading.{EndsWith, Reads, place};
+
+use crate::fault::LoadFault;
+use crate::loading::block_head::take_key;
+use crate::loading::blocks::take_root_block;
+use crate::loading::fields::take_u32;
+use crate::loading::input::Input;
+use std::io::Read;
+use vdb_coord::{Bits, Coord, Level};
+use vdb_node::Stored;
+use vdb_pool::Steps;
+use vdb_scene::Watched;
+use vdb_tree::TreeOf;
+
+/// Reads the root blocks of a tree that holds nothing but the background: how many they are, which is at most the tree's limit,
+/// and each behind its key.
+pub(crate) fn take_roots<
+    V: Stored<WU> + Stored<WL> + Stored<WF>,
+    R: Read,
+    const U: u32,
+    const L: u32,
+    const F: u32,
+    const WU: usize,
+    const WL: usize,
+    const WF: usize,
+>(
+    tree: &mut TreeOf<V, U, L, F, WU, WL, WF>,
+    input: &mut Input,
+    reader: &mut Watched<R>,
+    steps: &mut Steps,
+) -> Result<(), LoadFault>
+    requires ends { EndsWith input.old (R.remaining (source reader.old)) }
+    requires fresh { field_of (bits_of U L F) tree.old ≡ new tree.old.background }
+    requires value { V.is_value tree.old.background }
+    ensures ends { EndsWith input.new (R.remaining (source reader.new)) }
+    ensures reads { Reads (λ _. field_of (bits_of U L F) tree.new) (IsWithin V.eq V.is_value tree.old.background (bits_of U L F) tree.old.limit) (roots_bytes V.eq V.bytes_of (bits_of U L F)) result
+        (place input.old (R.remaining (source reader.old))) (place input.new (R.remaining (source reader.new))) }
+    ensures limit { OnOk result (tree.new.limit ≡ tree.old.limit) }
+    ensures inner { IfErr result IsInner }
+    ensures ended { result ≡ Err LoadFault.Truncated → IsAtEnd (place input.new (R.remaining (source reader.new))).known }
+    ensures failed { has_failed reader.new ≡ (has_failed reader.old || is_read_fault result) }
+{
+    let limit = tree.limit();
+    let count = take_u32(input, reader)?;
+    if count > limit {
+        return Err(LoadFault::RootLimit);
+    }
+    take_keyed_roots(count, tree, input, reader, steps)
+}
+
+/// Reads so many root blocks, each behind its key.
+fn take_keyed_roots<
+    V: Stored<WU> + Stored<WL> + Stored<WF>,
+    R: Read,
+    const U: u32,
+    const L: u32,
+    const F: u32,
+    const WU: usize,
+    const WL: usize,
+    const WF: usize,
+>(
+    count: u32,
+    tree: &mut TreeOf<V, U, L, F, WU, WL, WF>,
+    input: &mut Input,
+    reader: &mut Watched<R>,
+    steps: &mut Steps,
+) -> Result<(), LoadFault>
+    requires ends { EndsWith input.old (R.remaining (source reader.old)) }
+    requires fresh { field_of (bits_of U L F) tree.old ≡ new tree.old.background }
+    requires value { V.is_value tree.old.background }
+    requires few { count ≤ tree.old.limit }
+    ensures ends { EndsWith input.new (R.remaining (source reader.new)) }
+    ensures reads { Reads (λ _. field_of (bits_of U L F) tree.new) (ShowsInEach V.eq V.is_value tree.old.background (block (bits_of U L F) Upper) (coordinates (block_numbers (bits_of U L F) Upper)) count)
+        (λ f. flat_map (λ k. key_bytes k ++ root_body V.eq V.bytes_of (bits_of U L F) f (block (bits_of U L F) Upper k)) (root_keys V.eq (bits_of U L F) f)) result
+        (place input.old (R.remaining (source reader.old))) (place input.new (R.remaining (source reader.new))) }
+    ensures limit { OnOk result (tree.new.limit ≡ tree.old.limit) }
+    ensures inner { IfErr result IsInner }
+    ensures ended { result ≡ Err LoadFault.Truncated → IsAtEnd (place input.new (R.remaining (source reader.new))).known }
+    ensures failed { has_failed reader.new ≡ (has_failed reader.old || is_read_fault result) }
+{
+    let _ = tree.bits(); // the proof learns from it how many bits there are
+    let mut before = None;
+    for _ in 0..count {
+        let key = take_next_root(before, tree, input, reader, steps)?;
+        before = Some(key);
+    }
+    Ok(())
+}
+
+/// Reads a root block behind its key, which comes after the one before.
+fn take_next_root<
+    V: Stored<WU> + Stored<WL> + Stored<WF>,
+    R: Read,
+    const U: u32,
+    const L: u32,
+    const F: u32,
+    const WU: usize,
+    const WL: usize,
+    const WF: usize,
+>(
+    before: Option<Coord>,
+    tree: &mut TreeOf<V, U, L, F, WU, WL, WF>,
+    input: &mut Input,
+    reader: &mut Watched<R>,
+    steps: &mut Steps,
+) -> Result<Coord, LoadFault>
+    requires ends { EndsWith input.old (R.remaining (source reader.old)) }
+    requires ready { AreReady V.eq V.is_value (bits_of U L F) tree.old.limit Upper (IsKey (bits_of U L F) before) (block (bits_of U L F) Upper) (field_of (bits_of U L F) tree.old) }
+    ensures ends { EndsWith input.new (R.remaining (source reader.new)) }
+    ensures reads { Reads (λ k. (k, field_of (bits_of U L F) tree.new)) (IsNext V.eq V.is_value tree.old.background (IsKey (bits_of U L F) before) (block (bits_of U L F) Upper)) (next_bytes key_bytes (root_body V.eq V.bytes_of (bits_of U L F)) (block (bits_of U L F) Upper)) result
+        (place input.old (R.remaining (source reader.old))) (place input.new (R.remaining (source reader.new))) }
+    ensures kept { IfOk result (λ k. KeptOutside (block (bits_of U L F) Upper k) (field_of (bits_of U L F) tree.old) (field_of (bits_of U L F) tree.new)) }
+    ensures limit { OnOk result (tree.new.limit ≡ tree.old.limit) }
+    ensures inner { IfErr result IsInner }
+    ensures ended { result ≡ Err LoadFault.Truncated → IsAtEnd (place input.new (R.remaining (source reader.new))).known }
+    ensures failed { has_failed reader.new ≡ (has_failed reader.old || is_read_fault result) }
+{
+    let bits = tree.bits();
+    let key = take_key(bits, before, input, reader)?;
+    take_root_at(key, tree, input, reader, steps)?;
+    Ok(key)
+}
+
+/// Reads the root block of a key.
+fn take_root_at<
+    V: Stored<WU> + Stored<WL> + Stored<WF>,
+    R: Read,
+    const U: u32,
+    const L: u32,
+    const F: u32,
+    const WU: usize,
+    const WL: usize,
+    const WF: usize,
+>(
+    key: Coord,
+    tree: &mut TreeOf<V, U, L, F, WU, WL, WF>,
+    input: &mut Input,
+    reader: &mut Watched<R>,
+    steps: &mut Steps,
+) -> Result<(), LoadFault>
+    requires ends { EndsWith input.old (R.remaining (source reader.old)) }
+    requires within { IsTrue (is_inside (block_numbers (bits_of U L F) Upper) key) }
+    requires ready { IsReady V.eq V.is_value (bits_of U L F) tree.old.limit Upper (block (bits_of U L F) Upper key).min (field_of (bits_of U L F) tree.old) }
+    ensures ends { EndsWith input.new (R.remaining (source reader.new)) }
+    ensures reads { Reads (λ _. field_of (bits_of U L F) tree.new) (ShowsIn V.eq V.is_value tree.old.background (block (bits_of U L F) Upper key)) (λ f. root_body V.eq V.bytes_of (bits_of U L F) f (block (bits_of U L F) Upper key)) result
+        (place input.old (R.remaining (source reader.old))) (place input.new (R.remaining (source reader.new))) }
+    ensures kept { OnOk result (KeptOutside (block (bits_of U L F) Upper key) (field_of (bits_of U L F) tree.old) (field_of (bits_of U L F) tree.new)) }
+    ensures limit { OnOk result (tree.new.limit ≡ tree.old.limit) }
+    ensures inner { IfErr result IsInner }
+    ensures ended { result ≡ Err LoadFault.Truncated → IsAtEnd (place input.new (R.remaining (source reader.new))).known }
+    ensures failed { has_failed reader.new ≡ (has_failed reader.old || is_read_fault result) }
+{
+    let bits = tree.bits();
+    let corner = root_corner(key, bits);
+    take_root_block(corner, tree, input, reader, steps)
+}
+
+/// The least corner of the root block of a key.
+fn root_corner(key: Coord, bits: Bits) -> Coord
+    requires configured { AreBits bits }
+    requires within { IsTrue (is_inside (block_numbers bits Upper) key) }
+    ensures { result ≡ (block bits Upper key).min }
+{
+    key.numbered_block_in(bits, Level::Upper).min()
+}

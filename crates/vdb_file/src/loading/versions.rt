@@ -1,0 +1,68 @@
+//! What a file begins with.
+
+ghost use Rattle.std.specs.Prelude.{◌≡◌, ◌<◌, ◌∷◌, ◌||◌, [], codes, length, Err, IfErr, IfSome, ⊤};
+ghost use Rattle.std.specs.Int.{w16, to_be_bytes};
+ghost use Rattle.std.specs.Io.KnownBytes.{IsAtEnd};
+ghost use Rattle.vdb_scene.specs.Watched.{has_failed, source};
+ghost use Rattle.vdb_file.specs.Faults.{HasOtherMagic, IsMagicFault, IsVersionFault, StartsWithOther, is_read_fault};
+ghost use Rattle.vdb_file.specs.internal.Parts.{version_number};
+ghost use Rattle.vdb_file.specs.internal.Reading.{EndsWith, Reads, place};
+
+use crate::fault::LoadFault;
+use crate::loading::fields::{take_field, take_u16};
+use crate::loading::input::Input;
+use std::io::Read;
+use vdb_scene::Watched;
+
+/// A version of files.
+#[derive(Clone, Copy, Drop)]
+pub(crate) enum Version {
+    /// It has no limits and no metadata.
+    One,
+    /// It has both.
+    Two,
+}
+
+/// Reads the bytes that a file begins with.
+pub(crate) fn take_magic<R: Read>(
+    input: &mut Input,
+    reader: &mut Watched<R>,
+) -> Result<(), LoadFault>
+    requires ends { EndsWith input.old (R.remaining (source reader.old)) }
+    ensures ends { EndsWith input.new (R.remaining (source reader.new)) }
+    ensures reads { Reads (λ u. u) (λ u. ⊤) (λ u. codes "VDBS") result
+        (place input.old (R.remaining (source reader.old))) (place input.new (R.remaining (source reader.new))) }
+    ensures fault { IfErr result IsMagicFault }
+    ensures magic { result ≡ Err LoadFault.Magic → IfSome (place input.old (R.remaining (source reader.old))).known HasOtherMagic }
+    ensures ended { result ≡ Err LoadFault.Truncated → IsAtEnd (place input.new (R.remaining (source reader.new))).known }
+    ensures failed { has_failed reader.new ≡ (has_failed reader.old || is_read_fault result) }
+{
+    let mut field = [0; 4];
+    take_field(input, reader, &mut field)?;
+    if field.as_slice() != b"VDBS".as_slice() {
+        return Err(LoadFault::Magic);
+    }
+    Ok(())
+}
+
+/// Reads the number of the version.
+pub(crate) fn take_version<R: Read>(
+    input: &mut Input,
+    reader: &mut Watched<R>,
+) -> Result<Version, LoadFault>
+    requires ends { EndsWith input.old (R.remaining (source reader.old)) }
+    ensures ends { EndsWith input.new (R.remaining (source reader.new)) }
+    ensures reads { Reads (λ version. version) (λ version. ⊤) (λ version. to_be_bytes w16 (version_number version)) result
+        (place input.old (R.remaining (source reader.old))) (place input.new (R.remaining (source reader.new))) }
+    ensures fault { IfErr result IsVersionFault }
+    ensures version { result ≡ Err LoadFault.Version → IfSome (place input.old (R.remaining (source reader.old))).known StartsWithOther }
+    ensures ended { result ≡ Err LoadFault.Truncated → IsAtEnd (place input.new (R.remaining (source reader.new))).known }
+    ensures failed { has_failed reader.new ≡ (has_failed reader.old || is_read_fault result) }
+{
+    let number = take_u16(input, reader)?;
+    match number {
+        1 => Ok(Version::One),
+        2 => Ok(Version::Two),
+        _ => Err(LoadFault::Version),
+    }
+}

@@ -1,0 +1,56 @@
+//! What a session loads before its script, and saves after it.
+ghost use Rattle.std.specs.Prelude.{◌≡◌, ◌<◌, ◌↔◌, Option, Err, IfErr, IfOk, IfSome, IsErr, IsSome, IsTrue, OnOk, false, is_some, ℕ, List, length};
+ghost use Rattle.std.specs.Io.KnownBytes.{Appends, IsAtEnd};
+ghost use Rattle.vdb_scene.specs.Grids.{scene_of};
+ghost use Rattle.vdb_scene.specs.Watched.{source};
+ghost use Rattle.vdb_file.specs.Spelling.{Spells, file_limit, spelling};
+ghost use Rattle.vdb_shell.specs.Files.{Begins, Refuses, any_failed, given_file, held};
+
+use std::alloc::Global;
+use std::io::{Read, Write};
+use vdb_file::{LoadFault, SaveFault, load as load_file, save as save_file};
+use vdb_pool::Steps;
+use vdb_scene::{Scene, Watched};
+
+/// The scene that a session begins with: the one that a scene file spells, where a file is given, else the empty scene. A file
+/// that no scene has is refused; so is any for want of memory, or where the reader failed.
+pub fn start<R: Read>(
+    alloc: Global,
+    load: &mut Option<Watched<R>>,
+    steps: &mut Steps,
+) -> Result<Scene, LoadFault>
+    requires fresh { any_failed load.old ≡ false }
+    ensures begins { (file : Option (List ℕ)) → given_file R.remaining load.old ≡ Some file → IfOk result (λ scene. Begins file (scene_of scene)) }
+    ensures refuses { (file : Option (List ℕ)) → given_file R.remaining load.old ≡ Some file → IfErr result (λ fault. Refuses fault file) }
+    // The whole file is read.
+    ensures end { OnOk result (IfSome load.new (λ file. IsAtEnd (R.remaining (source file)))) }
+    ensures kept { is_some load.new ≡ is_some load.old }
+    // `Read` comes exactly where the reader failed.
+    ensures read { (result ≡ Err LoadFault.Read) ↔ IsTrue (any_failed load.new) }
+{
+    match load {
+        Some(reader) => load_file(alloc, reader, steps),
+        None => Ok(Scene::new(alloc)),
+    }
+}
+
+/// Saves the scene that a session ends with, where a file for it is given. Where its spelling is too long nothing is written.
+pub fn finish<W: Write>(
+    scene: &Scene,
+    save: &mut Option<Watched<W>>,
+    steps: &mut Steps,
+) -> Result<(), SaveFault>
+    requires fresh { any_failed save.old ≡ false }
+    ensures saved { OnOk result (IfSome save.old (λ _. (bytes : List ℕ) × Spells bytes (scene_of scene.now) × Appends (held W.contents save.old) (held W.contents save.new) bytes)) }
+    ensures too_long { (result ≡ Err SaveFault.TooLong) ↔ (IsSome save.old × (file_limit < length (spelling (scene_of scene.now)))) }
+    ensures untouched { result ≡ Err SaveFault.TooLong → save.new ≡ save.old }
+    ensures nowhere { IsErr result → IsSome save.old }
+    ensures kept { is_some save.new ≡ is_some save.old }
+    // `Write` comes exactly where the writer failed.
+    ensures write { (result ≡ Err SaveFault.Write) ↔ IsTrue (any_failed save.new) }
+{
+    if let Some(writer) = save {
+        save_file(scene, writer, steps)?;
+    }
+    Ok(())
+}

@@ -1,0 +1,156 @@
+"""Random scripts for fuzz.py: small grids and boxes about the edges of blocks, with some lines that are refused."""
+EDGES = [-4097, -4096, -129, -128, -9, -8, -1, 0, 1, 7, 8, 9, 127, 128, 129, 4095, 4096]
+FAR = [-2147483648, -2147483647, 2147483646, 2147483647, 2147483648, -5000000]
+VALUES = {
+    "bool": ["true", "false"],
+    "i32": ["0", "1", "5", "-1", "2147483647", "-2147483648"],
+    "i64": ["0", "1", "5", "-3", "9223372036854775807", "-9223372036854775808"],
+}
+NAMES = ["a", "b", "c", "d"]
+KEYS = ["unit", "by", "k0", "k1", "z_9"]
+PAIRS = ["max", "min", "sum", "replace", "union", "difference", "intersect"]
+WRONG = ["", "# a comment", "nothing a", "set a 9 0 0 0 1", "get a - 0 0 2147483648", "grid A i32 0", "fill a 1 0 0 0 0 0 1 on"]
+
+
+class Script:
+    """Makes lines one behind another. It knows the kind of each grid, as far as its lines are accepted. Whole root blocks are
+    filled in some scripts alone, in which nothing is dilated or eroded, since that would make millions of leaves."""
+
+    def __init__(self, chance):
+        self.chance, self.kinds, self.last = chance, {}, [0, 0, 0]
+        self.large = chance.random() < 0.3
+
+    def part(self):
+        return self.chance.choice(FAR if self.chance.random() < 0.02 else EDGES)
+
+    def point(self):
+        """A place, often one near the last."""
+        if self.chance.random() < 0.5:
+            self.last = [at + self.chance.randint(-3, 3) for at in self.last]
+        else:
+            self.last = [self.part() for _ in range(3)]
+        return " ".join(str(at) for at in self.last)
+
+    def box(self, most):
+        """A box of a few voxels in two directions, or with edges of blocks, of at most `most` root blocks a side."""
+        if self.chance.random() < 0.3:
+            span = self.chance.choice([8, 128, 4096 if self.large else 128])
+            low = [self.chance.randint(-2, 2) * span for _ in range(3)]
+            high = [at + span * self.chance.randint(1, most) - 1 for at in low]
+        else:
+            low = [self.part() for _ in range(3)]
+            high = [at + self.chance.randint(0, 20) for at in low]
+            if self.chance.random() < 0.3:
+                axis = self.chance.randrange(3)
+                high[axis] += self.chance.randint(0, 5000)
+        return " ".join(str(at) for at in low + high)
+
+    def name(self):
+        """A name, mostly one of a grid that is there."""
+        return self.chance.choice(sorted(self.kinds) if self.kinds and self.chance.random() < 0.95 else NAMES)
+
+    def value(self, name):
+        kind = self.kinds.get(name, "i32")
+        return self.chance.choice(VALUES[kind if self.chance.random() < 0.97 else "bool"])
+
+    def state(self):
+        return self.chance.choice(["on", "off"])
+
+    def accessor(self):
+        return self.chance.choice(["-", "-", "0", "1", "7"])
+
+    def grid(self):
+        name, kind = self.chance.choice(NAMES), self.chance.choice(["bool", "i32", "i32", "i64"])
+        self.kinds.setdefault(name, kind)
+        limit = self.chance.choice(["", "", "", " 1", " 2", " 4", " 8", " 65536", " 0"])
+        return f"grid {name} {kind} {self.chance.choice(VALUES[kind])}{limit}"
+
+    def write(self):
+        name, word = self.name(), self.chance.choice(["set", "unset", "only", "state"])
+        last = self.state() if word == "state" else self.value(name)
+        return f"{word} {name} {self.accessor()} {self.point()} {last}"
+
+    def fill(self):
+        name = self.name()
+        return f"fill {name} {self.box(2)} {self.value(name)} {self.state()}"
+
+    def two(self):
+        return f"{self.chance.choice(PAIRS)} {self.name()} {self.name()}"
+
+    def turns(self):
+        turns = 17 if self.large else self.chance.choice([1, 1, 2, 3, 0])
+        return f"{self.chance.choice(['dilate', 'erode'])} {self.name()} {turns}"
+
+    def whole(self):
+        word = self.chance.choice(["clip", "clip", "copy", "copy", "drop", "prune", "voxelise"])
+        if word in ("drop", "prune"):
+            name = self.name()
+            if word == "drop":
+                self.kinds.pop(name, None)
+            return f"{word} {name}"
+        if word == "copy":
+            source, made = self.name(), self.chance.choice(NAMES)
+            if source in self.kinds:
+                self.kinds.setdefault(made, self.kinds[source])
+            return f"copy {source} {made}"
+        return f"clip {self.name()} {self.box(2)}" if word == "clip" else self.voxelise()
+
+    def voxelise(self):
+        return f"voxelise {self.name()} {' '.join(str(at) for at in self.small_box())}"
+
+    def small_box(self):
+        low = [self.part() for _ in range(3)]
+        return low + [at + self.chance.randint(0, 30) for at in low]
+
+    def report(self):
+        name, word = self.name(), self.chance.choice(["get", "count", "all", "bounds", "list", "slice", "census", "metas"])
+        if word == "get":
+            return self.get()
+        if word == "all":
+            return f"count {name} all"
+        if word == "count":
+            return f"count {name} {self.box(3)}"
+        if word == "list":
+            return f"list {name} {self.box(3)} {self.chance.choice([1, 3, 40])}"
+        if word == "slice":
+            low = [self.part() for _ in range(3)]
+            return f"slice {name} {low[2]} {low[0]} {low[1]} {low[0] + self.chance.randint(0, 9)} {low[1] + 3}"
+        return f"{word} {name}"
+
+    def get(self):
+        return f"get {self.name()} {self.accessor()} {self.point()}"
+
+    def meta(self):
+        name, key = self.name(), self.chance.choice(KEYS)
+        if self.chance.random() < 0.3:
+            return f"unmeta {name} {key}"
+        return f"meta {name} {key} {self.chance.choice(['mm', '#', '~~'])}"
+
+    def wrong(self):
+        return self.chance.choice(WRONG)
+
+    def line(self):
+        makers = [self.write] * 8 + [self.fill] * 4 + [self.report] * 6 + [self.two] * 3
+        makers += [self.grid, self.turns, self.whole, self.whole, self.meta, self.get, self.wrong]
+        return self.chance.choice(makers)()
+
+    def lines(self, count):
+        return [self.grid(), self.grid(), self.grid(), *(self.line() for _ in range(count))]
+
+    def decorated(self, lines):
+        """The lines with others put in that change no cell, and with other accessors. Each with whether it was put in."""
+        made = []
+        for line in lines:
+            while self.chance.random() < 0.4:
+                made.append((self.chance.choice([self.prune, self.voxelise, self.get])(), True))
+            made.append((self.other_accessor(line), False))
+        return made
+
+    def prune(self):
+        return f"prune {self.name()}"
+
+    def other_accessor(self, line):
+        words = line.split(" ")
+        if words[0] in ("get", "set", "unset", "only", "state") and len(words) > 2 and words[2] in ("-", "0", "1", "7"):
+            words[2] = self.chance.choice(["-", "0", "1", "2", "7"])
+        return " ".join(words)
