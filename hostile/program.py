@@ -38,10 +38,10 @@ class Workplace:
         self.shim = self.folder / "refuse.so"
         subprocess.run(["gcc", "-O2", "-shared", "-fPIC", "-o", self.shim, HERE / "refuse.c"], check=True)
 
-    def run(self, script, load=None, save_as=None, seconds=PATIENCE, named=False, **wrong):
+    def run(self, script, load=None, save_as=None, seconds=PATIENCE, named=False, more=(), **wrong):
         """Plays a script (bytes, or the path of a file) from standard input or `named` as a word, on what `load` holds
-        (bytes, or the path of a file to load), and saves as `save_as` or in a file of its own. What is to go wrong is named
-        as in refuse.c, in small letters."""
+        (bytes, or the path of a file to load), and saves as `save_as` or in a file of its own. `more` are the last words of
+        the command line. What is to go wrong is named as in refuse.c, in small letters."""
         report, saved, words = self.folder / "report", Path(save_as or self.folder / "saved"), []
         report.unlink(missing_ok=True)
         if save_as is None:
@@ -53,6 +53,7 @@ class Workplace:
         environment.update((name.upper(), str(value)) for name, value in wrong.items())
         path = self.kept("script", script)
         words += [path] if named else []
+        words += more
         with open("/dev/null" if named else path, "rb") as given:
             how = {"stdin": given, "capture_output": True, "env": environment, "timeout": seconds, "close_fds": False}
             try:

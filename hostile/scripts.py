@@ -107,6 +107,18 @@ def by_name():
     ended(missing, 4, b"vdb: script: read\n", b"", "a script that isn't there")
 
 
+def words():
+    """Wrong command lines have the status 2, help and the version 0; neither reads a script, answers or saves."""
+    for more in (["--lod"], ["-l", "f"], ["--load"], ["--load", "f", "--load", "g"], ["--save=f"], ["f", "g"]):
+        wrong = run(GRID, more=more)
+        quiet = wrong.answers == b"" and wrong.saved is None and wrong.counts.get("script-reads") == 0
+        TALLY.check(wrong.status == 2 and wrong.errors != b"" and quiet, f"{more}: status {wrong.status}")
+    for more in (["--help"], ["-h"], ["--version"], ["-V"]):
+        asked = run(GRID, more=more)
+        quiet = asked.errors == b"" and asked.saved is None and asked.counts.get("script-reads") == 0
+        TALLY.check(asked.status == 0 and asked.answers != b"" and quiet, f"{more}: status {asked.status}")
+
+
 def writers():
     """A writer that fails or takes nothing at each of its calls, and one that fails after some bytes."""
     for script, answers in [row("two-grids")[:2], (MIXED, MIXED_ANSWERS)]:
@@ -165,7 +177,7 @@ def within(done, what):
     TALLY.check(SCRIPT_LIMIT < asked <= SCRIPT_LIMIT + 1, f"{what}: byte {asked} was asked for")
 
 
-PARTS = [pieces, last_lines, readers, by_name, writers, longest, endless]
+PARTS = [pieces, last_lines, readers, by_name, words, writers, longest, endless]
 
 
 def main():
