@@ -3,7 +3,8 @@ use Rattle.std.proofs.Common.{◌≡◌, ℕ, ◌<◌, ◌^◌, List, [], length
 use Rattle.std.specs.Prelude.{Option, Some, None, IfSome, codes, ⊤}
 use Rattle.std.specs.Int.{w16, to_be_bytes}
 use Rattle.std.specs.Io.KnownBytes.{Consumes}
-use Rattle.vdb_file.specs.Faults.{HasOtherMagic, HasOtherVersion, IsFieldFault, IsInner, IsMagicFault, IsVersionFault, StartsWithOther}
+use Rattle.vdb_file.specs.Faults.{HasOtherMagic, HasOtherVersion, StartsWithOther}
+use Rattle.vdb_file.specs.internal.FieldFaults.{IsFieldFault, IsInner, IsMagicFault, IsVersionFault}
 use Rattle.vdb_file.specs.internal.Parts.{version_number}
 use Rattle.vdb_file.specs.internal.Reading.{Fails, Place, Took}
 use Rattle.vdb_file.specs.declared.fault.LoadFault.{LoadFault}

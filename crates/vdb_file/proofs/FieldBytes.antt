@@ -1,12 +1,14 @@
 -- Fields of fixed lengths.
 use Rattle.std.proofs.Common.{◌≡◌, ℕ, ◌+◌, ◌-◌, ◌*◌, ◌/◌, ◌%◌, ◌<◌, ◌≤◌, List, [], ◌∷◌, ◌++◌, length, take, drop, get_or, refl, sym, ap, subst, ◌∙◌, append_assoc, take-append-drop, length-take, drop-drop, arith}
-use Rattle.std.specs.Prelude.{Option, Some, None}
+use Rattle.std.proofs.lemmas.Grind.{common_steps}
+use Rattle.std.specs.Prelude.{Bool, true, false, nat_le, if◌then◌else◌, Option, Some, None}
 use Rattle.std.specs.List.{slice_range}
 use Rattle.std.proofs.lemmas.List.{drop-take}
 use Rattle.std.specs.Int.{w16, w32, to_be_bytes}
 use Rattle.std.specs.Io.KnownBytes.{Consumes, IsAtEnd, Keeps, prepend_known}
 use Rattle.std.proofs.KnownBytes.{Consumes-kept}
-use Rattle.vdb_file.specs.internal.Reading.{Place, Stock, Took, place}
+use Rattle.vdb_file.specs.Readers.{GaveAtMost}
+use Rattle.vdb_file.specs.internal.Reading.{Place, Stock, Took, byte_total, given_count, place}
 use Rattle.vdb_file.proofs.Fronts.{took_both}
 
 -- ---- pieces of a field
@@ -43,32 +45,14 @@ later_part xs a b n h =
     let more : a + n ≡ n + a = omega arith in
     sym (ap (λ k. drop n (take k (drop a xs))) (sym span) ∙ drop-take n m (drop a xs) ∙ ap (take m) (drop-drop n a xs ∙ ap (λ k. drop k xs) (omega arith)))
 
--- ---- numbers by their bytes
+-- ---- what the reader gave
 
-pub single : (xs : List ℕ) → length xs ≡ 1 → xs ≡ get_or xs 0 0 ∷ []
-single [] h = absurd (omega arith)
-single (x ∷ []) h = refl
-single (x ∷ y ∷ xs) h = absurd (omega arith)
-
-pub two_bytes : (xs : List ℕ) (a b n : ℕ) → length xs ≡ 2 → a ≡ get_or xs 0 0 → b ≡ get_or xs 1 0 → a < 256 → b < 256 → n ≡ a * 256 + b → xs ≡ to_be_bytes w16 n
-two_bytes [] a b n l ea eb ha hb e = absurd (omega arith)
-two_bytes (x ∷ []) a b n l ea eb ha hb e = absurd (omega arith)
-two_bytes (x ∷ y ∷ []) a b n l ea eb ha hb e =
-    let high : x ≡ n / 256 % 256 = omega arith in
-    let low : y ≡ n % 256 = omega arith in
-    λ j. high j ∷ low j ∷ []
-two_bytes (x ∷ y ∷ z ∷ xs) a b n l ea eb ha hb e = absurd (omega arith)
-
-pub four_bytes : (xs : List ℕ) (a b c d n : ℕ) → length xs ≡ 4 → a ≡ get_or xs 0 0 → b ≡ get_or xs 1 0 → c ≡ get_or xs 2 0 → d ≡ get_or xs 3 0 → a < 256 → b < 256 → c < 256 → d < 256
-    → n ≡ a * 16777216 + (b * 65536 + (c * 256 + d)) → xs ≡ to_be_bytes w32 n
-four_bytes [] a b c d n l ea eb ec ed ha hb hc hd e = absurd (omega arith)
-four_bytes (w ∷ []) a b c d n l ea eb ec ed ha hb hc hd e = absurd (omega arith)
-four_bytes (w ∷ x ∷ []) a b c d n l ea eb ec ed ha hb hc hd e = absurd (omega arith)
-four_bytes (w ∷ x ∷ y ∷ []) a b c d n l ea eb ec ed ha hb hc hd e = absurd (omega arith)
-four_bytes (w ∷ x ∷ y ∷ z ∷ []) a b c d n l ea eb ec ed ha hb hc hd e =
-    let one : w ≡ n / 16777216 % 256 = omega arith in
-    let two : x ≡ n / 65536 % 256 = omega arith in
-    let three : y ≡ n / 256 % 256 = omega arith in
-    let four : z ≡ n % 256 = omega arith in
-    λ j. one j ∷ two j ∷ three j ∷ four j ∷ []
-four_bytes (v ∷ w ∷ x ∷ y ∷ z ∷ xs) a b c d n l ea eb ec ed ha hb hc hd e = absurd (omega arith)
+-- what was asked for since nothing was unread and no field was there yet
+pub gave_few : (s : Stock) (before after : Option (List ℕ)) → ((n : ℕ) → byte_total (record { unread = []; room = 268435456; ended = false }) before ≡ Some n → byte_total s after ≡ Some n) → GaveAtMost 268435457 before after
+gave_few s None after h = tt
+gave_few s (Some x) None h = let zero_first : 0 + length x ≡ length x = omega arith in let e = h (length x) (ap Some zero_first) in absurd cc
+gave_few s (Some x) (Some y) h = let zero_first : 0 + length x ≡ length x = omega arith in counted (nat_le (given_count s) 268435457) refl (h (length x) (ap Some zero_first))
+  where
+    counted : (b : Bool) → nat_le (given_count s) 268435457 ≡ b → (if b then Some (given_count s + length y) else None) ≡ Some (length x) → length x ≤ 268435457 + length y
+    counted true few e = let same : given_count s + length y ≡ length x = cc in grind (arith, common_steps)
+    counted false few e = absurd cc

@@ -3,4 +3,5 @@ pub mod Bodies
 pub mod Spelling
 pub mod Scenes
 pub mod Faults
+pub mod Readers
 pub mod internal

@@ -1,6 +1,7 @@
 -- Words of private functions and of proofs alone: no public contract needs them.
 pub mod Written
 pub mod Following
+pub mod FieldFaults
 pub mod Reading
 pub mod Parts
 pub mod Loading

@@ -1,17 +1,19 @@
 //! A scene, loaded from a file.
 
-ghost use Rattle.std.specs.Prelude.{◌≡◌, ◌≤◌, ◌||◌, ℕ, List, codes, Err, IfErr, IfOk, IfSome, OnOk};
+ghost use Rattle.std.specs.Prelude.{◌≡◌, ◌+◌, ◌≤◌, ◌||◌, ℕ, List, codes, Err, IfErr, IfOk, IfSome, OnOk, Some};
 ghost use Rattle.std.specs.Int.{w16, to_be_bytes};
 ghost use Rattle.std.specs.Io.KnownBytes.{IsAtEnd};
 ghost use Rattle.std.specs.List.{flat_map};
 ghost use Rattle.vdb_scene.specs.Grids.{grid_with, scene_of};
 ghost use Rattle.vdb_scene.specs.Scene.{Scene as AbstractScene, with_grid};
 ghost use Rattle.vdb_scene.specs.Watched.{has_failed, source};
-ghost use Rattle.vdb_file.specs.Faults.{Claims, HasOtherMagic, HasOtherVersion, IsFieldFault, IsInner, is_read_fault};
+ghost use Rattle.vdb_file.specs.Faults.{Claims, HasOtherMagic, HasOtherVersion, is_read_fault};
+ghost use Rattle.vdb_file.specs.internal.FieldFaults.{IsFieldFault, IsInner};
+ghost use Rattle.vdb_file.specs.Readers.{GaveAtMost};
 ghost use Rattle.vdb_file.specs.Scenes.{BeginsWithFile, IsScene};
-ghost use Rattle.vdb_file.specs.Spelling.{IsFileOf};
+ghost use Rattle.vdb_file.specs.Spelling.{IsFileOf, file_limit};
 ghost use Rattle.vdb_file.specs.internal.Parts.{AreItems, IsFile, IsNamed, IsSceneOf, bytes_of_file, name_of, named_bytes, named_view, scene_bytes};
-ghost use Rattle.vdb_file.specs.internal.Reading.{EndsWith, Reads, place};
+ghost use Rattle.vdb_file.specs.internal.Reading.{EndsWith, Reads, byte_total, place};
 
 mod block_head;
 mod blocks;
@@ -57,6 +59,7 @@ pub fn load<R: Read>(
     ensures truncated { result ≡ Err LoadFault.Truncated → IsAtEnd (R.remaining (source reader.new)) }
     ensures trailing { result ≡ Err LoadFault.Trailing → IfSome (R.remaining (source reader.old)) BeginsWithFile }
     ensures failed { has_failed reader.new ≡ (has_failed reader.old || is_read_fault result) }
+    ensures few { GaveAtMost (file_limit + 1) (R.remaining (source reader.old)) (R.remaining (source reader.new)) }
 {
     let mut input = Input::new();
     let file = take_file(alloc, &mut input, reader, steps)?;
@@ -76,6 +79,7 @@ fn take_file<R: Read>(
 ) -> Result<(Version, Scene), LoadFault>
     requires ends { EndsWith input.old (R.remaining (source reader.old)) }
     ensures ends { EndsWith input.new (R.remaining (source reader.new)) }
+    ensures total { (n : ℕ) → byte_total input.old (R.remaining (source reader.old)) ≡ Some n → byte_total input.new (R.remaining (source reader.new)) ≡ Some n }
     ensures reads { Reads (λ r. (r.0, scene_of r.1)) IsFile bytes_of_file result
         (place input.old (R.remaining (source reader.old))) (place input.new (R.remaining (source reader.new))) }
     ensures fault { IfErr result IsFieldFault }
@@ -100,6 +104,7 @@ fn take_scene<R: Read>(
 ) -> Result<Scene, LoadFault>
     requires ends { EndsWith input.old (R.remaining (source reader.old)) }
     ensures ends { EndsWith input.new (R.remaining (source reader.new)) }
+    ensures total { (n : ℕ) → byte_total input.old (R.remaining (source reader.old)) ≡ Some n → byte_total input.new (R.remaining (source reader.new)) ≡ Some n }
     ensures reads { Reads scene_of (IsSceneOf version) (scene_bytes version) result
         (place input.old (R.remaining (source reader.old))) (place input.new (R.remaining (source reader.new))) }
     ensures inner { IfErr result IsInner }
@@ -125,6 +130,7 @@ fn take_grids<R: Read>(
 ) -> Result<Scene, LoadFault>
     requires ends { EndsWith input.old (R.remaining (source reader.old)) }
     ensures ends { EndsWith input.new (R.remaining (source reader.new)) }
+    ensures total { (n : ℕ) → byte_total input.old (R.remaining (source reader.old)) ≡ Some n → byte_total input.new (R.remaining (source reader.new)) ≡ Some n }
     ensures reads { Reads scene_of (AreItems (IsNamed version) name_of count) (flat_map (named_bytes version)) result
         (place input.old (R.remaining (source reader.old))) (place input.new (R.remaining (source reader.new))) }
     ensures inner { IfErr result IsInner }

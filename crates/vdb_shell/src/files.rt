@@ -1,8 +1,9 @@
 //! What a session loads before its script, and saves after it.
-ghost use Rattle.std.specs.Prelude.{◌≡◌, ◌<◌, ◌↔◌, Option, Err, IfErr, IfOk, IfSome, IsErr, IsSome, IsTrue, OnOk, false, is_some, ℕ, List, length};
+ghost use Rattle.std.specs.Prelude.{◌≡◌, ◌+◌, ◌<◌, ◌↔◌, Option, Err, IfErr, IfOk, IfSome, IsErr, IsSome, IsTrue, OnOk, false, is_some, ℕ, List, length};
 ghost use Rattle.std.specs.Io.KnownBytes.{Appends, IsAtEnd};
 ghost use Rattle.vdb_scene.specs.Grids.{scene_of};
 ghost use Rattle.vdb_scene.specs.Watched.{source};
+ghost use Rattle.vdb_file.specs.Readers.{GaveAtMost};
 ghost use Rattle.vdb_file.specs.Spelling.{Spells, file_limit, spelling};
 ghost use Rattle.vdb_shell.specs.Files.{Begins, Refuses, any_failed, given_file, held};
 
@@ -25,6 +26,8 @@ pub fn start<R: Read>(
     // The whole file is read.
     ensures end { OnOk result (IfSome load.new (λ file. IsAtEnd (R.remaining (source file)))) }
     ensures kept { is_some load.new ≡ is_some load.old }
+    // Of a file at most one byte is read beyond those that a file may have.
+    ensures few { IfSome load.old (λ before. IfSome load.new (λ after. GaveAtMost (file_limit + 1) (R.remaining (source before)) (R.remaining (source after)))) }
     // `Read` comes exactly where the reader failed.
     ensures read { (result ≡ Err LoadFault.Read) ↔ IsTrue (any_failed load.new) }
 {

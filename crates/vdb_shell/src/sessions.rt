@@ -1,9 +1,11 @@
 //! Sessions.
-ghost use Rattle.std.specs.Prelude.{◌≡◌, ◌↔◌, false, true, Option, Some, IfSome, IsSome, IsTrue, is_some, ℕ, List};
+ghost use Rattle.std.specs.Prelude.{◌≡◌, ◌+◌, ◌↔◌, false, true, Option, Some, IfSome, IsSome, IsTrue, is_some, ℕ, List};
 ghost use Rattle.std.specs.Io.KnownBytes.{Appends, Consumes};
 ghost use Rattle.vdb_scene.specs.Grids.{scene_of};
 ghost use Rattle.vdb_scene.specs.Scene.{Scene as AbstractScene};
 ghost use Rattle.vdb_scene.specs.Watched.{has_failed, source};
+ghost use Rattle.vdb_file.specs.Readers.{GaveAtMost};
+ghost use Rattle.vdb_file.specs.Spelling.{file_limit};
 ghost use Rattle.vdb_shell.specs.Files.{any_failed, given_file, held};
 ghost use Rattle.vdb_shell.specs.Session.{IsSession, IsUnloaded, PlaysOn, Saves, WritesNoFile, status as status_of};
 
@@ -55,6 +57,8 @@ pub fn session<L: Read, R: Read, W: Write, S: Write>(
     ensures nowhere { (fault : SaveFault) → result.fault ≡ Some (Fault.Save fault) → IsSome save.old }
     ensures load_kept { is_some load.new ≡ is_some load.old }
     ensures save_kept { is_some save.new ≡ is_some save.old }
+    // Of a scene file at most one byte is read beyond those that a file may have.
+    ensures load_few { IfSome load.old (λ before. IfSome load.new (λ after. GaveAtMost (file_limit + 1) (L.remaining (source before)) (L.remaining (source after)))) }
     // A fault of reading or writing comes exactly where that reader or writer failed.
     ensures load { (result.fault ≡ Some (Fault.Load LoadFault.Read)) ↔ IsTrue (any_failed load.new) }
     ensures script { (result.fault ≡ Some (Fault.Script ScriptFault.Read)) ↔ IsTrue (has_failed script.new) }

@@ -1,5 +1,5 @@
 -- What is known of a file that is read field by field.
-use Rattle.std.specs.Prelude.{◌≡◌, ℕ, ◌+◌, ◌≤◌, Bool, true, List, ◌++◌, length, Option, Result, Ok, Err, IfSome}
+use Rattle.std.specs.Prelude.{◌≡◌, ℕ, ◌+◌, ◌-◌, ◌≤◌, Bool, true, List, ◌++◌, length, Option, None, Some, if◌then◌else◌, nat_le, Result, Ok, Err, IfSome}
 use Rattle.std.specs.Io.KnownBytes.{Consumes, IsAtEnd, prepend_known}
 use Rattle.vdb_file.specs.Faults.{Claims}
 use Rattle.vdb_file.specs.declared.fault.LoadFault.{LoadFault}
@@ -23,6 +23,16 @@ place s known = record { known = prepend_known s.unread known; room = s.room }
 -- a reader that has said that it has no more has none, where what it has is known
 abbrev pub EndsWith : Stock → Option (List ℕ) → Type 0
 EndsWith s known = s.ended ≡ true → IsAtEnd known
+
+-- how many bytes the reader gave: those that fields have, and those that are unread
+abbrev pub given_count : Stock → ℕ
+given_count s = 268435456 - s.room + length s.unread
+
+-- how many bytes the reader had at first, where that is known: those that it gave, at most one beyond those that a file may have,
+-- and those that it still has
+abbrev pub byte_total : Stock → Option (List ℕ) → Option ℕ
+byte_total s None = None
+byte_total s (Some bytes) = if nat_le (given_count s) 268435457 then Some (given_count s + length bytes) else None
 
 -- these bytes were read
 pub record Took (old new : Place) (text : List ℕ) : Type 0 where

@@ -1,6 +1,6 @@
 //! What stands at the front of the blocks of a file and of their entries.
 
-ghost use Rattle.std.specs.Prelude.{◌≡◌, ◌≤◌, ◌||◌, ◌↔◌, Err, FitsSigned, IfErr, IsTrue};
+ghost use Rattle.std.specs.Prelude.{◌≡◌, ℕ, ◌≤◌, ◌||◌, ◌↔◌, Err, FitsSigned, IfErr, IsTrue, Some};
 ghost use Rattle.std.specs.Int.{w16, w32, to_be_bytes};
 ghost use Rattle.std.specs.Io.KnownBytes.{IsAtEnd};
 ghost use Rattle.std.specs.Ordering.{nat_cmp};
@@ -9,10 +9,11 @@ ghost use Rattle.vdb_coord.specs.Entries.{AreBits};
 ghost use Rattle.vdb_coord.specs.Space.{coord_cmp};
 ghost use Rattle.vdb_scene.specs.Watched.{has_failed, source};
 ghost use Rattle.vdb_file.specs.Bodies.{cell_bytes, key_bytes};
-ghost use Rattle.vdb_file.specs.Faults.{IsInner, is_read_fault};
+ghost use Rattle.vdb_file.specs.Faults.{is_read_fault};
+ghost use Rattle.vdb_file.specs.internal.FieldFaults.{IsInner};
 ghost use Rattle.vdb_file.specs.internal.Following.{Follows};
 ghost use Rattle.vdb_file.specs.internal.Loading.{IsHead, IsIndex, IsKey, IsSpelled, head_bytes};
-ghost use Rattle.vdb_file.specs.internal.Reading.{EndsWith, Reads, place};
+ghost use Rattle.vdb_file.specs.internal.Reading.{EndsWith, Reads, byte_total, place};
 
 use crate::fault::LoadFault;
 use crate::loading::fields::{take_u8, take_u16, take_value};
@@ -40,6 +41,7 @@ fn take_state<V: Voxel, R: Read>(
 ) -> Result<Cell<V>, LoadFault>
     requires ends { EndsWith input.old (R.remaining (source reader.old)) }
     ensures ends { EndsWith input.new (R.remaining (source reader.new)) }
+    ensures total { (n : ℕ) → byte_total input.old (R.remaining (source reader.old)) ≡ Some n → byte_total input.new (R.remaining (source reader.new)) ≡ Some n }
     ensures reads { Reads (λ c. c) (λ c. IsSpelled V.eq V.is_value background c × (c.on ≡ on)) (λ c. V.bytes_of c.value) result
         (place input.old (R.remaining (source reader.old))) (place input.new (R.remaining (source reader.new))) }
     ensures inner { IfErr result IsInner }
@@ -61,6 +63,7 @@ pub(crate) fn take_cell<V: Voxel, R: Read>(
 ) -> Result<Cell<V>, LoadFault>
     requires ends { EndsWith input.old (R.remaining (source reader.old)) }
     ensures ends { EndsWith input.new (R.remaining (source reader.new)) }
+    ensures total { (n : ℕ) → byte_total input.old (R.remaining (source reader.old)) ≡ Some n → byte_total input.new (R.remaining (source reader.new)) ≡ Some n }
     ensures reads { Reads (λ c. c) (IsSpelled V.eq V.is_value background) (cell_bytes V.eq V.bytes_of) result
         (place input.old (R.remaining (source reader.old))) (place input.new (R.remaining (source reader.new))) }
     ensures inner { IfErr result IsInner }
@@ -83,6 +86,7 @@ fn take_count<R: Read>(
 ) -> Result<u16, LoadFault>
     requires ends { EndsWith input.old (R.remaining (source reader.old)) }
     ensures ends { EndsWith input.new (R.remaining (source reader.new)) }
+    ensures total { (n : ℕ) → byte_total input.old (R.remaining (source reader.old)) ≡ Some n → byte_total input.new (R.remaining (source reader.new)) ≡ Some n }
     ensures reads { Reads (λ n. n) (λ n. (1 ≤ n) × (n ≤ most)) (to_be_bytes w16) result
         (place input.old (R.remaining (source reader.old))) (place input.new (R.remaining (source reader.new))) }
     ensures inner { IfErr result IsInner }
@@ -108,6 +112,7 @@ pub(crate) fn take_head<V: Voxel, R: Read>(
 ) -> Result<Head<V>, LoadFault>
     requires ends { EndsWith input.old (R.remaining (source reader.old)) }
     ensures ends { EndsWith input.new (R.remaining (source reader.new)) }
+    ensures total { (n : ℕ) → byte_total input.old (R.remaining (source reader.old)) ≡ Some n → byte_total input.new (R.remaining (source reader.new)) ≡ Some n }
     ensures reads { Reads (λ h. h) (IsHead V.eq V.is_value background most) (head_bytes V.eq V.bytes_of) result
         (place input.old (R.remaining (source reader.old))) (place input.new (R.remaining (source reader.new))) }
     ensures inner { IfErr result IsInner }
@@ -132,6 +137,7 @@ pub(crate) fn take_index<R: Read>(
 ) -> Result<u16, LoadFault>
     requires ends { EndsWith input.old (R.remaining (source reader.old)) }
     ensures ends { EndsWith input.new (R.remaining (source reader.new)) }
+    ensures total { (n : ℕ) → byte_total input.old (R.remaining (source reader.old)) ≡ Some n → byte_total input.new (R.remaining (source reader.new)) ≡ Some n }
     ensures reads { Reads (λ i. i) (IsIndex most before) (to_be_bytes w16) result
         (place input.old (R.remaining (source reader.old))) (place input.new (R.remaining (source reader.new))) }
     ensures inner { IfErr result IsInner }
@@ -159,6 +165,7 @@ pub(crate) fn take_entry_number<R: Read>(
     requires configured { AreBits bits }
     requires ends { EndsWith input.old (R.remaining (source reader.old)) }
     ensures ends { EndsWith input.new (R.remaining (source reader.new)) }
+    ensures total { (n : ℕ) → byte_total input.old (R.remaining (source reader.old)) ≡ Some n → byte_total input.new (R.remaining (source reader.new)) ≡ Some n }
     ensures reads { Reads (λ i. i) (IsIndex (entries bits level) before) (to_be_bytes w16) result
         (place input.old (R.remaining (source reader.old))) (place input.new (R.remaining (source reader.new))) }
     ensures inner { IfErr result IsInner }
@@ -183,6 +190,7 @@ fn index_follows(before: Option<u16>, i: u16) -> bool
 fn take_coord<R: Read>(input: &mut Input, reader: &mut Watched<R>) -> Result<Coord, LoadFault>
     requires ends { EndsWith input.old (R.remaining (source reader.old)) }
     ensures ends { EndsWith input.new (R.remaining (source reader.new)) }
+    ensures total { (n : ℕ) → byte_total input.old (R.remaining (source reader.old)) ≡ Some n → byte_total input.new (R.remaining (source reader.new)) ≡ Some n }
     ensures reads { Reads (λ k. k) (λ k. FitsSigned w32 k.x × FitsSigned w32 k.y × FitsSigned w32 k.z) key_bytes result
         (place input.old (R.remaining (source reader.old))) (place input.new (R.remaining (source reader.new))) }
     ensures inner { IfErr result IsInner }
@@ -208,6 +216,7 @@ pub(crate) fn take_key<R: Read>(
     requires configured { AreBits bits }
     requires ends { EndsWith input.old (R.remaining (source reader.old)) }
     ensures ends { EndsWith input.new (R.remaining (source reader.new)) }
+    ensures total { (n : ℕ) → byte_total input.old (R.remaining (source reader.old)) ≡ Some n → byte_total input.new (R.remaining (source reader.new)) ≡ Some n }
     ensures reads { Reads (λ k. k) (IsKey bits before) key_bytes result
         (place input.old (R.remaining (source reader.old))) (place input.new (R.remaining (source reader.new))) }
     ensures inner { IfErr result IsInner }

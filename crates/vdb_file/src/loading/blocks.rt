@@ -1,6 +1,6 @@
 //! The blocks above the leaf blocks, as they are read from a file: lower blocks and root blocks.
 
-ghost use Rattle.std.specs.Prelude.{◌≡◌, ◌<◌, ◌||◌, false, Err, IfErr, IfOk, OnOk};
+ghost use Rattle.std.specs.Prelude.{◌≡◌, ℕ, ◌<◌, ◌||◌, false, Err, IfErr, IfOk, OnOk, Some};
 ghost use Rattle.std.specs.Int.{w16, to_be_bytes};
 ghost use Rattle.std.specs.Io.KnownBytes.{IsAtEnd};
 ghost use Rattle.vdb_coord.specs.Blocks.{block_around, entries, entry_numbers};
@@ -10,10 +10,11 @@ ghost use Rattle.vdb_tree.specs.ConstantBlocks.{is_constant};
 ghost use Rattle.vdb_tree.specs.Layout.{bits_of, field_of};
 ghost use Rattle.vdb_scene.specs.Watched.{has_failed, source};
 ghost use Rattle.vdb_file.specs.Bodies.{leaf_body, listed, lower_body, root_body};
-ghost use Rattle.vdb_file.specs.Faults.{IsInner, is_read_fault};
+ghost use Rattle.vdb_file.specs.Faults.{is_read_fault};
+ghost use Rattle.vdb_file.specs.internal.FieldFaults.{IsInner};
 ghost use Rattle.vdb_file.specs.internal.LoadedFields.{AreReady, IsNext, IsReady, KeptOutside, ShowsIn, ShowsInEach, entry_box, next_bytes};
 ghost use Rattle.vdb_file.specs.internal.Loading.{IsIndex};
-ghost use Rattle.vdb_file.specs.internal.Reading.{EndsWith, Reads, place};
+ghost use Rattle.vdb_file.specs.internal.Reading.{EndsWith, Reads, byte_total, place};
 ghost use Rattle.vdb_file.specs.internal.Written.{numbered};
 
 use crate::fault::LoadFault;
@@ -58,6 +59,7 @@ fn take_leaf_block_at<
     requires within { i < entries (bits_of U L F) Lower }
     requires ready { IsReady V.eq V.is_value (bits_of U L F) tree.old.limit leaf_level (entry_box (bits_of U L F) Lower p i).min (field_of (bits_of U L F) tree.old) }
     ensures ends { EndsWith input.new (R.remaining (source reader.new)) }
+    ensures total { (n : ℕ) → byte_total input.old (R.remaining (source reader.old)) ≡ Some n → byte_total input.new (R.remaining (source reader.new)) ≡ Some n }
     ensures reads { Reads (λ _. field_of (bits_of U L F) tree.new) (ShowsIn V.eq V.is_value tree.old.background (entry_box (bits_of U L F) Lower p i)) (λ f. leaf_body V.eq V.bytes_of (bits_of U L F) f (entry_box (bits_of U L F) Lower p i)) result
         (place input.old (R.remaining (source reader.old))) (place input.new (R.remaining (source reader.new))) }
     ensures kept { OnOk result (KeptOutside (entry_box (bits_of U L F) Lower p i) (field_of (bits_of U L F) tree.old) (field_of (bits_of U L F) tree.new)) }
@@ -92,6 +94,7 @@ fn take_next_leaf_block<
     requires ends { EndsWith input.old (R.remaining (source reader.old)) }
     requires ready { AreReady V.eq V.is_value (bits_of U L F) tree.old.limit leaf_level (IsIndex (entries (bits_of U L F) Lower) before) (entry_box (bits_of U L F) Lower p) (field_of (bits_of U L F) tree.old) }
     ensures ends { EndsWith input.new (R.remaining (source reader.new)) }
+    ensures total { (n : ℕ) → byte_total input.old (R.remaining (source reader.old)) ≡ Some n → byte_total input.new (R.remaining (source reader.new)) ≡ Some n }
     ensures reads { Reads (λ i. (i, field_of (bits_of U L F) tree.new)) (IsNext V.eq V.is_value tree.old.background (IsIndex (entries (bits_of U L F) Lower) before) (entry_box (bits_of U L F) Lower p)) (next_bytes (to_be_bytes w16) (leaf_body V.eq V.bytes_of (bits_of U L F)) (entry_box (bits_of U L F) Lower p)) result
         (place input.old (R.remaining (source reader.old))) (place input.new (R.remaining (source reader.new))) }
     ensures kept { IfOk result (λ i. KeptOutside (entry_box (bits_of U L F) Lower p i) (field_of (bits_of U L F) tree.old) (field_of (bits_of U L F) tree.new)) }
@@ -127,6 +130,7 @@ fn take_leaf_blocks<
     requires ends { EndsWith input.old (R.remaining (source reader.old)) }
     requires ready { IsReady V.eq V.is_value (bits_of U L F) tree.old.limit Lower p (field_of (bits_of U L F) tree.old) }
     ensures ends { EndsWith input.new (R.remaining (source reader.new)) }
+    ensures total { (n : ℕ) → byte_total input.old (R.remaining (source reader.old)) ≡ Some n → byte_total input.new (R.remaining (source reader.new)) ≡ Some n }
     ensures reads { Reads (λ _. field_of (bits_of U L F) tree.new) (ShowsInEach V.eq V.is_value tree.old.background (entry_box (bits_of U L F) Lower p) (entry_numbers (bits_of U L F) Lower) count) (λ f. numbered (λ i. leaf_body V.eq V.bytes_of (bits_of U L F) f (entry_box (bits_of U L F) Lower p i)) (listed V.eq V.bytes_of (bits_of U L F) f Lower (block_around (bits_of U L F) Lower p))) result
         (place input.old (R.remaining (source reader.old))) (place input.new (R.remaining (source reader.new))) }
     ensures kept { OnOk result (KeptOutside (block_around (bits_of U L F) Lower p) (field_of (bits_of U L F) tree.old) (field_of (bits_of U L F) tree.new)) }
@@ -164,6 +168,7 @@ fn take_lower_node<
     requires ends { EndsWith input.old (R.remaining (source reader.old)) }
     requires ready { IsReady V.eq V.is_value (bits_of U L F) tree.old.limit Lower p (field_of (bits_of U L F) tree.old) }
     ensures ends { EndsWith input.new (R.remaining (source reader.new)) }
+    ensures total { (n : ℕ) → byte_total input.old (R.remaining (source reader.old)) ≡ Some n → byte_total input.new (R.remaining (source reader.new)) ≡ Some n }
     ensures reads { Reads (λ _. field_of (bits_of U L F) tree.new) (λ f. ShowsInEach V.eq V.is_value tree.old.background (entry_box (bits_of U L F) Lower p) (entry_numbers (bits_of U L F) Lower) count f × (is_constant V.eq f (block_around (bits_of U L F) Lower p) ≡ false)) (λ f. numbered (λ i. leaf_body V.eq V.bytes_of (bits_of U L F) f (entry_box (bits_of U L F) Lower p i)) (listed V.eq V.bytes_of (bits_of U L F) f Lower (block_around (bits_of U L F) Lower p))) result
         (place input.old (R.remaining (source reader.old))) (place input.new (R.remaining (source reader.new))) }
     ensures kept { OnOk result (KeptOutside (block_around (bits_of U L F) Lower p) (field_of (bits_of U L F) tree.old) (field_of (bits_of U L F) tree.new)) }
@@ -199,6 +204,7 @@ fn take_lower_block<
     requires ends { EndsWith input.old (R.remaining (source reader.old)) }
     requires ready { IsReady V.eq V.is_value (bits_of U L F) tree.old.limit Lower p (field_of (bits_of U L F) tree.old) }
     ensures ends { EndsWith input.new (R.remaining (source reader.new)) }
+    ensures total { (n : ℕ) → byte_total input.old (R.remaining (source reader.old)) ≡ Some n → byte_total input.new (R.remaining (source reader.new)) ≡ Some n }
     ensures reads { Reads (λ _. field_of (bits_of U L F) tree.new) (ShowsIn V.eq V.is_value tree.old.background (block_around (bits_of U L F) Lower p)) (λ f. lower_body V.eq V.bytes_of (bits_of U L F) f (block_around (bits_of U L F) Lower p)) result
         (place input.old (R.remaining (source reader.old))) (place input.new (R.remaining (source reader.new))) }
     ensures kept { OnOk result (KeptOutside (block_around (bits_of U L F) Lower p) (field_of (bits_of U L F) tree.old) (field_of (bits_of U L F) tree.new)) }
@@ -236,6 +242,7 @@ fn take_lower_block_at<
     requires within { i < entries (bits_of U L F) Upper }
     requires ready { IsReady V.eq V.is_value (bits_of U L F) tree.old.limit Lower (entry_box (bits_of U L F) Upper p i).min (field_of (bits_of U L F) tree.old) }
     ensures ends { EndsWith input.new (R.remaining (source reader.new)) }
+    ensures total { (n : ℕ) → byte_total input.old (R.remaining (source reader.old)) ≡ Some n → byte_total input.new (R.remaining (source reader.new)) ≡ Some n }
     ensures reads { Reads (λ _. field_of (bits_of U L F) tree.new) (ShowsIn V.eq V.is_value tree.old.background (entry_box (bits_of U L F) Upper p i)) (λ f. lower_body V.eq V.bytes_of (bits_of U L F) f (entry_box (bits_of U L F) Upper p i)) result
         (place input.old (R.remaining (source reader.old))) (place input.new (R.remaining (source reader.new))) }
     ensures kept { OnOk result (KeptOutside (entry_box (bits_of U L F) Upper p i) (field_of (bits_of U L F) tree.old) (field_of (bits_of U L F) tree.new)) }
@@ -270,6 +277,7 @@ fn take_next_lower_block<
     requires ends { EndsWith input.old (R.remaining (source reader.old)) }
     requires ready { AreReady V.eq V.is_value (bits_of U L F) tree.old.limit Lower (IsIndex (entries (bits_of U L F) Upper) before) (entry_box (bits_of U L F) Upper p) (field_of (bits_of U L F) tree.old) }
     ensures ends { EndsWith input.new (R.remaining (source reader.new)) }
+    ensures total { (n : ℕ) → byte_total input.old (R.remaining (source reader.old)) ≡ Some n → byte_total input.new (R.remaining (source reader.new)) ≡ Some n }
     ensures reads { Reads (λ i. (i, field_of (bits_of U L F) tree.new)) (IsNext V.eq V.is_value tree.old.background (IsIndex (entries (bits_of U L F) Upper) before) (entry_box (bits_of U L F) Upper p)) (next_bytes (to_be_bytes w16) (lower_body V.eq V.bytes_of (bits_of U L F)) (entry_box (bits_of U L F) Upper p)) result
         (place input.old (R.remaining (source reader.old))) (place input.new (R.remaining (source reader.new))) }
     ensures kept { IfOk result (λ i. KeptOutside (entry_box (bits_of U L F) Upper p i) (field_of (bits_of U L F) tree.old) (field_of (bits_of U L F) tree.new)) }
@@ -305,6 +313,7 @@ fn take_lower_blocks<
     requires ends { EndsWith input.old (R.remaining (source reader.old)) }
     requires ready { IsReady V.eq V.is_value (bits_of U L F) tree.old.limit Upper p (field_of (bits_of U L F) tree.old) }
     ensures ends { EndsWith input.new (R.remaining (source reader.new)) }
+    ensures total { (n : ℕ) → byte_total input.old (R.remaining (source reader.old)) ≡ Some n → byte_total input.new (R.remaining (source reader.new)) ≡ Some n }
     ensures reads { Reads (λ _. field_of (bits_of U L F) tree.new) (ShowsInEach V.eq V.is_value tree.old.background (entry_box (bits_of U L F) Upper p) (entry_numbers (bits_of U L F) Upper) count) (λ f. numbered (λ i. lower_body V.eq V.bytes_of (bits_of U L F) f (entry_box (bits_of U L F) Upper p i)) (listed V.eq V.bytes_of (bits_of U L F) f Upper (block_around (bits_of U L F) Upper p))) result
         (place input.old (R.remaining (source reader.old))) (place input.new (R.remaining (source reader.new))) }
     ensures kept { OnOk result (KeptOutside (block_around (bits_of U L F) Upper p) (field_of (bits_of U L F) tree.old) (field_of (bits_of U L F) tree.new)) }
@@ -342,6 +351,7 @@ fn take_upper_node<
     requires ends { EndsWith input.old (R.remaining (source reader.old)) }
     requires ready { IsReady V.eq V.is_value (bits_of U L F) tree.old.limit Upper p (field_of (bits_of U L F) tree.old) }
     ensures ends { EndsWith input.new (R.remaining (source reader.new)) }
+    ensures total { (n : ℕ) → byte_total input.old (R.remaining (source reader.old)) ≡ Some n → byte_total input.new (R.remaining (source reader.new)) ≡ Some n }
     ensures reads { Reads (λ _. field_of (bits_of U L F) tree.new) (λ f. ShowsInEach V.eq V.is_value tree.old.background (entry_box (bits_of U L F) Upper p) (entry_numbers (bits_of U L F) Upper) count f × (is_constant V.eq f (block_around (bits_of U L F) Upper p) ≡ false)) (λ f. numbered (λ i. lower_body V.eq V.bytes_of (bits_of U L F) f (entry_box (bits_of U L F) Upper p i)) (listed V.eq V.bytes_of (bits_of U L F) f Upper (block_around (bits_of U L F) Upper p))) result
         (place input.old (R.remaining (source reader.old))) (place input.new (R.remaining (source reader.new))) }
     ensures kept { OnOk result (KeptOutside (block_around (bits_of U L F) Upper p) (field_of (bits_of U L F) tree.old) (field_of (bits_of U L F) tree.new)) }
@@ -377,6 +387,7 @@ pub(crate) fn take_root_block<
     requires ends { EndsWith input.old (R.remaining (source reader.old)) }
     requires ready { IsReady V.eq V.is_value (bits_of U L F) tree.old.limit Upper p (field_of (bits_of U L F) tree.old) }
     ensures ends { EndsWith input.new (R.remaining (source reader.new)) }
+    ensures total { (n : ℕ) → byte_total input.old (R.remaining (source reader.old)) ≡ Some n → byte_total input.new (R.remaining (source reader.new)) ≡ Some n }
     ensures reads { Reads (λ _. field_of (bits_of U L F) tree.new) (ShowsIn V.eq V.is_value tree.old.background (block_around (bits_of U L F) Upper p)) (λ f. root_body V.eq V.bytes_of (bits_of U L F) f (block_around (bits_of U L F) Upper p)) result
         (place input.old (R.remaining (source reader.old))) (place input.new (R.remaining (source reader.new))) }
     ensures kept { OnOk result (KeptOutside (block_around (bits_of U L F) Upper p) (field_of (bits_of U L F) tree.old) (field_of (bits_of U L F) tree.new)) }

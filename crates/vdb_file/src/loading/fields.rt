@@ -1,11 +1,12 @@
 //! The fields of a file.
 
-ghost use Rattle.std.specs.Prelude.{◌≡◌, ◌<◌, ◌^◌, ◌∷◌, ◌||◌, [], length, Err, IfErr, ⊤};
+ghost use Rattle.std.specs.Prelude.{◌≡◌, ℕ, ◌<◌, ◌^◌, ◌∷◌, ◌||◌, [], length, Err, IfErr, ⊤, Some};
 ghost use Rattle.std.specs.Int.{w16, w32, to_be_bytes};
 ghost use Rattle.std.specs.Io.KnownBytes.{IsAtEnd};
 ghost use Rattle.vdb_scene.specs.Watched.{has_failed, source};
-ghost use Rattle.vdb_file.specs.Faults.{IsInner, is_read_fault};
-ghost use Rattle.vdb_file.specs.internal.Reading.{EndsWith, Reads, place};
+ghost use Rattle.vdb_file.specs.Faults.{is_read_fault};
+ghost use Rattle.vdb_file.specs.internal.FieldFaults.{IsInner};
+ghost use Rattle.vdb_file.specs.internal.Reading.{EndsWith, Reads, byte_total, place};
 
 use crate::fault::LoadFault;
 use crate::loading::input::Input;
@@ -21,6 +22,7 @@ pub(crate) fn take_field<R: Read>(
 ) -> Result<(), LoadFault>
     requires ends { EndsWith input.old (R.remaining (source reader.old)) }
     ensures ends { EndsWith input.new (R.remaining (source reader.new)) }
+    ensures total { (n : ℕ) → byte_total input.old (R.remaining (source reader.old)) ≡ Some n → byte_total input.new (R.remaining (source reader.new)) ≡ Some n }
     ensures length { length field.new ≡ length field.old }
     ensures reads { Reads (λ _. field.new) (λ bytes. length bytes ≡ length field.old) (λ bytes. bytes) result
         (place input.old (R.remaining (source reader.old))) (place input.new (R.remaining (source reader.new))) }
@@ -42,19 +44,41 @@ pub(crate) fn take_field<R: Read>(
     Ok(())
 }
 
+/// Reads a field of as many bytes as an array has, at once where they are unread.
+pub(crate) fn take_bytes<R: Read, const N: usize>(
+    input: &mut Input,
+    reader: &mut Watched<R>,
+) -> Result<[u8; N], LoadFault>
+    requires ends { EndsWith input.old (R.remaining (source reader.old)) }
+    ensures ends { EndsWith input.new (R.remaining (source reader.new)) }
+    ensures total { (n : ℕ) → byte_total input.old (R.remaining (source reader.old)) ≡ Some n → byte_total input.new (R.remaining (source reader.new)) ≡ Some n }
+    ensures reads { Reads (λ bytes. bytes) (λ bytes. length bytes ≡ N) (λ bytes. bytes) result
+        (place input.old (R.remaining (source reader.old))) (place input.new (R.remaining (source reader.new))) }
+    ensures inner { IfErr result IsInner }
+    ensures ended { result ≡ Err LoadFault.Truncated → IsAtEnd (place input.new (R.remaining (source reader.new))).known }
+    ensures failed { has_failed reader.new ≡ (has_failed reader.old || is_read_fault result) }
+{
+    if let Some(bytes) = input.take_array::<N>() {
+        return Ok(bytes);
+    }
+    let mut bytes = [0; N];
+    take_field(input, reader, &mut bytes)?;
+    Ok(bytes)
+}
+
 /// Reads a number of one byte.
 pub(crate) fn take_u8<R: Read>(input: &mut Input, reader: &mut Watched<R>) -> Result<u8, LoadFault>
     requires ends { EndsWith input.old (R.remaining (source reader.old)) }
     ensures ends { EndsWith input.new (R.remaining (source reader.new)) }
+    ensures total { (n : ℕ) → byte_total input.old (R.remaining (source reader.old)) ≡ Some n → byte_total input.new (R.remaining (source reader.new)) ≡ Some n }
     ensures reads { Reads (λ n. n) (λ n. ⊤) (λ n. n ∷ []) result
         (place input.old (R.remaining (source reader.old))) (place input.new (R.remaining (source reader.new))) }
     ensures inner { IfErr result IsInner }
     ensures ended { result ≡ Err LoadFault.Truncated → IsAtEnd (place input.new (R.remaining (source reader.new))).known }
     ensures failed { has_failed reader.new ≡ (has_failed reader.old || is_read_fault result) }
 {
-    let mut field = [0; 1];
-    take_field(input, reader, &mut field)?;
-    Ok(field[0])
+    let [byte] = take_bytes::<R, 1>(input, reader)?;
+    Ok(byte)
 }
 
 /// Reads a number of two bytes.
@@ -64,17 +88,15 @@ pub(crate) fn take_u16<R: Read>(
 ) -> Result<u16, LoadFault>
     requires ends { EndsWith input.old (R.remaining (source reader.old)) }
     ensures ends { EndsWith input.new (R.remaining (source reader.new)) }
+    ensures total { (n : ℕ) → byte_total input.old (R.remaining (source reader.old)) ≡ Some n → byte_total input.new (R.remaining (source reader.new)) ≡ Some n }
     ensures reads { Reads (λ n. n) (λ n. n < 2 ^ 16) (to_be_bytes w16) result
         (place input.old (R.remaining (source reader.old))) (place input.new (R.remaining (source reader.new))) }
     ensures inner { IfErr result IsInner }
     ensures ended { result ≡ Err LoadFault.Truncated → IsAtEnd (place input.new (R.remaining (source reader.new))).known }
     ensures failed { has_failed reader.new ≡ (has_failed reader.old || is_read_fault result) }
 {
-    let mut field = [0; 2];
-    take_field(input, reader, &mut field)?;
-    let high = u8::from_be_bytes([field[0]]); // a byte by its type, which an element of a changed array doesn't tell
-    let low = u8::from_be_bytes([field[1]]);
-    Ok(u16::from_be_bytes([high, low]))
+    let bytes = take_bytes::<R, 2>(input, reader)?;
+    Ok(u16::from_be_bytes(bytes))
 }
 
 /// Reads a number of four bytes.
@@ -84,19 +106,15 @@ pub(crate) fn take_u32<R: Read>(
 ) -> Result<u32, LoadFault>
     requires ends { EndsWith input.old (R.remaining (source reader.old)) }
     ensures ends { EndsWith input.new (R.remaining (source reader.new)) }
+    ensures total { (n : ℕ) → byte_total input.old (R.remaining (source reader.old)) ≡ Some n → byte_total input.new (R.remaining (source reader.new)) ≡ Some n }
     ensures reads { Reads (λ n. n) (λ n. n < 2 ^ 32) (to_be_bytes w32) result
         (place input.old (R.remaining (source reader.old))) (place input.new (R.remaining (source reader.new))) }
     ensures inner { IfErr result IsInner }
     ensures ended { result ≡ Err LoadFault.Truncated → IsAtEnd (place input.new (R.remaining (source reader.new))).known }
     ensures failed { has_failed reader.new ≡ (has_failed reader.old || is_read_fault result) }
 {
-    let mut field = [0; 4];
-    take_field(input, reader, &mut field)?;
-    let first = u8::from_be_bytes([field[0]]);
-    let second = u8::from_be_bytes([field[1]]);
-    let third = u8::from_be_bytes([field[2]]);
-    let fourth = u8::from_be_bytes([field[3]]);
-    Ok(u32::from_be_bytes([first, second, third, fourth]))
+    let bytes = take_bytes::<R, 4>(input, reader)?;
+    Ok(u32::from_be_bytes(bytes))
 }
 
 /// Reads a value of a type.
@@ -106,21 +124,19 @@ pub(crate) fn take_value<V: Voxel, R: Read>(
 ) -> Result<V, LoadFault>
     requires ends { EndsWith input.old (R.remaining (source reader.old)) }
     ensures ends { EndsWith input.new (R.remaining (source reader.new)) }
+    ensures total { (n : ℕ) → byte_total input.old (R.remaining (source reader.old)) ≡ Some n → byte_total input.new (R.remaining (source reader.new)) ≡ Some n }
     ensures reads { Reads (λ x. x) V.is_value V.bytes_of result
         (place input.old (R.remaining (source reader.old))) (place input.new (R.remaining (source reader.new))) }
     ensures inner { IfErr result IsInner }
     ensures ended { result ≡ Err LoadFault.Truncated → IsAtEnd (place input.new (R.remaining (source reader.new))).known }
     ensures failed { has_failed reader.new ≡ (has_failed reader.old || is_read_fault result) }
 {
-    let mut bytes = [0; 8];
-    let count = match V::KIND {
-        Kind::Bool => 1,
-        Kind::I32 => 4,
-        Kind::I64 => 8,
+    let read = match V::KIND {
+        Kind::Bool => V::from_bytes(&take_bytes::<R, 1>(input, reader)?),
+        Kind::I32 => V::from_bytes(&take_bytes::<R, 4>(input, reader)?),
+        Kind::I64 => V::from_bytes(&take_bytes::<R, 8>(input, reader)?),
     };
-    let field = &mut bytes[..count];
-    take_field(input, reader, field)?;
-    match V::from_bytes(field) {
+    match read {
         Some(value) => Ok(value),
         None => Err(LoadFault::Value),
     }

@@ -1,12 +1,13 @@
 //! What a file has between a grid's background and its root blocks.
 
-ghost use Rattle.std.specs.Prelude.{◌≡◌, ◌↔◌, ◌||◌, Err, IfErr, IsTrue};
+ghost use Rattle.std.specs.Prelude.{◌≡◌, ℕ, ◌↔◌, ◌||◌, Err, IfErr, IsTrue, Some};
 ghost use Rattle.std.specs.Int.{w32, to_be_bytes};
 ghost use Rattle.std.specs.Io.KnownBytes.{IsAtEnd};
 ghost use Rattle.vdb_scene.specs.Watched.{has_failed, source};
-ghost use Rattle.vdb_file.specs.Faults.{IsInner, is_read_fault};
+ghost use Rattle.vdb_file.specs.Faults.{is_read_fault};
+ghost use Rattle.vdb_file.specs.internal.FieldFaults.{IsInner};
 ghost use Rattle.vdb_file.specs.internal.Parts.{IsHead, IsLimit, head_code, head_view};
-ghost use Rattle.vdb_file.specs.internal.Reading.{EndsWith, Reads, place};
+ghost use Rattle.vdb_file.specs.internal.Reading.{EndsWith, Reads, byte_total, place};
 
 use crate::fault::LoadFault;
 use crate::loading::fields::take_u32;
@@ -35,6 +36,7 @@ fn is_limit(limit: u32) -> bool
 fn take_limit<R: Read>(input: &mut Input, reader: &mut Watched<R>) -> Result<u32, LoadFault>
     requires ends { EndsWith input.old (R.remaining (source reader.old)) }
     ensures ends { EndsWith input.new (R.remaining (source reader.new)) }
+    ensures total { (n : ℕ) → byte_total input.old (R.remaining (source reader.old)) ≡ Some n → byte_total input.new (R.remaining (source reader.new)) ≡ Some n }
     ensures reads { Reads (λ limit. limit) IsLimit (to_be_bytes w32) result
         (place input.old (R.remaining (source reader.old))) (place input.new (R.remaining (source reader.new))) }
     ensures inner { IfErr result IsInner }
@@ -56,6 +58,7 @@ fn take_new_head<R: Read>(
 ) -> Result<Head, LoadFault>
     requires ends { EndsWith input.old (R.remaining (source reader.old)) }
     ensures ends { EndsWith input.new (R.remaining (source reader.new)) }
+    ensures total { (n : ℕ) → byte_total input.old (R.remaining (source reader.old)) ≡ Some n → byte_total input.new (R.remaining (source reader.new)) ≡ Some n }
     ensures reads { Reads head_view (IsHead Version.Two) (head_code Version.Two) result
         (place input.old (R.remaining (source reader.old))) (place input.new (R.remaining (source reader.new))) }
     ensures inner { IfErr result IsInner }
@@ -76,6 +79,7 @@ pub(crate) fn take_head<R: Read>(
 ) -> Result<Head, LoadFault>
     requires ends { EndsWith input.old (R.remaining (source reader.old)) }
     ensures ends { EndsWith input.new (R.remaining (source reader.new)) }
+    ensures total { (n : ℕ) → byte_total input.old (R.remaining (source reader.old)) ≡ Some n → byte_total input.new (R.remaining (source reader.new)) ≡ Some n }
     ensures reads { Reads head_view (IsHead version) (head_code version) result
         (place input.old (R.remaining (source reader.old))) (place input.new (R.remaining (source reader.new))) }
     ensures inner { IfErr result IsInner }

@@ -1,13 +1,14 @@
 //! The grids of a file.
 
-ghost use Rattle.std.specs.Prelude.{◌≡◌, ◌||◌, Err, IfErr};
+ghost use Rattle.std.specs.Prelude.{◌≡◌, ℕ, ◌||◌, Err, IfErr, Some};
 ghost use Rattle.std.specs.Io.KnownBytes.{IsAtEnd};
 ghost use Rattle.vdb_coord.specs.Blocks.{vdb};
 ghost use Rattle.vdb_scene.specs.Grids.{grid_with};
 ghost use Rattle.vdb_scene.specs.Watched.{has_failed, source};
-ghost use Rattle.vdb_file.specs.Faults.{IsInner, is_read_fault};
+ghost use Rattle.vdb_file.specs.Faults.{is_read_fault};
+ghost use Rattle.vdb_file.specs.internal.FieldFaults.{IsInner};
 ghost use Rattle.vdb_file.specs.internal.Parts.{IsBody, IsItem, IsLoadedGrid, IsNamed, body_bytes, loaded, loaded_bytes, name_of, named_bytes, named_view};
-ghost use Rattle.vdb_file.specs.internal.Reading.{EndsWith, Reads, place};
+ghost use Rattle.vdb_file.specs.internal.Reading.{EndsWith, Reads, byte_total, place};
 
 use crate::fault::LoadFault;
 use crate::loading::fields::{take_u8, take_value};
@@ -34,6 +35,7 @@ fn take_tree<V: Stored<512> + Stored<64> + Stored<8>, R: Read>(
 ) -> Result<(Tree<V>, Metas), LoadFault>
     requires ends { EndsWith input.old (R.remaining (source reader.old)) }
     ensures ends { EndsWith input.new (R.remaining (source reader.new)) }
+    ensures total { (n : ℕ) → byte_total input.old (R.remaining (source reader.old)) ≡ Some n → byte_total input.new (R.remaining (source reader.new)) ≡ Some n }
     ensures reads { Reads (λ r. loaded r.0 r.1) (IsLoadedGrid V.is_value V.eq V.bytes_of version) (loaded_bytes V.is_value V.eq V.bytes_of version) result
         (place input.old (R.remaining (source reader.old))) (place input.new (R.remaining (source reader.new))) }
     ensures inner { IfErr result IsInner }
@@ -57,6 +59,7 @@ fn take_grid<R: Read>(
 ) -> Result<(AnyGrid, Metas), LoadFault>
     requires ends { EndsWith input.old (R.remaining (source reader.old)) }
     ensures ends { EndsWith input.new (R.remaining (source reader.new)) }
+    ensures total { (n : ℕ) → byte_total input.old (R.remaining (source reader.old)) ≡ Some n → byte_total input.new (R.remaining (source reader.new)) ≡ Some n }
     ensures reads { Reads (λ r. grid_with r.0 r.1) (IsBody version) (body_bytes version) result
         (place input.old (R.remaining (source reader.old))) (place input.new (R.remaining (source reader.new))) }
     ensures inner { IfErr result IsInner }
@@ -100,6 +103,7 @@ pub(crate) fn take_named<R: Read>(
 ) -> Result<Named, LoadFault>
     requires ends { EndsWith input.old (R.remaining (source reader.old)) }
     ensures ends { EndsWith input.new (R.remaining (source reader.new)) }
+    ensures total { (n : ℕ) → byte_total input.old (R.remaining (source reader.old)) ≡ Some n → byte_total input.new (R.remaining (source reader.new)) ≡ Some n }
     ensures reads { Reads named_view (IsItem (IsNamed version) name_of before) (named_bytes version) result
         (place input.old (R.remaining (source reader.old))) (place input.new (R.remaining (source reader.new))) }
     ensures inner { IfErr result IsInner }

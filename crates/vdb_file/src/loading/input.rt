@@ -1,10 +1,10 @@
 //! The bytes of a file on their way from a reader.
 
-ghost use Rattle.std.specs.Prelude.{◌≡◌, ◌+◌, ◌++◌, ◌-◌, ◌<◌, ◌≤◌, ◌||◌, true, false, [], is_err, length, min, take, drop, IfErr, Ok, OnOk};
+ghost use Rattle.std.specs.Prelude.{◌≡◌, ℕ, ◌+◌, ◌++◌, ◌-◌, ◌<◌, ◌≤◌, ◌||◌, true, false, List, [], Option, is_err, length, min, take, drop, IfErr, IfNone, IfSome, Ok, OnOk, Some};
 ghost use Rattle.std.specs.Io.KnownBytes.{IsAtEnd, Keeps, prepend_known};
 ghost use Rattle.vdb_scene.specs.Watched.{has_failed, source};
 ghost use Rattle.vdb_file.specs.Faults.{is_read_fault};
-ghost use Rattle.vdb_file.specs.internal.Reading.{EndsWith};
+ghost use Rattle.vdb_file.specs.internal.Reading.{EndsWith, byte_total};
 
 use crate::fault::LoadFault;
 use std::io::Read;
@@ -29,14 +29,14 @@ pub(crate) struct Input {
 }
 
 impl Model for Input {
-    ghost use Rattle.std.specs.Prelude.{◌≤◌, slice_range};
+    ghost use Rattle.std.specs.Prelude.{◌+◌, ◌≤◌, slice_range};
     ghost use Rattle.vdb_file.specs.internal.Reading.{Stock};
 
     ghost Value = { Stock };
 
     ghost view = { λ s. record { unread = slice_range s.page s.start s.end; room = s.room; ended = s.ended } };
 
-    ghost invariant = { λ s. (s.start ≤ s.end) × (s.end ≤ 65536) × (s.room ≤ 268435456) };
+    ghost invariant = { λ s. (s.start ≤ s.end) × (s.end ≤ 65536) × (s.room ≤ 268435456) × (s.end ≤ s.start + s.room + 1) };
 }
 
 impl Input {
@@ -64,6 +64,7 @@ impl Input {
     pub(crate) fn fill<R: Read>(&mut self, reader: &mut Watched<R>) -> Result<bool, LoadFault>
         requires ends { EndsWith self.old (R.remaining (source reader.old)) }
         ensures ends { EndsWith self.new (R.remaining (source reader.new)) }
+        ensures total { (n : ℕ) → byte_total self.old (R.remaining (source reader.old)) ≡ Some n → byte_total self.new (R.remaining (source reader.new)) ≡ Some n }
         ensures some { result ≡ Ok true → 0 < length self.new.unread }
         ensures none { result ≡ Ok false → self.new.unread ≡ [] }
         ensures end { result ≡ Ok false → IsAtEnd (R.remaining (source reader.new)) }
@@ -85,6 +86,7 @@ impl Input {
         requires unread { self.old.unread ≡ [] }
         requires ends { EndsWith self.old (R.remaining (source reader.old)) }
         ensures ends { EndsWith self.new (R.remaining (source reader.new)) }
+        ensures total { (n : ℕ) → byte_total self.old (R.remaining (source reader.old)) ≡ Some n → byte_total self.new (R.remaining (source reader.new)) ≡ Some n }
         ensures marks { OnOk result (self.new.unread ≡ [] → self.new.ended ≡ true) }
         ensures kept { OnOk result (Keeps (prepend_known self.old.unread (R.remaining (source reader.old)))
             (prepend_known self.new.unread (R.remaining (source reader.new)))) }
@@ -106,20 +108,40 @@ impl Input {
         Ok(())
     }
 
+    /// Takes the next unread bytes, as many as an array has: `None` where fewer are unread or the fields may not have so many.
+    pub(crate) fn take_array<const N: usize>(&mut self) -> Option<[u8; N]>
+        ensures some { IfSome result (λ bytes. self.old.unread ≡ bytes ++ self.new.unread) }
+        ensures room { IfSome result (λ bytes. N + self.new.room ≡ self.old.room) }
+        ensures none { IfNone result (self.new ≡ self.old) }
+        ensures ended { self.new.ended ≡ self.old.ended }
+        ensures total { (known : Option (List ℕ)) → byte_total self.new known ≡ byte_total self.old known }
+    {
+        if N > self.end - self.start || N > self.room {
+            return None;
+        }
+        let mut bytes = [0; N];
+        bytes.copy_from_slice(&self.page[self.start..self.start + N]);
+        self.start += N;
+        self.room -= N;
+        Some(bytes)
+    }
+
     /// Takes as many unread bytes as there are and as a field, from one place on, still wants, and answers how many.
     pub(crate) fn run(&mut self, field: &mut [u8], at: usize) -> usize
-        requires { at ≤ length field.old }
+        requires within { at ≤ length field.old }
+        requires fits { length field.old ≤ at + self.old.room }
         ensures count { result ≡ min (length field.old - at) (length self.old.unread) }
         ensures field { take (at + result) field.new ≡ take at field.old ++ take result self.old.unread }
         ensures unread { self.new.unread ≡ drop result self.old.unread }
         ensures room { self.new.room ≡ self.old.room - result }
         ensures ended { self.new.ended ≡ self.old.ended }
+        ensures total { (known : Option (List ℕ)) → byte_total self.new known ≡ byte_total self.old known }
     {
         let count = (field.len() - at).min(self.end - self.start);
         let next = self.start + count;
         field[at..at + count].copy_from_slice(&self.page[self.start..next]);
         self.start = next;
-        self.room = self.room.saturating_sub(count);
+        self.room -= count;
         count
     }
 }

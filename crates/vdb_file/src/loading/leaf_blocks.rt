@@ -1,6 +1,6 @@
 //! The leaf blocks of a tree, as they are read from a file.
 
-ghost use Rattle.std.specs.Prelude.{◌≡◌, ◌||◌, Err, IfErr, OnOk};
+ghost use Rattle.std.specs.Prelude.{◌≡◌, ℕ, ◌||◌, Err, IfErr, OnOk, Some};
 ghost use Rattle.std.specs.Io.KnownBytes.{IsAtEnd};
 ghost use Rattle.vdb_coord.specs.Blocks.{block_around};
 ghost use Rattle.vdb_coord.specs.declared.Level.TheVariants.{Leaf as leaf_level, Upper};
@@ -9,10 +9,11 @@ ghost use Rattle.vdb_tree.specs.Layout.{bits_of, field_of};
 ghost use Rattle.vdb_tree.specs.Leaves.{with_leaf};
 ghost use Rattle.vdb_scene.specs.Watched.{has_failed, source};
 ghost use Rattle.vdb_file.specs.Bodies.{leaf_body};
-ghost use Rattle.vdb_file.specs.Faults.{IsInner, is_read_fault};
+ghost use Rattle.vdb_file.specs.Faults.{is_read_fault};
+ghost use Rattle.vdb_file.specs.internal.FieldFaults.{IsInner};
 ghost use Rattle.vdb_file.specs.internal.LeafVoxels.{IsMixed, voxel_count, voxels_bytes};
 ghost use Rattle.vdb_file.specs.internal.LoadedFields.{HasRoomAt, IsReady, KeptOutside, ShowsIn};
-ghost use Rattle.vdb_file.specs.internal.Reading.{EndsWith, Reads, place};
+ghost use Rattle.vdb_file.specs.internal.Reading.{EndsWith, Reads, byte_total, place};
 
 use crate::fault::LoadFault;
 use crate::loading::block_head::{Head, take_head};
@@ -105,6 +106,7 @@ fn take_leaf<
     requires ends { EndsWith input.old (R.remaining (source reader.old)) }
     requires ready { IsReady V.eq V.is_value (bits_of U L F) tree.old.limit leaf_level p (field_of (bits_of U L F) tree.old) }
     ensures ends { EndsWith input.new (R.remaining (source reader.new)) }
+    ensures total { (n : ℕ) → byte_total input.old (R.remaining (source reader.old)) ≡ Some n → byte_total input.new (R.remaining (source reader.new)) ≡ Some n }
     ensures reads { Reads (λ _. field_of (bits_of U L F) tree.new) (λ f. IsMixed V.eq V.is_value tree.old.background (bits_of U L F) p f × (voxel_count V.eq V.bytes_of (bits_of U L F) p f ≡ count)) (voxels_bytes V.eq V.bytes_of (bits_of U L F) p) result
         (place input.old (R.remaining (source reader.old))) (place input.new (R.remaining (source reader.new))) }
     ensures kept { OnOk result (KeptOutside (block_around (bits_of U L F) leaf_level p) (field_of (bits_of U L F) tree.old) (field_of (bits_of U L F) tree.new)) }
@@ -147,6 +149,7 @@ pub(crate) fn take_leaf_block<
     requires ends { EndsWith input.old (R.remaining (source reader.old)) }
     requires ready { IsReady V.eq V.is_value (bits_of U L F) tree.old.limit leaf_level p (field_of (bits_of U L F) tree.old) }
     ensures ends { EndsWith input.new (R.remaining (source reader.new)) }
+    ensures total { (n : ℕ) → byte_total input.old (R.remaining (source reader.old)) ≡ Some n → byte_total input.new (R.remaining (source reader.new)) ≡ Some n }
     ensures reads { Reads (λ _. field_of (bits_of U L F) tree.new) (ShowsIn V.eq V.is_value tree.old.background (block_around (bits_of U L F) leaf_level p)) (λ f. leaf_body V.eq V.bytes_of (bits_of U L F) f (block_around (bits_of U L F) leaf_level p)) result
         (place input.old (R.remaining (source reader.old))) (place input.new (R.remaining (source reader.new))) }
     ensures kept { OnOk result (KeptOutside (block_around (bits_of U L F) leaf_level p) (field_of (bits_of U L F) tree.old) (field_of (bits_of U L F) tree.new)) }

@@ -1,15 +1,16 @@
 //! Names and keys that a file has one after another.
 
-ghost use Rattle.std.specs.Prelude.{◌≡◌, ◌↔◌, ◌||◌, true, Err, IfErr, IsTrue};
+ghost use Rattle.std.specs.Prelude.{◌≡◌, ℕ, ◌↔◌, ◌||◌, true, Err, IfErr, IsTrue, Some};
 ghost use Rattle.std.specs.Ordering.{nat_cmp};
 ghost use Rattle.std.specs.Cmp.Lexicographic.{slice_cmp};
 ghost use Rattle.std.specs.Io.KnownBytes.{IsAtEnd};
 ghost use Rattle.vdb_scene.specs.Watched.{has_failed, source};
-ghost use Rattle.vdb_file.specs.Faults.{IsInner, IsOfForm, is_read_fault};
+ghost use Rattle.vdb_file.specs.Faults.{is_read_fault};
+ghost use Rattle.vdb_file.specs.internal.FieldFaults.{IsInner, IsOfForm};
 ghost use Rattle.vdb_file.specs.Spelling.{counted};
 ghost use Rattle.vdb_file.specs.internal.Following.{Follows};
 ghost use Rattle.vdb_file.specs.internal.Parts.{IsNext};
-ghost use Rattle.vdb_file.specs.internal.Reading.{EndsWith, Reads, place};
+ghost use Rattle.vdb_file.specs.internal.Reading.{EndsWith, Reads, byte_total, place};
 
 use crate::fault::LoadFault;
 use crate::loading::fields::{take_field, take_u8};
@@ -27,6 +28,7 @@ pub(crate) fn take_name<R: Read>(
     requires ends { EndsWith input.old (R.remaining (source reader.old)) }
     requires fault { IsOfForm fault }
     ensures ends { EndsWith input.new (R.remaining (source reader.new)) }
+    ensures total { (n : ℕ) → byte_total input.old (R.remaining (source reader.old)) ≡ Some n → byte_total input.new (R.remaining (source reader.new)) ≡ Some n }
     ensures reads { Reads (λ name. name) (IsNext before) counted result
         (place input.old (R.remaining (source reader.old))) (place input.new (R.remaining (source reader.new))) }
     ensures inner { IfErr result IsInner }

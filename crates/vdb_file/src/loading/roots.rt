@@ -1,6 +1,6 @@
 //! The root blocks of a tree, as they are read from a file.
 
-ghost use Rattle.std.specs.Prelude.{◌≡◌, ◌≤◌, ◌++◌, ◌||◌, Err, IfErr, IfOk, IsTrue, OnOk};
+ghost use Rattle.std.specs.Prelude.{◌≡◌, ℕ, ◌≤◌, ◌++◌, ◌||◌, Err, IfErr, IfOk, IsTrue, OnOk, Some};
 ghost use Rattle.std.specs.Io.KnownBytes.{IsAtEnd};
 ghost use Rattle.std.specs.List.{flat_map};
 ghost use Rattle.vdb_coord.specs.Blocks.{block, block_numbers};
@@ -12,10 +12,11 @@ ghost use Rattle.vdb_tree.specs.Field.{new};
 ghost use Rattle.vdb_tree.specs.Layout.{bits_of, field_of};
 ghost use Rattle.vdb_scene.specs.Watched.{has_failed, source};
 ghost use Rattle.vdb_file.specs.Bodies.{key_bytes, root_body, roots_bytes};
-ghost use Rattle.vdb_file.specs.Faults.{IsInner, is_read_fault};
+ghost use Rattle.vdb_file.specs.Faults.{is_read_fault};
+ghost use Rattle.vdb_file.specs.internal.FieldFaults.{IsInner};
 ghost use Rattle.vdb_file.specs.internal.LoadedFields.{AreReady, IsNext, IsReady, IsWithin, KeptOutside, ShowsIn, ShowsInEach, next_bytes};
 ghost use Rattle.vdb_file.specs.internal.Loading.{IsKey};
-ghost use Rattle.vdb_file.specs.internal.Reading.{EndsWith, Reads, place};
+ghost use Rattle.vdb_file.specs.internal.Reading.{EndsWith, Reads, byte_total, place};
 
 use crate::fault::LoadFault;
 use crate::loading::block_head::take_key;
@@ -50,6 +51,7 @@ pub(crate) fn take_roots<
     requires fresh { field_of (bits_of U L F) tree.old ≡ new tree.old.background }
     requires value { V.is_value tree.old.background }
     ensures ends { EndsWith input.new (R.remaining (source reader.new)) }
+    ensures total { (n : ℕ) → byte_total input.old (R.remaining (source reader.old)) ≡ Some n → byte_total input.new (R.remaining (source reader.new)) ≡ Some n }
     ensures reads { Reads (λ _. field_of (bits_of U L F) tree.new) (IsWithin V.eq V.is_value tree.old.background (bits_of U L F) tree.old.limit) (roots_bytes V.eq V.bytes_of (bits_of U L F)) result
         (place input.old (R.remaining (source reader.old))) (place input.new (R.remaining (source reader.new))) }
     ensures limit { OnOk result (tree.new.limit ≡ tree.old.limit) }
@@ -87,6 +89,7 @@ fn take_keyed_roots<
     requires value { V.is_value tree.old.background }
     requires few { count ≤ tree.old.limit }
     ensures ends { EndsWith input.new (R.remaining (source reader.new)) }
+    ensures total { (n : ℕ) → byte_total input.old (R.remaining (source reader.old)) ≡ Some n → byte_total input.new (R.remaining (source reader.new)) ≡ Some n }
     ensures reads { Reads (λ _. field_of (bits_of U L F) tree.new) (ShowsInEach V.eq V.is_value tree.old.background (block (bits_of U L F) Upper) (coordinates (block_numbers (bits_of U L F) Upper)) count)
         (λ f. flat_map (λ k. key_bytes k ++ root_body V.eq V.bytes_of (bits_of U L F) f (block (bits_of U L F) Upper k)) (root_keys V.eq (bits_of U L F) f)) result
         (place input.old (R.remaining (source reader.old))) (place input.new (R.remaining (source reader.new))) }
@@ -124,6 +127,7 @@ fn take_next_root<
     requires ends { EndsWith input.old (R.remaining (source reader.old)) }
     requires ready { AreReady V.eq V.is_value (bits_of U L F) tree.old.limit Upper (IsKey (bits_of U L F) before) (block (bits_of U L F) Upper) (field_of (bits_of U L F) tree.old) }
     ensures ends { EndsWith input.new (R.remaining (source reader.new)) }
+    ensures total { (n : ℕ) → byte_total input.old (R.remaining (source reader.old)) ≡ Some n → byte_total input.new (R.remaining (source reader.new)) ≡ Some n }
     ensures reads { Reads (λ k. (k, field_of (bits_of U L F) tree.new)) (IsNext V.eq V.is_value tree.old.background (IsKey (bits_of U L F) before) (block (bits_of U L F) Upper)) (next_bytes key_bytes (root_body V.eq V.bytes_of (bits_of U L F)) (block (bits_of U L F) Upper)) result
         (place input.old (R.remaining (source reader.old))) (place input.new (R.remaining (source reader.new))) }
     ensures kept { IfOk result (λ k. KeptOutside (block (bits_of U L F) Upper k) (field_of (bits_of U L F) tree.old) (field_of (bits_of U L F) tree.new)) }
@@ -159,6 +163,7 @@ fn take_root_at<
     requires within { IsTrue (is_inside (block_numbers (bits_of U L F) Upper) key) }
     requires ready { IsReady V.eq V.is_value (bits_of U L F) tree.old.limit Upper (block (bits_of U L F) Upper key).min (field_of (bits_of U L F) tree.old) }
     ensures ends { EndsWith input.new (R.remaining (source reader.new)) }
+    ensures total { (n : ℕ) → byte_total input.old (R.remaining (source reader.old)) ≡ Some n → byte_total input.new (R.remaining (source reader.new)) ≡ Some n }
     ensures reads { Reads (λ _. field_of (bits_of U L F) tree.new) (ShowsIn V.eq V.is_value tree.old.background (block (bits_of U L F) Upper key)) (λ f. root_body V.eq V.bytes_of (bits_of U L F) f (block (bits_of U L F) Upper key)) result
         (place input.old (R.remaining (source reader.old))) (place input.new (R.remaining (source reader.new))) }
     ensures kept { OnOk result (KeptOutside (block (bits_of U L F) Upper key) (field_of (bits_of U L F) tree.old) (field_of (bits_of U L F) tree.new)) }

@@ -1,12 +1,13 @@
 //! What a file begins with.
 
-ghost use Rattle.std.specs.Prelude.{◌≡◌, ◌<◌, ◌∷◌, ◌||◌, [], codes, length, Err, IfErr, IfSome, ⊤};
+ghost use Rattle.std.specs.Prelude.{◌≡◌, ℕ, ◌<◌, ◌∷◌, ◌||◌, [], codes, length, Err, IfErr, IfSome, ⊤, Some};
 ghost use Rattle.std.specs.Int.{w16, to_be_bytes};
 ghost use Rattle.std.specs.Io.KnownBytes.{IsAtEnd};
 ghost use Rattle.vdb_scene.specs.Watched.{has_failed, source};
-ghost use Rattle.vdb_file.specs.Faults.{HasOtherMagic, IsMagicFault, IsVersionFault, StartsWithOther, is_read_fault};
+ghost use Rattle.vdb_file.specs.Faults.{HasOtherMagic, StartsWithOther, is_read_fault};
+ghost use Rattle.vdb_file.specs.internal.FieldFaults.{IsMagicFault, IsVersionFault};
 ghost use Rattle.vdb_file.specs.internal.Parts.{version_number};
-ghost use Rattle.vdb_file.specs.internal.Reading.{EndsWith, Reads, place};
+ghost use Rattle.vdb_file.specs.internal.Reading.{EndsWith, Reads, byte_total, place};
 
 use crate::fault::LoadFault;
 use crate::loading::fields::{take_field, take_u16};
@@ -30,6 +31,7 @@ pub(crate) fn take_magic<R: Read>(
 ) -> Result<(), LoadFault>
     requires ends { EndsWith input.old (R.remaining (source reader.old)) }
     ensures ends { EndsWith input.new (R.remaining (source reader.new)) }
+    ensures total { (n : ℕ) → byte_total input.old (R.remaining (source reader.old)) ≡ Some n → byte_total input.new (R.remaining (source reader.new)) ≡ Some n }
     ensures reads { Reads (λ u. u) (λ u. ⊤) (λ u. codes "VDBS") result
         (place input.old (R.remaining (source reader.old))) (place input.new (R.remaining (source reader.new))) }
     ensures fault { IfErr result IsMagicFault }
@@ -52,6 +54,7 @@ pub(crate) fn take_version<R: Read>(
 ) -> Result<Version, LoadFault>
     requires ends { EndsWith input.old (R.remaining (source reader.old)) }
     ensures ends { EndsWith input.new (R.remaining (source reader.new)) }
+    ensures total { (n : ℕ) → byte_total input.old (R.remaining (source reader.old)) ≡ Some n → byte_total input.new (R.remaining (source reader.new)) ≡ Some n }
     ensures reads { Reads (λ version. version) (λ version. ⊤) (λ version. to_be_bytes w16 (version_number version)) result
         (place input.old (R.remaining (source reader.old))) (place input.new (R.remaining (source reader.new))) }
     ensures fault { IfErr result IsVersionFault }

@@ -1,15 +1,17 @@
-use Rattle.std.proofs.Common.{◌≡◌, ◌∙◌, false, true, ap, sym, subst, Err, Ok}
+use Rattle.std.proofs.Common.{◌≡◌, ◌∙◌, false, true, ap, sym, subst, Err, Ok, Some}
 use Rattle.std.specs.Prelude.{IfSome}
 use Rattle.std.proofs.KnownBytes.{prepend_known-end}
 use Rattle.std.proofs.lemmas.Result.{err_from_is_err_and}
 use Rattle.vdb_scene.specs.Grids.{scene_of}
 use Rattle.vdb_scene.specs.Scene.{Scene}
 use Rattle.vdb_scene.specs.Watched.{source}
-use Rattle.vdb_file.specs.Faults.{HasOtherMagic, HasOtherVersion, IsFieldFault}
+use Rattle.vdb_file.specs.Faults.{HasOtherMagic, HasOtherVersion}
+use Rattle.vdb_file.specs.internal.FieldFaults.{IsFieldFault}
 use Rattle.vdb_file.specs.declared.fault.LoadFault.TheVariants as faults
 use Rattle.vdb_file.specs.declared.loading.versions.Version.{Version}
 use Rattle.vdb_file.specs.internal.Parts.{IsFile, bytes_of_file}
-use Rattle.vdb_file.specs.internal.Reading.{Fails, Stock, Took, place}
+use Rattle.vdb_file.specs.internal.Reading.{Fails, Stock, Took, byte_total, place}
+use Rattle.vdb_file.proofs.FieldBytes.{gave_few}
 use Rattle.vdb_file.proofs.WholeFiles.{begins_only, file_and_more, no_file, nothing_before, reader_at_end, scene_is, whole_file}
 use Rattle.vdb_file.proofs.loading.load.Goals as goal
 
@@ -49,6 +51,26 @@ pub returns-in_err-file-clause-trailing : goal.returns-in_err-file-clause-traili
 returns-in_err-file-clause-trailing g c =
     let p = err_from_is_err_and c.from_residual.result c.from_residual.ensures.1 in
     rw (p.1, p.2) (λ e. let k : c.in_err-file.field-0.0 ≡ faults.Trailing = cc in absurd (subst IsFieldFault k c.in_err-file.ensures.fault))
+
+pub returns-in_err-file-clause-few : goal.returns-in_err-file-clause-few
+returns-in_err-file-clause-few g c =
+    let known = g.R.Read.remaining (source c.args.reader.now) in
+    gave_few c.take_file.new.input _ _ (λ n h. c.in_err-file.ensures.total n (subst (λ (s : Stock). byte_total s known ≡ Some n) (sym c.new-input.ensures) h))
+
+pub returns-in_err-more-clause-few : goal.returns-in_err-more-clause-few
+returns-in_err-more-clause-few g c =
+    let known = g.R.Read.remaining (source c.args.reader.now) in
+    gave_few c.fill.new.self _ _ (λ n h. c.in_err-more.ensures.total n (c.in_ok-file.ensures.total n (subst (λ (s : Stock). byte_total s known ≡ Some n) (sym c.new-input.ensures) h)))
+
+pub returns-then-more-clause-few : goal.returns-then-more-clause-few
+returns-then-more-clause-few g c =
+    let known = g.R.Read.remaining (source c.args.reader.now) in
+    gave_few c.fill.new.self _ _ (λ n h. c.in_ok-more.ensures.total n (c.in_ok-file.ensures.total n (subst (λ (s : Stock). byte_total s known ≡ Some n) (sym c.new-input.ensures) h)))
+
+pub returns-clause-few : goal.returns-clause-few
+returns-clause-few g c =
+    let known = g.R.Read.remaining (source c.args.reader.now) in
+    gave_few c.fill.new.self _ _ (λ n h. c.in_ok-more.ensures.total n (c.in_ok-file.ensures.total n (subst (λ (s : Stock). byte_total s known ≡ Some n) (sym c.new-input.ensures) h)))
 
 pub returns-in_err-more-clause-none : goal.returns-in_err-more-clause-none
 returns-in_err-more-clause-none g c =

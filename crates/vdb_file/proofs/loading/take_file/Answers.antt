@@ -1,7 +1,7 @@
 use Rattle.std.proofs.Common.{◌≡◌, ap, subst, Err}
 use Rattle.std.proofs.lemmas.Result.{err_from_is_err_and}
 use Rattle.vdb_scene.specs.Grids.{scene_of}
-use Rattle.vdb_file.specs.Faults.{IsInner, IsMagicFault, IsVersionFault}
+use Rattle.vdb_file.specs.internal.FieldFaults.{IsInner, IsMagicFault, IsVersionFault}
 use Rattle.vdb_file.specs.declared.fault.LoadFault.TheVariants.{Magic, Version}
 use Rattle.vdb_file.proofs.Beginnings.{has_other_version, inner_field, magic_field, version_field}
 use Rattle.vdb_file.proofs.SceneParts.{file_read, no_file_scene, no_file_version, no_magic}

@@ -27,6 +27,7 @@ loop-preserved g c =
     rw grown (record {
       took = more_read (IsNamed c.args.version) name_of (named_bytes c.args.version) (place c.args.input.now (g.R.Read.remaining (source c.args.reader.now))) (place c.loop.input (g.R.Read.remaining (source c.loop.reader))) _ done e c.loop.invariant.took c.in_ok-named.ensures.reads.1;
       ends = c.in_ok-named.ensures.ends;
+      total = λ n h. c.in_ok-named.ensures.total n (c.loop.invariant.total n h);
       count = omega (arith, length-append done (e ∷ []), c.loop.invariant.count);
       chain = chain_more (IsNamed c.args.version) name_of None done e c.loop.invariant.chain item;
       before = sym (last_more (IsNamed c.args.version) name_of None done e);

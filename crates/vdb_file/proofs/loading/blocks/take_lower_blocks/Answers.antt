@@ -32,6 +32,7 @@ loop-init g c =
       underway = under;
       ready = entries_ready values bits Upper p (lower_body g.V.PartialEq.eq g.V.Voxel.bytes_of bits) t.background row f old 0 None f old under configured Lower (entry_is_lower bits p) t.limit c.requires.ready.room;
       ends = c.requires.ends;
+      total = λ n h. h;
       limit = refl;
       failed = refl;
     }
@@ -75,6 +76,7 @@ loop-preserved g c =
       underway = under;
       ready = entries_ready values bits Upper p (lower_body g.V.PartialEq.eq g.V.Voxel.bytes_of bits) t.background row f old (c.loop.counter + 1) (Some c.in_ok-i.i) after next under configured Lower (entry_is_lower bits p) c.take_next_lower_block.new.tree.limit room;
       ends = c.in_ok-i.ensures.ends;
+      total = λ n h. c.in_ok-i.ensures.total n (c.loop.invariant.total n h);
       limit = limit;
       failed = search rules;
     }

@@ -32,3 +32,9 @@ returns-clause-reads g c =
       record { key = index.0; shows = read.0 },
       both_next (to_be_bytes w16) (entry_box bits Upper c.args.p) (lower_body g.V.PartialEq.eq g.V.Voxel.bytes_of bits) c.in_ok-i.i (field_of bits c.take_lower_block_at.new.tree) _ _ _ index.1 read.1,
     )
+
+pub returns-in_err-take_lower_block_at-clause-total : goal.returns-in_err-take_lower_block_at-clause-total
+returns-in_err-take_lower_block_at-clause-total g c = λ n h. c.in_err-take_lower_block_at.ensures.total n (c.in_ok-i.ensures.total n h)
+
+pub returns-clause-total : goal.returns-clause-total
+returns-clause-total g c = λ n h. c.in_ok-take_lower_block_at.ensures.total n (c.in_ok-i.ensures.total n h)

@@ -12,6 +12,7 @@ loop-at-init g c = record {
   took = took_nothing (place c.args.input.now (g.R.Read.remaining (source c.args.reader.now)));
   ends = c.requires.ends;
   within = omega arith;
+  total = λ n h. h;
   same = refl;
   fits = search rules;
   failed = refl;
@@ -41,6 +42,7 @@ loop-at-preserved g c =
       took = piece_taken old c.fill.new.self c.run-at.new.self (g.R.Read.remaining (source c.fill.new.reader)) c.loop-at.field c.run-at.new.field c.loop-at.at c.run-at.result
           (took_kept old mid more _ c.loop-at.invariant.took c.in_ok-more.ensures.kept c.in_ok-more.ensures.room)
           c.run-at.ensures.field c.run-at.ensures.unread c.run-at.ensures.room (omega (arith, count)) (omega (arith, count)) c.loop-at.invariant.within (omega (arith, c.loop-at.invariant.same, c.loop-at.invariant.fits));
+      total = λ n h. search (rules, c.loop-at.invariant.total n h);
       ends = λ e. c.in_ok-more.ensures.ends (search rules);
       within = search rules;
       same = search rules;

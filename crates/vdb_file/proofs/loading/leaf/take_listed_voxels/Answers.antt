@@ -19,6 +19,7 @@ loop-init g c =
     let all = entries_are c.args.bits g.row.F c.requires.leaf in
     record {
       ends = c.requires.ends;
+      total = λ n h. h;
       failed = refl;
       cells = first_cells values c.args.bits c.requires.configured c.args.background c.in-Ok.leaf c.requires.value (entry_count g.row.F) all c.in-Ok.ensures.cells;
       each = λ p. none_read values c.args.bits c.requires.configured c.args.background p c.in-Ok.leaf (place c.args.input.now (g.R.Read.remaining (source c.args.reader.now))) (entry_count g.row.F) all c.in-Ok.ensures.cells;
@@ -53,6 +54,7 @@ loop-preserved g c =
     let sets : SetsVoxel c.loop.leaf c.set.new.self i cell = subst (λ (k : ℕ). SetsVoxel c.loop.leaf c.set.new.self k cell) c.from.ensures c.set.ensures in
     record {
       ends = c.in_ok-voxel.ensures.ends;
+      total = λ n h. c.in_ok-voxel.ensures.total n (c.loop.invariant.total n h);
       failed = search rules;
       cells = more_cells values c.args.bits c.requires.configured c.args.background c.loop.leaf c.set.new.self i cell sets is.cell.value c.loop.invariant.cells;
       each = λ p. voxel_read values c.args.bits c.requires.configured c.args.background p c.loop.leaf c.set.new.self i cell sets less is.cell.other

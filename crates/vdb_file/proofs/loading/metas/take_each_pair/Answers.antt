@@ -26,6 +26,7 @@ loop-preserved g c =
     rw grown (record {
       took = more_read IsPair name_of pair_bytes (place c.args.input.now (g.R.Read.remaining (source c.args.reader.now))) (place c.loop.input (g.R.Read.remaining (source c.loop.reader))) _ done e c.loop.invariant.took c.in_ok-pair.ensures.reads.1;
       ends = c.in_ok-pair.ensures.ends;
+      total = λ n h. c.in_ok-pair.ensures.total n (c.loop.invariant.total n h);
       count = omega (arith, length-append done (e ∷ []), c.loop.invariant.count);
       chain = chain_more IsPair name_of None done e c.loop.invariant.chain item;
       before = sym (last_more IsPair name_of None done e);

@@ -26,6 +26,7 @@ loop-init g c =
       underway = under;
       ready = λ more. roots_ready values bits configured t.background f old 0 None f old under c.args.count more t.limit c.requires.few;
       ends = c.requires.ends;
+      total = λ n h. h;
       limit = refl;
       failed = refl;
     }
@@ -65,6 +66,7 @@ loop-preserved g c =
       underway = under;
       ready = λ more. roots_ready values bits configured t.background f old (c.loop.counter + 1) (Some c.in_ok-key.key) after next under c.args.count more c.take_next_root.new.tree.limit few;
       ends = c.in_ok-key.ensures.ends;
+      total = λ n h. c.in_ok-key.ensures.total n (c.loop.invariant.total n h);
       limit = limit;
       failed = search rules;
     }

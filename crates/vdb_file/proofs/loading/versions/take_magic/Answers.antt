@@ -2,7 +2,7 @@ use Rattle.std.proofs.Common.{rules, ◌≡◌, length, true, false, not, nat_eq
 use Rattle.std.specs.Prelude.{codes, ⊤}
 use Rattle.std.proofs.lemmas.Result.{err_from_is_err_and}
 use Rattle.std.specs.Cmp.Lexicographic.{pointwise}
-use Rattle.vdb_file.specs.Faults.{IsInner}
+use Rattle.vdb_file.specs.internal.FieldFaults.{IsInner}
 use Rattle.vdb_file.specs.declared.fault.LoadFault.TheVariants.{Magic}
 use Rattle.vdb_file.proofs.Fronts.{fails_turn}
 use Rattle.vdb_file.proofs.Beginnings.{has_other_magic, inner_magic, other_magic}

@@ -1,6 +1,6 @@
 use Rattle.std.proofs.Common.{◌≡◌, subst}
 use Rattle.std.proofs.lemmas.Result.{err_from_is_err_and}
-use Rattle.vdb_file.specs.Faults.{IsInner}
+use Rattle.vdb_file.specs.internal.FieldFaults.{IsInner}
 use Rattle.vdb_file.specs.declared.fault.LoadFault.TheVariants.{Version}
 use Rattle.vdb_file.proofs.Beginnings.{inner_version, no_version}
 use Rattle.vdb_file.proofs.loading.versions.take_version.Goals as goal
