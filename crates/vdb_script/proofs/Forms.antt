@@ -255,37 +255,7 @@ grid_takes_few = record { none = λ tokens many. no_grid tokens (omega (arith, m
 
 -- each command's form does
 commands_take_few : AllByRecursion TakesFew command_forms
-commands_take_few = (
-  grid_takes_few,
-  (
-    few 1 (omega arith) drop_takes,
-    (
-      few 2 (omega arith) copy_takes,
-      (
-        few 5 (omega arith) get_takes,
-        (
-          few 6 (omega arith) (voxel_value_takes commands.Set),
-          (
-            few 6 (omega arith) (voxel_value_takes commands.Unset),
-            (
-              few 6 (omega arith) (voxel_value_takes commands.Only),
-              (
-                few 6 (omega arith) state_takes,
-                (
-                  few 9 (omega arith) fill_takes,
-                  (
-                    few 7 (omega arith) clip_takes,
-                    (few 1 (omega arith) prune_takes, (few 7 (omega arith) voxelise_takes, (few 8 (omega arith) list_takes, (few 6 (omega arith) slice_takes, (count_takes_few, (few 1 (omega arith) bounds_takes, (few 1 (omega arith) census_takes, (few 2 (omega arith) (two_grids_takes commands.Union), (few 2 (omega arith) (two_grids_takes commands.Difference), (few 2 (omega arith) (two_grids_takes commands.Intersect), (few 2 (omega arith) (two_grids_takes commands.Max), (few 2 (omega arith) (two_grids_takes commands.Min), (few 2 (omega arith) (two_grids_takes commands.Sum), (few 2 (omega arith) (two_grids_takes commands.Replace), (few 2 (omega arith) (turns_takes commands.Dilate), (few 2 (omega arith) (turns_takes commands.Erode), (few 3 (omega arith) meta_takes, (few 2 (omega arith) unmeta_takes, (few 1 (omega arith) metas_takes, tt))))))))))))))))))),
-                  ),
-                ),
-              ),
-            ),
-          ),
-        ),
-      ),
-    ),
-  ),
-)
+commands_take_few = (few 5 (omega arith) get_takes, (few 6 (omega arith) (voxel_value_takes commands.Set), (few 6 (omega arith) (voxel_value_takes commands.Unset), (few 6 (omega arith) (voxel_value_takes commands.Only), (few 6 (omega arith) state_takes, (few 9 (omega arith) fill_takes, (few 7 (omega arith) clip_takes, (few 7 (omega arith) voxelise_takes, (count_takes_few, (few 8 (omega arith) list_takes, (few 6 (omega arith) slice_takes, (grid_takes_few, (few 1 (omega arith) drop_takes, (few 2 (omega arith) copy_takes, (few 1 (omega arith) prune_takes, (few 1 (omega arith) bounds_takes, (few 1 (omega arith) census_takes, (few 3 (omega arith) meta_takes, (few 2 (omega arith) unmeta_takes, (few 1 (omega arith) metas_takes, (few 2 (omega arith) (two_grids_takes commands.Union), (few 2 (omega arith) (two_grids_takes commands.Difference), (few 2 (omega arith) (two_grids_takes commands.Intersect), (few 2 (omega arith) (two_grids_takes commands.Max), (few 2 (omega arith) (two_grids_takes commands.Min), (few 2 (omega arith) (two_grids_takes commands.Sum), (few 2 (omega arith) (two_grids_takes commands.Replace), (few 2 (omega arith) (turns_takes commands.Dilate), (few 2 (omega arith) (turns_takes commands.Erode), tt)))))))))))))))))))))))))))))
 
 too_many_for : (commands : List (List ℕ × Form Command)) (word : List ℕ) (tokens : List (List ℕ)) → AllByRecursion TakesFew commands → 9 < length tokens
     → Err refusals.Syntax ≡ whole (option_and_then (λ form. form tokens) (word_of commands word))

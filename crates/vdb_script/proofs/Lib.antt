@@ -3,6 +3,7 @@ mod Checks
 pub mod Forms
 pub mod Yielding
 pub mod Pages
+pub mod Pieces
 pub mod Reading
 pub mod RowLines
 pub mod Splitting

@@ -292,23 +292,34 @@ metas = do
 
 -- ---- the commands
 
--- each command's word, and the form of what comes behind it
+-- the word of each operation on two grids or of turns, and the form of what comes behind it
+abbrev pub operation_forms : List (List ℕ × Form Command)
+operation_forms = (codes "union", two_grids commands.Union) ∷ (codes "difference", two_grids commands.Difference) ∷ (codes "intersect", two_grids commands.Intersect) ∷ (codes "max", two_grids commands.Max) ∷ (codes "min", two_grids commands.Min) ∷ (codes "sum", two_grids commands.Sum) ∷ (codes "replace", two_grids commands.Replace) ∷ (codes "dilate", turns commands.Dilate) ∷ (codes "erode", turns commands.Erode) ∷ []
+
+-- and those of each command on a whole grid
+abbrev pub grid_forms : List (List ℕ × Form Command)
+grid_forms = (codes "grid", grid) ∷ (codes "drop", drop) ∷ (codes "copy", copy) ∷ (codes "prune", prune) ∷ (codes "bounds", bounds) ∷ (codes "census", census) ∷ (codes "meta", meta) ∷ (codes "unmeta", unmeta) ∷ (codes "metas", metas) ∷ operation_forms
+
+-- and those of each command on a box
+abbrev pub box_forms : List (List ℕ × Form Command)
+box_forms = (codes "fill", fill) ∷ (codes "clip", clip) ∷ (codes "voxelise", voxelise) ∷ (codes "count", count) ∷ (codes "list", list) ∷ (codes "slice", slice) ∷ grid_forms
+
+-- and those of each command on a voxel: these are all commands
 abbrev pub command_forms : List (List ℕ × Form Command)
-command_forms =
-    (codes "grid", grid) ∷ (codes "drop", drop) ∷ (codes "copy", copy) ∷ (codes "get", get) ∷ (codes "set", set) ∷ (codes "unset", unset) ∷ (codes "only", only) ∷ (codes "state", state)
-    ∷ (codes "fill", fill) ∷ (codes "clip", clip) ∷ (codes "prune", prune) ∷ (codes "voxelise", voxelise) ∷ (codes "list", list) ∷ (codes "slice", slice) ∷ (codes "count", count) ∷ (codes "bounds", bounds)
-    ∷ (codes "census", census) ∷ (codes "union", two_grids commands.Union) ∷ (codes "difference", two_grids commands.Difference) ∷ (codes "intersect", two_grids commands.Intersect)
-    ∷ (codes "max", two_grids commands.Max) ∷ (codes "min", two_grids commands.Min) ∷ (codes "sum", two_grids commands.Sum) ∷ (codes "replace", two_grids commands.Replace)
-    ∷ (codes "dilate", turns commands.Dilate) ∷ (codes "erode", turns commands.Erode) ∷ (codes "meta", meta) ∷ (codes "unmeta", unmeta) ∷ (codes "metas", metas) ∷ []
+command_forms = (codes "get", get) ∷ (codes "set", set) ∷ (codes "unset", unset) ∷ (codes "only", only) ∷ (codes "state", state) ∷ box_forms
 
 -- a command with no token left, or a syntax error
 abbrev pub whole : Option (Command × List (List ℕ)) → Result (Option Command) Refusal
 whole (Some (c, [])) = Ok (Some c)
 whole _ = Err refusals.Syntax
 
+-- the command of a word, among those of these words, and of the tokens behind it
+abbrev pub command_among : List (List ℕ × Form Command) → List ℕ → List (List ℕ) → Result (Option Command) Refusal
+command_among forms word rest = whole (option_and_then (λ form. form rest) (word_of forms word))
+
 -- the command of a word and the tokens behind it
 abbrev pub command_of : List ℕ → List (List ℕ) → Result (Option Command) Refusal
-command_of word rest = whole (option_and_then (λ form. form rest) (word_of command_forms word))
+command_of word rest = command_among command_forms word rest
 
 -- whether a token begins a comment
 abbrev pub is_comment : List ℕ → Bool

@@ -1,6 +1,6 @@
 //! The text of one line, kept in place.
 
-ghost use Rattle.std.specs.Prelude.{◌≡◌, ◌<◌, ◌↔◌, IsTrue, [], ◌∷◌, ◌++◌, length, if◌then◌else◌};
+ghost use Rattle.std.specs.Prelude.{◌≡◌, ◌≤◌, ◌+◌, ◌↔◌, IsTrue, [], ◌++◌, length, if◌then◌else◌};
 
 use std::marker::Model;
 
@@ -49,16 +49,17 @@ impl LineText {
         self.len = 0;
     }
 
-    /// Adds a byte where there is room, and answers whether there was.
-    pub fn push(&mut self, byte: u8) -> bool
-        ensures room { IsTrue result ↔ (length self.old < LINE_LIMIT) }
-        ensures text { self.new ≡ (if result then self.old ++ byte ∷ [] else self.old) }
+    /// Adds bytes where there is room for all of them, and answers whether there was. The text stays where there is not.
+    pub fn extend(&mut self, bytes: &[u8]) -> bool
+        ensures room { IsTrue result ↔ (length self.old + length bytes.now ≤ LINE_LIMIT) }
+        ensures text { self.new ≡ (if result then self.old ++ bytes.now else self.old) }
     {
-        if self.len == LINE_LIMIT {
+        if bytes.len() > LINE_LIMIT - self.len {
             return false;
         }
-        self.bytes[self.len] = byte;
-        self.len += 1;
+        let end = self.len + bytes.len();
+        self.bytes[self.len..end].copy_from_slice(bytes);
+        self.len = end;
         true
     }
 }

@@ -1,11 +1,12 @@
 //! A script's lines.
 
-ghost use Rattle.std.specs.Prelude.{◌≡◌, ◌≢◌, ℕ, ◌<◌, ◌≤◌, ◌||◌, true, false, List, [], length, IfOk, IfSome, None, Ok, Err};
+ghost use Rattle.std.specs.Prelude.{◌≡◌, ◌≢◌, ℕ, ◌<◌, ◌≤◌, ◌||◌, true, false, List, [], ◌++◌, length, IfOk, IfSome, None, Ok, Err};
 ghost use Rattle.vdb_scene.specs.Watched.{has_failed, source};
 ghost use Rattle.vdb_script.specs.Reading.{EndsWith, YieldsEnd, YieldsLine, YieldsPart, YieldsTooMuch, YieldsUpTo, KeepsText, ahead, budget, ending_of, is_read_fault};
 
 use crate::line_text::LineText;
 use crate::source::{ScriptFault, Source};
+use memchr::memchr;
 use std::io::Read;
 use std::marker::Model;
 use vdb_scene::Watched;
@@ -96,17 +97,34 @@ fn read_text<R: Read>(
 {
     let mut fits = true;
     loop {
-        match stock.next_byte(reader)? {
-            Some(b'\n') => {
+        stock.fill(reader)?;
+        let unread = stock.unread();
+        if unread.is_empty() {
+            return Ok(Found { fits, at_end: true });
+        }
+        match memchr(b'\n', unread) {
+            Some(at) => {
+                let fits = keep(text, fits, &unread[..at]);
+                stock.skip(at + 1);
                 return Ok(Found {
                     fits,
                     at_end: false,
                 });
             }
-            Some(byte) => fits = fits && text.push(byte),
-            None => return Ok(Found { fits, at_end: true }),
+            None => {
+                let count = unread.len();
+                fits = keep(text, fits, unread);
+                stock.skip(count);
+            }
         }
     }
+}
+
+/// Adds bytes to the text of a line if all that came before them fits, and answers whether they fit too.
+fn keep(text: &mut LineText, fits: bool, bytes: &[u8]) -> bool
+    ensures { (line : List ℕ) → KeepsText fits text.old line → KeepsText result text.new (line ++ bytes.now) }
+{
+    fits && text.extend(bytes)
 }
 
 /// Reads the next line of a script that has neither ended nor failed.

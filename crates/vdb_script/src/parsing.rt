@@ -5,7 +5,7 @@ ghost use Rattle.vdb_scene.specs.declared.command.Command.{Command};
 ghost use Rattle.vdb_scene.specs.declared.command.Literal.{Literal};
 ghost use Rattle.vdb_scene.specs.declared.command.Num.{Num};
 ghost use Rattle.vdb_scene.specs.declared.command.Point.{Point};
-ghost use Rattle.vdb_script.specs.Grammar.{name_of, kind_named, state_of, literal_of, accessor_of, point, corners, grid, drop, copy, get, voxel_value, set, unset, only, state, fill, clip, prune, voxelise, all_of, count, bounds, census, list, slice, whole, command_of, is_comment, parse};
+ghost use Rattle.vdb_script.specs.Grammar.{name_of, kind_named, state_of, literal_of, accessor_of, point, corners, grid, drop, copy, get, voxel_value, set, unset, only, state, fill, clip, prune, voxelise, all_of, count, bounds, census, list, slice, whole, box_forms, grid_forms, operation_forms, command_among, command_of, is_comment, parse};
 
 use crate::metas::{meta_command, metas_command, unmeta_command};
 use crate::numbers::number_of;
@@ -365,17 +365,12 @@ fn is_word(token: &[u8], word: &[u8]) -> bool
     token == word
 }
 
-/// The command of a word and the tokens behind it.
+/// The command of a word and the tokens behind it. Those on voxels come first, and each group has a function of its own: a line
+/// mostly has one of them, and a function pays for the places of all that it may call.
 fn command_of(word: &[u8], tokens: &[&[u8]]) -> Option<Command>
     ensures { ok_or (option_map Some result) Refusal.Syntax ≡ command_of word.now (map (λ t. t.now) tokens.now) }
 {
-    if is_word(word, b"grid") {
-        grid_command(tokens)
-    } else if is_word(word, b"drop") {
-        drop_command(tokens)
-    } else if is_word(word, b"copy") {
-        copy_command(tokens)
-    } else if is_word(word, b"get") {
+    if is_word(word, b"get") {
         get_command(tokens)
     } else if is_word(word, b"set") {
         set_command(tokens)
@@ -385,25 +380,64 @@ fn command_of(word: &[u8], tokens: &[&[u8]]) -> Option<Command>
         only_command(tokens)
     } else if is_word(word, b"state") {
         state_command(tokens)
-    } else if is_word(word, b"fill") {
+    } else {
+        box_command_of(word, tokens)
+    }
+}
+
+/// The command on a box, or one of those below.
+fn box_command_of(word: &[u8], tokens: &[&[u8]]) -> Option<Command>
+    ensures { ok_or (option_map Some result) Refusal.Syntax ≡ command_among box_forms word.now (map (λ t. t.now) tokens.now) }
+{
+    if is_word(word, b"fill") {
         fill_command(tokens)
     } else if is_word(word, b"clip") {
         clip_command(tokens)
-    } else if is_word(word, b"prune") {
-        prune_command(tokens)
     } else if is_word(word, b"voxelise") {
         voxelise_command(tokens)
+    } else if is_word(word, b"count") {
+        count_command(tokens)
     } else if is_word(word, b"list") {
         list_command(tokens)
     } else if is_word(word, b"slice") {
         slice_command(tokens)
-    } else if is_word(word, b"count") {
-        count_command(tokens)
+    } else {
+        grid_command_of(word, tokens)
+    }
+}
+
+/// The command on a whole grid, or one of those below.
+fn grid_command_of(word: &[u8], tokens: &[&[u8]]) -> Option<Command>
+    ensures { ok_or (option_map Some result) Refusal.Syntax ≡ command_among grid_forms word.now (map (λ t. t.now) tokens.now) }
+{
+    if is_word(word, b"grid") {
+        grid_command(tokens)
+    } else if is_word(word, b"drop") {
+        drop_command(tokens)
+    } else if is_word(word, b"copy") {
+        copy_command(tokens)
+    } else if is_word(word, b"prune") {
+        prune_command(tokens)
     } else if is_word(word, b"bounds") {
         bounds_command(tokens)
     } else if is_word(word, b"census") {
         census_command(tokens)
-    } else if is_word(word, b"union") {
+    } else if is_word(word, b"meta") {
+        meta_command(tokens)
+    } else if is_word(word, b"unmeta") {
+        unmeta_command(tokens)
+    } else if is_word(word, b"metas") {
+        metas_command(tokens)
+    } else {
+        operation_of(word, tokens)
+    }
+}
+
+/// The operation on two grids or of turns.
+fn operation_of(word: &[u8], tokens: &[&[u8]]) -> Option<Command>
+    ensures { ok_or (option_map Some result) Refusal.Syntax ≡ command_among operation_forms word.now (map (λ t. t.now) tokens.now) }
+{
+    if is_word(word, b"union") {
         union_command(tokens)
     } else if is_word(word, b"difference") {
         difference_command(tokens)
@@ -421,12 +455,6 @@ fn command_of(word: &[u8], tokens: &[&[u8]]) -> Option<Command>
         dilate_command(tokens)
     } else if is_word(word, b"erode") {
         erode_command(tokens)
-    } else if is_word(word, b"meta") {
-        meta_command(tokens)
-    } else if is_word(word, b"unmeta") {
-        unmeta_command(tokens)
-    } else if is_word(word, b"metas") {
-        metas_command(tokens)
     } else {
         None
     }

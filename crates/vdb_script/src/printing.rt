@@ -12,7 +12,7 @@ ghost use Rattle.vdb_script.specs.Writing.{Writes};
 use crate::lists::print_list;
 use crate::output::{WriteFault, write_bytes};
 use crate::pairs::print_pairs;
-use crate::reports::{bounds_line, census_line, count_line};
+use crate::reports::{print_bounds, print_census, print_count};
 use crate::slices::print_slice;
 use arrayvec::ArrayVec;
 use itoa::Buffer;
@@ -126,7 +126,24 @@ fn value_line(value: Scalar, on: bool) -> ArrayVec<u8, ANSWER_LIMIT>
     compose(parts.as_slice())
 }
 
-/// Writes the text of an answer.
+/// Writes the line of a refusal.
+fn print_refusal<W: Write>(refusal: Refusal, writer: &mut Watched<W>) -> Result<(), WriteFault>
+    ensures writes { Writes (W.contents (source writer.old)) (W.contents (source writer.new)) result (text (replies.Refused refusal)) }
+    ensures failed { has_failed writer.new ≡ (has_failed writer.old || is_err result) }
+{
+    write_bytes(writer, refusal_line(refusal).as_slice())
+}
+
+/// Writes the line of a cell.
+fn print_value<W: Write>(value: Scalar, on: bool, writer: &mut Watched<W>) -> Result<(), WriteFault>
+    ensures writes { Writes (W.contents (source writer.old)) (W.contents (source writer.new)) result (text (replies.Value (record { value = value; on = on }))) }
+    ensures failed { has_failed writer.new ≡ (has_failed writer.old || is_err result) }
+{
+    write_bytes(writer, value_line(value, on).as_slice())
+}
+
+/// Writes the text of an answer. Each but `ok` is written by a function of its own, since a call pays for the places of all lines
+/// that its function may compose.
 ///
 /// It is composed first, up to 4,096 bytes at once, and written in one call; only a writer that takes a part of them is called
 /// again, with the rest. An answer of several lines is read from the scene as it is written. `WriteFault` says that a call of
@@ -141,14 +158,14 @@ pub fn print<W: Write>(
     ensures failed { has_failed writer.new ≡ (has_failed writer.old || is_err result) }
 {
     match answer {
-        Answer::Done => write_bytes(writer, compose([b"ok".as_slice()].as_slice()).as_slice()),
-        Answer::Refused(refusal) => write_bytes(writer, refusal_line(refusal).as_slice()),
-        Answer::Value(value, on) => write_bytes(writer, value_line(value, on).as_slice()),
+        Answer::Done => write_bytes(writer, b"ok\n"),
+        Answer::Refused(refusal) => print_refusal(refusal, writer),
+        Answer::Value(value, on) => print_value(value, on, writer),
         Answer::List(voxels) => print_list(voxels, writer, steps),
         Answer::Slice(slice) => print_slice(slice, writer, steps),
-        Answer::Count(active) => write_bytes(writer, count_line(active).as_slice()),
-        Answer::Bounds(corners) => write_bytes(writer, bounds_line(corners).as_slice()),
-        Answer::Census(counts) => write_bytes(writer, census_line(counts).as_slice()),
+        Answer::Count(active) => print_count(active, writer),
+        Answer::Bounds(corners) => print_bounds(corners, writer),
+        Answer::Census(counts) => print_census(counts, writer),
         Answer::Pairs(metas) => print_pairs(metas, writer),
     }
 }

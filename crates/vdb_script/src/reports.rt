@@ -1,18 +1,53 @@
 //! Reports on a grid as text.
-ghost use Rattle.std.specs.Prelude.{◌≡◌, ◌≤◌, length, Some, option_map};
+ghost use Rattle.std.specs.Prelude.{◌≡◌, ◌≤◌, ◌||◌, is_err, length, Some, option_map};
 ghost use Rattle.std.specs.Fmt.{signed_decimal};
 ghost use Rattle.vdb_scene.specs.Shown.{box_of_corners};
 ghost use Rattle.vdb_scene.specs.Replies as replies;
+ghost use Rattle.vdb_scene.specs.Watched.{has_failed, source};
 ghost use Rattle.vdb_script.specs.Text.{text};
+ghost use Rattle.vdb_script.specs.Writing.{Writes};
 
+use crate::output::{WriteFault, write_bytes};
 use crate::printing::{ANSWER_LIMIT, compose};
 use arrayvec::ArrayVec;
 use itoa::Buffer;
+use std::io::Write;
 use vdb_coord::Coord;
+use vdb_scene::Watched;
 use vdb_walk::Census;
 
+/// Writes the line of a count.
+pub(crate) fn print_count<W: Write>(active: u128, writer: &mut Watched<W>) -> Result<(), WriteFault>
+    ensures writes { Writes (W.contents (source writer.old)) (W.contents (source writer.new)) result (text (replies.Count active)) }
+    ensures failed { has_failed writer.new ≡ (has_failed writer.old || is_err result) }
+{
+    write_bytes(writer, count_line(active).as_slice())
+}
+
+/// Writes the line of the box around the active voxels, if there are any.
+pub(crate) fn print_bounds<W: Write>(
+    corners: Option<(Coord, Coord)>,
+    writer: &mut Watched<W>,
+) -> Result<(), WriteFault>
+    ensures writes { Writes (W.contents (source writer.old)) (W.contents (source writer.new)) result (text (replies.Bounds (option_map box_of_corners corners))) }
+    ensures failed { has_failed writer.new ≡ (has_failed writer.old || is_err result) }
+{
+    write_bytes(writer, bounds_line(corners).as_slice())
+}
+
+/// Writes the line of a census.
+pub(crate) fn print_census<W: Write>(
+    counts: Census,
+    writer: &mut Watched<W>,
+) -> Result<(), WriteFault>
+    ensures writes { Writes (W.contents (source writer.old)) (W.contents (source writer.new)) result (text (replies.Census counts)) }
+    ensures failed { has_failed writer.new ≡ (has_failed writer.old || is_err result) }
+{
+    write_bytes(writer, census_line(counts).as_slice())
+}
+
 /// The line of a count.
-pub(crate) fn count_line(active: u128) -> ArrayVec<u8, ANSWER_LIMIT>
+fn count_line(active: u128) -> ArrayVec<u8, ANSWER_LIMIT>
     ensures { result.items ≡ text (replies.Count active) }
 {
     let mut buffer = Buffer::new();
@@ -20,7 +55,7 @@ pub(crate) fn count_line(active: u128) -> ArrayVec<u8, ANSWER_LIMIT>
 }
 
 /// The line of the box around the active voxels, if there are any.
-pub(crate) fn bounds_line(corners: Option<(Coord, Coord)>) -> ArrayVec<u8, ANSWER_LIMIT>
+fn bounds_line(corners: Option<(Coord, Coord)>) -> ArrayVec<u8, ANSWER_LIMIT>
     ensures { result.items ≡ text (replies.Bounds (option_map box_of_corners corners)) }
 {
     match corners {
@@ -48,7 +83,7 @@ fn corners_line(min: Coord, max: Coord) -> ArrayVec<u8, ANSWER_LIMIT>
 }
 
 /// The line of a census.
-pub(crate) fn census_line(counts: Census) -> ArrayVec<u8, ANSWER_LIMIT>
+fn census_line(counts: Census) -> ArrayVec<u8, ANSWER_LIMIT>
     ensures { result.items ≡ text (replies.Census counts) }
 {
     let (mut roots, mut upper) = (Buffer::new(), Buffer::new());

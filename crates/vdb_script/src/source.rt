@@ -1,7 +1,7 @@
 //! A script's bytes, read from a reader piece by piece.
 
-ghost use Rattle.std.specs.Prelude.{◌≡◌, ℕ, ◌+◌, ◌||◌, true, false, [], ◌∷◌, IfNone, IfOk, IfSome, None, OnOk, Ok, Err};
-ghost use Rattle.std.specs.Io.KnownBytes.{Consumes, IsAtEnd, Keeps};
+ghost use Rattle.std.specs.Prelude.{◌≡◌, ◌≢◌, ℕ, ◌≤◌, ◌||◌, true, false, [], ◌∷◌, length, drop, OnOk, Err};
+ghost use Rattle.std.specs.Io.KnownBytes.{Consumes, Keeps};
 ghost use Rattle.vdb_scene.specs.Watched.{has_failed, source};
 ghost use Rattle.vdb_script.specs.Reading.{EndsWith, ahead, budget, is_read_fault};
 
@@ -63,6 +63,23 @@ impl Source {
         }
     }
 
+    /// The bytes that were read and not yet dropped.
+    pub fn unread(&self) -> &[u8]
+        ensures { result.now ≡ self.now.unread }
+    {
+        &self.piece[self.start..self.end]
+    }
+
+    /// Drops the first unread bytes.
+    pub fn skip(&mut self, count: usize)
+        requires { count ≤ length self.old.unread }
+        ensures unread { self.new.unread ≡ drop count self.old.unread }
+        ensures left { self.new.left ≡ self.old.left }
+        ensures ended { self.new.ended ≡ self.old.ended }
+    {
+        self.start += count;
+    }
+
     /// Reads a piece where nothing is unread, unless the reader has said that it has no more. Then there are unread
     /// bytes, or the script has ended.
     ///
@@ -102,41 +119,19 @@ impl Source {
         Ok(())
     }
 
-    /// Takes the first unread byte, if there is one.
-    fn pop(&mut self) -> Option<u8>
-        ensures some { IfSome result (λ b. self.old.unread ≡ b ∷ self.new.unread) }
-        ensures none { IfNone result (self.old.unread ≡ []) }
-        ensures same { IfNone result (self.new ≡ self.old) }
-        ensures left { self.new.left ≡ self.old.left }
-        ensures ended { self.new.ended ≡ self.old.ended }
-    {
-        if self.start == self.end {
-            return None;
-        }
-        let byte = self.piece[self.start];
-        self.start += 1;
-        Some(byte)
-    }
-
-    /// Takes the next byte of the script: `None` at its end.
+    /// Has some bytes unread, unless the script has ended. The reader is asked only where nothing is unread.
     ///
-    /// The reader is asked only where nothing is unread. A fault yields nothing: `Read` where the reader failed, `TooLong`
-    /// where it gave a byte past the script's limit.
-    pub fn next_byte<R: Read>(&mut self, reader: &mut Watched<R>) -> Result<Option<u8>, ScriptFault>
+    /// A fault yields nothing: `Read` where the reader failed, `TooLong` where it gave a byte past the script's limit.
+    pub fn fill<R: Read>(&mut self, reader: &mut Watched<R>) -> Result<(), ScriptFault>
         requires ends { EndsWith self.old (R.remaining (source reader.old)) }
         ensures ends { EndsWith self.new (R.remaining (source reader.new)) }
+        ensures marks { OnOk result (self.new.unread ≡ [] → self.new.ended ≡ true) }
+        ensures unasked { self.old.unread ≢ [] → reader.new ≡ reader.old }
         ensures quiet { self.old.ended ≡ true → reader.new ≡ reader.old }
         ensures stays { self.old.ended ≡ true → self.new.ended ≡ true }
-        ensures byte { IfOk result (λ next. IfSome next (λ b.
-            Consumes (ahead self.old (R.remaining (source reader.old)))
-            (ahead self.new (R.remaining (source reader.new))) (b ∷ []))) }
-        ensures budget { IfOk result (λ next. IfSome next (λ b. budget self.new + 1 ≡ budget self.old)) }
-        ensures end { result ≡ Ok None →
-            Keeps (ahead self.old (R.remaining (source reader.old)))
-            (ahead self.new (R.remaining (source reader.new)))
-            × IsAtEnd (ahead self.new (R.remaining (source reader.new)))
-            × (self.new.ended ≡ true)
-            × (budget self.new ≡ budget self.old) }
+        ensures kept { OnOk result (Keeps (ahead self.old (R.remaining (source reader.old)))
+            (ahead self.new (R.remaining (source reader.new)))) }
+        ensures budget { OnOk result (budget self.new ≡ budget self.old) }
         ensures too_long { result ≡ Err ScriptFault.TooLong → (budget self.old ≡ 0)
             × ((further : ℕ) × Consumes (ahead self.old (R.remaining (source reader.old)))
             (R.remaining (source reader.new)) (further ∷ [])) }
@@ -144,10 +139,9 @@ impl Source {
             Keeps (ahead self.old (R.remaining (source reader.old))) (R.remaining (source reader.new)) }
         ensures failed { has_failed reader.new ≡ (has_failed reader.old || is_read_fault result) }
     {
-        if let Some(byte) = self.pop() {
-            return Ok(Some(byte));
+        if !self.unread().is_empty() {
+            return Ok(());
         }
-        self.refill(reader)?;
-        Ok(self.pop())
+        self.refill(reader)
     }
 }

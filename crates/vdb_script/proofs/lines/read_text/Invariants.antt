@@ -5,8 +5,8 @@ use Rattle.vdb_script.proofs.Reading.{Takes}
 use Rattle.vdb_script.proofs.lines.read_text.Given as goal
 
 -- the bytes of the line so far
-abbrev pub invariant-loop-byte : goal.invariant-loop-byte
-invariant-loop-byte g l = record {
+abbrev pub invariant-loop-stock : goal.invariant-loop-stock
+invariant-loop-stock g l = record {
   line : List ℕ;
   taken : Takes (ahead l.fn.stock (g.R.Read.remaining (source l.fn.reader))) (ahead l.stock (g.R.Read.remaining (source l.reader))) l.fn.stock l.stock line;
   kept : KeepsText l.fits l.text line;
@@ -16,6 +16,6 @@ invariant-loop-byte g l = record {
   stays : l.fn.stock.ended ≡ true → l.stock.ended ≡ true;
 }
 
--- each byte takes one of the budget
-abbrev pub decreases-loop-byte : goal.decreases-loop-byte
-decreases-loop-byte g l = budget l.stock
+-- each piece takes of the budget
+abbrev pub decreases-loop-stock : goal.decreases-loop-stock
+decreases-loop-stock g l = budget l.stock
