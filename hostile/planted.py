@@ -91,6 +91,21 @@ def prune_changes(run, wrong):
     return replace(run, saved=run.saved + b"\x00") if pruned and run.saved else run
 
 
+def library_unrefused(run, wrong):
+    """A refused call of the library is told to be carried out."""
+    return replace(run, answers=run.answers.replace(b": refused, all as before\n", b": done\n"))
+
+
+def library_changed(run, wrong):
+    """A refused call of the library changes something."""
+    return replace(run, answers=run.answers.replace(b"all as before", b"changed"))
+
+
+def library_unasked(run, wrong):
+    """A call of the library is refused where no growth was."""
+    return run if "refused-after" in run.counts else replace(run, answers=run.answers.replace(b": done", b": refused", 1))
+
+
 # each planted fault with the check that must fail: its name, the check's words, the fault
 FAULTS = [
     ("memory-unasked", ["growths", "dilate-and-erode"], memory_unasked),
@@ -98,6 +113,9 @@ FAULTS = [
     ("scene-lost", ["growths", "dilate-and-erode"], scene_lost),
     ("answer-lost", ["growths", "dilate-and-erode"], answer_lost),
     ("growth-unmet", ["growths", "metadata"], growth_unmet),
+    ("library-unrefused", ["library"], library_unrefused),
+    ("library-changed", ["library"], library_changed),
+    ("library-unasked", ["library"], library_unasked),
     ("prefix-taken", ["files", "cut"], taken(b"vdb: load: truncated\n")),
     ("extension-taken", ["files", "cut"], taken(b"vdb: load: trailing\n")),
     ("other-fault", ["files", "faults"], word(b"index", b"tag")),

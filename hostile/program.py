@@ -4,7 +4,7 @@ import subprocess
 import sys
 import tempfile
 import time
-from dataclasses import dataclass, field
+from dataclasses import dataclass, field, replace
 from pathlib import Path
 
 HERE = Path(__file__).resolve().parent
@@ -30,9 +30,11 @@ class Run:
 class Workplace:
     """A folder for one set of runs, with the shim built in it."""
 
-    def __init__(self):
-        if not os.access(PROGRAM, os.X_OK):
-            sys.exit(f"there is no program {PROGRAM}: build it first by 'rt run < stdin' in crates/vdb, or name one in VDB")
+    def __init__(self, program=PROGRAM, variable="VDB"):
+        if not os.access(program, os.X_OK):
+            crate = f"crates/{Path(program).name}"
+            sys.exit(f"there is no program {program}: build it first by 'rt run < /dev/null' in {crate}, or name one in {variable}")
+        self.program = program
         self.holder = tempfile.TemporaryDirectory(prefix="hostile-")
         self.folder = Path(self.holder.name)
         self.shim = self.folder / "refuse.so"
@@ -41,26 +43,32 @@ class Workplace:
     def run(self, script, load=None, save_as=None, seconds=PATIENCE, named=False, more=(), **wrong):
         """Plays a script (bytes, or the path of a file) from standard input or `named` as a word, on what `load` holds
         (bytes, or the path of a file to load), and saves as `save_as` or in a file of its own. `more` are the last words of
-        the command line. What is to go wrong is named as in refuse.c, in small letters."""
-        report, saved, words = self.folder / "report", Path(save_as or self.folder / "saved"), []
-        report.unlink(missing_ok=True)
+        the command line. What is to go wrong is named as for `played`."""
+        saved, words = Path(save_as or self.folder / "saved"), []
         if save_as is None:
             saved.unlink(missing_ok=True)
         if load is not None:
             words += ["--load", self.kept("loaded", load)]
         words += ["--save", str(saved)]
-        environment = {"REPORT": str(report), "LD_PRELOAD": str(self.shim)}
-        environment.update((name.upper(), str(value)) for name, value in wrong.items())
         path = self.kept("script", script)
         words += [path] if named else []
-        words += more
-        with open("/dev/null" if named else path, "rb") as given:
+        run = self.played([*words, *more], "/dev/null" if named else path, seconds, **wrong)
+        return replace(run, saved=saved.read_bytes()) if saved.exists() else run
+
+    def played(self, words, path, seconds=PATIENCE, **wrong):
+        """Runs the program with these words and the file at `path` as standard input. What is to go wrong is named as in refuse.c,
+        in small letters."""
+        report = self.folder / "report"
+        report.unlink(missing_ok=True)
+        environment = {"REPORT": str(report), "LD_PRELOAD": str(self.shim)}
+        environment.update((name.upper(), str(value)) for name, value in wrong.items())
+        with open(path, "rb") as given:
             how = {"stdin": given, "capture_output": True, "env": environment, "timeout": seconds, "close_fds": False}
             try:
-                done = subprocess.run([PROGRAM, *words], **how)
+                done = subprocess.run([self.program, *words], **how)
             except subprocess.TimeoutExpired:
                 return Run(-1, b"", f"no end in {seconds} seconds".encode(), None)
-        return Run(done.returncode, done.stdout, done.stderr, saved.read_bytes() if saved.exists() else None, counts(report))
+        return Run(done.returncode, done.stdout, done.stderr, None, counts(report))
 
     def kept(self, name, content):
         """The path of a file with this content, which may be a path itself."""
