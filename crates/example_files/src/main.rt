@@ -1,0 +1,116 @@
+//! A scene of two grids is saved in memory as a file and loaded again, and cells of both scenes are compared. The file without its
+//! last byte is refused.
+#![tactic(auto)]
+
+use anyhow::{Context, Result, anyhow, bail, ensure};
+use std::alloc::Global;
+use vdb_coord::{Bounds, Coord};
+use vdb_file::{LoadFault, load, save};
+use vdb_grid::Grid;
+use vdb_pool::Steps;
+use vdb_scene::{ACCESSORS, AnyGrid, Name, ROOT_LIMIT, Scalar, Scene, Watched};
+use vdb_tree::Write;
+use vdb_value::Cell;
+
+/// The name of the grid of numbers.
+const HEIGHTS: &str = "heights";
+
+/// The name of the grid of truth values.
+const MARKS: &str = "marks";
+
+fn at(x: i32, y: i32, z: i32) -> Coord {
+    Coord { x, y, z }
+}
+
+/// The name of a grid.
+fn name_of(text: &str) -> Result<Name> {
+    Name::new(text.as_bytes()).context("not a name")
+}
+
+/// A grid of numbers: 7 in a box of 256 voxels along each axis, and -1 around it.
+fn heights(alloc: Global, steps: &mut Steps) -> Result<AnyGrid> {
+    let bounds = Bounds::new(at(0, 0, 0), at(255, 255, 255)).context("corners out of order")?;
+    let mut grid: Grid<i32, ACCESSORS> = Grid::new(alloc, -1, ROOT_LIMIT);
+    grid.fill(bounds, Cell { value: 7, on: true }, steps)?;
+    Ok(AnyGrid::I32(grid))
+}
+
+/// A grid of truth values, in which one voxel is true and inactive.
+fn marks(alloc: Global, steps: &mut Steps) -> Result<AnyGrid> {
+    let mut grid: Grid<bool, ACCESSORS> = Grid::new(alloc, false, ROOT_LIMIT);
+    grid.write(at(1, 2, 3), Write::Off(true), steps)?;
+    Ok(AnyGrid::Bool(grid))
+}
+
+/// Puts a grid into a scene.
+fn add(scene: &mut Scene, name: &str, grid: AnyGrid) -> Result<()> {
+    scene
+        .insert(name_of(name)?, grid)
+        .map_err(|refusal| anyhow!("refused: {refusal:?}"))
+}
+
+/// The scene of both grids.
+fn scene_of_both(alloc: Global, steps: &mut Steps) -> Result<Scene> {
+    let mut scene = Scene::new(alloc);
+    add(&mut scene, HEIGHTS, heights(alloc, steps)?)?;
+    add(&mut scene, MARKS, marks(alloc, steps)?)?;
+    Ok(scene)
+}
+
+/// The cell of a grid at a coordinate.
+fn cell(scene: &Scene, name: &str, p: Coord, steps: &mut Steps) -> Result<Cell<Scalar>> {
+    let grid = scene.get(&name_of(name)?).context("no such grid")?;
+    Ok(grid.get(p, steps))
+}
+
+/// Prints some cells of the scene that was saved, each of which the loaded one must have, too.
+fn compare(rt: &impl Print, saved: &Scene, loaded: &Scene, steps: &mut Steps) -> Result<()> {
+    for (name, p) in [
+        (HEIGHTS, at(255, 255, 255)),
+        (HEIGHTS, at(256, 0, 0)),
+        (MARKS, at(1, 2, 3)),
+    ] {
+        let wanted = cell(saved, name, p, steps)?;
+        ensure!(
+            cell(loaded, name, p, steps)? == wanted,
+            "another cell at {p:?}"
+        );
+        let state = if wanted.on { "on" } else { "off" };
+        println!(rt;
+            "{name} {} {} {}: {:?} {state}",
+            p.x, p.y, p.z, wanted.value
+        )?;
+    }
+    Ok(())
+}
+
+/// The scene that these bytes spell.
+fn loaded(alloc: Global, bytes: &[u8], steps: &mut Steps) -> Result<Scene, LoadFault> {
+    load(alloc, &mut Watched::new(bytes), steps)
+}
+
+/// Prints whether bytes are a file of a scene, or why not.
+fn print_answer(rt: &impl Print, alloc: Global, bytes: &[u8], steps: &mut Steps) -> Result<()> {
+    match loaded(alloc, bytes, steps) {
+        Ok(_) => println!(rt; "{} bytes: a scene", bytes.len())?,
+        Err(LoadFault::Memory) => bail!("out of memory"),
+        Err(fault) => println!(rt; "{} bytes: {fault}", bytes.len())?,
+    }
+    Ok(())
+}
+
+fn main(rt: HostRuntime) -> Result<()> {
+    let mut steps = Steps::new(&rt);
+    let scene = scene_of_both(rt.alloc(), &mut steps)?;
+    let mut file = Watched::new(Vec::new(rt.alloc()));
+    let length = save(&scene, &mut file, &mut steps)?;
+    println!(rt; "{length} bytes saved")?;
+    let bytes = file.get_ref().as_slice();
+    let again = loaded(rt.alloc(), bytes, &mut steps)?;
+    compare(&rt, &scene, &again, &mut steps)?;
+    print_answer(&rt, rt.alloc(), bytes, &mut steps)?;
+    if let Some((_, part)) = bytes.split_last() {
+        print_answer(&rt, rt.alloc(), part, &mut steps)?;
+    }
+    Ok(())
+}

@@ -1,0 +1,108 @@
+//! A block and a line of voxels are written, dilated by one turn, and a tunnel is cut through them. What is left is counted, and
+//! shown leaf by leaf.
+#![tactic(auto)]
+
+use anyhow::{Context, Result};
+use std::alloc::Global;
+use std::io;
+use vdb_coord::{Bounds, Coord};
+use vdb_morph::dilate;
+use vdb_node::Leaf;
+use vdb_pool::Steps;
+use vdb_region::fill;
+use vdb_topology::subtract;
+use vdb_tree::{Content, Skip, Tree, Write};
+use vdb_value::Cell;
+use vdb_walk::{active_bounds, count};
+
+/// The most root blocks, of 4,096 voxels along each axis, that may hold anything but the background.
+const ROOT_LIMIT: u32 = 16;
+
+/// The leaves of a tree of numbers, which span 8 voxels along each axis and have 8 words of states.
+type NumberLeaf = Leaf<i32, 3, 8>;
+
+fn at(x: i32, y: i32, z: i32) -> Coord {
+    Coord { x, y, z }
+}
+
+/// The box between two corners.
+fn between(min: Coord, max: Coord) -> Result<Bounds> {
+    Bounds::new(min, max).context("corners out of order")
+}
+
+/// A block of 8 voxels along each axis, and a line of three voxels past it.
+fn solid(rt: &impl Print, alloc: Global, steps: &mut Steps) -> Result<Tree<i32>> {
+    let block = between(at(0, 0, 0), at(7, 7, 7))?;
+    let mut tree = Tree::new(alloc, 0, ROOT_LIMIT);
+    fill(&mut tree, block, Cell { value: 5, on: true }, steps)?;
+    for z in 20..23 {
+        tree.write(at(4, 4, z), Write::On(9), steps)?;
+    }
+    println!(rt; "{} active voxels", count(&tree, None, steps))?;
+    Ok(tree)
+}
+
+/// A box of two voxels by two, long along z. Nothing but its states will count, so its values are truth values.
+fn tunnel(alloc: Global, steps: &mut Steps) -> Result<Tree<bool>> {
+    let bounds = between(at(3, 3, -100), at(4, 4, 100))?;
+    let mut tree = Tree::new(alloc, false, ROOT_LIMIT);
+    fill(
+        &mut tree,
+        bounds,
+        Cell {
+            value: true,
+            on: true,
+        },
+        steps,
+    )?;
+    Ok(tree)
+}
+
+/// Prints how many voxels are active, and the least box that holds them.
+fn print_size(rt: &impl Print, tree: &Tree<i32>, steps: &mut Steps) -> io::Result<()> {
+    let active = count(tree, None, steps);
+    let Some(bounds) = active_bounds(tree, steps) else {
+        return println!(rt; "no active voxel");
+    };
+    let (min, max) = (bounds.min(), bounds.max());
+    print!(rt;
+        "{active} active voxels from {} {} {} ",
+        min.x, min.y, min.z
+    )?;
+    println!(rt; "to {} {} {}", max.x, max.y, max.z)
+}
+
+/// Prints the tiles and leaves with an active voxel, one after another.
+fn print_parts(rt: &impl Print, tree: &Tree<i32>, steps: &mut Steps) -> io::Result<()> {
+    let mut walk = tree.parts(Bounds::all(), Skip::Inactive);
+    'parts: while let Some(part) = tree.next_part(&mut walk, steps) {
+        let corner = part.bounds.min();
+        print!(rt; "at {} {} {}", corner.x, corner.y, corner.z)?;
+        match part.content {
+            Content::Tile(_) => println!(rt; " a tile")?,
+            Content::Leaf(leaf) => print_states(rt, leaf)?,
+        }
+    }
+    Ok(())
+}
+
+/// Prints how many voxels of a leaf are active in each plane of one x. A word of its states is such a plane.
+fn print_states(rt: &impl Print, leaf: &NumberLeaf) -> io::Result<()> {
+    print!(rt; " a leaf:")?;
+    for x in 0..8 {
+        print!(rt; " {}", leaf.states().word(x).count_ones())?;
+    }
+    println!(rt; "")
+}
+
+fn main(rt: HostRuntime) -> Result<()> {
+    let mut steps = Steps::new(&rt);
+    let mut tree = solid(&rt, rt.alloc(), &mut steps)?;
+    dilate(&mut tree, 1, &mut steps)?;
+    print_size(&rt, &tree, &mut steps)?;
+    let tunnel = tunnel(rt.alloc(), &mut steps)?;
+    subtract(&mut tree, &tunnel, &mut steps)?;
+    print_size(&rt, &tree, &mut steps)?;
+    print_parts(&rt, &tree, &mut steps)?;
+    Ok(())
+}
