@@ -36,8 +36,8 @@ A line that begins with # is a comment. A line that can't be carried out is answ
 and changes nothing.
 
 Status: 0; 1 after a refused line; 2 for a wrong command line; 3 where nothing was loaded; 4 after
-another fault. README.md shows all of this at work; docs/LANGUAGE.md has the commands and the words
-of their refusals, docs/FORMAT.md the scene file.";
+another fault. docs/LANGUAGE.md shows each command at work and has the words of the refusals;
+docs/FORMAT.md has the scene file.";
 
 /// An option that takes a file.
 fn file_option<'a>(alloc: Global, name: &'a str, help: &'a str) -> Arg<'a>

@@ -109,7 +109,6 @@ fn help_names_the_options_the_commands_and_the_documents(rt: HostRuntime) {
                 "  grid NAME KIND BACKGROUND [ROOTS]",
                 "docs/LANGUAGE.md",
                 "docs/FORMAT.md",
-                "README.md",
             ] {
                 assert!(rt; text.as_str().contains(part), "{text}");
             }
