@@ -2,13 +2,13 @@
 //! last byte is refused.
 #![tactic(auto)]
 
-use anyhow::{Context, Result, anyhow, bail, ensure};
+use anyhow::{Context, Result, bail, ensure};
 use std::alloc::Global;
 use vdb_coord::{Bounds, Coord};
 use vdb_file::{LoadFault, load, save};
 use vdb_grid::Grid;
 use vdb_pool::Steps;
-use vdb_scene::{ACCESSORS, AnyGrid, Name, ROOT_LIMIT, Scalar, Scene, Watched};
+use vdb_scene::{ACCESSORS, AnyGrid, Name, ROOT_LIMIT, Refusal, Scalar, Scene, Watched};
 use vdb_tree::Write;
 use vdb_value::Cell;
 
@@ -44,9 +44,11 @@ fn marks(alloc: Global, steps: &mut Steps) -> Result<AnyGrid> {
 
 /// Puts a grid into a scene.
 fn add(scene: &mut Scene, name: &str, grid: AnyGrid) -> Result<()> {
-    scene
-        .insert(name_of(name)?, grid)
-        .map_err(|refusal| anyhow!("refused: {refusal:?}"))
+    match scene.insert(name_of(name)?, grid) {
+        Ok(()) => Ok(()),
+        Err(Refusal::Memory) => bail!("out of memory"),
+        Err(refusal) => bail!("refused: {refusal:?}"),
+    }
 }
 
 /// The scene of both grids.
@@ -84,16 +86,18 @@ fn compare(rt: &impl Print, saved: &Scene, loaded: &Scene, steps: &mut Steps) ->
     Ok(())
 }
 
-/// The scene that these bytes spell.
-fn loaded(alloc: Global, bytes: &[u8], steps: &mut Steps) -> Result<Scene, LoadFault> {
-    load(alloc, &mut Watched::new(bytes), steps)
+/// The scene that these bytes spell, or why they spell none. Lack of memory says nothing of them, and is an error by itself.
+fn loaded(alloc: Global, bytes: &[u8], steps: &mut Steps) -> Result<Result<Scene, LoadFault>> {
+    match load(alloc, &mut Watched::new(bytes), steps) {
+        Err(LoadFault::Memory) => bail!("out of memory"),
+        answer => Ok(answer),
+    }
 }
 
 /// Prints whether bytes are a file of a scene, or why not.
 fn print_answer(rt: &impl Print, alloc: Global, bytes: &[u8], steps: &mut Steps) -> Result<()> {
-    match loaded(alloc, bytes, steps) {
+    match loaded(alloc, bytes, steps)? {
         Ok(_) => println!(rt; "{} bytes: a scene", bytes.len())?,
-        Err(LoadFault::Memory) => bail!("out of memory"),
         Err(fault) => println!(rt; "{} bytes: {fault}", bytes.len())?,
     }
     Ok(())
@@ -106,7 +110,7 @@ fn main(rt: HostRuntime) -> Result<()> {
     let length = save(&scene, &mut file, &mut steps)?;
     println!(rt; "{length} bytes saved")?;
     let bytes = file.get_ref().as_slice();
-    let again = loaded(rt.alloc(), bytes, &mut steps)?;
+    let again = loaded(rt.alloc(), bytes, &mut steps)??;
     compare(&rt, &scene, &again, &mut steps)?;
     print_answer(&rt, rt.alloc(), bytes, &mut steps)?;
     if let Some((_, part)) = bytes.split_last() {
