@@ -1,8 +1,6 @@
 -- A grid that is taken out of a scene while another one is looked at, and put back.
-use Rattle.std.proofs.Common.{◌≡◌, refl, sym, ap, ◌∙◌, subst, rules, ℕ, Bool, true, List, Option, Some, None, IsSome}
-use Rattle.std.specs.Cmp.Lexicographic.{slice_cmp}
+use Rattle.std.proofs.Common.{◌≡◌, sym, ap, ◌∙◌, subst, rules, ℕ, true, List, Option, Some, None, IsSome}
 use Rattle.std.specs.Map.{lookup, set_value}
-use Rattle.std.specs.Ordering.{nat_cmp}
 use Rattle.std.proofs.lemmas.Map.Text.{is_eq-slice_cmp}
 use Rattle.std.proofs.lemmas.Slice.Eq.{bytes_eq-Decides}
 use Rattle.vdb_scene.specs.Scene.{is_named}

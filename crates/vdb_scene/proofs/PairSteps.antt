@@ -1,5 +1,5 @@
 -- What commands on metadata pairs come to, from what was found out about the grid.
-use Rattle.std.proofs.Common.{◌≡◌, ◌∙◌, ap, refl, ℕ, Bool, true, false, not, List, [], ◌∷◌, Option, Some, None, Result, Ok, Err}
+use Rattle.std.proofs.Common.{◌≡◌, ◌∙◌, ap, refl, ℕ, Bool, true, false, not, List, [], ◌∷◌, Some, None, Result, Ok, Err}
 use Rattle.std.specs.Map.{lookup, set_value}
 use Rattle.vdb_scene.specs.Doing.{CarriesOut, Does, LeavesTrees, result_of}
 use Rattle.vdb_scene.specs.Grids.{grid_of, scene_over}

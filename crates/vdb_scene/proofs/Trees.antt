@@ -1,16 +1,16 @@
 -- What commands make of the trees, from what was found out about them.
-use Rattle.std.proofs.Common.{◌≡◌, ◌∙◌, refl, ℕ, List, Option, Some}
+use Rattle.std.proofs.Common.{◌≡◌, ◌∙◌, refl, sym, ap, ℕ, Bool, true, false, List, [], ◌∷◌, Option, Some}
 use Rattle.std.specs.Map.{lookup, set_value}
 use Rattle.vdb_coord.specs.declared.Coord.{Coord}
 use Rattle.vdb_tree.specs.declared.Write.{Write}
 use Rattle.vdb_tree.specs.declared.Write.TheVariants as writes
 use Rattle.vdb_tree.specs.declared.refusal.TreeRefusal.{TreeRefusal}
 use Rattle.vdb_tree.specs.declared.refusal.TreeRefusal.TheVariants.{Memory, RootLimit}
-use Rattle.vdb_scene.specs.Doing.{LeavesTrees, PutsAccessed, PutsGrid, changed_name}
-use Rattle.vdb_scene.specs.Grids.{coords_after}
+use Rattle.vdb_scene.specs.Doing.{KeepsGrids, LeavesTrees, PutsAccessed, PutsGrid, changed_name, coords_by}
+use Rattle.vdb_scene.specs.Grids.{coords_after, grid_coords}
 use Rattle.vdb_scene.specs.Places.{accessor_of, coord_of}
 use Rattle.vdb_scene.specs.Scene.{is_named}
-use Rattle.vdb_scene.specs.Refusals.{of_tree}
+use Rattle.vdb_scene.specs.Refusals.{first_of_all, of_tree, other_form, out_of_range}
 use Rattle.vdb_scene.specs.Step.{write_command}
 use Rattle.vdb_scene.specs.declared.grid_entry.GridEntry.{GridEntry}
 use Rattle.vdb_scene.specs.declared.answer.Answer.TheVariants.{Done, Refused}
@@ -27,17 +27,43 @@ use Rattle.vdb_scene.proofs.Entries.{set_value-found}
 pub same_back : (grids after : List (List ℕ × GridEntry)) (name : List ℕ) (entry : GridEntry) → lookup (is_named name) grids ≡ Some entry → after ≡ set_value (is_named name) grids entry → after ≡ grids
 same_back grids after name entry there back = back ∙ set_value-found (is_named name) grids entry there
 
+-- a refusal that no tree has
+abbrev pub is_of_tree : Refusal → Bool
+is_of_tree refusals.RootLimit = true
+is_of_tree refusals.Memory = true
+is_of_tree r = false
+
+no_tree : true ≡ false → ⊥
+no_tree e = cc
+
+pub others_keep : (old new : Scene) (c : Command) (r : Refusal) → is_of_tree r ≡ false → KeepsGrids old new → LeavesTrees c (Refused r) old new
+others_keep old new c refusals.RootLimit none keeps = absurd (no_tree none)
+others_keep old new c refusals.Memory none keeps = absurd (no_tree none)
+others_keep old new c r none keeps = keeps
+
+-- the refusals of a value are none of them
+pub value_refused : (fits within : Bool) (r : Refusal) → first_of_all (other_form fits ∷ out_of_range within ∷ []) ≡ Some r → is_of_tree r ≡ false
+value_refused false within r h = ap is_of_tree (by h)
+  where
+    by : Some refusals.Kind ≡ Some r → r ≡ refusals.Kind
+    by h = cc
+value_refused true false r h = ap is_of_tree (by h)
+  where
+    by : Some refusals.ValueRange ≡ Some r → r ≡ refusals.ValueRange
+    by h = cc
+value_refused true true r h = cc
+
 module _ (old new : Scene) (c : Command) (name : List ℕ) (is : changed_name c ≡ Some name) (entry : GridEntry) (puts : PutsGrid old name entry new) where
   -- a refusal where the grid comes back as it was
-  pub refused_leaves : (r : Refusal) → lookup (is_named name) old.grids.entries ≡ Some entry → LeavesTrees c (Refused r) old new
-  refused_leaves refusals.RootLimit there = rw is (entry, puts)
-  refused_leaves refusals.Memory there = rw is (entry, puts)
-  refused_leaves r there = same_back old.grids.entries new.grids.entries name entry there puts
+  pub refused_leaves : (r : Refusal) → lookup (is_named name) old.grids.entries ≡ Some entry → ((coords : List (Option Coord)) → coords_by c coords ≡ coords) → LeavesTrees c (Refused r) old new
+  refused_leaves refusals.RootLimit there same = rw is (entry, entry, there, puts, sym (same (grid_coords entry.grid)))
+  refused_leaves refusals.Memory there same = rw is (entry, entry, there, puts, sym (same (grid_coords entry.grid)))
+  refused_leaves r there same = same_back old.grids.entries new.grids.entries name entry there puts
 
   -- a refusal of the grid's tree
-  pub tree_refused_leaves : (e : TreeRefusal) → LeavesTrees c (Refused (of_tree e)) old new
-  tree_refused_leaves RootLimit = rw is (entry, puts)
-  tree_refused_leaves Memory = rw is (entry, puts)
+  pub tree_refused_leaves : (was : GridEntry) → lookup (is_named name) old.grids.entries ≡ Some was → grid_coords entry.grid ≡ coords_by c (grid_coords was.grid) → (e : TreeRefusal) → LeavesTrees c (Refused (of_tree e)) old new
+  tree_refused_leaves was there last RootLimit = rw is (was, entry, there, puts, last)
+  tree_refused_leaves was there last Memory = rw is (was, entry, there, puts, last)
 
 -- the grid that a write changes
 pub write_changes : (name : List ℕ) (k : Option Num) (p : Point) (w : Write Literal) → changed_name (write_command name k p w) ≡ Some name
@@ -45,6 +71,13 @@ write_changes name k p (writes.On v) = refl
 write_changes name k p (writes.Off v) = refl
 write_changes name k p (writes.State on) = refl
 write_changes name k p (writes.Value v) = refl
+
+-- the coordinates of its accessors then
+pub write_moves : (name : List ℕ) (k : Option Num) (p : Point) (w : Write Literal) → coords_by (write_command name k p w) ≡ coords_after (accessor_of k) (coord_of p)
+write_moves name k p (writes.On v) = refl
+write_moves name k p (writes.Off v) = refl
+write_moves name k p (writes.State on) = refl
+write_moves name k p (writes.Value v) = refl
 
 -- what an accessor was given, by the numbers of the line
 pub accessed : (k : Option Num) (p : Point) (number : Option ℕ) (q : Coord) (was coords : List (Option Coord)) → number ≡ accessor_of k → coord_of p ≡ q

@@ -1,9 +1,8 @@
 -- What turns of dilation and of erosion come to, from what was found out about the grid and the command.
-use Rattle.std.proofs.Common.{◌≡◌, refl, sym, ap, ◌∙◌, ◌<◌, ◌≤◌, ℕ, Bool, true, false, nat_lt, List, [], ◌∷◌, Option, Some, None, Ok, Err}
+use Rattle.std.proofs.Common.{◌≡◌, refl, sym, ap, ◌∙◌, ℕ, Bool, true, false, List, [], ◌∷◌, Some, None, Ok, Err}
 use Rattle.std.proofs.lemmas.Bool.{le-ltb, lt-ltb}
 use Rattle.std.specs.Map.{lookup, set_value}
 use Rattle.vdb_coord.specs.Blocks.{vdb}
-use Rattle.vdb_tree.specs.ConstantBlocks.{roots}
 use Rattle.vdb_tree.specs.Field.{Field, dilate, erode, turns}
 use Rattle.vdb_tree.specs.Outcome.{IsOutcome}
 use Rattle.vdb_tree.specs.declared.refusal.TreeRefusal.{TreeRefusal}
@@ -16,7 +15,7 @@ use Rattle.vdb_scene.specs.Refusals.{beyond_limit, first_of_all, of_tree, refuse
 use Rattle.vdb_scene.specs.Replies as replies
 use Rattle.vdb_scene.specs.Scalars.{scalar_eq}
 use Rattle.vdb_scene.specs.Scene.{Grid, Scene, is_named}
-use Rattle.vdb_scene.specs.Step.{changed, first_refusal, refusal}
+use Rattle.vdb_scene.specs.Step.{changed, refusal}
 use Rattle.vdb_scene.specs.declared.any_grid.AnyGrid.{AnyGrid}
 use Rattle.vdb_scene.specs.declared.grid_entry.GridEntry.{GridEntry}
 use Rattle.vdb_scene.specs.declared.answer.Answer.TheVariants.{Done}

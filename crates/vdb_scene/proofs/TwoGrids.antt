@@ -1,5 +1,5 @@
 -- What is made of two grids of any kind, from what is made of two trees.
-use Rattle.std.proofs.Common.{subst, ◌≡◌, refl, sym, ap, ◌∙◌, ◌<◌, ◌≤◌, ℕ, Bool, true, false, cond, not, ◌||◌, nat_lt, List, [], ◌∷◌, Option, Some, None, is_none, unwrap_or, option_map, Result, Ok, Err}
+use Rattle.std.proofs.Common.{subst, ◌≡◌, refl, sym, ap, ◌∙◌, ◌<◌, ◌≤◌, ℕ, Bool, true, false, cond, ◌||◌, List, [], ◌∷◌, Option, Some, None, is_none, unwrap_or, option_map, Result, Ok, Err}
 use Rattle.std.specs.List.{list_any}
 use Rattle.std.proofs.Math.Path.{fun_ext}
 use Rattle.std.proofs.lemmas.Bool.{le-ltb, lt-ltb}
@@ -18,7 +18,7 @@ use Rattle.vdb_tree.specs.declared.refusal.TreeRefusal.{TreeRefusal}
 use Rattle.vdb_tree.specs.declared.refusal.TreeRefusal.TheVariants.{Memory, RootLimit}
 use Rattle.vdb_tree.proofs.AsFieldOf.{as_field_of_cell, as_field_of_combine, as_field_of_roots, as_outcome_of}
 use Rattle.vdb_tree.proofs.Fields.{same_cells}
-use Rattle.vdb_scene.specs.Refusals.{beyond_limit, first_of_all, no_sum, of_tree, other_kind, sum_range}
+use Rattle.vdb_scene.specs.Refusals.{beyond_limit, no_sum, of_tree, other_kind}
 use Rattle.vdb_scene.specs.Scalars.{kind_eq, kind_of, scalar_eq}
 use Rattle.vdb_scene.specs.declared.answer.Refusal.{Refusal}
 use Rattle.vdb_scene.specs.declared.answer.Refusal.TheVariants as refusals

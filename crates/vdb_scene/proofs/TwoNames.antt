@@ -1,17 +1,17 @@
 -- What a command on two grids comes to, from what was found out about them.
-use Rattle.std.proofs.Common.{◌≡◌, refl, sym, ap, ◌∙◌, subst, rules, ℕ, Bool, true, false, List, [], ◌∷◌, Option, Some, None, is_none, is_some, IsSome, Result, Ok, Err}
+use Rattle.std.proofs.Common.{◌≡◌, refl, sym, ap, ◌∙◌, rules, ℕ, true, false, List, ◌∷◌, Option, Some, None, is_none, is_some, IsSome, Ok, Err}
 use Rattle.std.specs.Cmp.Lexicographic.{pointwise, texts_ties}
-use Rattle.std.specs.Prelude.{nat_eq, IsTrue}
+use Rattle.std.specs.Prelude.{nat_eq}
 use Rattle.std.specs.Map.{lookup, set_value}
-use Rattle.vdb_scene.specs.Doing.{CarriesOut, LeavesTrees, PutsGrid, changed_name}
-use Rattle.vdb_scene.specs.Grids.{grid_field, grid_limit, grid_of, scene_of, scene_over}
-use Rattle.vdb_scene.specs.Refusals.{first_of_all, no_grid, of_tree, same_grid}
+use Rattle.vdb_coord.specs.declared.Coord.{Coord}
+use Rattle.vdb_scene.specs.Doing.{CarriesOut, LeavesTrees, PutsGrid, PutsTree, changed_name, coords_by}
+use Rattle.vdb_scene.specs.Grids.{grid_coords, grid_field, grid_limit, grid_of, scene_over}
+use Rattle.vdb_scene.specs.Refusals.{first_of_all, no_grid, same_grid}
 use Rattle.vdb_scene.specs.Replies as replies
 use Rattle.vdb_scene.specs.Scene as abstract_scene
 use Rattle.vdb_scene.specs.Scene.{field_at, grid_at, is_named, limit_at, with_changed}
 use Rattle.vdb_scene.specs.Step.{IsReply, after, changed, first_refusal, refusal, takes_memory, tried}
-use Rattle.vdb_tree.specs.Field.{ruled}
-use Rattle.vdb_scene.specs.TwoGrids.{Gives, IsMade, StaysBut, command_of, made_of, tried_of}
+use Rattle.vdb_scene.specs.TwoGrids.{IsMade, StaysBut, command_of, made_of, tried_of}
 use Rattle.vdb_scene.specs.declared.any_grid.AnyGrid.{AnyGrid}
 use Rattle.vdb_scene.specs.declared.grid_entry.GridEntry.{GridEntry}
 use Rattle.vdb_scene.specs.declared.answer.Answer.TheVariants.{Done, Refused}
@@ -76,14 +76,14 @@ module _ (s : abstract_scene.Scene) (name other : List ℕ) where
   first_is (Values Replace) = refl
 
 -- the trees after it
-pub done_leaves : (o : Operation) (old new : Scene) (name other : List ℕ) (g : GridEntry) → PutsGrid old name g new → LeavesTrees (command_of o name other) Done old new
-done_leaves (States Unite) old new name other g h = (g, h)
-done_leaves (States Subtract) old new name other g h = (g, h)
-done_leaves (States Intersect) old new name other g h = (g, h)
-done_leaves (Values Maximum) old new name other g h = (g, h)
-done_leaves (Values Minimum) old new name other g h = (g, h)
-done_leaves (Values Sum) old new name other g h = (g, h)
-done_leaves (Values Replace) old new name other g h = (g, h)
+pub done_leaves : (o : Operation) (old new : Scene) (name other : List ℕ) (was g : GridEntry) → PutsTree old name was g new → LeavesTrees (command_of o name other) Done old new
+done_leaves (States Unite) old new name other was g h = (was, g, h)
+done_leaves (States Subtract) old new name other was g h = (was, g, h)
+done_leaves (States Intersect) old new name other was g h = (was, g, h)
+done_leaves (Values Maximum) old new name other was g h = (was, g, h)
+done_leaves (Values Minimum) old new name other was g h = (was, g, h)
+done_leaves (Values Sum) old new name other was g h = (was, g, h)
+done_leaves (Values Replace) old new name other was g h = (was, g, h)
 
 -- ---- names
 
@@ -144,12 +144,22 @@ first_changes (Values Minimum) name other = refl
 first_changes (Values Sum) name other = refl
 first_changes (Values Replace) name other = refl
 
+-- and its accessors keep their coordinates
+first_keeps : (o : Operation) (name other : List ℕ) (coords : List (Option Coord)) → coords_by (command_of o name other) coords ≡ coords
+first_keeps (States Unite) name other coords = refl
+first_keeps (States Subtract) name other coords = refl
+first_keeps (States Intersect) name other coords = refl
+first_keeps (Values Maximum) name other coords = refl
+first_keeps (Values Minimum) name other coords = refl
+first_keeps (Values Sum) name other coords = refl
+first_keeps (Values Replace) name other coords = refl
+
 -- the trees after a refusal
 pub refused_trees : (o : Operation) (old new : Scene) (name other : List ℕ) (was : GridEntry) (grid : AnyGrid) (r : Refusal) → lookup (is_named name) old.grids.entries ≡ Some was
-    → PutsGrid old name (record was { grid = grid }) new → StaysBut r was.grid grid → LeavesTrees (command_of o name other) (Refused r) old new
-refused_trees o old new name other was grid refusals.RootLimit there puts stays = rw (first_changes o name other) (record was { grid = grid }, puts)
-refused_trees o old new name other was grid refusals.Memory there puts stays = rw (first_changes o name other) (record was { grid = grid }, puts)
-refused_trees o old new name other was grid r there puts stays =
+    → PutsGrid old name (record was { grid = grid }) new → grid_coords grid ≡ grid_coords was.grid → StaysBut r was.grid grid → LeavesTrees (command_of o name other) (Refused r) old new
+refused_trees o old new name other was grid refusals.RootLimit there puts last stays = rw (first_changes o name other) (was, record was { grid = grid }, there, puts, last ∙ sym (first_keeps o name other (grid_coords was.grid)))
+refused_trees o old new name other was grid refusals.Memory there puts last stays = rw (first_changes o name other) (was, record was { grid = grid }, there, puts, last ∙ sym (first_keeps o name other (grid_coords was.grid)))
+refused_trees o old new name other was grid r there puts last stays =
     puts ∙ ap (λ (g : AnyGrid). set_value (is_named name) old.grids.entries (record was { grid = g })) stays ∙ set_value-found (is_named name) old.grids.entries was there
 
 -- a name that is found in the abstract is found

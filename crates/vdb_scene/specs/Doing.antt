@@ -4,7 +4,8 @@ use Rattle.std.specs.Ordering.{nat_cmp}
 use Rattle.std.specs.Cmp.Lexicographic.{slice_cmp}
 use Rattle.std.specs.Map.{lookup, remove_entry, set_value}
 use Rattle.std.specs.BTreeMap.{insert_entry}
-use Rattle.vdb_scene.specs.Grids.{HasSameTree, IsPruned, IsVoxelised, coords_after, grid_coords, scene_of}
+use Rattle.vdb_coord.specs.declared.Coord.{Coord}
+use Rattle.vdb_scene.specs.Grids.{HasSameTree, IsCopyOf, IsPruned, IsVoxelised, coords_after, grid_coords, scene_of}
 use Rattle.vdb_scene.specs.Scene as abstract_scene
 use Rattle.vdb_scene.specs.Scene.{is_named}
 use Rattle.vdb_scene.specs.Shown.{Shows}
@@ -59,6 +60,10 @@ AddsGrid old name e new = new.grids.entries ≡ insert_entry (slice_cmp nat_cmp)
 abbrev pub RemovesGrid : Scene → List ℕ → Scene → Type 0
 RemovesGrid old name new = new.grids.entries ≡ remove_entry (is_named name) old.grids.entries
 
+-- a name that was there stands for another grid, whose accessors keep their coordinates
+abbrev pub PutsTree : Scene → List ℕ → GridEntry → GridEntry → Scene → Type 0
+PutsTree old name was e new = (lookup (is_named name) old.grids.entries ≡ Some was) × PutsGrid old name e new × (grid_coords e.grid ≡ grid_coords was.grid)
+
 -- a name that was there stands for another grid, whose accessors were given coordinates as by a call at p through k
 abbrev pub PutsAccessed : Scene → List ℕ → Option Num → Point → GridEntry → GridEntry → Scene → Type 0
 PutsAccessed old name k p was e new =
@@ -69,35 +74,36 @@ abbrev pub PutsMetas : Scene → List ℕ → Scene → Type 0
 PutsMetas old name new = (was : GridEntry) × (metas : Pairs) × (lookup (is_named name) old.grids.entries ≡ Some was) × PutsGrid old name (record was { metas = metas }) new
 
 -- What a command that isn't refused makes of the trees, beside their cells. Each grid stays as it is, but for that which the
--- command changes, makes or takes away. `get` and the writes of a voxel move the accessor that they name, and `get` nothing else.
+-- command changes, makes or takes away. `get` and the writes of a voxel move the accessor that they name, and `get` nothing else;
+-- every other accessor keeps its coordinate. `copy` makes the same tiles and nodes, and accessors that were given no coordinate.
 -- `prune` leaves its grid pruned, and `voxelise` each active voxel of its box in a leaf of its grid.
 abbrev pub Shapes : Command → Scene → Scene → Type 0
 Shapes (commands.Grid name kind v limit) old new = (e : GridEntry) × AddsGrid old name e new
 Shapes (commands.Drop name) old new = RemovesGrid old name new
-Shapes (commands.Copy from to) old new = (e : GridEntry) × AddsGrid old to e new
+Shapes (commands.Copy from to) old new = (was : GridEntry) × (e : GridEntry) × (lookup (is_named from) old.grids.entries ≡ Some was) × AddsGrid old to e new × IsCopyOf was.grid e.grid
 Shapes (commands.Get name k p) old new = (was : GridEntry) × (e : GridEntry) × PutsAccessed old name k p was e new × HasSameTree was.grid e.grid
 Shapes (commands.Set name k p v) old new = (was : GridEntry) × (e : GridEntry) × PutsAccessed old name k p was e new
 Shapes (commands.Unset name k p v) old new = (was : GridEntry) × (e : GridEntry) × PutsAccessed old name k p was e new
 Shapes (commands.Only name k p v) old new = (was : GridEntry) × (e : GridEntry) × PutsAccessed old name k p was e new
 Shapes (commands.State name k p on) old new = (was : GridEntry) × (e : GridEntry) × PutsAccessed old name k p was e new
-Shapes (commands.Fill name c v on) old new = (e : GridEntry) × PutsGrid old name e new
-Shapes (commands.Clip name c) old new = (e : GridEntry) × PutsGrid old name e new
-Shapes (commands.Prune name) old new = (e : GridEntry) × PutsGrid old name e new × IsPruned e.grid
-Shapes (commands.Voxelise name c) old new = (e : GridEntry) × PutsGrid old name e new × IsVoxelised e.grid (box_between c)
+Shapes (commands.Fill name c v on) old new = (was : GridEntry) × (e : GridEntry) × PutsTree old name was e new
+Shapes (commands.Clip name c) old new = (was : GridEntry) × (e : GridEntry) × PutsTree old name was e new
+Shapes (commands.Prune name) old new = (was : GridEntry) × (e : GridEntry) × PutsTree old name was e new × IsPruned e.grid
+Shapes (commands.Voxelise name c) old new = (was : GridEntry) × (e : GridEntry) × PutsTree old name was e new × IsVoxelised e.grid (box_between c)
 Shapes (commands.List name c limit) old new = KeepsGrids old new
 Shapes (commands.Slice name z a) old new = KeepsGrids old new
 Shapes (commands.Count name c) old new = KeepsGrids old new
 Shapes (commands.Bounds name) old new = KeepsGrids old new
 Shapes (commands.Census name) old new = KeepsGrids old new
-Shapes (commands.Union name other) old new = (e : GridEntry) × PutsGrid old name e new
-Shapes (commands.Difference name other) old new = (e : GridEntry) × PutsGrid old name e new
-Shapes (commands.Intersect name other) old new = (e : GridEntry) × PutsGrid old name e new
-Shapes (commands.Max name other) old new = (e : GridEntry) × PutsGrid old name e new
-Shapes (commands.Min name other) old new = (e : GridEntry) × PutsGrid old name e new
-Shapes (commands.Sum name other) old new = (e : GridEntry) × PutsGrid old name e new
-Shapes (commands.Replace name other) old new = (e : GridEntry) × PutsGrid old name e new
-Shapes (commands.Dilate name n) old new = (e : GridEntry) × PutsGrid old name e new
-Shapes (commands.Erode name n) old new = (e : GridEntry) × PutsGrid old name e new
+Shapes (commands.Union name other) old new = (was : GridEntry) × (e : GridEntry) × PutsTree old name was e new
+Shapes (commands.Difference name other) old new = (was : GridEntry) × (e : GridEntry) × PutsTree old name was e new
+Shapes (commands.Intersect name other) old new = (was : GridEntry) × (e : GridEntry) × PutsTree old name was e new
+Shapes (commands.Max name other) old new = (was : GridEntry) × (e : GridEntry) × PutsTree old name was e new
+Shapes (commands.Min name other) old new = (was : GridEntry) × (e : GridEntry) × PutsTree old name was e new
+Shapes (commands.Sum name other) old new = (was : GridEntry) × (e : GridEntry) × PutsTree old name was e new
+Shapes (commands.Replace name other) old new = (was : GridEntry) × (e : GridEntry) × PutsTree old name was e new
+Shapes (commands.Dilate name n) old new = (was : GridEntry) × (e : GridEntry) × PutsTree old name was e new
+Shapes (commands.Erode name n) old new = (was : GridEntry) × (e : GridEntry) × PutsTree old name was e new
 Shapes (commands.Meta name key text) old new = PutsMetas old name new
 Shapes (commands.Unmeta name key) old new = PutsMetas old name new
 Shapes (commands.Metas name) old new = KeepsGrids old new
@@ -123,16 +129,26 @@ changed_name (commands.Dilate name n) = Some name
 changed_name (commands.Erode name n) = Some name
 changed_name c = None
 
--- every grid stays as it is, but for that of this name, if there is a name
-abbrev pub KeepsOthers : Option (List ℕ) → Scene → Scene → Type 0
-KeepsOthers (Some name) old new = (e : GridEntry) × PutsGrid old name e new
-KeepsOthers None old new = KeepsGrids old new
+-- the coordinates of that grid's accessors after it: a write of a voxel gives its own to the accessor that it names
+abbrev pub coords_by : Command → List (Option Coord) → List (Option Coord)
+coords_by (commands.Set name k p v) = coords_after (accessor_of k) (coord_of p)
+coords_by (commands.Unset name k p v) = coords_after (accessor_of k) (coord_of p)
+coords_by (commands.Only name k p v) = coords_after (accessor_of k) (coord_of p)
+coords_by (commands.State name k p on) = coords_after (accessor_of k) (coord_of p)
+coords_by c = λ coords. coords
+
+-- every grid stays as it is, but for that of this name, if there is a name, and its accessors have these coordinates
+abbrev pub KeepsOthers : (List (Option Coord) → List (Option Coord)) → Option (List ℕ) → Scene → Scene → Type 0
+KeepsOthers coords (Some name) old new =
+    (was : GridEntry) × (e : GridEntry) × (lookup (is_named name) old.grids.entries ≡ Some was) × PutsGrid old name e new × (grid_coords e.grid ≡ coords (grid_coords was.grid))
+KeepsOthers coords None old new = KeepsGrids old new
 
 -- What a command makes of the trees, by its answer: one that is refused leaves each grid as it is. `RootLimit` and `Memory` may
--- come after some nodes were made, so these leave each other grid as it is, and that which the command changes with its cells.
+-- come after some nodes were made, so these leave each other grid as it is, and that which the command changes with its cells
+-- and, but for an accessor that the command names, the coordinates of its accessors.
 abbrev pub LeavesTrees : Command → Answer → Scene → Scene → Type 0
-LeavesTrees c (Refused refusals.RootLimit) old new = KeepsOthers (changed_name c) old new
-LeavesTrees c (Refused refusals.Memory) old new = KeepsOthers (changed_name c) old new
+LeavesTrees c (Refused refusals.RootLimit) old new = KeepsOthers (coords_by c) (changed_name c) old new
+LeavesTrees c (Refused refusals.Memory) old new = KeepsOthers (coords_by c) (changed_name c) old new
 LeavesTrees c (Refused r) old new = KeepsGrids old new
 LeavesTrees c answer old new = Shapes c old new
 

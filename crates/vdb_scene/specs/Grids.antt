@@ -8,6 +8,8 @@ use Rattle.vdb_coord.specs.declared.Coord.{Coord}
 use Rattle.vdb_tree.specs.Field.{Field, as_field_of}
 use Rattle.vdb_tree.specs.Layout.{field_of}
 use Rattle.vdb_tree.specs.Leaves.{HasLeaves}
+use Rattle.vdb_tree.specs.Nodes.{IsSameTree}
+use Rattle.vdb_grid.specs.Grid.{last}
 use Rattle.vdb_tree.specs.Smallest.{IsLeast}
 use Rattle.vdb_scene.specs.Metas.{Pairs}
 use Rattle.vdb_scene.specs.Scene as abstract_scene
@@ -59,6 +61,13 @@ HasSameTree (Bool g) (Bool h) = h.tree ≡ g.tree
 HasSameTree (I32 g) (I32 h) = h.tree ≡ g.tree
 HasSameTree (I64 g) (I64 h) = h.tree ≡ g.tree
 HasSameTree g h = ⊥
+
+-- the second has the first's tiles and nodes, and accessors that were given no coordinate
+abbrev pub IsCopyOf : AnyGrid → AnyGrid → Type 0
+IsCopyOf (Bool g) (Bool h) = IsSameTree vdb g.tree h.tree × ((k : ℕ) → last h.coords k ≡ None)
+IsCopyOf (I32 g) (I32 h) = IsSameTree vdb g.tree h.tree × ((k : ℕ) → last h.coords k ≡ None)
+IsCopyOf (I64 g) (I64 h) = IsSameTree vdb g.tree h.tree × ((k : ℕ) → last h.coords k ≡ None)
+IsCopyOf g h = ⊥
 
 -- what an entry of a scene is in the abstract scene
 abbrev pub grid_of : GridEntry → abstract_scene.Grid

@@ -15,3 +15,4 @@ pub mod Listings
 pub mod Shown
 pub mod Doing
 pub mod Watched
+pub mod internal

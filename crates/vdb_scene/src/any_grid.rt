@@ -10,7 +10,7 @@ ghost use Rattle.vdb_tree.specs.declared.refusal.TreeRefusal.TheVariants.{Memory
 ghost use Rattle.vdb_morph.specs.Growth.{IsGrowth};
 ghost use Rattle.vdb_walk.specs.Reports.{IsActiveBounds, census as census_of};
 ghost use Rattle.vdb_scene.specs.Scalars.{is_of, kind_of, scalar_eq};
-ghost use Rattle.vdb_scene.specs.Grids.{HasSameTree, IsPruned, IsVoxelised, coords_after, grid_coords, grid_field, grid_limit};
+ghost use Rattle.vdb_scene.specs.Grids.{HasSameTree, IsCopyOf, IsPruned, IsVoxelised, coords_after, grid_coords, grid_field, grid_limit};
 ghost use Rattle.vdb_scene.specs.Step.{passes, write_takes_memory};
 ghost use Rattle.vdb_scene.specs.TwoGrids.{IsMade, StaysBut};
 
@@ -123,6 +123,7 @@ impl AnyGrid {
         requires { IsTrue (is_of (kind_of (grid_field self.old).background) cell.value) }
         ensures outcome { IsOutcome scalar_eq vdb (grid_limit self.old) (grid_field self.old) (filled bounds cell (grid_field self.old)) (grid_field self.new) result }
         ensures limit { grid_limit self.new ≡ grid_limit self.old }
+        ensures last { grid_coords self.new ≡ grid_coords self.old }
     {
         match self {
             AnyGrid::Bool(grid) => grid_tree::fill(grid, bounds, cell, steps),
@@ -136,6 +137,7 @@ impl AnyGrid {
     pub fn clip(&mut self, bounds: Bounds, steps: &mut Steps) -> Result<(), TreeRefusal>
         ensures outcome { IsOutcome scalar_eq vdb (grid_limit self.old) (grid_field self.old) (clipped bounds (grid_field self.old)) (grid_field self.new) result }
         ensures limit { grid_limit self.new ≡ grid_limit self.old }
+        ensures last { grid_coords self.new ≡ grid_coords self.old }
         ensures memory { IfErr result (λ refusal. refusal ≡ Memory) }
     {
         match self {
@@ -153,6 +155,7 @@ impl AnyGrid {
         requires few { turns ≤ 16 }
         ensures outcome { IsGrowth scalar_eq vdb (grid_limit self.old) (grid_field self.old) (turned turns dilation (grid_field self.old)) (grid_field self.new) result }
         ensures limit { grid_limit self.new ≡ grid_limit self.old }
+        ensures last { grid_coords self.new ≡ grid_coords self.old }
     {
         match self {
             AnyGrid::Bool(grid) => grid_tree::dilate(grid, turns, steps),
@@ -168,6 +171,7 @@ impl AnyGrid {
         requires few { turns ≤ 16 }
         ensures outcome { IsOutcome scalar_eq vdb (grid_limit self.old) (grid_field self.old) (turned turns erosion (grid_field self.old)) (grid_field self.new) result }
         ensures limit { grid_limit self.new ≡ grid_limit self.old }
+        ensures last { grid_coords self.new ≡ grid_coords self.old }
         ensures memory { IfErr result (λ refusal. refusal ≡ Memory) }
     {
         match self {
@@ -190,6 +194,7 @@ impl AnyGrid {
         ensures kept { IfErr result (λ refusal. StaysBut refusal self.old self.new) }
         ensures outcome { IsMade operation (grid_limit self.old) (grid_field self.old) (grid_field other.now) (grid_field self.new) result }
         ensures limit { grid_limit self.new ≡ grid_limit self.old }
+        ensures last { grid_coords self.new ≡ grid_coords self.old }
     {
         match self {
             AnyGrid::Bool(grid) => grid_pair::combine(grid, operation, other, steps),
@@ -236,6 +241,7 @@ impl AnyGrid {
     pub fn prune(&mut self, steps: &mut Steps)
         ensures field { grid_field self.new ≡ grid_field self.old }
         ensures limit { grid_limit self.new ≡ grid_limit self.old }
+        ensures last { grid_coords self.new ≡ grid_coords self.old }
         ensures least { IsPruned self.new }
     {
         match self {
@@ -245,8 +251,10 @@ impl AnyGrid {
         }
     }
 
-    /// A grid with the same cells, background and limit, and with a tree of its own. `Memory` says that a growth was refused.
+    /// A grid with the same cells, tiles, nodes, background and limit, and with accessors that were given no coordinate. `Memory`
+    /// says that a growth was refused.
     pub fn try_copy(&self) -> Result<AnyGrid, TreeRefusal>
+        ensures same { IfOk result (λ copy. IsCopyOf self.now copy) }
         ensures field { IfOk result (λ copy. grid_field copy ≡ grid_field self.now) }
         ensures limit { IfOk result (λ copy. grid_limit copy ≡ grid_limit self.now) }
         ensures memory { IfErr result (λ refusal. refusal ≡ Memory) }
@@ -262,6 +270,7 @@ impl AnyGrid {
     pub fn voxelise(&mut self, bounds: Bounds, steps: &mut Steps) -> Result<(), TreeRefusal>
         ensures field { grid_field self.new ≡ grid_field self.old }
         ensures limit { grid_limit self.new ≡ grid_limit self.old }
+        ensures last { grid_coords self.new ≡ grid_coords self.old }
         ensures leaves { OnOk result (IsVoxelised self.new bounds) }
         ensures memory { IfErr result (λ refusal. refusal ≡ Memory) }
     {

@@ -1,7 +1,8 @@
 //! The step of a scene by a command.
-ghost use Rattle.std.specs.Prelude.{◌≡◌, IfOk, IfErr, Some, ◌∷◌, [], true};
+ghost use Rattle.std.specs.Prelude.{◌≡◌, IfOk, IfErr, Some, ◌∷◌, [], false, true};
 ghost use Rattle.std.specs.Borrow.{sem};
 ghost use Rattle.std.specs.Io.BufRead.{Rests};
+ghost use Rattle.vdb_scene.specs.internal.CommandGroups.{is_on_voxel};
 ghost use Rattle.vdb_scene.specs.Doing.{AppliesTo, CarriesOut, LeavesTrees, answer_of};
 ghost use Rattle.vdb_scene.specs.Grids.{scene_of};
 ghost use Rattle.vdb_scene.specs.contracts.scene.Scene.{the_row};
@@ -286,19 +287,12 @@ impl Scene {
         }
     }
 
-    /// Carries out a command.
+    /// Carries out a command. Those on one voxel are told apart here, and the others by a function of its own: a script mostly has
+    /// the first, and a function pays for the places of all that it may call.
     fn carry_out(&mut self, command: &Command, steps: &mut Steps) -> Result<Answer<'_>, Refusal>
         ensures* step { sem 𝓛 (Rests the_row self.entry (λ new. CarriesOut (scene_of self.old) command.now result (scene_of new) × LeavesTrees command.now (answer_of result) self.old new)) }
     {
         match command {
-            Command::Grid {
-                name,
-                kind,
-                background,
-                limit,
-            } => self.make(*name, *kind, *background, *limit),
-            Command::Drop { name } => self.take(name),
-            Command::Copy { from, to } => self.copy(from, *to),
             Command::Get { name, accessor, at } => self.look_up(name, *accessor, at, steps),
             Command::Set {
                 name,
@@ -324,6 +318,33 @@ impl Scene {
                 at,
                 on,
             } => self.write(name, *accessor, at, Write::State(*on), steps),
+            _ => self.carry_out_on_grids(command, steps),
+        }
+    }
+
+    /// Carries out a command that isn't on one voxel.
+    fn carry_out_on_grids(
+        &mut self,
+        command: &Command,
+        steps: &mut Steps,
+    ) -> Result<Answer<'_>, Refusal>
+        requires { is_on_voxel command.now ≡ false }
+        ensures* step { sem 𝓛 (Rests the_row self.entry (λ new. CarriesOut (scene_of self.old) command.now result (scene_of new) × LeavesTrees command.now (answer_of result) self.old new)) }
+    {
+        match command {
+            Command::Get { .. }
+            | Command::Set { .. }
+            | Command::Unset { .. }
+            | Command::Only { .. }
+            | Command::State { .. } => unreachable!(),
+            Command::Grid {
+                name,
+                kind,
+                background,
+                limit,
+            } => self.make(*name, *kind, *background, *limit),
+            Command::Drop { name } => self.take(name),
+            Command::Copy { from, to } => self.copy(from, *to),
             Command::Fill {
                 name,
                 corners,

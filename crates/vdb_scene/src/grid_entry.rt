@@ -1,7 +1,7 @@
 //! What a scene holds under a name.
 
 ghost use Rattle.std.specs.Prelude.{◌≡◌, IfErr, IfOk};
-ghost use Rattle.vdb_scene.specs.Grids.{grid_of};
+ghost use Rattle.vdb_scene.specs.Grids.{IsCopyOf, grid_of};
 
 use crate::{AnyGrid, Metas, Refusal};
 use std::alloc::Global;
@@ -14,8 +14,9 @@ pub struct GridEntry {
 }
 
 impl GridEntry {
-    /// A grid with the same cells, background and limit, and with the same pairs. `Memory` says that a growth was refused.
+    /// A grid with the same cells, tiles, nodes, background and limit, and with the same pairs. `Memory` says that a growth was refused.
     pub(crate) fn try_copy(&self, alloc: Global) -> Result<GridEntry, Refusal>
+        ensures grid { IfOk result (λ copy. IsCopyOf self.now.grid copy.grid) }
         ensures same { IfOk result (λ copy. grid_of copy ≡ grid_of self.now) }
         ensures memory { IfErr result (λ refusal. refusal ≡ Refusal.Memory) }
     {

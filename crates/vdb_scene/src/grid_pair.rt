@@ -30,6 +30,7 @@ pub fn combine<V: GridValue>(
     ensures outcome { IsMade operation grid.old.tree.limit (as_field_of V.as_scalar (field_of vdb grid.old.tree)) (grid_field other.now) (as_field_of V.as_scalar (field_of vdb grid.new.tree)) result }
     ensures kept { IfErr result (λ refusal. StaysBut refusal grid.old grid.new) }
     ensures limit { grid.new.tree.limit ≡ grid.old.tree.limit }
+    ensures last { grid.new.coords ≡ grid.old.coords }
 {
     match operation {
         Operation::States(rule) => Ok(combine_states(grid, rule, other, steps)?),
@@ -50,6 +51,7 @@ fn combine_states<V: GridValue>(
     ensures outcome { IsOutcome scalar_eq vdb grid.old.tree.limit (as_field_of V.as_scalar (field_of vdb grid.old.tree))
         (ruled rule (as_field_of V.as_scalar (field_of vdb grid.old.tree)) (grid_field other.now)) (as_field_of V.as_scalar (field_of vdb grid.new.tree)) result }
     ensures limit { grid.new.tree.limit ≡ grid.old.tree.limit }
+    ensures last { grid.new.coords ≡ grid.old.coords }
 {
     match other {
         AnyGrid::Bool(given) => set_states(grid, rule, given.tree(), steps),
@@ -68,6 +70,7 @@ fn set_states<V: GridValue, X: GridValue>(
     ensures outcome { IsOutcome scalar_eq vdb grid.old.tree.limit (as_field_of V.as_scalar (field_of vdb grid.old.tree))
         (ruled rule (as_field_of V.as_scalar (field_of vdb grid.old.tree)) (as_field_of X.as_scalar (field_of vdb given.now))) (as_field_of V.as_scalar (field_of vdb grid.new.tree)) result }
     ensures limit { grid.new.tree.limit ≡ grid.old.tree.limit }
+    ensures last { grid.new.coords ≡ grid.old.coords }
 {
     match rule {
         StateRule::Unite => grid.unite(given, steps),
@@ -86,6 +89,7 @@ fn combine_values<V: GridValue>(
     ensures outcome { IsMade (values_op how) grid.old.tree.limit (as_field_of V.as_scalar (field_of vdb grid.old.tree)) (as_field_of V.as_scalar (field_of vdb given.now)) (as_field_of V.as_scalar (field_of vdb grid.new.tree)) result }
     ensures kept { OnErr result (grid.new ≡ grid.old) }
     ensures limit { grid.new.tree.limit ≡ grid.old.tree.limit }
+    ensures last { grid.new.coords ≡ grid.old.coords }
 {
     match how {
         Composite::Maximum => Ok(grid.maximum(given, steps)?),

@@ -86,6 +86,7 @@ pub fn fill<V: GridValue>(
     ensures outcome { IsOutcome scalar_eq vdb grid.old.tree.limit (as_field_of V.as_scalar (field_of vdb grid.old.tree))
         (filled bounds cell (as_field_of V.as_scalar (field_of vdb grid.old.tree))) (as_field_of V.as_scalar (field_of vdb grid.new.tree)) result }
     ensures limit { grid.new.tree.limit ≡ grid.old.tree.limit }
+    ensures last { grid.new.coords ≡ grid.old.coords }
 {
     grid.fill(bounds, cell_of_kind(cell), steps)
 }
@@ -99,6 +100,7 @@ pub fn clip<V: GridValue>(
     ensures outcome { IsOutcome scalar_eq vdb grid.old.tree.limit (as_field_of V.as_scalar (field_of vdb grid.old.tree))
         (clipped bounds (as_field_of V.as_scalar (field_of vdb grid.old.tree))) (as_field_of V.as_scalar (field_of vdb grid.new.tree)) result }
     ensures limit { grid.new.tree.limit ≡ grid.old.tree.limit }
+    ensures last { grid.new.coords ≡ grid.old.coords }
     ensures memory { IfErr result (λ refusal. refusal ≡ Memory) }
 {
     grid.clip(bounds, steps)
@@ -115,6 +117,7 @@ pub fn dilate<V: GridValue>(
     ensures outcome { IsGrowth scalar_eq vdb grid.old.tree.limit (as_field_of V.as_scalar (field_of vdb grid.old.tree))
         (turned turns dilation (as_field_of V.as_scalar (field_of vdb grid.old.tree))) (as_field_of V.as_scalar (field_of vdb grid.new.tree)) result }
     ensures limit { grid.new.tree.limit ≡ grid.old.tree.limit }
+    ensures last { grid.new.coords ≡ grid.old.coords }
 {
     grid.dilate(turns, steps)
 }
@@ -130,6 +133,7 @@ pub fn erode<V: GridValue>(
     ensures outcome { IsOutcome scalar_eq vdb grid.old.tree.limit (as_field_of V.as_scalar (field_of vdb grid.old.tree))
         (turned turns erosion (as_field_of V.as_scalar (field_of vdb grid.old.tree))) (as_field_of V.as_scalar (field_of vdb grid.new.tree)) result }
     ensures limit { grid.new.tree.limit ≡ grid.old.tree.limit }
+    ensures last { grid.new.coords ≡ grid.old.coords }
     ensures memory { IfErr result (λ refusal. refusal ≡ Memory) }
 {
     grid.erode(turns, steps)

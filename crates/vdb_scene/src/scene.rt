@@ -2,11 +2,12 @@
 ghost use Rattle.std.specs.Prelude.{◌≡◌, ◌++◌, ◌∷◌, [], IfErr, OnErr, OnOk, map, length, is_some, nat_le};
 ghost use Rattle.std.specs.Cmp.Lexicographic.{slice_cmp};
 ghost use Rattle.std.specs.List.Sorted.{IsStrictlySortedBy};
+ghost use Rattle.std.specs.Map.{lookup};
 ghost use Rattle.std.specs.Option.{option_map};
 ghost use Rattle.std.specs.Ordering.{nat_cmp};
 ghost use Rattle.vdb_scene.specs.Doing.{AddsGrid, KeepsGrids};
 ghost use Rattle.vdb_scene.specs.Grids.{grid_alone, grid_field, grid_limit, grid_of, grid_with, scene_of};
-ghost use Rattle.vdb_scene.specs.Scene.{grid_at, with_grid};
+ghost use Rattle.vdb_scene.specs.Scene.{grid_at, is_named, with_grid};
 ghost use Rattle.vdb_scene.specs.Step.{Inserts};
 
 use crate::{AnyGrid, GridEntry, Metas, Name, Refusal};
@@ -44,6 +45,7 @@ impl Scene {
 
     /// The grid of a name, if it is there.
     pub fn get(&self, name: &Name) -> Option<&AnyGrid>
+        ensures grid { option_map (λ grid. grid.now) result ≡ option_map (λ e. e.grid) (lookup (is_named name.now) self.now.grids.entries) }
         ensures field { option_map (λ grid. grid_field grid.now) result ≡ option_map (λ g. g.field) (grid_at (scene_of self.now) name.now) }
         ensures limit { option_map (λ grid. grid_limit grid.now) result ≡ option_map (λ g. g.limit) (grid_at (scene_of self.now) name.now) }
     {
@@ -55,7 +57,8 @@ impl Scene {
 
     /// What stands under a name, if it is there.
     pub(crate) fn entry(&self, name: &Name) -> Option<&GridEntry>
-        ensures { option_map (λ entry. grid_of entry.now) result ≡ grid_at (scene_of self.now) name.now }
+        ensures field { option_map (λ entry. grid_of entry.now) result ≡ grid_at (scene_of self.now) name.now }
+        ensures entry { option_map (λ entry. entry.now) result ≡ lookup (is_named name.now) self.now.grids.entries }
     {
         self.grids.get(name)
     }
@@ -71,7 +74,9 @@ impl Scene {
     /// Puts a grid without metadata under a name. It is refused, dropped, and the scene stays as it was, where the name is taken, where there
     /// are `GRID_LIMIT` grids, or for lack of memory, in this order.
     pub fn insert(&mut self, name: Name, grid: AnyGrid) -> Result<(), Refusal>
-        ensures { Inserts (scene_of self.old) name (grid_alone grid) result (scene_of self.new) }
+        ensures scene { Inserts (scene_of self.old) name (grid_alone grid) result (scene_of self.new) }
+        ensures added { OnOk result (AddsGrid self.old name (record { grid = grid; metas = [] }) self.new) }
+        ensures kept { OnErr result (KeepsGrids self.old self.new) }
     {
         let metas = Metas::new(self.alloc);
         self.insert_with(name, grid, metas)
@@ -80,7 +85,9 @@ impl Scene {
     /// Puts a grid with its metadata under a name. It is refused, dropped, and the scene stays as it was, where the name is taken, where
     /// there are `GRID_LIMIT` grids, or for lack of memory, in this order.
     pub fn insert_with(&mut self, name: Name, grid: AnyGrid, metas: Metas) -> Result<(), Refusal>
-        ensures { Inserts (scene_of self.old) name (grid_with grid metas) result (scene_of self.new) }
+        ensures scene { Inserts (scene_of self.old) name (grid_with grid metas) result (scene_of self.new) }
+        ensures added { OnOk result (AddsGrid self.old name (record { grid = grid; metas = metas }) self.new) }
+        ensures kept { OnErr result (KeepsGrids self.old self.new) }
     {
         if self.has(&name) {
             return Err(Refusal::NameTaken);

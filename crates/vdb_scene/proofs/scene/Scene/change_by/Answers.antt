@@ -1,4 +1,4 @@
-use Rattle.std.proofs.Common.{◌≡◌, ◌∙◌, sym, IsSome, Some, None}
+use Rattle.std.proofs.Common.{◌∙◌, sym}
 use Rattle.vdb_scene.proofs.Lent.{not_missing, other_found, place_found, put_back}
 use Rattle.vdb_scene.proofs.scene.Scene.change_by.Goals as goal
 
@@ -27,6 +27,7 @@ returns c =
         sym (c.in-Some.ensures.value ∙ other_found entries lent c.args.name.now c.args.other.now out.0 out.1 c.requires.apart),
         put_back entries lent c.args.name.now c.args.other.now out.0 out.1 c.give_back.new.self.grids.entries (record c.lend-entry.result { grid = c.combine-result.new.self }) c.give_back.ensures,
         c.combine-result.ensures.limit,
+        c.combine-result.ensures.last,
         c.combine-result.ensures.outcome,
         c.combine-result.ensures.kept,
       );

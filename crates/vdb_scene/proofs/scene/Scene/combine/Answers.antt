@@ -1,4 +1,4 @@
-use Rattle.std.proofs.Common.{◌≡◌, ◌∙◌, refl, sym, ap, subst, IsSome, Some}
+use Rattle.std.proofs.Common.{refl}
 use Rattle.std.proofs.lemmas.Result.{err_from_is_err_and}
 use Rattle.vdb_scene.specs.Grids.{scene_of}
 use Rattle.vdb_scene.proofs.TwoNames.{done_leaves, is_there, other_name, refused_trees, same_name, two_done, two_refused, twice_refused}
@@ -19,21 +19,21 @@ returns-in_err-change_by-clause-step c =
     let g = c.in_err-change_by.ensures.grids in
     let exit = err_from_is_err_and c.from_residual.result c.from_residual.ensures.1 in
     rw (exit.1, exit.2) (two_refused c.args.self.now.grids.entries c.change_by.new.self.grids.entries c.args.name.now c.args.other.now g.0 g.1 g.2 c.args.operation g.3 g.4
-    (other_name c.args.name.now c.args.other.now c.if-eq.ensures) g.5 g.6 c.in_err-change_by.field-0.0 g.7)
+    (other_name c.args.name.now c.args.other.now c.if-eq.ensures) g.5 g.6 c.in_err-change_by.field-0.0 g.8)
 
 pub returns-clause-step : goal.returns-clause-step
 returns-clause-step c =
     let g = c.in_ok-change_by.ensures.grids in
     two_done c.args.self.now.grids.entries c.change_by.new.self.grids.entries c.args.name.now c.args.other.now g.0 g.1 g.2 c.args.operation g.3 g.4
-    (other_name c.args.name.now c.args.other.now c.if-eq.ensures) g.5 g.6 tt g.7
+    (other_name c.args.name.now c.args.other.now c.if-eq.ensures) g.5 g.6 tt g.8
 
 pub returns-in_err-change_by-clause-trees : goal.returns-in_err-change_by-clause-trees
 returns-in_err-change_by-clause-trees c =
     let g = c.in_err-change_by.ensures.grids in
     let exit = err_from_is_err_and c.from_residual.result c.from_residual.ensures.1 in
-    rw (exit.1, exit.2) (refused_trees c.args.operation c.args.self.now c.change_by.new.self c.args.name.now c.args.other.now g.0 g.2 c.in_err-change_by.field-0.0 g.3 g.5 g.8)
+    rw (exit.1, exit.2) (refused_trees c.args.operation c.args.self.now c.change_by.new.self c.args.name.now c.args.other.now g.0 g.2 c.in_err-change_by.field-0.0 g.3 g.5 g.7 g.9)
 
 pub returns-clause-trees : goal.returns-clause-trees
 returns-clause-trees c =
     let g = c.in_ok-change_by.ensures.grids in
-    done_leaves c.args.operation c.args.self.now c.change_by.new.self c.args.name.now c.args.other.now (record g.0 { grid = g.2 }) g.5
+    done_leaves c.args.operation c.args.self.now c.change_by.new.self c.args.name.now c.args.other.now g.0 (record g.0 { grid = g.2 }) (g.3, g.5, g.7)

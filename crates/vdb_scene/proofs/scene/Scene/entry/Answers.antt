@@ -12,5 +12,13 @@ lent : (o : Option (Bor GridEntry)) → option_map (λ entry. grid_of entry.now)
 lent None = refl
 lent (Some e) = refl
 
-pub returns : goal.returns
-returns c = lent c.get.result ∙ ap (option_map grid_of) c.get.ensures.value ∙ sym (lookup-over grid_of (is_named c.args.name.now) c.args.self.now.grids.entries)
+pub returns-clause-field : goal.returns-clause-field
+returns-clause-field c = lent c.get.result ∙ ap (option_map grid_of) c.get.ensures.value ∙ sym (lookup-over grid_of (is_named c.args.name.now) c.args.self.now.grids.entries)
+
+-- the entry itself
+itself : (o : Option (Bor GridEntry)) → option_map (λ entry. entry.now) o ≡ option_copied o
+itself None = refl
+itself (Some e) = refl
+
+pub returns-clause-entry : goal.returns-clause-entry
+returns-clause-entry c = itself c.get.result ∙ c.get.ensures.value

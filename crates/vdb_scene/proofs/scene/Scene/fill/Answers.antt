@@ -57,17 +57,17 @@ returns-clause-step c =
 pub returns-in_err-value-clause-trees : goal.returns-in_err-value-clause-trees
 returns-in_err-value-clause-trees c =
     let exit = err_from_is_err_and c.from_residual.result c.from_residual.ensures.1 in
-    rw exit.1 (refused_leaves c.args.self.now (record c.args.self.now { grids = c.get_mut.follows.lender c.in-Some.entry.now }) (commands.Fill c.args.name.now c.args.corners.now c.args.value c.args.on) c.args.name.now refl c.in-Some.entry.now (c.get_mut.follows.holds c.in-Some.entry.now).0 _ (sym c.in-Some.ensures.value))
+    rw exit.1 (refused_leaves c.args.self.now (record c.args.self.now { grids = c.get_mut.follows.lender c.in-Some.entry.now }) (commands.Fill c.args.name.now c.args.corners.now c.args.value c.args.on) c.args.name.now refl c.in-Some.entry.now (c.get_mut.follows.holds c.in-Some.entry.now).0 _ (sym c.in-Some.ensures.value) (λ coords. refl))
 
 pub returns-in_err-bounds-clause-trees : goal.returns-in_err-bounds-clause-trees
 returns-in_err-bounds-clause-trees c =
     let exit = err_from_is_err_and c.from_residual-in_err-bounds.result c.from_residual-in_err-bounds.ensures.1 in
-    rw exit.1 (refused_leaves c.args.self.now (record c.args.self.now { grids = c.get_mut.follows.lender c.in-Some.entry.now }) (commands.Fill c.args.name.now c.args.corners.now c.args.value c.args.on) c.args.name.now refl c.in-Some.entry.now (c.get_mut.follows.holds c.in-Some.entry.now).0 _ (sym c.in-Some.ensures.value))
+    rw exit.1 (refused_leaves c.args.self.now (record c.args.self.now { grids = c.get_mut.follows.lender c.in-Some.entry.now }) (commands.Fill c.args.name.now c.args.corners.now c.args.value c.args.on) c.args.name.now refl c.in-Some.entry.now (c.get_mut.follows.holds c.in-Some.entry.now).0 _ (sym c.in-Some.ensures.value) (λ coords. refl))
 
 pub returns-in_err-fill-clause-trees : goal.returns-in_err-fill-clause-trees
 returns-in_err-fill-clause-trees c =
     let exit = err_from_is_err_and c.from_residual-in_err-fill.result c.from_residual-in_err-fill.ensures.1 in
-    rw (exit.1, exit.2) (tree_refused_leaves c.args.self.now (record c.args.self.now { grids = c.get_mut.follows.lender (record c.in-Some.entry.now { grid = c.fill.new.self }) }) (commands.Fill c.args.name.now c.args.corners.now c.args.value c.args.on) c.args.name.now refl (record c.in-Some.entry.now { grid = c.fill.new.self }) (c.get_mut.follows.holds (record c.in-Some.entry.now { grid = c.fill.new.self })).0 c.in_err-fill.field-0.0)
+    rw (exit.1, exit.2) (tree_refused_leaves c.args.self.now (record c.args.self.now { grids = c.get_mut.follows.lender (record c.in-Some.entry.now { grid = c.fill.new.self }) }) (commands.Fill c.args.name.now c.args.corners.now c.args.value c.args.on) c.args.name.now refl (record c.in-Some.entry.now { grid = c.fill.new.self }) (c.get_mut.follows.holds (record c.in-Some.entry.now { grid = c.fill.new.self })).0 c.in-Some.entry.now (sym c.in-Some.ensures.value) c.in_err-fill.ensures.last c.in_err-fill.field-0.0)
 
 pub returns-clause-trees : goal.returns-clause-trees
-returns-clause-trees c = (record c.in-Some.entry.now { grid = c.fill.new.self }, (c.get_mut.follows.holds (record c.in-Some.entry.now { grid = c.fill.new.self })).0)
+returns-clause-trees c = (c.in-Some.entry.now, record c.in-Some.entry.now { grid = c.fill.new.self }, (sym c.in-Some.ensures.value, (c.get_mut.follows.holds (record c.in-Some.entry.now { grid = c.fill.new.self })).0, c.in_ok-fill.ensures.last))

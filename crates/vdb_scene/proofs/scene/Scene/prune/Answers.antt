@@ -20,4 +20,4 @@ returns-clause-step c =
 
 pub returns-clause-trees : goal.returns-clause-trees
 returns-clause-trees c =
-    (record c.in-Some.entry.now { grid = c.prune.new.self }, (c.get_mut.follows.holds (record c.in-Some.entry.now { grid = c.prune.new.self })).0, c.prune.ensures.least)
+    (c.in-Some.entry.now, record c.in-Some.entry.now { grid = c.prune.new.self }, (sym c.in-Some.ensures.value, (c.get_mut.follows.holds (record c.in-Some.entry.now { grid = c.prune.new.self })).0, c.prune.ensures.last), c.prune.ensures.least)

@@ -6,7 +6,7 @@ use Rattle.vdb_scene.specs.Grids.{grid_field, grid_limit}
 use Rattle.vdb_scene.proofs.Borrowed.{changed_field, kept, same_scene, unchanged}
 use Rattle.vdb_scene.proofs.Steps.{test_fails, test_passes}
 use Rattle.vdb_scene.proofs.Writing.{write_accessor_refused, write_done, write_missing, write_place_refused, write_refused, write_value_refused}
-use Rattle.vdb_scene.proofs.Trees.{accessed, refused_leaves, same_back, tree_refused_leaves, write_changes, write_leaves}
+use Rattle.vdb_scene.proofs.Trees.{accessed, others_keep, same_back, tree_refused_leaves, value_refused, write_changes, write_leaves, write_moves}
 use Rattle.vdb_scene.specs.Step.{write_command}
 use Rattle.vdb_scene.proofs.scene.Scene.write.Goals as goal
 
@@ -69,7 +69,9 @@ returns-clause-step c =
 pub returns-in_err-change-clause-trees : goal.returns-in_err-change-clause-trees
 returns-in_err-change-clause-trees c =
     let exit = err_from_is_err_and c.from_residual.result c.from_residual.ensures.1 in
-    rw exit.1 (refused_leaves c.args.self.now (record c.args.self.now { grids = c.get_mut.follows.lender c.in-Some.entry.now }) (write_command c.args.name.now c.args.accessor c.args.at.now c.args.change) c.args.name.now (write_changes c.args.name.now c.args.accessor c.args.at.now c.args.change) c.in-Some.entry.now (c.get_mut.follows.holds c.in-Some.entry.now).0 _ (sym c.in-Some.ensures.value))
+    rw exit.1 (others_keep c.args.self.now (record c.args.self.now { grids = c.get_mut.follows.lender c.in-Some.entry.now }) (write_command c.args.name.now c.args.accessor c.args.at.now c.args.change) _
+    (value_refused _ _ _ (c.in_err-change.ensures.refusal ∙ ap Some (sym exit.2)))
+    (same_back c.args.self.now.grids.entries _ c.args.name.now c.in-Some.entry.now (sym c.in-Some.ensures.value) (c.get_mut.follows.holds c.in-Some.entry.now).0))
 
 pub returns-in_default-place_of-clause-trees : goal.returns-in_default-place_of-clause-trees
 returns-in_default-place_of-clause-trees c = same_back c.args.self.now.grids.entries _ c.args.name.now c.in-Some.entry.now (sym c.in-Some.ensures.value) (c.get_mut.follows.holds c.in-Some.entry.now).0
@@ -77,7 +79,8 @@ returns-in_default-place_of-clause-trees c = same_back c.args.self.now.grids.ent
 pub returns-in_err-accessor-clause-trees : goal.returns-in_err-accessor-clause-trees
 returns-in_err-accessor-clause-trees c =
     let exit = err_from_is_err_and c.from_residual-in_err-accessor.result c.from_residual-in_err-accessor.ensures.1 in
-    rw exit.1 (refused_leaves c.args.self.now (record c.args.self.now { grids = c.get_mut.follows.lender c.in-Some.entry.now }) (write_command c.args.name.now c.args.accessor c.args.at.now c.args.change) c.args.name.now (write_changes c.args.name.now c.args.accessor c.args.at.now c.args.change) c.in-Some.entry.now (c.get_mut.follows.holds c.in-Some.entry.now).0 _ (sym c.in-Some.ensures.value))
+    rw (exit.1, exit.2, c.in_err-accessor.ensures.refusal.0)
+    (same_back c.args.self.now.grids.entries _ c.args.name.now c.in-Some.entry.now (sym c.in-Some.ensures.value) (c.get_mut.follows.holds c.in-Some.entry.now).0)
 
 pub returns-clause-trees : goal.returns-clause-trees
 returns-clause-trees c =
@@ -88,5 +91,8 @@ returns-clause-trees c =
 
 pub returns-in_err-write-clause-trees : goal.returns-in_err-write-clause-trees
 returns-in_err-write-clause-trees c =
+    let at = test_passes _ _ _ (sym c.in-Some-place_of.ensures) in
     let exit = err_from_is_err_and c.from_residual-in_err-write.result c.from_residual-in_err-write.ensures.1 in
-    rw (exit.1, exit.2) (tree_refused_leaves c.args.self.now (record c.args.self.now { grids = c.get_mut.follows.lender (record c.in-Some.entry.now { grid = c.write.new.self }) }) (write_command c.args.name.now c.args.accessor c.args.at.now c.args.change) c.args.name.now (write_changes c.args.name.now c.args.accessor c.args.at.now c.args.change) (record c.in-Some.entry.now { grid = c.write.new.self }) (c.get_mut.follows.holds (record c.in-Some.entry.now { grid = c.write.new.self })).0 c.in_err-write.field-0.0)
+    rw (exit.1, exit.2) (tree_refused_leaves c.args.self.now (record c.args.self.now { grids = c.get_mut.follows.lender (record c.in-Some.entry.now { grid = c.write.new.self }) }) (write_command c.args.name.now c.args.accessor c.args.at.now c.args.change) c.args.name.now (write_changes c.args.name.now c.args.accessor c.args.at.now c.args.change) (record c.in-Some.entry.now { grid = c.write.new.self }) (c.get_mut.follows.holds (record c.in-Some.entry.now { grid = c.write.new.self })).0
+    c.in-Some.entry.now (sym c.in-Some.ensures.value)
+    (rw (write_moves c.args.name.now c.args.accessor c.args.at.now c.args.change) (accessed c.args.accessor c.args.at.now _ _ _ _ c.in_ok-accessor.ensures.number at.1 c.in_err-write.ensures.last)) c.in_err-write.field-0.0)

@@ -1,4 +1,3 @@
-use Rattle.std.proofs.Common.{sym}
 use Rattle.vdb_scene.specs.declared.scalar.Scalar.TheVariants as scalars
 use Rattle.vdb_scene.proofs.Listings.{made_more}
 use Rattle.vdb_scene.proofs.voxels.AnyListing.more.Goals as goal

@@ -1,4 +1,3 @@
-use Rattle.std.proofs.Common.{◌≡◌, ap, ◌∙◌}
 use Rattle.vdb_scene.proofs.Listings.{listing_made}
 use Rattle.vdb_scene.specs.declared.scalar.Scalar.TheVariants as scalars
 use Rattle.vdb_scene.proofs.voxels.Voxels.listing.Goals as goal
