@@ -83,12 +83,12 @@ fn command<'a>(alloc: Global) -> Result<Command<'a>, AllocError>
 /// Reads the command line `vdb [--load FILE] [--save FILE] [SCRIPT]`, of which the first word is the program's name.
 /// `--load=FILE` is the same as `--load FILE`, and after `--` every word is a SCRIPT. It is refused where a word begins with
 /// `-` and names no option, an option has no FILE or stands there twice, or there is a second SCRIPT; where help or the
-/// version is asked for (`--help`, `-h`, `--version`, `-V`), whose text the error then has; and for want of memory.
+/// version is asked for (`--help`, `-h`, `--version`, `-V`), whose text the error then has; and for lack of memory.
 pub fn words<'a>(alloc: Global, words: &'a [&'a str]) -> Result<Words<'a>, Error>
     ensures load { IfOk result (λ found. option_map (λ path. path.now) found.load ≡ given (codes "load") (map (λ word. word.now) words.entry.now)) }
     ensures save { IfOk result (λ found. option_map (λ path. path.now) found.save ≡ given (codes "save") (map (λ word. word.now) words.entry.now)) }
     ensures script { IfOk result (λ found. option_map (λ path. path.now) found.script ≡ given (codes "script") (map (λ word. word.now) words.entry.now)) }
-    // Words that have a fault are refused by it or for want of memory, and words without one for want of memory alone.
+    // Words that have a fault are refused by it or for lack of memory, and words without one for lack of memory alone.
     ensures fault { FailsBy (fault_of program (map (λ word. word.now) words.entry.now)) result }
 {
     let matches = command(alloc)?.try_get_matches_from(words)?;

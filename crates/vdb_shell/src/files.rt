@@ -14,7 +14,7 @@ use vdb_pool::Steps;
 use vdb_scene::{Scene, Watched};
 
 /// The scene that a session begins with: the one that a scene file spells, where a file is given, else the empty scene. A file
-/// that no scene has is refused; so is any for want of memory, or where the reader failed.
+/// that no scene has is refused; so is any for lack of memory, or where the reader failed.
 pub fn start<R: Read>(
     alloc: Global,
     load: &mut Option<Watched<R>>,
