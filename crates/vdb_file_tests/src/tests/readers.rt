@@ -8,17 +8,20 @@ use vdb_file::{LoadFault, load};
 use vdb_pool::Steps;
 use vdb_scene::Watched;
 
-/// A reader over memory that gives at most `step` bytes at once, and fails where it has given `left` bytes.
+/// A reader over memory that gives at most `step` bytes at once, and fails where it has given `left` bytes. It counts the calls that
+/// failed.
 #[derive(Drop)]
 struct Failing<'a> {
     bytes: &'a [u8],
     step: usize,
     left: usize,
+    failures: u64,
 }
 
 impl<'a> Read for Failing<'a> {
     fn read(&mut self, buf: &mut [u8]) -> io::Result<usize> {
         if self.left == 0 {
+            self.failures = self.failures.saturating_add(1);
             return Err(io::Error::from(io::ErrorKind::Other));
         }
         let room = buf.len().min(self.step).min(self.left);
@@ -85,7 +88,7 @@ fn a_file_may_come_in_small_pieces(rt: HostRuntime) {
 }
 
 #[test]
-fn a_reader_that_fails_is_told(rt: HostRuntime) {
+fn a_reader_that_fails_is_told_and_not_asked_again(rt: HostRuntime) {
     let mut steps = Steps::new(&rt);
     for file in [OLD_VOXEL, VOXEL, WITH_PAIR] {
         // the byte after the last field is asked for too
@@ -95,6 +98,7 @@ fn a_reader_that_fails_is_told(rt: HostRuntime) {
                     bytes: file,
                     step,
                     left,
+                    failures: 0,
                 });
                 let fault = load(rt.alloc(), &mut reader, &mut steps).err();
                 assert!(rt;
@@ -102,6 +106,7 @@ fn a_reader_that_fails_is_told(rt: HostRuntime) {
                     "{left} bytes in pieces of {step}: {fault:?}"
                 );
                 assert!(rt; reader.failed());
+                assert_eq!(rt; reader.get_ref().failures, 1);
             }
         }
     }

@@ -9,15 +9,17 @@ use vdb_pool::Steps;
 use vdb_scene::{Answer, Command, Corners, Literal, MetaText, Name, Num, Point, Scene, Watched};
 use vdb_value::Kind;
 
-/// A writer that takes so many bytes and then fails.
+/// A writer that takes so many bytes and then fails; it counts the calls that failed.
 #[derive(Drop)]
 struct Short {
     left: usize,
+    failures: u64,
 }
 
 impl Write for Short {
     fn write(&mut self, buf: &[u8]) -> io::Result<usize> {
         if self.left == 0 {
+            self.failures = self.failures.saturating_add(1);
             return Err(io::Error::from(io::ErrorKind::Other));
         }
         let taken = buf.len().min(self.left);
@@ -111,15 +113,19 @@ fn a_voxel_is_spelled_by_its_path(rt: HostRuntime) {
 }
 
 #[test]
-fn a_writer_that_fails_is_told(rt: HostRuntime) {
+fn a_writer_that_fails_is_told_and_not_asked_again(rt: HostRuntime) {
     let mut steps = Steps::new(&rt);
     let scene = with_voxel(&rt, &mut steps);
     for left in 0..VOXEL.len() {
-        let mut writer = Watched::new(Short { left });
+        let mut writer = Watched::new(Short { left, failures: 0 });
         assert!(rt; save(&scene, &mut writer, &mut steps) == Err(SaveFault::Write));
         assert!(rt; writer.failed());
+        assert_eq!(rt; writer.get_ref().failures, 1);
     }
-    let mut writer = Watched::new(Short { left: VOXEL.len() });
+    let mut writer = Watched::new(Short {
+        left: VOXEL.len(),
+        failures: 0,
+    });
     assert!(rt; save(&scene, &mut writer, &mut steps) == Ok(56));
 }
 
