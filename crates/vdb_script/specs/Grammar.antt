@@ -154,13 +154,15 @@ voxel_value make = do
   v ← one literal_of
   give (make name k p v)
 
--- set, unset and only
+-- set NAME ACCESSOR X Y Z VALUE
 abbrev pub set : Form Command
 set = voxel_value commands.Set
 
+-- unset NAME ACCESSOR X Y Z VALUE
 abbrev pub unset : Form Command
 unset = voxel_value commands.Unset
 
+-- only NAME ACCESSOR X Y Z VALUE
 abbrev pub only : Form Command
 only = voxel_value commands.Only
 
@@ -292,19 +294,19 @@ metas = do
 
 -- ---- the commands
 
--- the word of each operation on two grids or of turns, and the form of what comes behind it
+-- the commands on two grids and those of turns: the word of each, and the form of what comes behind it
 abbrev pub operation_forms : List (List ℕ × Form Command)
 operation_forms = (codes "union", two_grids commands.Union) ∷ (codes "difference", two_grids commands.Difference) ∷ (codes "intersect", two_grids commands.Intersect) ∷ (codes "max", two_grids commands.Max) ∷ (codes "min", two_grids commands.Min) ∷ (codes "sum", two_grids commands.Sum) ∷ (codes "replace", two_grids commands.Replace) ∷ (codes "dilate", turns commands.Dilate) ∷ (codes "erode", turns commands.Erode) ∷ []
 
--- and those of each command on a whole grid
+-- the commands on a whole grid, and then those on two grids and of turns
 abbrev pub grid_forms : List (List ℕ × Form Command)
 grid_forms = (codes "grid", grid) ∷ (codes "drop", drop) ∷ (codes "copy", copy) ∷ (codes "prune", prune) ∷ (codes "bounds", bounds) ∷ (codes "census", census) ∷ (codes "meta", meta) ∷ (codes "unmeta", unmeta) ∷ (codes "metas", metas) ∷ operation_forms
 
--- and those of each command on a box
+-- the commands on a box, and then those on a whole grid, on two grids and of turns
 abbrev pub box_forms : List (List ℕ × Form Command)
 box_forms = (codes "fill", fill) ∷ (codes "clip", clip) ∷ (codes "voxelise", voxelise) ∷ (codes "count", count) ∷ (codes "list", list) ∷ (codes "slice", slice) ∷ grid_forms
 
--- and those of each command on a voxel: these are all commands
+-- all commands: those on a voxel, and then those on a box, on a whole grid, on two grids and of turns
 abbrev pub command_forms : List (List ℕ × Form Command)
 command_forms = (codes "get", get) ∷ (codes "set", set) ∷ (codes "unset", unset) ∷ (codes "only", only) ∷ (codes "state", state) ∷ box_forms
 

@@ -385,7 +385,7 @@ fn command_of(word: &[u8], tokens: &[&[u8]]) -> Option<Command>
     }
 }
 
-/// The command on a box, or one of those below.
+/// The command of a word that is none of a command on a voxel.
 fn box_command_of(word: &[u8], tokens: &[&[u8]]) -> Option<Command>
     ensures { ok_or (option_map Some result) Refusal.Syntax ≡ command_among box_forms word.now (map (λ t. t.now) tokens.now) }
 {
@@ -406,7 +406,7 @@ fn box_command_of(word: &[u8], tokens: &[&[u8]]) -> Option<Command>
     }
 }
 
-/// The command on a whole grid, or one of those below.
+/// The command of a word that is none of a command on a voxel or on a box.
 fn grid_command_of(word: &[u8], tokens: &[&[u8]]) -> Option<Command>
     ensures { ok_or (option_map Some result) Refusal.Syntax ≡ command_among grid_forms word.now (map (λ t. t.now) tokens.now) }
 {
@@ -433,7 +433,7 @@ fn grid_command_of(word: &[u8], tokens: &[&[u8]]) -> Option<Command>
     }
 }
 
-/// The operation on two grids or of turns.
+/// The command of a word, where that is one on two grids or of turns.
 fn operation_of(word: &[u8], tokens: &[&[u8]]) -> Option<Command>
     ensures { ok_or (option_map Some result) Refusal.Syntax ≡ command_among operation_forms word.now (map (λ t. t.now) tokens.now) }
 {
