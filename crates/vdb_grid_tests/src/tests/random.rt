@@ -4,6 +4,7 @@ ghost use Rattle.std.specs.Prelude.{◌<◌};
 
 use super::{Trial, at, fresh, on};
 use std::process::Abort;
+use vdb_composite::SumRefusal;
 use vdb_coord::{Bounds, Coord};
 use vdb_pool::Steps;
 use vdb_tree::{Tree, TreeRefusal, Write};
@@ -58,18 +59,36 @@ impl Draws {
         )
     }
 
+    // A small value, or at times one near the greatest.
     fn value(&mut self) -> i32 {
-        self.below(3) as i32
+        let value = self.below(3) as i32;
+        if self.below(50) == 0 {
+            i32::MAX.wrapping_sub(value)
+        } else {
+            value
+        }
     }
+}
+
+/// A grid, beside what its accessors and its sums were given.
+#[derive(Drop)]
+struct Calls {
+    it: Trial,
+    // The coordinate that each accessor was last given.
+    given: [Option<Coord>; 8],
+    // How many sums were made, and how many were out of range.
+    sums: u32,
+    refused: u32,
 }
 
 // A call on a box, or one that rebuilds the tree. Where it is refused the grid has the cells from before.
 fn rebuild(it: &mut Trial, draws: &mut Draws) {
-    let _ = match (draws.below(5), draws.bounds()) {
+    let _ = match (draws.below(6), draws.bounds()) {
         (0, Some(bounds)) => it.grid.fill(bounds, on(draws.value()), &mut it.steps),
         (1, Some(bounds)) => it.grid.voxelise(bounds, &mut it.steps),
-        (2, _) => it.grid.erode(1, &mut it.steps),
-        (3, _) if draws.below(8) == 0 => it.grid.dilate(1, &mut it.steps),
+        (2, Some(bounds)) => it.grid.clip(bounds, &mut it.steps),
+        (3, _) => it.grid.erode(1, &mut it.steps),
+        (4, _) if draws.below(8) == 0 => it.grid.dilate(1, &mut it.steps),
         _ => {
             it.grid.prune(&mut it.steps);
             Ok(())
@@ -89,14 +108,52 @@ fn combine(it: &mut Trial, other: &Tree<i32>, draws: &mut Draws) {
     };
 }
 
+// The cells around 0 and around an end of the first root block are those of another tree.
+fn expect_cells(rt: &impl Abort, it: &mut Trial, before: &Tree<i32>, draws: &mut Draws) {
+    for _ in 0..500u32 {
+        let p = draws.coord();
+        let cell = before.get(p, &mut it.steps);
+        assert_eq!(rt; it.grid.tree().get(p, &mut it.steps), cell, "at {p:?}");
+    }
+}
+
+// The sum with a tree of another box. Where it is refused no cell changes.
+fn add(
+    rt: &impl Abort,
+    calls: &mut Calls,
+    other: &Tree<i32>,
+    draws: &mut Draws,
+) -> Result<(), TreeRefusal> {
+    let before = calls.it.grid.try_copy()?;
+    match calls.it.grid.sum(other, &mut calls.it.steps) {
+        Ok(()) => calls.sums = calls.sums.wrapping_add(1),
+        Err(refusal) => {
+            if refusal == SumRefusal::SumRange {
+                calls.refused = calls.refused.wrapping_add(1);
+            }
+            expect_cells(rt, &mut calls.it, before.tree(), draws);
+        }
+    }
+    Ok(())
+}
+
+// The grid's copy in its place. No accessor was given a coordinate.
+fn take_copy(calls: &mut Calls) -> Result<(), TreeRefusal> {
+    calls.it.grid = calls.it.grid.try_copy()?;
+    calls.given = [None; 8];
+    Ok(())
+}
+
 // A voxel written, with an accessor or without.
-fn write(it: &mut Trial, k: usize, p: Coord, draws: &mut Draws) {
+fn write(calls: &mut Calls, k: usize, p: Coord, draws: &mut Draws) {
     let change = match draws.below(3) {
         0 => Write::Off(draws.value()),
         1 => Write::State(true),
         _ => Write::On(draws.value()),
     };
+    let it = &mut calls.it;
     let _ = if draws.below(4) > 0 && k < 8 {
+        calls.given[k] = Some(p);
         it.grid.write_by(k, p, change, &mut it.steps)
     } else {
         it.grid.write(p, change, &mut it.steps)
@@ -104,26 +161,38 @@ fn write(it: &mut Trial, k: usize, p: Coord, draws: &mut Draws) {
 }
 
 // A probe gives the tree's cell, and an accessor reaches what it was given by one visit.
-fn check(rt: &impl Abort, it: &mut Trial, k: usize, p: Coord) {
-    let last = if k < 8 { it.grid.cached(k) } else { None };
+fn check(rt: &impl Abort, calls: &mut Calls, k: usize, p: Coord)
+    requires { k < 8 }
+{
+    let (it, last) = (&mut calls.it, calls.given[k]);
+    assert_eq!(rt; it.grid.cached(k), last, "accessor {k}");
     if let Some(q) = last {
         let cell = it.grid.tree().get(q, &mut it.steps);
         it.probes(rt, k, q, cell, 1);
     }
     let cell = it.grid.tree().get(p, &mut it.steps);
     it.probes(rt, k, p, cell, 3);
+    calls.given[k] = Some(p);
 }
 
 // One call, and a check of one accessor.
-fn turn(rt: &impl Abort, it: &mut Trial, other: &Tree<i32>, draws: &mut Draws) {
+fn turn(
+    rt: &impl Abort,
+    calls: &mut Calls,
+    other: &Tree<i32>,
+    draws: &mut Draws,
+) -> Result<(), TreeRefusal> {
     let (k, p) = (draws.below(8) as usize, draws.coord());
-    match draws.below(40) {
-        0 => rebuild(it, draws),
-        1 => combine(it, other, draws),
-        _ => write(it, k, p, draws),
+    match draws.below(240) {
+        0..=5 => rebuild(&mut calls.it, draws),
+        6..=10 => combine(&mut calls.it, other, draws),
+        11 => add(rt, calls, other, draws)?,
+        12 => take_copy(calls)?,
+        _ => write(calls, k, p, draws),
     }
     let (k, p) = (draws.below(8) as usize, draws.coord());
-    check(rt, it, k, p);
+    check(rt, calls, k, p);
+    Ok(())
 }
 
 // A tree with a box, for the calls on two trees.
@@ -137,11 +206,18 @@ fn boxed(rt: &HostRuntime, steps: &mut Steps) -> Result<Tree<i32>, TreeRefusal> 
 
 #[test]
 fn random_calls(rt: HostRuntime) -> Result<(), TreeRefusal> {
-    let mut it = fresh(&rt, 5);
-    let other = boxed(&rt, &mut it.steps)?;
+    let mut calls = Calls {
+        it: fresh(&rt, 5),
+        given: [None; 8],
+        sums: 0,
+        refused: 0,
+    };
+    let other = boxed(&rt, &mut calls.it.steps)?;
     let mut draws = Draws { state: 21 };
     for _ in 0..100_000 {
-        turn(&rt, &mut it, &other, &mut draws);
+        turn(&rt, &mut calls, &other, &mut draws)?;
     }
+    assert!(rt; calls.sums > 0);
+    assert!(rt; calls.refused > 0);
     Ok(())
 }
