@@ -37,18 +37,6 @@ impl Draws {
             Turn::Erode
         }
     }
-
-    // Few turns, or up to as many as there may be.
-    fn turns(&mut self) -> u32
-        ensures some { 1 ≤ result }
-        ensures few { result ≤ 16 }
-    {
-        if self.below(2) == 0 {
-            1 + self.below(3) as u32
-        } else {
-            1 + self.below(16) as u32
-        }
-    }
 }
 
 /// Where the boxes of a shape lie.
@@ -164,18 +152,57 @@ fn draw<
     Ok(())
 }
 
+// Turns of a random shape in small nodes.
+fn turn_in_small_nodes(
+    rt: &(impl Abort + AllocGlobal),
+    place: Place,
+    what: (Turn, u32),
+    draws: &mut Draws,
+    steps: &mut Steps,
+) -> Result<(), TreeRefusal>
+    requires some { 1 ≤ what.1 }
+    requires few { what.1 ≤ 16 }
+{
+    let (turn, turns) = what;
+    let mut tree = Tiny::new(rt.alloc(), 3i32, 4096);
+    draw(&mut tree, [3, 4], place, draws, steps)?;
+    let mut turned = tree.try_copy()?;
+    turn.make(&mut turned, turns, steps)?;
+    let trees = (&tree, &turned);
+    expect_turns(rt, rt.alloc(), trees, what, place.cube(), steps)?;
+    Ok(())
+}
+
+// Turns of a random shape in the nodes of a grid.
+fn turn_of_whole_numbers(
+    rt: &(impl Abort + AllocGlobal),
+    place: Place,
+    what: (Turn, u32),
+    draws: &mut Draws,
+    steps: &mut Steps,
+) -> Result<(), TreeRefusal>
+    requires some { 1 ≤ what.1 }
+    requires few { what.1 ≤ 16 }
+{
+    let (turn, turns) = what;
+    let mut tree = Tree::new(rt.alloc(), 0i32, 4096);
+    draw(&mut tree, [0, -7], place, draws, steps)?;
+    let mut turned = tree.try_copy()?;
+    turn.make(&mut turned, turns, steps)?;
+    let trees = (&tree, &turned);
+    expect_turns(rt, rt.alloc(), trees, what, place.cube(), steps)?;
+    Ok(())
+}
+
 #[test]
 fn shapes_in_small_nodes_grow(rt: HostRuntime) -> Result<(), TreeRefusal> {
     let mut steps = Steps::new(&rt);
     let mut draws = Draws { state: 1 };
-    for place in places(15, [1, 3, 7]) {
-        let mut tree = Tiny::new(rt.alloc(), 3i32, 4096);
-        draw(&mut tree, [3, 4], place, &mut draws, &mut steps)?;
-        let turns = draws.turns();
-        let mut turned = tree.try_copy()?;
-        Turn::Dilate.make(&mut turned, turns, &mut steps)?;
-        let (trees, what) = ((&tree, &turned), (Turn::Dilate, turns));
-        expect_turns(&rt, rt.alloc(), trees, what, place.cube(), &mut steps)?;
+    for turns in 1..=16u32 {
+        for place in places(15, [1, 3, 7]) {
+            let what = (Turn::Dilate, turns);
+            turn_in_small_nodes(&rt, place, what, &mut draws, &mut steps)?;
+        }
     }
     Ok(())
 }
@@ -184,14 +211,11 @@ fn shapes_in_small_nodes_grow(rt: HostRuntime) -> Result<(), TreeRefusal> {
 fn shapes_in_small_nodes_shrink(rt: HostRuntime) -> Result<(), TreeRefusal> {
     let mut steps = Steps::new(&rt);
     let mut draws = Draws { state: 6 };
-    for place in places(15, [1, 3, 7]) {
-        let mut tree = Tiny::new(rt.alloc(), 3i32, 4096);
-        draw(&mut tree, [3, 4], place, &mut draws, &mut steps)?;
-        let turns = draws.turns();
-        let mut turned = tree.try_copy()?;
-        Turn::Erode.make(&mut turned, turns, &mut steps)?;
-        let (trees, what) = ((&tree, &turned), (Turn::Erode, turns));
-        expect_turns(&rt, rt.alloc(), trees, what, place.cube(), &mut steps)?;
+    for turns in 1..=16u32 {
+        for place in places(15, [1, 3, 7]) {
+            let what = (Turn::Erode, turns);
+            turn_in_small_nodes(&rt, place, what, &mut draws, &mut steps)?;
+        }
     }
     Ok(())
 }
@@ -201,10 +225,10 @@ fn shapes_in_small_nodes_shrink(rt: HostRuntime) -> Result<(), TreeRefusal> {
 fn shapes_in_leaves_of_three_bits(rt: HostRuntime) -> Result<(), TreeRefusal> {
     let mut steps = Steps::new(&rt);
     let mut draws = Draws { state: 2 };
-    for place in places(63, [7, 15, 31]) {
+    for (i, place) in places(63, [7, 15, 31]).into_iter().enumerate() {
         let mut tree = Leaves8::new(rt.alloc(), -1i64, 4096);
         draw(&mut tree, [-1, 9], place, &mut draws, &mut steps)?;
-        let (turn, turns) = (draws.turn(), draws.turns());
+        let (turn, turns) = (draws.turn(), 1 + (i.wrapping_mul(7) % 16) as u32);
         let mut turned = tree.try_copy()?;
         turn.make(&mut turned, turns, &mut steps)?;
         let (trees, what) = ((&tree, &turned), (turn, turns));
@@ -217,14 +241,12 @@ fn shapes_in_leaves_of_three_bits(rt: HostRuntime) -> Result<(), TreeRefusal> {
 fn shapes_of_whole_numbers(rt: HostRuntime) -> Result<(), TreeRefusal> {
     let mut steps = Steps::new(&rt);
     let mut draws = Draws { state: 4 };
-    for place in places(31, [7, 7, 15]) {
-        let mut tree = Tree::new(rt.alloc(), 0i32, 4096);
-        draw(&mut tree, [0, -7], place, &mut draws, &mut steps)?;
-        let (turn, turns) = (draws.turn(), draws.turns());
-        let mut turned = tree.try_copy()?;
-        turn.make(&mut turned, turns, &mut steps)?;
-        let (trees, what) = ((&tree, &turned), (turn, turns));
-        expect_turns(&rt, rt.alloc(), trees, what, place.cube(), &mut steps)?;
+    let places = places(31, [7, 7, 15]);
+    for turns in 1..=16u32 {
+        let place = places[1 + (turns % 8) as usize];
+        for turn in [Turn::Dilate, Turn::Erode] {
+            turn_of_whole_numbers(&rt, place, (turn, turns), &mut draws, &mut steps)?;
+        }
     }
     Ok(())
 }
