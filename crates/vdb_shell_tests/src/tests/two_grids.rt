@@ -3,11 +3,12 @@
 use super::expect;
 use vdb_pool::Steps;
 
-/// States of two grids of two kinds, which keep the values.
+/// States of two grids of two kinds, which keep the values, and then commands that are refused there.
 const STATES: &[u8] =
-    b"grid a i32 9\ngrid m bool false\nset m - 1 1 1 true\nunion a m\nget a - 1 1 1\nset a - 1 1 1 4\ndifference a m\nget a - 1 1 1\n";
+    b"grid a i32 9\ngrid m bool false\nset m - 1 1 1 true\nunion a m\nget a - 1 1 1\nset a - 1 1 1 4\ndifference a m\nget a - 1 1 1\nsum m m\nsum a m\nvoxelise a 0 0 0 128 127 127\nget a 8 0 0 0\nget zz - 0 0 0\ncopy m n\nsum m n\n";
 
-const STATES_ANSWERED: &[u8] = b"ok\nok\nok\nok\nvalue 9 on\nok\nok\nvalue 4 off\n";
+const STATES_ANSWERED: &[u8] =
+    b"ok\nok\nok\nok\nvalue 9 on\nok\nok\nvalue 4 off\nerror same-grid\nerror kind\nerror too-large\nerror no-accessor\nerror no-grid\nok\nerror no-sum\n";
 
 /// Values of two grids, whose backgrounds are made one too.
 const VALUES: &[u8] =
@@ -47,7 +48,7 @@ const TILES_ANSWERED: &[u8] =
 fn two_grids_are_made_one(rt: HostRuntime) {
     let mut steps = Steps::new(&rt);
     for (script, answers, status) in [
-        (STATES, STATES_ANSWERED, 0),
+        (STATES, STATES_ANSWERED, 1),
         (VALUES, VALUES_ANSWERED, 1),
         (REFUSED, REFUSALS, 1),
         (FULL, FULL_ANSWERED, 1),
