@@ -483,7 +483,8 @@ pub fn parse(alloc: Global, line: &[u8]) -> Result<Option<Command>, Refusal>
     let Some(tokens) = split_tokens(alloc, rest) else {
         return Err(Refusal::Syntax);
     };
-    command_of(word, tokens.as_slice())
-        .map(Some)
-        .ok_or(Refusal::Syntax)
+    match command_of(word, tokens.as_slice()) {
+        Some(command) => Ok(Some(command)),
+        None => Err(Refusal::Syntax),
+    }
 }

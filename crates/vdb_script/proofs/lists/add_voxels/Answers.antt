@@ -1,4 +1,4 @@
-use Rattle.std.proofs.Common.{◌≡◌, ◌∙◌, ap, arith, rules, ℕ, List, suc, ◌+◌, length, take}
+use Rattle.std.proofs.Common.{◌≡◌, ◌∙◌, ap, arith, rules, List, suc, length, take}
 use Rattle.std.proofs.lemmas.Result.{err_from_is_err_and}
 use Rattle.vdb_coord.specs.declared.Coord.{Coord}
 use Rattle.vdb_scene.specs.Listings.{listed_of}

@@ -1,4 +1,4 @@
-use Rattle.std.proofs.Common.{◌≡◌, ◌∙◌, refl, rules, ap, ℕ, ◌+◌, List, ◌∷◌, Some, drop, slice_get}
+use Rattle.std.proofs.Common.{◌≡◌, ◌∙◌, rules, ap, ℕ, ◌+◌, List, ◌∷◌, Some, drop, slice_get}
 use Rattle.std.proofs.lemmas.List.{drop_more}
 use Rattle.std.proofs.lemmas.Option.{get_or_from_slice_get, slice_get_within}
 use Rattle.std.proofs.lemmas.Result.{err_from_is_err_and}
