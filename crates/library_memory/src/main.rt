@@ -1,6 +1,8 @@
-//! Takes memory by the calls of the library that make room, nodes and copies of them. A call that is refused is told, with what
-//! stands after it, and made once more. The hostile runs refuse each growth of this program in turn.
+//! Takes memory by the calls of the library that make room, nodes and copies of them, and by calls on a grid. A call that is
+//! refused is told, with what stands after it, and made once more. The hostile runs refuse each growth of this program in turn.
 #![tactic(auto)]
+
+mod grid;
 
 use std::process::ExitCode;
 use vdb_coord::Coord;
@@ -24,16 +26,17 @@ fn main(rt: HostRuntime) -> ExitCode {
     leaf(&rt);
     internal(&rt);
     tree(&rt, &mut steps);
+    grid::grid(&rt);
     ExitCode::from(0)
 }
 
 /// Tells what became of a call.
-fn tell(rt: &HostRuntime, call: &str, outcome: &str) {
+pub(crate) fn tell(rt: &HostRuntime, call: &str, outcome: &str) {
     let _ = println!(rt; "{call}: {outcome}");
 }
 
 /// Tells that a call was refused, and whether all is as it was before.
-fn tell_refused(rt: &HostRuntime, call: &str, is_kept: bool) {
+pub(crate) fn tell_refused(rt: &HostRuntime, call: &str, is_kept: bool) {
     tell(
         rt,
         call,
@@ -46,7 +49,7 @@ fn tell_refused(rt: &HostRuntime, call: &str, is_kept: bool) {
 }
 
 /// Tells whether a call gave what it should.
-fn tell_done(rt: &HostRuntime, call: &str, is_right: bool) {
+pub(crate) fn tell_done(rt: &HostRuntime, call: &str, is_right: bool) {
     tell(rt, call, if is_right { "done" } else { "done, but wrong" });
 }
 

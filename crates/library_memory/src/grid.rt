@@ -1,0 +1,231 @@
+//! A grid whose accessors were given coordinates, with calls on it that take memory.
+
+ghost use Rattle.std.specs.Prelude.{◌<◌};
+
+use crate::{tell, tell_done, tell_refused};
+use vdb_coord::{Bounds, Coord};
+use vdb_grid::Grid;
+use vdb_pool::Steps;
+use vdb_tree::Write;
+use vdb_value::Cell;
+
+/// How many accessors the grid has.
+const ACCESSORS: usize = 8;
+
+/// How many root blocks the grid may have.
+const LIMIT: u32 = 16;
+
+/// The accessor by which a voxel is written, and that voxel.
+const WRITER: usize = 3;
+
+const WRITTEN: Coord = Coord { x: 129, y: 1, z: 1 };
+
+/// The cells at an accessor's last coordinate and beside it; none where it has no coordinate.
+type Seen = Option<(Cell<i32>, Cell<i32>)>;
+
+/// The calls, in their order.
+const CALLS: [Call; 7] = [
+    Call::Write,
+    Call::Fill,
+    Call::Copy,
+    Call::Sum,
+    Call::Clip,
+    Call::Unite,
+    Call::Dilate,
+];
+
+#[derive(Clone, Copy)]
+enum Call {
+    Write,
+    Fill,
+    Copy,
+    Sum,
+    Clip,
+    Unite,
+    Dilate,
+}
+
+impl Call {
+    fn name(self) -> &'static str {
+        match self {
+            Call::Write => "grid write",
+            Call::Fill => "grid fill",
+            Call::Copy => "grid copy",
+            Call::Sum => "grid sum",
+            Call::Clip => "grid clip",
+            Call::Unite => "grid unite",
+            Call::Dilate => "grid dilate",
+        }
+    }
+
+    /// A voxel that the call changes, or for a copy one that is copied, and its cell after the call.
+    fn outcome(self) -> (Coord, Cell<i32>) {
+        match self {
+            Call::Write => (WRITTEN, on(7)),
+            Call::Fill => (at(130, 7, 7), on(3)),
+            Call::Copy => (WRITTEN, on(3)),
+            Call::Sum => (at(1, 2, 3), on(6)),
+            Call::Clip => (WRITTEN, off(0)),
+            Call::Unite => (WRITTEN, on(0)),
+            Call::Dilate => (at(131, 1, 1), on(0)),
+        }
+    }
+}
+
+fn at(x: i32, y: i32, z: i32) -> Coord {
+    Coord { x, y, z }
+}
+
+fn on(value: i32) -> Cell<i32> {
+    Cell { value, on: true }
+}
+
+fn off(value: i32) -> Cell<i32> {
+    Cell { value, on: false }
+}
+
+/// The other voxel of the same leaf block in whose x the last bit differs.
+fn beside(p: Coord) -> Coord {
+    at(p.x ^ 1, p.y, p.z)
+}
+
+/// The box from the origin to a coordinate, or that coordinate alone.
+fn up_to(p: Coord) -> Bounds {
+    Bounds::new(at(0, 0, 0), p).unwrap_or(Bounds::single(p))
+}
+
+/// The grid, a copy of it once there is one, and how many nodes were visited.
+#[derive(Drop)]
+struct Watched {
+    grid: Grid<i32, ACCESSORS>,
+    copy: Option<Grid<i32, ACCESSORS>>,
+    steps: Steps,
+}
+
+impl Watched {
+    /// The cell of a voxel through an accessor; none where the look-up visits more than one node.
+    fn look(&mut self, k: usize, p: Coord) -> Option<Cell<i32>>
+        requires { k < ACCESSORS }
+    {
+        let before = self.steps.count();
+        let cell = self.grid.probe(k, p, &mut self.steps);
+        if self.steps.count().saturating_sub(before) > 1 {
+            return None;
+        }
+        Some(cell)
+    }
+
+    /// What an accessor sees in the leaf block of its last coordinate, where each look-up visits at most one node.
+    fn near(&mut self, k: usize) -> Seen
+        requires { k < ACCESSORS }
+    {
+        let p = self.grid.cached(k)?;
+        let other = self.look(k, beside(p))?;
+        let cell = self.look(k, p)?;
+        Some((cell, other))
+    }
+
+    /// What it should see, by look-ups from the root.
+    fn wanted(&mut self, k: usize) -> Seen
+        requires { k < ACCESSORS }
+    {
+        let p = self.grid.cached(k)?;
+        let cell = self.grid.tree().get(p, &mut self.steps);
+        let other = self.grid.tree().get(beside(p), &mut self.steps);
+        Some((cell, other))
+    }
+
+    /// What all accessors should see.
+    fn all_wanted(&mut self) -> [Seen; ACCESSORS] {
+        let mut all = [None; ACCESSORS];
+        for k in 0..ACCESSORS {
+            all[k] = self.wanted(k);
+        }
+        all
+    }
+
+    /// Whether the accessors see this.
+    fn sees(&mut self, wanted: &[Seen; ACCESSORS]) -> bool {
+        for k in 0..ACCESSORS {
+            if self.near(k) != wanted[k] {
+                return false;
+            }
+        }
+        true
+    }
+
+    /// Makes a call. The answer says whether it was carried out.
+    fn make(&mut self, call: Call) -> bool {
+        let steps = &mut self.steps;
+        match call {
+            Call::Write => {
+                let written = self.grid.write_by(WRITER, WRITTEN, Write::On(7), steps);
+                written.is_ok()
+            }
+            Call::Fill => self.grid.fill(up_to(at(130, 7, 7)), on(3), steps).is_ok(),
+            Call::Copy => self.make_copy(),
+            Call::Clip => self.grid.clip(up_to(at(70, 7, 7)), steps).is_ok(),
+            Call::Dilate => self.grid.dilate(1, steps).is_ok(),
+            Call::Sum | Call::Unite => self.make_with_copy(call),
+        }
+    }
+
+    fn make_copy(&mut self) -> bool {
+        match self.grid.try_copy() {
+            Ok(copy) => {
+                self.copy = Some(copy);
+                true
+            }
+            Err(_) => false,
+        }
+    }
+
+    /// Makes a call that reads the copy.
+    fn make_with_copy(&mut self, call: Call) -> bool {
+        let Some(copy) = &self.copy else {
+            return false;
+        };
+        match call {
+            Call::Sum => self.grid.sum(copy.tree(), &mut self.steps).is_ok(),
+            _ => self.grid.unite(copy.tree(), &mut self.steps).is_ok(),
+        }
+    }
+
+    /// Whether the cell that tells of a call is as the call makes it, in the copy too where it made one.
+    fn has_made(&mut self, call: Call) -> bool {
+        let (p, cell) = call.outcome();
+        if let (Call::Copy, Some(copy)) = (call, &self.copy) {
+            return copy.tree().get(p, &mut self.steps) == cell;
+        }
+        self.grid.tree().get(p, &mut self.steps) == cell
+    }
+
+    /// Makes a call, and where it is refused, makes it once more.
+    fn attempt(&mut self, rt: &HostRuntime, call: Call) {
+        let before = self.all_wanted();
+        if !self.make(call) {
+            tell_refused(rt, call.name(), self.sees(&before));
+            if !self.make(call) {
+                return tell(rt, call.name(), "refused again");
+            }
+        }
+        let after = self.all_wanted();
+        tell_done(rt, call.name(), self.has_made(call) && self.sees(&after));
+    }
+}
+
+/// Makes a grid, gives coordinates to three of its accessors, and makes the calls. The writer's coordinate is in a leaf that
+/// the calls make and change, one is in tiles and one outside all.
+pub fn grid(rt: &HostRuntime) {
+    let mut watched = Watched {
+        grid: Grid::new(rt.alloc(), 0, LIMIT),
+        copy: None,
+        steps: Steps::new(rt),
+    };
+    let _ = watched.grid.probe(0, at(1, 2, 3), &mut watched.steps);
+    let _ = watched.grid.probe(WRITER, WRITTEN, &mut watched.steps);
+    let _ = watched.grid.probe(7, at(5000, 0, 0), &mut watched.steps);
+    for call in CALLS {
+        watched.attempt(rt, call);
+    }
+}
