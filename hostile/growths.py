@@ -6,7 +6,8 @@ refused, the first, then the second, until a run meets none; where a row has mor
 in turn, and then as many again at even distances, with the last three. TURNS names another number than 60. Each of these
 runs is checked:
 
-- The command during which the growth was refused answers `error memory`, and nothing else does.
+- The command during which the growth was refused answers `error memory`, and nothing else does. A command that the row has refused
+  for something else is refused for that; `memory` may stand in its place for the root limit of a dilation alone.
 - The scene that stands then saves the same bytes as the scene before that command.
 - Each accessor with a last coordinate gives the same answer there as before.
 - The command given again, and all that follow, have the row's answers.
@@ -68,6 +69,11 @@ def probes(lines, answers):
         if words[0] in BY_ACCESSOR and words[2] != "-" and reached:
             last[words[1], words[2]] = words[3:6]
     return [" ".join(["get", *key, *at]).encode() for key, at in last.items()]
+
+
+def is_either(line, refusal):
+    """Whether `memory` may stand in place of this refusal: only for the root limit of a dilation, which is found as it is made."""
+    return line.startswith(b"dilate ") and refusal == b"error root-limit\n"
 
 
 def turns(growths):
@@ -151,10 +157,10 @@ class Row:
         lines = [*self.lines[: place + 1], *asked]
         then = self.run(lines, refuse_growth=turn)
         before = b"".join(self.answers[:place])
-        # a command that is refused in any case may be refused for that
-        refusal = self.answers[place]
-        is_other = refusal.startswith(b"error ") and then.answers.startswith(before + refusal)
-        wanted = before + (refusal if is_other else MEMORY) + given
+        refusal = self.answers[place] if self.answers[place].startswith(b"error ") else MEMORY
+        if is_either(line, refusal) and then.answers.startswith(before + MEMORY):
+            refusal = MEMORY
+        wanted = before + refusal + given
         self.check(then.answers == wanted, f"{what}: the refused command and the probes after it answer otherwise")
         self.check(then.saved == saved, f"{what}: the scene is not the one before")
         again = self.run([*lines, *self.lines[place:]], refuse_growth=turn)

@@ -31,6 +31,23 @@ def answer_lost(run, wrong):
     return replace(run, answers=run.answers[:-2] + b"~\n") if "refuse_growth" in wrong else run
 
 
+def memory_for_limit(run, wrong):
+    """The command that met a refusal answers `memory` in place of the root limit."""
+    at = run.counts.get("refused-after", len(run.answers))
+    return replace(run, answers=run.answers[:at] + re.sub(b"^error root-limit", b"error memory", run.answers[at:]))
+
+
+def refused_later(run, wrong):
+    """The line after the one that met a refusal meets it."""
+    counts = run.counts
+    return replace(run, counts={**counts, "refused-after": counts["refused-after"] + 3}) if "refused-after" in counts else run
+
+
+def scene_lost_for_good(run, wrong):
+    """Where memory runs out for good, a refused command changes the scene."""
+    return scene_lost(run, wrong) if "refuse_all_from_there" in wrong else run
+
+
 def growth_unmet(run, wrong):
     """The shim isn't asked."""
     return replace(run, counts={})
@@ -52,6 +69,11 @@ def taken(old, status=0):
         return replace(run, status=status, errors=b"", saved=b"") if run.errors == old else run
 
     return plant
+
+
+def wrong_words_taken(run, wrong):
+    """Wrong words are told and passed over."""
+    return replace(run, status=0) if run.status == 2 else run
 
 
 def saved_after_fault(run, wrong):
@@ -112,6 +134,9 @@ FAULTS = [
     ("memory-hidden", ["growths", "dilate-and-erode"], memory_hidden),
     ("scene-lost", ["growths", "dilate-and-erode"], scene_lost),
     ("answer-lost", ["growths", "dilate-and-erode"], answer_lost),
+    ("memory-in-place-of-root-limit", ["growths", "root-limit-everywhere"], memory_for_limit),
+    ("memory-taken-by-a-line-that-takes-none", ["growths", "no-memory"], refused_later),
+    ("scene-lost-for-good", ["growths", "dilate-and-erode"], scene_lost_for_good),
     ("growth-unmet", ["growths", "metadata"], growth_unmet),
     ("library-unrefused", ["library"], library_unrefused),
     ("library-changed", ["library"], library_changed),
@@ -141,6 +166,8 @@ FAULTS = [
     ("long-script-taken", ["scripts", "longest"], taken(b"vdb: script: too-long\n")),
     ("long-script-read-on", ["scripts", "longest"], read_too_far),
     ("endless-script-taken", ["scripts", "endless"], taken(b"vdb: script: too-long\n")),
+    ("missing-script-is-empty", ["scripts", "by_name"], taken(b"vdb: script: read\n")),
+    ("wrong-words-taken", ["scripts", "words"], wrong_words_taken),
     ("prune-changes", ["fuzz", "scripts", "30"], prune_changes),
 ]
 
