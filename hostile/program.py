@@ -1,5 +1,6 @@
 """Runs the built program, with one of its calls of the C library made to go wrong where that is asked for."""
 import os
+import signal
 import subprocess
 import sys
 import tempfile
@@ -44,39 +45,63 @@ class Workplace:
         """Plays a script (bytes, or the path of a file) from standard input or `named` as a word, on what `load` holds
         (bytes, or the path of a file to load), and saves as `save_as` or in a file of its own. `more` are the last words of
         the command line. What is to go wrong is named as for `played`."""
-        saved, words = Path(save_as or self.folder / "saved"), []
+        saved, words = str(save_as or self.folder / "saved"), []
         if save_as is None:
-            saved.unlink(missing_ok=True)
+            without(saved)
         if load is not None:
             words += ["--load", self.kept("loaded", load)]
-        words += ["--save", str(saved)]
+        words += ["--save", saved]
         path = self.kept("script", script)
         words += [path] if named else []
         run = self.played([*words, *more], "/dev/null" if named else path, seconds, **wrong)
-        return replace(run, saved=saved.read_bytes()) if saved.exists() else run
+        return replace(run, saved=content(saved)) if os.path.exists(saved) else run
 
-    def played(self, words, path, seconds=PATIENCE, **wrong):
+    def played(self, words, path, seconds=PATIENCE, counted=True, **wrong):
         """Runs the program with these words and the file at `path` as standard input. What is to go wrong is named as in refuse.c,
-        in small letters."""
-        report = self.folder / "report"
-        report.unlink(missing_ok=True)
-        environment = {"REPORT": str(report), "LD_PRELOAD": str(self.shim)}
+        in small letters. Where a run isn't `counted` nothing can go wrong, and it is quicker."""
+        report, answers, errors = (str(self.folder / name) for name in ("report", "answers", "errors"))
+        without(report)
+        environment = {"REPORT": report, "LD_PRELOAD": str(self.shim)} if counted else {}
         environment.update((name.upper(), str(value)) for name, value in wrong.items())
+        new = os.O_WRONLY | os.O_CREAT | os.O_TRUNC
+        opened = [(os.POSIX_SPAWN_OPEN, 1, answers, new, 0o600), (os.POSIX_SPAWN_OPEN, 2, errors, new, 0o600)]
         with open(path, "rb") as given:
-            how = {"stdin": given, "capture_output": True, "env": environment, "timeout": seconds, "close_fds": False}
-            try:
-                done = subprocess.run([self.program, *words], **how)
-            except subprocess.TimeoutExpired:
-                return Run(-1, b"", f"no end in {seconds} seconds".encode(), None)
-        return Run(done.returncode, done.stdout, done.stderr, None, counts(report))
+            actions = [(os.POSIX_SPAWN_DUP2, given.fileno(), 0), *opened]
+            status = end_of(os.posix_spawn(self.program, [self.program, *words], environment, file_actions=actions), seconds)
+        if status == -signal.SIGKILL:
+            return Run(status, b"", f"killed, or no end in {seconds} seconds".encode(), None)
+        return Run(status, content(answers), content(errors), None, counts(report) if counted else {})
 
-    def kept(self, name, content):
-        """The path of a file with this content, which may be a path itself."""
-        if not isinstance(content, bytes):
-            return str(content)
-        path = self.folder / name
-        path.write_bytes(content)
-        return str(path)
+    def kept(self, name, text):
+        """The path of a file that holds this text, which may be a path itself."""
+        if not isinstance(text, bytes):
+            return str(text)
+        path = str(self.folder / name)
+        with open(path, "wb") as file:
+            file.write(text)
+        return path
+
+
+def content(path):
+    with open(path, "rb") as file:
+        return file.read()
+
+
+def without(path):
+    """Removes this file if it is there."""
+    try:
+        os.unlink(path)
+    except FileNotFoundError:
+        pass
+
+
+def end_of(child, seconds):
+    """Waits for this process, which is killed after so many seconds: its status, or the number of a signal below 0."""
+    signal.signal(signal.SIGALRM, lambda *_: os.kill(child, signal.SIGKILL))
+    signal.alarm(seconds)
+    status = os.waitpid(child, 0)[1]
+    signal.alarm(0)
+    return os.waitstatus_to_exitcode(status)
 
 
 def some(cases):
@@ -86,10 +111,9 @@ def some(cases):
 
 def counts(report):
     """What the shim reported, by its words."""
-    try:
-        lines = report.read_text().split("\n")
-    except FileNotFoundError:
+    if not os.path.exists(report):
         return {}
+    lines = content(report).decode().split("\n")
     return {word: int(number) for word, number in (line.split(" ") for line in lines if line)}
 
 

@@ -13,12 +13,12 @@ WRONG = ["", "# a comment", "nothing a", "set a 9 0 0 0 1", "get a - 0 0 2147483
 
 
 class Script:
-    """Makes lines one behind another. It knows the kind of each grid, as far as its lines are accepted. Whole root blocks are
-    filled in some scripts alone, in which nothing is dilated or eroded, since that would make millions of leaves."""
+    """Makes lines one behind another. It knows the kind of each grid, as far as its lines are accepted. Whole blocks of more than
+    8 voxels along an axis are filled in some scripts alone. There little is dilated or eroded, since that makes many leaves."""
 
     def __init__(self, chance):
         self.chance, self.kinds, self.last = chance, {}, [0, 0, 0]
-        self.large = chance.random() < 0.3
+        self.span = chance.choice([8, 8, 8, 128, 128, 4096])
 
     def part(self):
         return self.chance.choice(FAR if self.chance.random() < 0.02 else EDGES)
@@ -32,17 +32,18 @@ class Script:
         return " ".join(str(at) for at in self.last)
 
     def box(self, most):
-        """A box of a few voxels in two directions, or with edges of blocks, of at most `most` root blocks a side."""
+        """A box of a few voxels in two directions, or one of whole blocks, of at most `most` along an axis."""
         if self.chance.random() < 0.3:
-            span = self.chance.choice([8, 128, 4096 if self.large else 128])
+            span = self.chance.choice([8, self.span])
             low = [self.chance.randint(-2, 2) * span for _ in range(3)]
             high = [at + span * self.chance.randint(1, most) - 1 for at in low]
         else:
             low = [self.part() for _ in range(3)]
-            high = [at + self.chance.randint(0, 20) for at in low]
-            if self.chance.random() < 0.3:
-                axis = self.chance.randrange(3)
-                high[axis] += self.chance.randint(0, 5000)
+            size = self.chance.choice([0, 2, 2, 10])
+            high = [at + self.chance.randint(0, size) for at in low]
+            if size < 10 and self.chance.random() < 0.3:
+                high[self.chance.randrange(3)] += self.chance.choice([10, 150, 150, 5000])
+        self.last = self.chance.choice([low, high])
         return " ".join(str(at) for at in low + high)
 
     def name(self):
@@ -78,7 +79,7 @@ class Script:
         return f"{self.chance.choice(PAIRS)} {self.name()} {self.name()}"
 
     def turns(self):
-        turns = 17 if self.large else self.chance.choice([1, 1, 2, 3, 0])
+        turns = self.chance.choice({8: [1, 1, 2, 3, 0], 128: [1, 17, 17, 17], 4096: [17]}[self.span])
         return f"{self.chance.choice(['dilate', 'erode'])} {self.name()} {turns}"
 
     def whole(self):
