@@ -38,9 +38,9 @@ def memory_for_limit(run, wrong):
 
 
 def refused_later(run, wrong):
-    """The line after the one that met a refusal meets it."""
+    """The third line of a row, and not the second, meets the refusal."""
     counts = run.counts
-    return replace(run, counts={**counts, "refused-after": counts["refused-after"] + 3}) if "refused-after" in counts else run
+    return replace(run, counts={**counts, "refused-after": 6}) if counts.get("refused-after") == 3 else run
 
 
 def scene_lost_for_good(run, wrong):
@@ -134,7 +134,7 @@ FAULTS = [
     ("memory-hidden", ["growths", "dilate-and-erode"], memory_hidden),
     ("scene-lost", ["growths", "dilate-and-erode"], scene_lost),
     ("answer-lost", ["growths", "dilate-and-erode"], answer_lost),
-    ("memory-in-place-of-root-limit", ["growths", "root-limit-everywhere"], memory_for_limit),
+    ("memory-in-place-of-root-limit", ["growths", "refused-with-memory-too"], memory_for_limit),
     ("memory-taken-by-a-line-that-takes-none", ["growths", "no-memory"], refused_later),
     ("scene-lost-for-good", ["growths", "dilate-and-erode"], scene_lost_for_good),
     ("growth-unmet", ["growths", "metadata"], growth_unmet),
