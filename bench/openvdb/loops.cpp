@@ -101,11 +101,11 @@ void pairs() {
     };
     report("united with the same blocks", "leaf", all, times([&] { tree.topologyUnion(same); }));
     report("intersected with the same blocks", "leaf", all, times([&] { tree.topologyIntersection(same); }));
-    report("united with half of the same blocks", "leaf", LEAVES, [&] { tree.topologyUnion(half); });
     report("the same blocks subtracted", "leaf", all, times([&] { tree.topologyDifference(same); }));
     composite("summed with the same blocks", tree, same, [](Tree& a, Tree& b) { openvdb::tools::compSum(a, b); });
     composite("maximum with the same blocks", tree, same, [](Tree& a, Tree& b) { openvdb::tools::compMax(a, b); });
     composite("replaced by the same blocks", tree, same, [](Tree& a, Tree& b) { openvdb::tools::compReplace(a, b); });
+    report("united with half of the same blocks", "leaf", LEAVES, [&] { tree.topologyUnion(half); });
     report("united with an empty tree", "leaf", all, times([&] { tree.topologyUnion(nothing); }));
     composite("summed with an empty tree", tree, nothing, [](Tree& a, Tree& b) { openvdb::tools::compSum(a, b); });
     std::printf("%u leaves\n", tree.leafCount());
