@@ -92,6 +92,7 @@ impl<V: Stored<512> + Stored<64> + Stored<8>, const K: usize> Grid<V, K> {
 
     /// The cell of a voxel through an accessor: by the descent from the lowest node that the accessor caches and that contains
     /// the voxel (OpenVDB's `ValueAccessor::getValue`). In the leaf block of the last coordinate it visits at most one node.
+    #[inline(always)]
     pub fn probe(&mut self, k: usize, p: Coord, steps: &mut Steps) -> Cell<V>
         requires { k < K }
         ensures cell { result ≡ (field_of vdb self.old.tree).cell p }
@@ -114,6 +115,7 @@ impl<V: Stored<512> + Stored<64> + Stored<8>, const K: usize> Grid<V, K> {
     }
 
     /// The cell of a voxel in the leaf that the accessor's path ends in, where that holds it.
+    #[inline(always)]
     fn near_cell(&self, k: usize, p: Coord, steps: &mut Steps) -> Option<Cell<V>>
         requires { k < K }
         ensures answer { is_some result ≡ has_leaf (last self.now.coords k) (path self.now.paths k) p }
@@ -127,6 +129,7 @@ impl<V: Stored<512> + Stored<64> + Stored<8>, const K: usize> Grid<V, K> {
 
     /// The cell of a voxel by the descent from the lowest node of the accessor's path that contains it. The accessor then
     /// caches the path to the voxel.
+    #[inline(never)]
     fn go_to(&mut self, k: usize, p: Coord, steps: &mut Steps) -> Cell<V>
         requires { k < K }
         ensures cell { result ≡ (field_of vdb self.old.tree).cell p }
@@ -160,6 +163,7 @@ impl<V: Stored<512> + Stored<64> + Stored<8>, const K: usize> Grid<V, K> {
     }
 
     /// Writes a voxel, as the tree's `write` does, and traces the path of each accessor anew.
+    #[inline(never)]
     pub fn write(
         &mut self,
         p: Coord,
@@ -186,6 +190,7 @@ impl<V: Stored<512> + Stored<64> + Stored<8>, const K: usize> Grid<V, K> {
     /// Writes a voxel through an accessor, which then caches the path to it, whether the write is accepted or refused. Where the
     /// cached path ends in a leaf that holds the voxel, that leaf alone is visited (OpenVDB's `ValueAccessor::setValue`); in any
     /// other leaf it takes the descent from the lowest cached node that contains the voxel.
+    #[inline(always)]
     pub fn write_by(
         &mut self,
         k: usize,
@@ -219,6 +224,7 @@ impl<V: Stored<512> + Stored<64> + Stored<8>, const K: usize> Grid<V, K> {
 
     /// Writes a voxel in the leaf that the accessor's path ends in, where that holds the voxel, by one visit. The answer says
     /// whether it does; where it doesn't, nothing changes.
+    #[inline(always)]
     fn write_near(&mut self, k: usize, p: Coord, change: Write<V>, steps: &mut Steps) -> bool
         requires { k < K }
         ensures answer { result ≡ has_leaf (last self.old.coords k) (path self.old.paths k) p }
