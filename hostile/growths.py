@@ -117,7 +117,7 @@ class Row:
         run = self.run(self.lines, refuse_growth=turn)
         if "refused-after" not in run.counts:
             self.check(beyond, f"growth {turn} was never met")
-            self.check(MEMORY not in run.answers, "want of memory is answered where no growth was refused")
+            self.check(MEMORY not in run.answers, "lack of memory is answered where no growth was refused")
             self.check(run.answers == b"".join(self.answers), "the answers are not the row's")
             return
         line = self.refused_line(run.counts["refused-after"])

@@ -12,7 +12,7 @@ NAME = os.environ.get("PLANTED", "")
 
 
 def memory_unasked(run, wrong):
-    """Want of memory is answered where no growth was refused."""
+    """Lack of memory is answered where no growth was refused."""
     return run if "refuse_growth" in wrong else replace(run, answers=run.answers.replace(b"ok\n", b"error memory\n", 1))
 
 
