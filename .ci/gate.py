@@ -2,9 +2,8 @@
 """rt ci, which shares out the processors in another way.
 
 rt ci gives each task one processor: the proof of a crate, of its tests, and its must-fail edits. Most crates here stand on one
-another, so that for hours one proof would hold up all others, on one processor. Here the proofs of crates come one after another, each on
-all processors but one; the one that is left tries edits and proves tests, and takes all of them once no crate is left to prove. What
-is read, proved, run and tried, and what fails, is rt's own: only the function that says when a task runs gives way to `in_turn`.
+another, so that for hours one proof would hold up all others, on one processor. Here a proof gets all of them that no other proof waits for
+(lanes.py). What is read, proved, run and tried, and what fails, is rt's own: only the function that says when a task runs gives way.
 In a kit whose rt has no such function, this is rt ci. With names of crates it does so for these and those below them alone, on a copy, as
 rt ci does with names.
 """
@@ -13,10 +12,11 @@ import importlib.util
 import os
 import shutil
 import sys
-from concurrent.futures import FIRST_COMPLETED, ThreadPoolExecutor, wait
+import time
 
-# the memory that one job of a proof takes, in bytes, as measured for the largest crate
-JOB = 3_500_000_000
+from lanes import in_turn
+
+BEGUN = time.time()
 
 
 def load():
@@ -27,54 +27,39 @@ def load():
     return made
 
 
+def lengths(tasks):
+    """How long each task is: a crate's lines for a proof or a seed, from which its edits begin, and an eighth for what begins with a seed."""
+    lines = {key[0]: task[1] for key, task in tasks.items() if key[1] == "proof"}
+    parts = {"seed": 1, "edits": 8, "sound": 8}
+    return {key: lines[key[0]] // parts[key[1]] if key[1] in parts else task[1] for key, task in tasks.items()}
+
+
+def told(key, call):
+    """The task's call, which also prints when it ended and how long it took, where that is a second or more."""
+
+    def timed(given, jobs):
+        start = time.time()
+        result = call(given, jobs)
+        end = time.time()
+        if end - start >= 1:
+            print(f"{' '.join(str(it) for it in key)}: {end - start:.0f} s by {jobs}, ended at {(end - BEGUN) / 60:.1f} min", flush=True)
+        return result
+
+    return timed
+
+
+def in_lanes(tasks):
+    """Runs rt's tasks as in_turn does."""
+    long = lengths(tasks)
+    with rt.ending():
+        return in_turn(
+            {key: (waits, long[key], needs, told(key, call)) for key, (waits, _, needs, call) in tasks.items()},
+            rt.processors(),
+            0.85 * rt.free(),
+        )
+
+
 rt = load()
-
-
-def chains(tasks):
-    """For each task the lines of the longest chain of tasks that begins with it."""
-    behind = {key: 0 for key in tasks}
-    for key in reversed([*tasks]):
-        behind[key] += tasks[key][1]
-        for below in tasks[key][0]:
-            behind[below] = max(behind[below], behind[key])
-    return behind
-
-
-def in_turn(tasks):
-    """Runs rt's tasks, each once those that it waits for have ended, and returns what each gave. A task is what it waits for,
-    its lines, its memory, and a call that gets what was given and how many jobs it may use. One without lines has nothing to do."""
-    lanes = max(1, min(rt.processors(), int(0.85 * rt.free() / JOB)))
-    behind = chains(tasks)
-    left, running, given = sorted(tasks, key=lambda key: -behind[key]), {}, {}
-    is_proof = lambda key: key[1] == "proof"
-    with ThreadPoolExecutor(len(tasks)) as pool:
-
-        def start(key, jobs):
-            left.remove(key)
-            running[pool.submit(tasks[key][3], given, jobs)] = key, jobs
-
-        while left or running:
-            ready = [key for key in left if all(below in given for below in tasks[key][0])]
-            for key in [key for key in ready if not tasks[key][1]]:
-                start(key, 1)
-            idle = lanes - sum(jobs for key, jobs in running.values() if tasks[key][1])
-            proofs = [key for key in ready if is_proof(key) and tasks[key][1]]
-            others = [key for key in ready if not is_proof(key) and tasks[key][1]]
-            proving = any(is_proof(key) for key, _ in running.values())
-            if proofs and not proving:
-                jobs = max(1, lanes - 1)
-                start(proofs[0], jobs)
-                idle, proving = idle - jobs, True
-            proving = proving or any(is_proof(key) for key in left)
-            while others and idle > 0:
-                jobs = 1 if proving or others[0][1] == "edits" else max(1, idle // len(others))
-                start(others.pop(0), jobs)
-                idle -= jobs
-            for done in wait(running, return_when=FIRST_COMPLETED).done:
-                given[running.pop(done)[0]] = done.result()
-    return given
-
-
-if all(hasattr(rt, name) for name in ("in_lanes", "processors", "free")):
-    rt.in_lanes = in_turn
+if all(hasattr(rt, name) for name in ("in_lanes", "processors", "free", "ending")):
+    rt.in_lanes = in_lanes
 sys.exit(rt.main(["ci", *sys.argv[1:]]))

@@ -151,6 +151,7 @@ impl<V: Stored<512> + Stored<64> + Stored<8>, const K: usize> Grid<V, K> {
 
     /// Where a descent to `p` through an accessor begins: the coordinate that it was last given with the path to it, or `p`
     /// without a node.
+    #[inline(always)]
     fn start(&self, k: usize, p: Coord) -> (Coord, Path<V>)
         requires { k < K }
         ensures value { (q : Coord) → last self.now.coords k ≡ Some q → result ≡ (q, path self.now.paths k) }

@@ -34,8 +34,8 @@ module _ {V : Type 0} (bits : Bits) (t : Layout V) (q p : Coord) where
   leaf_child f e h = child_as t.leaves (lower_entry bits t q) (lower_entry bits t p) f (lower_by_block bits t q p e) h
 
   -- the leaf that a path to q ends in holds p where one block holds both
-  pub leaf_slot : (u l : Place (List (Entry V))) (f : Place (LeafOf V)) → Lives bits t (ToLeaf u l f) q → coord_eq (block_number bits Leaf q) (block_number bits Leaf p) ≡ true → lower_entry bits t p ≡ Child f.slot
-  leaf_slot u l f h e = (leaf_child f (coord_exact _ _ e) h.2).child
+  pub leaf_shared : (u l : Place (List (Entry V))) (f : Place (LeafOf V)) → Lives bits t (ToLeaf u l f) q → coord_eq (block_number bits Leaf q) (block_number bits Leaf p) ≡ true → IsChildAt t.leaves (lower_entry bits t p) f
+  leaf_shared u l f h e = leaf_child f (coord_exact _ _ e) h.2
 
   upper_lives : (u : Place (List (Entry V))) → Lives bits t (ToUpper u) q → Lives bits t (common_upper bits q p u) p
   upper_lives u h =

@@ -3,12 +3,13 @@
 ghost use Rattle.std.specs.Prelude.{◌≡◌, ◌+◌, ◌≤◌};
 ghost use Rattle.vdb_node.specs.declared.Entry.TheVariants.{Child};
 ghost use Rattle.vdb_tree.specs.Layout.{bits_of, cell_at, field_of, lower_entry, root_entry, upper_entry};
+ghost use Rattle.vdb_tree.specs.Paths.{IsChildAt};
 
 use crate::TreeOf;
 use crate::nodes::held_place;
 use vdb_coord::{Coord, Level};
-use vdb_node::{Entry, Stored};
-use vdb_pool::Steps;
+use vdb_node::{Entry, Internal, Leaf, Stored};
+use vdb_pool::{Place, Steps};
 use vdb_value::Cell;
 
 impl<
@@ -62,7 +63,7 @@ impl<
         }
     }
 
-    /// The entry of the upper node around p that holds p.
+    /// The entry of the upper node around p, in this slot, that holds p.
     pub(crate) fn upper_entry(&self, upper: u32, p: Coord, steps: &mut Steps) -> Entry<V>
         requires { root_entry (bits_of U L F) self.now p ≡ Child upper }
         ensures value { upper_entry (bits_of U L F) self.now p ≡ result }
@@ -73,7 +74,23 @@ impl<
         self.uppers.at(place, steps).entry(offset)
     }
 
-    /// The entry of the lower node around p that holds p.
+    /// The entry of the upper node around p, at its place, that holds p.
+    #[inline(always)]
+    pub(crate) fn upper_entry_at(
+        &self,
+        upper: Place<Internal<V, U, WU>>,
+        p: Coord,
+        steps: &mut Steps,
+    ) -> Entry<V>
+        requires { IsChildAt self.now.uppers (root_entry (bits_of U L F) self.now p) upper }
+        ensures value { upper_entry (bits_of U L F) self.now p ≡ result }
+        ensures steps { steps.new ≤ steps.old + 1 }
+    {
+        let offset = self.offset(p, Level::Upper);
+        self.uppers.at(upper, steps).entry(offset)
+    }
+
+    /// The entry of the lower node around p, in this slot, that holds p.
     pub(crate) fn lower_entry(&self, lower: u32, p: Coord, steps: &mut Steps) -> Entry<V>
         requires { upper_entry (bits_of U L F) self.now p ≡ Child lower }
         ensures value { lower_entry (bits_of U L F) self.now p ≡ result }
@@ -84,7 +101,23 @@ impl<
         self.lowers.at(place, steps).entry(offset)
     }
 
-    /// The voxel p of the leaf around it.
+    /// The entry of the lower node around p, at its place, that holds p.
+    #[inline(always)]
+    pub(crate) fn lower_entry_at(
+        &self,
+        lower: Place<Internal<V, L, WL>>,
+        p: Coord,
+        steps: &mut Steps,
+    ) -> Entry<V>
+        requires { IsChildAt self.now.lowers (upper_entry (bits_of U L F) self.now p) lower }
+        ensures value { lower_entry (bits_of U L F) self.now p ≡ result }
+        ensures steps { steps.new ≤ steps.old + 1 }
+    {
+        let offset = self.offset(p, Level::Lower);
+        self.lowers.at(lower, steps).entry(offset)
+    }
+
+    /// The voxel p of the leaf around it, in this slot.
     #[tactic(auto, unfolding(crate::specs::Layout::cell_at))]
     pub(crate) fn voxel(&self, leaf: u32, p: Coord, steps: &mut Steps) -> Cell<V>
         requires { lower_entry (bits_of U L F) self.now p ≡ Child leaf }
@@ -94,5 +127,46 @@ impl<
         let offset = self.offset(p, Level::Leaf);
         let place = held_place(&self.leaves, leaf);
         self.leaves.at(place, steps).entry(offset)
+    }
+
+    /// The voxel p of the leaf around it, at its place.
+    #[inline(always)]
+    #[tactic(auto, unfolding(crate::specs::Layout::cell_at))]
+    pub(crate) fn voxel_at(
+        &self,
+        leaf: Place<Leaf<V, F, WF>>,
+        p: Coord,
+        steps: &mut Steps,
+    ) -> Cell<V>
+        requires { IsChildAt self.now.leaves (lower_entry (bits_of U L F) self.now p) leaf }
+        ensures value { cell_at (bits_of U L F) self.now p ≡ result }
+        ensures steps { steps.new ≤ steps.old + 1 }
+    {
+        let offset = self.offset(p, Level::Leaf);
+        self.leaves.at(leaf, steps).entry(offset)
+    }
+
+    /// The place of the upper node around p in this slot.
+    pub(crate) fn upper_place(&self, slot: u32, p: Coord) -> Place<Internal<V, U, WU>>
+        requires { root_entry (bits_of U L F) self.now p ≡ Child slot }
+        ensures { IsChildAt self.now.uppers (root_entry (bits_of U L F) self.now p) result }
+    {
+        held_place(&self.uppers, slot)
+    }
+
+    /// The place of the lower node around p in this slot.
+    pub(crate) fn lower_place(&self, slot: u32, p: Coord) -> Place<Internal<V, L, WL>>
+        requires { upper_entry (bits_of U L F) self.now p ≡ Child slot }
+        ensures { IsChildAt self.now.lowers (upper_entry (bits_of U L F) self.now p) result }
+    {
+        held_place(&self.lowers, slot)
+    }
+
+    /// The place of the leaf around p in this slot.
+    pub(crate) fn leaf_place(&self, slot: u32, p: Coord) -> Place<Leaf<V, F, WF>>
+        requires { lower_entry (bits_of U L F) self.now p ≡ Child slot }
+        ensures { IsChildAt self.now.leaves (lower_entry (bits_of U L F) self.now p) result }
+    {
+        held_place(&self.leaves, slot)
     }
 }

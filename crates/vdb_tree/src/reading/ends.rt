@@ -182,34 +182,4 @@ impl<
             },
         }
     }
-
-    /// The entry of this upper node that holds p.
-    fn upper_entry_at(
-        &self,
-        upper: Place<Internal<V, U, WU>>,
-        p: Coord,
-        steps: &mut Steps,
-    ) -> Entry<V>
-        requires { IsChildAt self.now.uppers (root_entry (bits_of U L F) self.now p) upper }
-        ensures value { upper_entry (bits_of U L F) self.now p ≡ result }
-        ensures steps { steps.new ≤ steps.old + 1 }
-    {
-        let offset = self.offset(p, Level::Upper);
-        self.uppers.at(upper, steps).entry(offset)
-    }
-
-    /// The entry of this lower node that holds p.
-    fn lower_entry_at(
-        &self,
-        lower: Place<Internal<V, L, WL>>,
-        p: Coord,
-        steps: &mut Steps,
-    ) -> Entry<V>
-        requires { IsChildAt self.now.lowers (upper_entry (bits_of U L F) self.now p) lower }
-        ensures value { lower_entry (bits_of U L F) self.now p ≡ result }
-        ensures steps { steps.new ≤ steps.old + 1 }
-    {
-        let offset = self.offset(p, Level::Lower);
-        self.lowers.at(lower, steps).entry(offset)
-    }
 }

@@ -155,7 +155,7 @@ impl<
         self.leaves.at_mut(place, steps).set_states(states);
     }
 
-    /// Writes the voxel p of the leaf around it.
+    /// Writes the voxel p of the leaf around it, in this slot.
     pub(crate) fn write_voxel(&mut self, leaf: u32, p: Coord, change: Write<V>, steps: &mut Steps)
         requires { lower_entry (bits_of U L F) self.old p ≡ Child leaf }
         ensures changes { Changes (bits_of U L F) self.old self.new p (written change (cell_at (bits_of U L F) self.old p)) }
@@ -171,6 +171,33 @@ impl<
         let offset = self.offset(p, Level::Leaf);
         let place = held_place(&self.leaves, leaf);
         let leaf = self.leaves.at_mut(place, steps);
+        let cell = change.applied(leaf.entry(offset));
+        leaf.set(offset, cell);
+        self.swept = self.swept && cell != background_cell;
+    }
+
+    /// Writes the voxel p of the leaf around it, at its place.
+    #[inline(always)]
+    pub(crate) fn write_voxel_at(
+        &mut self,
+        leaf: Place<Leaf<V, F, WF>>,
+        p: Coord,
+        change: Write<V>,
+        steps: &mut Steps,
+    )
+        requires { IsChildAt self.old.leaves (lower_entry (bits_of U L F) self.old p) leaf }
+        ensures changes { Changes (bits_of U L F) self.old self.new p (written change (cell_at (bits_of U L F) self.old p)) }
+        ensures alone { IsVoxelWritten (bits_of U L F) self.old self.new p (written change (cell_at (bits_of U L F) self.old p)) }
+        ensures same { (q : Coord) → SameDescent (bits_of U L F) self.old self.new q }
+        ensures paths { (path : TreePath V) (q : Coord) → IsWhole (bits_of U L F) self.old path q → IsWhole (bits_of U L F) self.new path q }
+        ensures steps { steps.new ≤ steps.old + 1 }
+    {
+        let background_cell = Cell {
+            value: self.background,
+            on: false,
+        };
+        let offset = self.offset(p, Level::Leaf);
+        let leaf = self.leaves.at_mut(leaf, steps);
         let cell = change.applied(leaf.entry(offset));
         leaf.set(offset, cell);
         self.swept = self.swept && cell != background_cell;

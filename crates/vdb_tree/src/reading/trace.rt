@@ -5,13 +5,11 @@ ghost use Rattle.std.specs.Prelude.{◌≡◌, ◌+◌, ◌-◌, ◌≤◌, fals
 ghost use Rattle.vdb_coord.specs.Blocks.{block_number};
 ghost use Rattle.vdb_coord.specs.Space.{coord_eq};
 ghost use Rattle.vdb_coord.specs.declared.Coord.{Coord};
-ghost use Rattle.vdb_node.specs.declared.Entry.TheVariants.{Child};
 ghost use Rattle.vdb_tree.specs.Field.{write, written};
 ghost use Rattle.vdb_tree.specs.Layout.{bits_of, cell_at, field_of, lower_entry, root_entry, upper_entry};
 ghost use Rattle.vdb_tree.specs.Leaves.{IsVoxelWritten};
 ghost use Rattle.vdb_tree.specs.Paths.{common, common_lower, common_upper, depth, down_count, ends_in_leaf, IsChildAt, IsWhole, Lives, TreePath};
 
-use crate::nodes::held_place;
 use crate::{PathOf, TreeOf, Write};
 use vdb_coord::{Coord, Level};
 use vdb_node::{Entry, Internal, Leaf, Stored};
@@ -48,6 +46,7 @@ impl<
 
     /// The cell at `p`, by the descent from the lowest node of the path to `q` that contains `p`, which is visited, too. It
     /// leaves the path to `p` (OpenVDB's `ValueAccessor::getValue`, which does this with the nodes that it caches).
+    #[inline(always)]
     pub fn descend(
         &self,
         path: &mut PathOf<Internal<V, U, WU>, Internal<V, L, WL>, Leaf<V, F, WF>>,
@@ -69,6 +68,7 @@ impl<
     /// Writes the voxel at `p` where the path to `q` ends in a leaf that contains `p`, by one visit and without memory. The
     /// answer says whether it does; where it doesn't, nothing changes and no node is visited. Every path stays whole (OpenVDB's
     /// `ValueAccessor::setValue` in its cached leaf).
+    #[inline(always)]
     pub fn write_near(
         &mut self,
         path: &PathOf<Internal<V, U, WU>, Internal<V, L, WL>, Leaf<V, F, WF>>,
@@ -87,8 +87,8 @@ impl<
         ensures steps { steps.new ≤ steps.old + (if result then 1 else 0) }
     {
         match self.near_leaf(path, q, p) {
-            Some(slot) => {
-                self.write_voxel(slot, p, change, steps);
+            Some(leaf) => {
+                self.write_voxel_at(leaf, p, change, steps);
                 true
             }
             None => false,
@@ -97,6 +97,7 @@ impl<
 
     /// The cell at `p` where the path to `q` ends in a leaf that contains `p`, by one visit. Elsewhere it is `None`, and no node
     /// is visited (OpenVDB's `ValueAccessor::getValue` in its cached leaf).
+    #[inline(always)]
     pub fn cell_near(
         &self,
         path: &PathOf<Internal<V, U, WU>, Internal<V, L, WL>, Leaf<V, F, WF>>,
@@ -109,25 +110,26 @@ impl<
         ensures cell { IfSome result (λ cell. cell ≡ (field_of (bits_of U L F) self.now).cell p) }
         ensures steps { steps.new ≤ steps.old + (if is_some result then 1 else 0) }
     {
-        let slot = self.near_leaf(path, q, p)?;
-        Some(self.voxel(slot, p, steps))
+        let leaf = self.near_leaf(path, q, p)?;
+        Some(self.voxel_at(leaf, p, steps))
     }
 
-    /// The slot of the leaf that the path to `q` ends in, where it contains `p`.
+    /// The leaf that the path to `q` ends in, where it contains `p`.
+    #[inline(always)]
     fn near_leaf(
         &self,
         path: &PathOf<Internal<V, U, WU>, Internal<V, L, WL>, Leaf<V, F, WF>>,
         q: Coord,
         p: Coord,
-    ) -> Option<u32>
+    ) -> Option<Place<Leaf<V, F, WF>>>
         requires { Lives (bits_of U L F) self.now path.now q }
         ensures answer { is_some result ≡ ends_in_leaf (common (bits_of U L F) q p path.now) }
-        ensures leaf { IfSome result (λ slot. lower_entry (bits_of U L F) self.now p ≡ Child slot) }
+        ensures leaf { IfSome result (λ leaf. IsChildAt self.now.leaves (lower_entry (bits_of U L F) self.now p) leaf) }
     {
         match path {
             PathOf::ToLeaf(_, _, leaf) => {
                 if self.is_same_block(q, p, Level::Leaf) {
-                    Some(leaf.slot())
+                    Some(*leaf)
                 } else {
                     None
                 }
@@ -139,6 +141,7 @@ impl<
     }
 
     /// The nodes of the path to `q` that contain `p`.
+    #[inline(always)]
     pub(crate) fn shared(
         &self,
         path: PathOf<Internal<V, U, WU>, Internal<V, L, WL>, Leaf<V, F, WF>>,
@@ -152,6 +155,8 @@ impl<
         self.common(path, q, p)
     }
 
+    /// The nodes of the path to `q` that contain `p`, also where some of them don't live.
+    #[inline(always)]
     fn common(
         &self,
         path: PathOf<Internal<V, U, WU>, Internal<V, L, WL>, Leaf<V, F, WF>>,
@@ -174,6 +179,8 @@ impl<
         }
     }
 
+    /// Those of these two nodes around `q` that contain `p`.
+    #[inline(always)]
     fn common_lower(
         &self,
         upper: Place<Internal<V, U, WU>>,
@@ -190,6 +197,8 @@ impl<
         }
     }
 
+    /// This upper node around `q`, where it contains `p`.
+    #[inline(always)]
     fn common_upper(
         &self,
         upper: Place<Internal<V, U, WU>>,
@@ -206,6 +215,7 @@ impl<
     }
 
     /// Whether one block of the level holds both.
+    #[inline(always)]
     fn is_same_block(&self, q: Coord, p: Coord, level: Level) -> bool
         ensures { result ≡ coord_eq (block_number (bits_of U L F) level q) (block_number (bits_of U L F) level p) }
     {
@@ -214,6 +224,7 @@ impl<
     }
 
     /// The cell at `p` and the path to it, by the descent from the path's last node, or from the root where it has none.
+    #[inline(always)]
     fn found_from(
         &self,
         path: PathOf<Internal<V, U, WU>, Internal<V, L, WL>, Leaf<V, F, WF>>,
@@ -235,7 +246,7 @@ impl<
         }
     }
 
-    /// That from the root.
+    /// The cell at `p` and the path to it, by the descent from the root.
     #[tactic(auto, unfolding(crate::specs::Layout::cell_at))]
     fn found_from_root(
         &self,
@@ -270,7 +281,7 @@ impl<
         ensures whole { IsWhole (bits_of U L F) self.now result.path p }
         ensures steps { steps.new ≤ steps.old + down_count (bits_of U L F) self.now p }
     {
-        match self.upper_entry(upper.slot(), p, steps) {
+        match self.upper_entry_at(upper, p, steps) {
             Entry::Tile(cell) => Found {
                 path: PathOf::ToUpper(upper),
                 cell,
@@ -282,6 +293,7 @@ impl<
         }
     }
 
+    #[inline(always)]
     #[tactic(auto, unfolding(crate::specs::Layout::cell_at))]
     fn found_from_lower(
         &self,
@@ -296,7 +308,7 @@ impl<
         ensures whole { IsWhole (bits_of U L F) self.now result.path p }
         ensures steps { steps.new ≤ steps.old + (down_count (bits_of U L F) self.now p - 1) }
     {
-        match self.lower_entry(lower.slot(), p, steps) {
+        match self.lower_entry_at(lower, p, steps) {
             Entry::Tile(cell) => Found {
                 path: PathOf::ToLower(upper, lower),
                 cell,
@@ -308,6 +320,7 @@ impl<
         }
     }
 
+    #[inline(always)]
     fn found_from_leaf(
         &self,
         upper: Place<Internal<V, U, WU>>,
@@ -323,31 +336,10 @@ impl<
         ensures whole { IsWhole (bits_of U L F) self.now result.path p }
         ensures steps { steps.new ≤ steps.old + 1 }
     {
-        let cell = self.voxel(leaf.slot(), p, steps);
+        let cell = self.voxel_at(leaf, p, steps);
         Found {
             path: PathOf::ToLeaf(upper, lower, leaf),
             cell,
         }
-    }
-
-    pub(crate) fn upper_place(&self, slot: u32, p: Coord) -> Place<Internal<V, U, WU>>
-        requires { root_entry (bits_of U L F) self.now p ≡ Child slot }
-        ensures { IsChildAt self.now.uppers (root_entry (bits_of U L F) self.now p) result }
-    {
-        held_place(&self.uppers, slot)
-    }
-
-    pub(crate) fn lower_place(&self, slot: u32, p: Coord) -> Place<Internal<V, L, WL>>
-        requires { upper_entry (bits_of U L F) self.now p ≡ Child slot }
-        ensures { IsChildAt self.now.lowers (upper_entry (bits_of U L F) self.now p) result }
-    {
-        held_place(&self.lowers, slot)
-    }
-
-    pub(crate) fn leaf_place(&self, slot: u32, p: Coord) -> Place<Leaf<V, F, WF>>
-        requires { lower_entry (bits_of U L F) self.now p ≡ Child slot }
-        ensures { IsChildAt self.now.leaves (lower_entry (bits_of U L F) self.now p) result }
-    {
-        held_place(&self.leaves, slot)
     }
 }

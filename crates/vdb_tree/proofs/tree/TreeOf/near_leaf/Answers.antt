@@ -1,6 +1,6 @@
 use Rattle.std.proofs.Common.{sym, ◌∙◌}
 use Rattle.vdb_tree.specs.Layout.{bits_of}
-use Rattle.vdb_tree.proofs.Paths.{leaf_slot, no_leaf_lower, no_leaf_upper}
+use Rattle.vdb_tree.proofs.Paths.{leaf_shared, no_leaf_lower, no_leaf_upper}
 use Rattle.vdb_tree.proofs.tree.TreeOf.near_leaf.Goals as goal
 
 pub returns-in-ToUpper-clause-answer : goal.returns-in-ToUpper-clause-answer
@@ -16,9 +16,8 @@ returns-in-ToLower-clause-answer g c =
 pub returns-then-is_same_block-clause-leaf : goal.returns-then-is_same_block-clause-leaf
 returns-then-is_same_block-clause-leaf g c =
     let same = sym c.is_same_block.ensures ∙ c.if-is_same_block.true in
-    rw c.slot.ensures
-    (leaf_slot {V = g.row.V.Denot} (bits_of g.row.U g.row.L g.row.F) c.args.self.now c.args.q c.args.p
-    c.in-ToLeaf.field-0 c.in-ToLeaf.field-1 c.in-ToLeaf.leaf (rw c.in-ToLeaf.is at c.requires) same)
+    leaf_shared {V = g.row.V.Denot} (bits_of g.row.U g.row.L g.row.F) c.args.self.now c.args.q c.args.p
+    c.in-ToLeaf.field-0 c.in-ToLeaf.field-1 c.in-ToLeaf.leaf (rw c.in-ToLeaf.is at c.requires) same
 
 pub returns-else-is_same_block-clause-answer : goal.returns-else-is_same_block-clause-answer
 returns-else-is_same_block-clause-answer g c =

@@ -1,0 +1,22 @@
+"""The crates of crates.txt."""
+
+
+def crates_of(root):
+    """The names in crates.txt, lowest first, and for each those that it stands on."""
+    below = {}
+    for line in open(f"{root}/crates.txt", encoding="utf-8"):
+        name, _, deps = line.partition("#")[0].partition(":")
+        if name.strip():
+            below[name.split()[0]] = deps.split()
+    ordered = []
+
+    def add(name):
+        for dep in below[name]:
+            if dep in below:
+                add(dep)
+        if name not in ordered:
+            ordered.append(name)
+
+    for name in below:
+        add(name)
+    return ordered, {name: [dep for dep in deps if dep in below] for name, deps in below.items()}
