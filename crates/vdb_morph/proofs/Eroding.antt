@@ -20,8 +20,8 @@ use Rattle.vdb_node.specs.Leaf.{Leaf as LeafOf}
 use Rattle.vdb_tree.specs.Field.{Field, as_cell_of, erode, field, off}
 use Rattle.vdb_tree.specs.Layout.{Layout, field_of}
 use Rattle.vdb_tree.specs.Parts.{IsPartOfLeaf, IsSkipped, Passes, TreeWalk, YieldsBox, is_left, left_count}
-use Rattle.vdb_tree.specs.declared.reading.parts.Skip.{Skip}
-use Rattle.vdb_tree.specs.declared.reading.parts.Skip.TheVariants.{Inactive}
+use Rattle.vdb_tree.specs.declared.queries.parts.Skip.{Skip}
+use Rattle.vdb_tree.specs.declared.queries.parts.Skip.TheVariants.{Inactive}
 use Rattle.vdb_tree.proofs.Fields.{cell_inside, same_cells}
 use Rattle.vdb_tree.proofs.Levels.{bool_cases}
 use Rattle.vdb_tree.proofs.PartStarts.{before_place}

@@ -21,7 +21,7 @@ use Rattle.vdb_tree.proofs.Levels.{coord_cases}
 use Rattle.vdb_tree.proofs.MadeNodes.{keys_but, keys_twice, no_node_twice, same_no_node}
 use Rattle.vdb_tree.proofs.Needed.{child_of, is_some_from, some_or_none}
 use Rattle.vdb_tree.proofs.Passes.{keeps_same, keeps_trans, tile_gives}
-use Rattle.vdb_tree.proofs.Sweeps.{apart, equal_left, past_or_not, same_keys}
+use Rattle.vdb_tree.proofs.RootSweeps.{apart, equal_left, past_or_not, same_keys}
 
 module _ {V : Type 0} (bits : Bits) where
   -- the background stays

@@ -22,8 +22,8 @@ use Rattle.vdb_value.specs.declared.Cell.{Cell}
 use Rattle.vdb_tree.specs.internal.Jumps.{ArePassed, IsJump, IsJumpAt, IsLast, IsNextEntryAt, IsNextPartAt}
 use Rattle.vdb_tree.specs.Layout.{Layout, background_cell, root_entry, upper_entry}
 use Rattle.vdb_tree.specs.Parts.{IsNextAbove, IsSkipped}
-use Rattle.vdb_tree.specs.declared.reading.parts.Skip.{Skip}
-use Rattle.vdb_tree.specs.declared.reading.parts.Skip.TheVariants.{Background, Inactive}
+use Rattle.vdb_tree.specs.declared.queries.parts.Skip.{Skip}
+use Rattle.vdb_tree.specs.declared.queries.parts.Skip.TheVariants.{Background, Inactive}
 use Rattle.vdb_tree.proofs.Descents.{lower_node_entry, upper_node_entry}
 use Rattle.vdb_tree.proofs.PartWalks.{background_skipped, inactive_skipped}
 

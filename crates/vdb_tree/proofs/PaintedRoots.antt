@@ -27,7 +27,7 @@ use Rattle.vdb_tree.proofs.Needed.{absent_entry, is_some_from, some_or_none}
 use Rattle.vdb_tree.proofs.Covered.{covered_inside}
 use Rattle.vdb_tree.proofs.Paints.{painted_moved, ready_after, tile_painted}
 use Rattle.vdb_tree.proofs.Passes.{descent_trans, head_same, head_trans}
-use Rattle.vdb_tree.proofs.Sweeps.{apart, equal_left, past_or_not, same_keys}
+use Rattle.vdb_tree.proofs.RootSweeps.{apart, equal_left, past_or_not, same_keys}
 
 module _ {V : Type 0} (bits : Bits) (box : Box) (cell : Cell V) where
   -- the box is painted up to this key, and the table past it stays

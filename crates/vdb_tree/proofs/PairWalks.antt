@@ -22,9 +22,9 @@ use Rattle.vdb_tree.specs.internal.PairBlocks.{IsOver}
 use Rattle.vdb_tree.specs.Pairs.{IsBackgroundInBoth, IsPairPlace, IsPairWalk, PassesPairs, TreePairWalk, YieldsPair, lower_level, pair_level}
 use Rattle.vdb_tree.specs.Leaves.{IsLeafAround}
 use Rattle.vdb_tree.specs.Parts.{IsEnd, IsPartOfLeaf, IsPlace, IsPlaceAfter, IsSkipped, end_level, is_left, left_count}
-use Rattle.vdb_tree.specs.declared.reading.ends.End.{End}
-use Rattle.vdb_tree.specs.declared.reading.ends.End.TheVariants.{Tile as EndTile}
-use Rattle.vdb_tree.specs.declared.reading.parts.Skip.TheVariants.{Background}
+use Rattle.vdb_tree.specs.declared.queries.ends.End.{End}
+use Rattle.vdb_tree.specs.declared.queries.ends.End.TheVariants.{Tile as EndTile}
+use Rattle.vdb_tree.specs.declared.queries.parts.Skip.TheVariants.{Background}
 use Rattle.vdb_tree.proofs.Fields.{cell_inside}
 use Rattle.vdb_tree.proofs.PartStarts.{in_upper, same_end}
 use Rattle.vdb_tree.proofs.PieceCells.{tile_block}

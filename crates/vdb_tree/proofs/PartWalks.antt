@@ -19,8 +19,8 @@ use Rattle.vdb_node.specs.declared.Entry.TheVariants.{Child, Tile}
 use Rattle.vdb_tree.specs.internal.Jumps.{IsJumpAt, IsLast}
 use Rattle.vdb_tree.specs.Layout.{Layout, cell_at, entry_over, field_of, background_cell, root_at, root_entry, upper_entry}
 use Rattle.vdb_tree.specs.Parts.{IsPartAround, IsPlace, IsPlaceAfter, IsSkipped, IsWalk, Passes, TreeWalk, YieldsBox, end_level, if_tile, is_left, left_count}
-use Rattle.vdb_tree.specs.declared.reading.parts.Skip.{Skip}
-use Rattle.vdb_tree.specs.declared.reading.parts.Skip.TheVariants.{Absent, Background, Inactive}
+use Rattle.vdb_tree.specs.declared.queries.parts.Skip.{Skip}
+use Rattle.vdb_tree.specs.declared.queries.parts.Skip.TheVariants.{Absent, Background, Inactive}
 use Rattle.vdb_value.specs.declared.Cell.{Cell}
 use Rattle.vdb_tree.specs.Table.{IsNextKey}
 use Rattle.vdb_tree.proofs.Descents.{root_by_block, tile_cell, tile_lower, tile_upper, upper_by_block}

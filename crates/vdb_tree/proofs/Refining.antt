@@ -29,7 +29,7 @@ use Rattle.vdb_tree.proofs.MadeNodes.{level_cases, makes_none, makes_twice}
 use Rattle.vdb_tree.proofs.Needed.{absent_entry, is_child_from, is_some_from, some_or_none}
 use Rattle.vdb_tree.proofs.Passes.{corner_block, entry_by_block}
 use Rattle.vdb_tree.proofs.Splits.{adds_itself, adds_twice, keeps_itself, keeps_twice}
-use Rattle.vdb_tree.proofs.Sweeps.{equal_left, past_or_not, same_keys}
+use Rattle.vdb_tree.proofs.RootSweeps.{equal_left, past_or_not, same_keys}
 
 no_offset : (j : ℕ) → j < 0 → ⊥
 no_offset j h = omega (arith, h)

@@ -31,7 +31,7 @@ use Rattle.vdb_tree.proofs.Levels.{coord_cases, same_tile, tile_no_child}
 use Rattle.vdb_tree.proofs.Needed.{absent_entry, is_some_from, some_or_none}
 use Rattle.vdb_tree.proofs.Passes.{entry_by_block, head_same, head_trans, root_entry_same, tile_gives}
 use Rattle.vdb_tree.proofs.Splits.{root_turns}
-use Rattle.vdb_tree.proofs.Sweeps.{apart, equal_left, other_key, past_or_not, same_keys, that_key}
+use Rattle.vdb_tree.proofs.RootSweeps.{apart, equal_left, other_key, past_or_not, same_keys, that_key}
 
 -- ---- states
 

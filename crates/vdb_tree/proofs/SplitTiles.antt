@@ -24,7 +24,7 @@ use Rattle.vdb_tree.proofs.Levels.{coord_cases, same_tile, some_held, tile_no_ch
 use Rattle.vdb_tree.proofs.MadeNodes.{keys_twice, makes_none, makes_twice}
 use Rattle.vdb_tree.proofs.Needed.{absent_entry, is_some_from, some_or_none}
 use Rattle.vdb_tree.proofs.Splits.{adds_itself, adds_twice, keeps_itself, keeps_twice}
-use Rattle.vdb_tree.proofs.Sweeps.{apart as later_apart, equal_left, past_or_not, same_keys}
+use Rattle.vdb_tree.proofs.RootSweeps.{apart as later_apart, equal_left, past_or_not, same_keys}
 
 -- what follows from a value where there is one
 pub on_ok : {A E : Type 0} {P Q : Type 0} (r : Result A E) → OnOk r P → (P → Q) → OnOk r Q

@@ -18,7 +18,7 @@ use Rattle.vdb_tree.specs.Parts.{IsEnd, end_level, left_count}
 use Rattle.vdb_tree.specs.Paths.{in_leaf}
 use Rattle.vdb_tree.specs.Table.{HasCapacity}
 use Rattle.vdb_tree.specs.internal.Voxelised.{IsVoxelisedAround, IsVoxelisedFrom, IsVoxelisedTo}
-use Rattle.vdb_tree.specs.declared.reading.ends.End.TheVariants.{Leaf as EndLeaf, Tile as EndTile}
+use Rattle.vdb_tree.specs.declared.queries.ends.End.TheVariants.{Leaf as EndLeaf, Tile as EndTile}
 use Rattle.vdb_tree.proofs.Blocks.{never}
 use Rattle.vdb_tree.proofs.Descents.{lower_by_block, tile_lower, tile_upper}
 use Rattle.vdb_tree.proofs.Equations.{keeps_field}

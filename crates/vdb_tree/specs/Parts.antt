@@ -16,12 +16,12 @@ use Rattle.vdb_tree.specs.Field.{Field, off}
 use Rattle.vdb_tree.specs.Layout.{Layout, entry_over, field_of, lower_entry, root_at, root_entry, upper_entry}
 use Rattle.vdb_tree.specs.Paths.{Lives}
 use Rattle.vdb_tree.specs.declared.path.PathOf.{PathOf}
-use Rattle.vdb_tree.specs.declared.reading.parts.Content.{Content}
-use Rattle.vdb_tree.specs.declared.reading.parts.Content.TheVariants.{Leaf, Tile}
-use Rattle.vdb_tree.specs.declared.reading.parts.Skip.{Skip}
-use Rattle.vdb_tree.specs.declared.reading.parts.Skip.TheVariants.{Absent, Background, Inactive}
-use Rattle.vdb_tree.specs.declared.reading.ends.End.{End}
-use Rattle.vdb_tree.specs.declared.reading.ends.End.TheVariants.{Leaf as EndLeaf, Tile as EndTile}
+use Rattle.vdb_tree.specs.declared.queries.parts.Content.{Content}
+use Rattle.vdb_tree.specs.declared.queries.parts.Content.TheVariants.{Leaf, Tile}
+use Rattle.vdb_tree.specs.declared.queries.parts.Skip.{Skip}
+use Rattle.vdb_tree.specs.declared.queries.parts.Skip.TheVariants.{Absent, Background, Inactive}
+use Rattle.vdb_tree.specs.declared.queries.ends.End.{End}
+use Rattle.vdb_tree.specs.declared.queries.ends.End.TheVariants.{Leaf as EndLeaf, Tile as EndTile}
 
 -- How far a walk over the parts of a tree has come.
 pub record WalkOf (A B C : Type 0) : Type 0 where

@@ -21,7 +21,7 @@ use Rattle.vdb_coord.proofs.Walk.{min_inside}
 use Rattle.vdb_tree.specs.Layout.{Layout, field_of}
 use Rattle.vdb_tree.specs.Parts.{is_left}
 use Rattle.vdb_tree.specs.ConstantBlocks.{count}
-use Rattle.vdb_tree.specs.declared.reading.parts.Skip.TheVariants.{Inactive}
+use Rattle.vdb_tree.specs.declared.queries.parts.Skip.TheVariants.{Inactive}
 use Rattle.vdb_tree.proofs.PartStarts.{before_place}
 use Rattle.vdb_walk.specs.internal.BlocksFrom.{IsBoxStart, IsSkippedTo, active_around, active_from}
 use Rattle.vdb_walk.proofs.Counts.{count_few, none_on, nothing_apart, volume_few}

@@ -20,7 +20,7 @@ use Rattle.vdb_tree.specs.Field.{Field, off}
 use Rattle.vdb_tree.specs.Layout.{Layout, field_of}
 use Rattle.vdb_tree.specs.Parts.{is_left}
 use Rattle.vdb_tree.specs.ConstantBlocks.{is_constant, non_constant}
-use Rattle.vdb_tree.specs.declared.reading.parts.Skip.TheVariants.{Background}
+use Rattle.vdb_tree.specs.declared.queries.parts.Skip.TheVariants.{Background}
 use Rattle.vdb_tree.proofs.PartStarts.{before_place}
 use Rattle.vdb_tree.proofs.Rooted.{one_more}
 use Rattle.vdb_tree.proofs.Uniform.{uniform_cells, uniform_from}

@@ -21,8 +21,8 @@ use Rattle.vdb_tree.specs.Field.{Field, off}
 use Rattle.vdb_tree.specs.Layout.{Layout, field_of, root_at}
 use Rattle.vdb_tree.specs.Parts.{IsPartOfLeaf, IsSkipped, Passes, TreeWalk, YieldsBox, is_left}
 use Rattle.vdb_tree.specs.ConstantBlocks.{cell_eq, is_uniform}
-use Rattle.vdb_tree.specs.declared.reading.parts.Skip.{Skip}
-use Rattle.vdb_tree.specs.declared.reading.parts.Skip.TheVariants.{Absent, Background}
+use Rattle.vdb_tree.specs.declared.queries.parts.Skip.{Skip}
+use Rattle.vdb_tree.specs.declared.queries.parts.Skip.TheVariants.{Absent, Background}
 use Rattle.vdb_tree.proofs.PartWalks.{absent_skipped}
 use Rattle.vdb_tree.proofs.Uniform.{cell_exact, cell_itself, uniform_cells, uniform_from}
 use Rattle.vdb_value.specs.declared.Cell.{Cell}

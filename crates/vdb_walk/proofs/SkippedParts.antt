@@ -13,7 +13,7 @@ use Rattle.vdb_coord.proofs.Boxes.{both, not_true}
 use Rattle.vdb_coord.proofs.Walk.{min_inside}
 use Rattle.vdb_tree.specs.Layout.{Layout}
 use Rattle.vdb_tree.specs.Parts.{IsSkipped, TreeWalk, YieldsBox, is_left}
-use Rattle.vdb_tree.specs.declared.reading.parts.Skip.{Skip}
+use Rattle.vdb_tree.specs.declared.queries.parts.Skip.{Skip}
 use Rattle.vdb_tree.proofs.PartStarts.{before_place}
 use Rattle.vdb_walk.specs.internal.BlocksFrom.{IsPartStart, IsSkippedTo}
 use Rattle.vdb_walk.proofs.NonConstantBlocks.{from_on, left_from, true_or_false}

@@ -8,7 +8,7 @@ use Rattle.vdb_coord.specs.declared.Coord.{Coord}
 use Rattle.vdb_coord.specs.declared.Level.{Level}
 use Rattle.vdb_tree.specs.Layout.{Layout}
 use Rattle.vdb_tree.specs.Parts.{IsSkipped}
-use Rattle.vdb_tree.specs.declared.reading.parts.Skip.{Skip}
+use Rattle.vdb_tree.specs.declared.queries.parts.Skip.{Skip}
 
 module _ {V : Type 0} (bits : Bits) (t : Layout V) (skip : Skip) where
   -- a walk may pass over what lies past p's entry of the outer level's node around p, up to the entry of this index

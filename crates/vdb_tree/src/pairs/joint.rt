@@ -11,10 +11,10 @@ ghost use Rattle.vdb_tree.specs.Pairs.{IsPairWalk, PassesPairs, YieldsPair, lowe
 ghost use Rattle.vdb_tree.specs.Parts.{IsEnd, IsPartOfLeaf, IsPlaceAfter, IsSkipped, OnLeaf, OnTile, end_level, is_left, left_count};
 ghost use Rattle.vdb_tree.specs.Paths.{Lives};
 ghost use Rattle.vdb_tree.specs.internal.PairBlocks.{IsOver};
-ghost use Rattle.vdb_tree.specs.declared.reading.parts.Skip.TheVariants.{Background};
+ghost use Rattle.vdb_tree.specs.declared.queries.parts.Skip.TheVariants.{Background};
 
-use crate::reading::ends::End;
-use crate::reading::parts::{Content, Skip};
+use crate::queries::ends::End;
+use crate::queries::parts::{Content, Skip};
 use crate::{PathOf, TreeOf};
 use std::cmp::Ordering;
 use std::marker::Model;

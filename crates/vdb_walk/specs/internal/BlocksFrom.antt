@@ -9,7 +9,7 @@ use Rattle.vdb_coord.specs.declared.Level.{Level}
 use Rattle.vdb_tree.specs.Field.{Field}
 use Rattle.vdb_tree.specs.Layout.{Layout, field_of}
 use Rattle.vdb_tree.specs.Parts.{IsSkipped, TreeWalk, is_left}
-use Rattle.vdb_tree.specs.declared.reading.parts.Skip.{Skip}
+use Rattle.vdb_tree.specs.declared.queries.parts.Skip.{Skip}
 use Rattle.vdb_tree.specs.ConstantBlocks.{is_constant}
 
 -- p is the first coordinate, in block order, that the box has of the level's block around it

@@ -1,6 +1,6 @@
 use Rattle.vdb_coord.specs.declared.Level.TheVariants.{Lower, Upper}
 use Rattle.vdb_tree.specs.Layout.{bits_of}
-use Rattle.vdb_tree.specs.declared.reading.parts.Skip.TheVariants.{Background, Inactive}
+use Rattle.vdb_tree.specs.declared.queries.parts.Skip.TheVariants.{Background, Inactive}
 use Rattle.vdb_tree.proofs.Jumps.{none_left}
 use Rattle.vdb_tree.proofs.tree.TreeOf.place_in_upper_node.Goals as goal
 

@@ -2,7 +2,7 @@ use Rattle.std.proofs.Common.{◌∙◌}
 use Rattle.vdb_coord.specs.declared.Level.TheVariants.{Upper}
 use Rattle.vdb_tree.specs.Layout.{bits_of}
 use Rattle.vdb_tree.proofs.Ruled.{idle_block, ready_block, upper_tile_block}
-use Rattle.vdb_tree.proofs.Sweeps.{other_key}
+use Rattle.vdb_tree.proofs.RootSweeps.{other_key}
 use Rattle.vdb_tree.proofs.tree.TreeOf.set_root_block.Goals as goal
 
 pub returns-then-is_idle_tile-clause-sets : goal.returns-then-is_idle_tile-clause-sets

@@ -5,7 +5,7 @@ use Rattle.vdb_coord.specs.declared.Level.TheVariants.{Upper}
 use Rattle.vdb_node.specs.declared.Entry.TheVariants.{Child}
 use Rattle.vdb_tree.specs.Layout.{bits_of}
 use Rattle.vdb_tree.proofs.Splits.{room_adds, room_but, room_keeps, room_sound, with_upper_at, with_upper_but, with_upper_keeps, with_upper_adds, with_upper_sound}
-use Rattle.vdb_tree.proofs.Sweeps.{other_key}
+use Rattle.vdb_tree.proofs.RootSweeps.{other_key}
 use Rattle.vdb_tree.proofs.SweptTables.{kept_swept, updated_held}
 use Rattle.vdb_tree.proofs.tree.TreeOf.split_root.Goals as goal
 

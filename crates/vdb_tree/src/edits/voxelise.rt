@@ -13,7 +13,7 @@ ghost use Rattle.vdb_tree.specs.Table.{HasCapacity};
 ghost use Rattle.vdb_tree.specs.internal.Voxelised.{IsVoxelisedAround, IsVoxelisedFrom};
 ghost use Rattle.vdb_tree.specs.declared.refusal.TreeRefusal.TheVariants.{Memory};
 
-use crate::reading::ends::End;
+use crate::queries::ends::End;
 use crate::{TreeOf, TreeRefusal};
 use vdb_coord::{Bounds, Coord, Level};
 use vdb_node::Stored;

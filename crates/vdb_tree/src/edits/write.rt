@@ -18,7 +18,7 @@ ghost use Rattle.vdb_tree.specs.Table.{HasCapacity};
 ghost use Rattle.vdb_tree.specs.declared.Write.{Write};
 ghost use Rattle.vdb_tree.specs.declared.refusal.TreeRefusal.TheVariants.{Memory, RootLimit};
 
-use crate::reading::ends::{HeldEntry, Holder};
+use crate::queries::ends::{HeldEntry, Holder};
 use crate::{TreeOf, TreeRefusal, Write};
 use vdb_coord::Coord;
 use vdb_node::{Entry, Stored};

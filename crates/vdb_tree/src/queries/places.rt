@@ -8,10 +8,10 @@ ghost use Rattle.vdb_tree.specs.internal.Jumps.{IsJump, IsNextPart, IsNextPartAt
 ghost use Rattle.vdb_tree.specs.Layout.{bits_of, root_entry, upper_entry};
 ghost use Rattle.vdb_tree.specs.Parts.{IsEnd, IsNextAbove, IsPlaceAfter, end_level};
 ghost use Rattle.vdb_tree.specs.Paths.{IsChildAt, Lives};
-ghost use Rattle.vdb_tree.specs.declared.reading.parts.Skip.TheVariants.{Background, Inactive};
+ghost use Rattle.vdb_tree.specs.declared.queries.parts.Skip.TheVariants.{Background, Inactive};
 
-use crate::reading::ends::End;
-use crate::reading::parts::Skip;
+use crate::queries::ends::End;
+use crate::queries::parts::Skip;
 use crate::{PathOf, TreeOf};
 use vdb_coord::{Bounds, Coord, Level};
 use vdb_node::{Internal, Leaf, Stored};

@@ -13,7 +13,7 @@ ghost use Rattle.vdb_tree.specs.Parts.{IsEnd, IsPartAround, IsPartOfLeaf, IsPlac
 ghost use Rattle.vdb_tree.specs.Paths.{common, ends_in_leaf, in_leaf, Lives};
 ghost use Rattle.vdb_tree.specs.Sound.{IsConfigured};
 
-use crate::reading::ends::End;
+use crate::queries::ends::End;
 use crate::{PathOf, TreeOf};
 use std::marker::Model;
 use vdb_coord::{Bounds, Coord, Level};

@@ -11,7 +11,7 @@ ghost use Rattle.vdb_tree.specs.Unlike.{IsNextUnlike};
 
 use crate::TreeOf;
 use crate::nodes::held_place;
-use crate::pruning::prune::entry_corner;
+use crate::sweeps::prune::entry_corner;
 use vdb_coord::{Coord, Level};
 use vdb_node::{Entry, Stored};
 use vdb_pool::Steps;
