@@ -7,7 +7,7 @@ use Rattle.vdb_value.specs.declared.Cell.{Cell}
 use Rattle.vdb_tree.specs.Field.{Field, as_field_of}
 use Rattle.vdb_tree.specs.Layout.{Layout, field_of}
 use Rattle.vdb_scene.specs.Doing.{CarriesOut}
-use Rattle.vdb_scene.specs.Grids.{HasSameTree, grid_field, grid_limit, grid_of, scene_over}
+use Rattle.vdb_scene.specs.Grids.{HasSameTree, grid_field, grid_root_limit, grid_of, scene_over}
 use Rattle.vdb_scene.specs.Places.{is_accessor, is_coord, coord_of}
 use Rattle.vdb_scene.specs.Replies.{Value}
 use Rattle.vdb_scene.specs.Scene.{field_at, is_named}
@@ -36,7 +36,7 @@ same_field (I32 g) (I64 h) e = absurd e
 same_field (I64 g) (Bool h) e = absurd e
 same_field (I64 g) (I32 h) e = absurd e
 
-pub same_limit : (g h : AnyGrid) → HasSameTree g h → grid_limit h ≡ grid_limit g
+pub same_limit : (g h : AnyGrid) → HasSameTree g h → grid_root_limit h ≡ grid_root_limit g
 same_limit (Bool g) (Bool h) e = ap (λ (t : Layout _). t.limit) e
 same_limit (I32 g) (I32 h) e = ap (λ (t : Layout _). t.limit) e
 same_limit (I64 g) (I64 h) e = ap (λ (t : Layout _). t.limit) e

@@ -2,7 +2,7 @@ use Rattle.std.proofs.Common.{◌∙◌, sym, ap, refl}
 use Rattle.std.proofs.lemmas.Result.{err_from_is_err_and}
 use Rattle.std.specs.Prelude.{Some}
 use Rattle.vdb_tree.specs.Field.{write}
-use Rattle.vdb_scene.specs.Grids.{grid_field, grid_limit}
+use Rattle.vdb_scene.specs.Grids.{grid_field, grid_root_limit}
 use Rattle.vdb_scene.proofs.Borrowed.{changed_field, kept, same_scene, unchanged}
 use Rattle.vdb_scene.proofs.Steps.{test_fails, test_passes}
 use Rattle.vdb_scene.proofs.Writing.{write_accessor_refused, write_done, write_missing, write_place_refused, write_refused, write_value_refused}
@@ -52,7 +52,7 @@ returns-in_err-write-clause-step c =
     rw (exit.1, exit.2) (write_refused grids c.args.name.now c.args.accessor c.args.at.now c.args.change _ entry there c.kind.result c.kind.ensures
     c.in_ok-change.ensures.form c.in_ok-change.ensures.range at.0 c.in_ok-accessor.ensures.valid
     c.in-Some-place_of.at at.1 c.in_ok-change.change c.in_ok-change.ensures.value c.in_err-write.field-0.0 (grid_field c.write.new.self) c.in_err-write.ensures.outcome c.in_err-write.ensures.memory
-    (unchanged grids c.args.name.now _ entry there c.write.new.self (c.get_mut.follows.holds (record entry { grid = c.write.new.self })).0 (kept c.in_err-write.field-0.0 (grid_limit entry.grid) (grid_field entry.grid) (write c.in-Some-place_of.at c.in_ok-change.change (grid_field entry.grid)) (grid_field c.write.new.self) c.in_err-write.ensures.outcome) c.in_err-write.ensures.limit))
+    (unchanged grids c.args.name.now _ entry there c.write.new.self (c.get_mut.follows.holds (record entry { grid = c.write.new.self })).0 (kept c.in_err-write.field-0.0 (grid_root_limit entry.grid) (grid_field entry.grid) (write c.in-Some-place_of.at c.in_ok-change.change (grid_field entry.grid)) (grid_field c.write.new.self) c.in_err-write.ensures.outcome) c.in_err-write.ensures.limit))
 
 pub returns-clause-step : goal.returns-clause-step
 returns-clause-step c =
