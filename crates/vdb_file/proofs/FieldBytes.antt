@@ -8,13 +8,13 @@ use Rattle.std.specs.Int.{w16, w32, to_be_bytes}
 use Rattle.std.specs.Io.KnownBytes.{Consumes, IsAtEnd, Keeps, prepend_known}
 use Rattle.std.proofs.KnownBytes.{Consumes-kept}
 use Rattle.vdb_file.specs.Readers.{GaveAtMost}
-use Rattle.vdb_file.specs.internal.Reading.{Place, Stock, Took, byte_total, given_count, place}
+use Rattle.vdb_file.specs.internal.Reading.{Position, Stock, Took, byte_total, given_count, position}
 use Rattle.vdb_file.proofs.Fronts.{took_both}
 
 -- ---- pieces of a field
 
--- the place stays where no byte was taken
-pub took_kept : (a b c : Place) (text : List ℕ) → Took a b text → Keeps b.known c.known → c.room ≡ b.room → Took a c text
+-- the position stays where no byte was taken
+pub took_kept : (a b c : Position) (text : List ℕ) → Took a b text → Keeps b.known c.known → c.room ≡ b.room → Took a c text
 took_kept a b c text took kept room = record { bytes = Consumes-kept a.known b.known c.known text took.bytes kept; fewer = omega (arith, took.fewer, room) }
 
 -- nothing is unread, and the reader has no more
@@ -28,13 +28,13 @@ front_taken None n unread left e = tt
 front_taken (Some x) n unread left e = ap (λ t. t ++ x) (sym (take-append-drop n unread)) ∙ append_assoc (take n unread) (drop n unread) x ∙ ap (λ t. take n unread ++ (t ++ x)) (sym e)
 
 -- a field goes on with unread bytes
-pub piece_taken : (old : Place) (mid new : Stock) (known : Option (List ℕ)) (field grown : List ℕ) (at n : ℕ) → Took old (place mid known) (take at field) → take (at + n) grown ≡ take at field ++ take n mid.unread
-    → new.unread ≡ drop n mid.unread → new.room ≡ mid.room - n → n ≤ length mid.unread → n ≤ length field - at → at ≤ length field → length field ≤ old.room → Took old (place new known) (take (at + n) grown)
+pub piece_taken : (old : Position) (mid new : Stock) (known : Option (List ℕ)) (field grown : List ℕ) (at n : ℕ) → Took old (position mid known) (take at field) → take (at + n) grown ≡ take at field ++ take n mid.unread
+    → new.unread ≡ drop n mid.unread → new.room ≡ mid.room - n → n ≤ length mid.unread → n ≤ length field - at → at ≤ length field → length field ≤ old.room → Took old (position new known) (take (at + n) grown)
 piece_taken old mid new known field grown at n took text left room some wanted within fits =
     let front : length (take at field) ≡ at = omega (arith, length-take at field) in
     let piece : length (take n mid.unread) ≡ n = omega (arith, length-take n mid.unread) in
-    subst (Took old (place new known)) (sym text)
-    (took_both old (place mid known) (place new known) (take at field) (take n mid.unread) took
+    subst (Took old (position new known)) (sym text)
+    (took_both old (position mid known) (position new known) (take at field) (take n mid.unread) took
     (record { bytes = front_taken known n mid.unread new.unread left; fewer = omega (arith, front, piece, took.fewer, room) }))
 
 -- a later part of a part

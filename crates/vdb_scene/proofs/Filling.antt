@@ -15,7 +15,7 @@ use Rattle.vdb_scene.specs.Grids.{grid_field, grid_root_limit, grid_of, scene_ov
 use Rattle.vdb_scene.specs.Scalars.{has_form, has_value, kind_of, scalar, scalar_eq}
 use Rattle.vdb_scene.specs.Scene.{Grid, Scene, is_named}
 use Rattle.vdb_scene.specs.Replies as replies
-use Rattle.vdb_scene.specs.Places.{are_coords, box_between}
+use Rattle.vdb_scene.specs.Arguments.{are_coords, box_between}
 use Rattle.vdb_scene.specs.Refusals.{first_of_all, no_box, of_tree, other_form, out_of_range, refused_if}
 use Rattle.vdb_scene.specs.Step.{after, changed, refusal}
 use Rattle.vdb_scene.specs.declared.grid_entry.GridEntry.{GridEntry}

@@ -10,7 +10,7 @@ use Rattle.vdb_tree.specs.declared.refusal.TreeRefusal.TheVariants.{Memory, Root
 use Rattle.vdb_morph.specs.Growth.{IsGrowth}
 use Rattle.vdb_scene.specs.Doing.{CarriesOut}
 use Rattle.vdb_scene.specs.Grids.{grid_field, grid_root_limit, grid_of, scene_over}
-use Rattle.vdb_scene.specs.Places.{count_of, is_turn_count}
+use Rattle.vdb_scene.specs.Arguments.{count_of, is_turn_count}
 use Rattle.vdb_scene.specs.Refusals.{beyond_limit, first_of_all, of_tree, refused_if}
 use Rattle.vdb_scene.specs.Replies as replies
 use Rattle.vdb_scene.specs.Scalars.{scalar_eq}

@@ -17,7 +17,7 @@ use Rattle.vdb_scene.specs.Grids.{grid_field, grid_root_limit, grid_of, scene_ov
 use Rattle.vdb_scene.specs.Scalars.{has_form, has_value, kind_of, scalar, scalar_eq}
 use Rattle.vdb_scene.specs.Scene.{Grid, Scene, field_at, grid_at, is_named, kind_at, limit_at}
 use Rattle.vdb_scene.specs.Replies as replies
-use Rattle.vdb_scene.specs.Places.{is_accessor, is_coord, coord_of}
+use Rattle.vdb_scene.specs.Arguments.{is_accessor, is_coord, coord_of}
 use Rattle.vdb_scene.specs.Refusals.{first_of_all, of_tree, other_form, out_of_range, refused_if}
 use Rattle.vdb_scene.specs.Step.{IsReply, after, after_write, changed, first_refusal, line_takes_memory, passes, refusal, takes_memory, tried_write, write_at, write_command, write_takes_memory}
 use Rattle.vdb_scene.specs.declared.grid_entry.GridEntry.{GridEntry}
@@ -156,9 +156,9 @@ module _ (grids : List (List ℕ × GridEntry)) (name : List ℕ) (k : Option Nu
       value_here : passes (has_value (kind_at scene name)) w ≡ true
       value_here = subst (λ h. passes (has_value h) w ≡ true) kind_here value
 
-      -- a place that is no coordinate
-      pub write_place_refused : is_coord p ≡ false → next ≡ scene → CarriesOut scene command (Err refusals.ValueRange) next
-      write_place_refused nowhere same =
+      -- a point that is no coordinate
+      pub write_coord_refused : is_coord p ≡ false → next ≡ scene → CarriesOut scene command (Err refusals.ValueRange) next
+      write_coord_refused nowhere same =
           (tried_for scene name k p w ∙ first_range absent fits in_range (is_accessor k) over is_there fits_here (first_fails (is_coord p) _ nowhere), same)
 
       -- no such accessor

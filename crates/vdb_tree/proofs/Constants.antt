@@ -10,7 +10,7 @@ use Rattle.vdb_coord.specs.declared.Coord.{Coord}
 use Rattle.vdb_coord.specs.declared.Level.{Level}
 use Rattle.vdb_coord.proofs.Loops.{corner}
 use Rattle.vdb_coord.proofs.Nesting.{corner_of_entry}
-use Rattle.vdb_coord.proofs.Places.{entries_is, node_bits_fit, offset_below}
+use Rattle.vdb_coord.proofs.Positions.{entries_is, node_bits_fit, offset_below}
 use Rattle.vdb_coord.specs.declared.Level.TheVariants.{Leaf}
 use Rattle.vdb_node.specs.Entries.{HasChild, IsConstant, IsNextChildAt}
 use Rattle.vdb_node.specs.Leaf.{cell_in, IsConstantLeaf, Leaf as LeafOf}

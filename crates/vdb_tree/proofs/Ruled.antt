@@ -10,7 +10,7 @@ use Rattle.vdb_coord.specs.declared.Coord.{Coord}
 use Rattle.vdb_coord.specs.declared.Level.{Level}
 use Rattle.vdb_coord.specs.declared.Level.TheVariants.{Leaf, Lower, Upper}
 use Rattle.vdb_coord.proofs.Nesting.{block_from_entry, entry_from_offset, offset_from_entry}
-use Rattle.vdb_coord.proofs.Places.{entries_is, offset_below}
+use Rattle.vdb_coord.proofs.Positions.{entries_is, offset_below}
 use Rattle.vdb_node.specs.Entries.{IsFirstWithout, IsInactiveTile}
 use Rattle.vdb_node.specs.Nodes.{entry_count}
 use Rattle.vdb_node.specs.declared.Entry.{Entry}

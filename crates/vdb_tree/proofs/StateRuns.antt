@@ -10,7 +10,7 @@ use Rattle.vdb_coord.specs.declared.Level.{Level}
 use Rattle.vdb_coord.specs.declared.Level.TheVariants.{Leaf, Lower, Upper}
 use Rattle.vdb_coord.proofs.InRange.{block_in_range}
 use Rattle.vdb_coord.proofs.Nesting.{corner_of_entry, entry_from_offset, lower_from_leaf, offset_from_entry}
-use Rattle.vdb_coord.proofs.Places.{entries_is, offset_below}
+use Rattle.vdb_coord.proofs.Positions.{entries_is, offset_below}
 use Rattle.vdb_mask.specs.Mask.{is_on}
 use Rattle.vdb_node.specs.Leaf.{Leaf as LeafOf}
 use Rattle.vdb_node.specs.Nodes.{entry_count}

@@ -2,7 +2,7 @@
 use Rattle.std.proofs.Common.{◌≡◌, ◌⊎◌, inl, inr, refl, sym, ap, subst, ◌∙◌, true, false, IsTrue, Some, None, Option, ℕ, ◌<◌, arith}
 use Rattle.std.specs.Prelude.{Bool, not, IfSome}
 use Rattle.vdb_coord.specs.Blocks.{block_number, key}
-use Rattle.vdb_coord.specs.Order.{ComesBefore, IsNextPlace, IsUpToBlock, coordinates_past}
+use Rattle.vdb_coord.specs.Order.{ComesBefore, IsNextCoord, IsUpToBlock, coordinates_past}
 use Rattle.vdb_coord.specs.Space.{Box, is_inside}
 use Rattle.vdb_coord.specs.declared.Bits.{Bits}
 use Rattle.vdb_coord.specs.declared.Coord.{Coord}
@@ -93,19 +93,19 @@ module _ {V : Type 0} (bits : Bits) where
       up_to : (level : Level) → IsVoxelisedAround bits t level p → (q : Coord) → ((field_of bits t).cell q).on ≡ true → IsUpToBlock bits level p q → ComesBefore bits q p ⊎ IsTrue (in_leaf bits t q)
       up_to level done q on h = elim h [ inl before ↦ inl before | inr same ↦ inr (done q same on) ]
 
-      -- a block whose active voxels lie in leaves, and the next place past it
-      pub past_done : (level : Level) → IsVoxelisedAround bits t level p → (next : Option Coord) → IsNextPlace bits level box p next → IsVoxelisedFrom bits t box p next
+      -- a block whose active voxels lie in leaves, and the next coordinate past it
+      pub past_done : (level : Level) → IsVoxelisedAround bits t level p → (next : Option Coord) → IsNextCoord bits level box p next → IsVoxelisedFrom bits t box p next
       past_done level done None h = λ q inside gone on. up_to level done q on (h q inside)
       past_done level done (Some n) h = λ q inside gone on. up_to level done q on (h.between q inside (before_not_left bits n q gone))
 
       -- a leaf around p is one
-      pub past_leaf : IsTrue (in_leaf bits t p) → (next : Option Coord) → IsNextPlace bits Leaf box p next → IsVoxelisedFrom bits t box p next
+      pub past_leaf : IsTrue (in_leaf bits t p) → (next : Option Coord) → IsNextCoord bits Leaf box p next → IsVoxelisedFrom bits t box p next
       past_leaf leaf = past_done Leaf (λ r same _. in_same_leaf t p r leaf same)
 
--- the next place lies in the box
-pub place_inside : (bits : Bits) (box : Box) (level : Level) (p : Coord) (next : Option Coord) → IsNextPlace bits level box p next → IfSome next (λ q. IsTrue (is_inside box q))
-place_inside bits box level p None h = tt
-place_inside bits box level p (Some n) h = h.inside
+-- the next coordinate lies in the box
+pub start_inside : (bits : Bits) (box : Box) (level : Level) (p : Coord) (next : Option Coord) → IsNextCoord bits level box p next → IfSome next (λ q. IsTrue (is_inside box q))
+start_inside bits box level p None h = tt
+start_inside bits box level p (Some n) h = h.inside
 
 -- fewer coordinates are left
 pub fewer_left : (bits : Bits) (p : Coord) (next : Option Coord) → IfSome next (λ n. coordinates_past bits n < coordinates_past bits p) → left_count bits next < left_count bits (Some p)

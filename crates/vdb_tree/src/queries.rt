@@ -9,7 +9,7 @@ pub(crate) mod leaves;
 pub(crate) mod next_leaf;
 pub(crate) mod parts;
 pub(crate) mod pieces;
-pub(crate) mod places;
 pub(crate) mod root_blocks;
+pub(crate) mod starts;
 pub(crate) mod trace;
 pub(crate) mod unlike;

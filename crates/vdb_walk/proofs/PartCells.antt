@@ -13,7 +13,7 @@ use Rattle.vdb_coord.proofs.BlockOrder.{not_before_min}
 use Rattle.vdb_coord.proofs.Boxes.{not_true, same_truth}
 use Rattle.vdb_coord.proofs.Loops.{corner}
 use Rattle.vdb_coord.proofs.Nesting.{corner_of_entry, voxel_from_leaf}
-use Rattle.vdb_coord.proofs.Places.{entries_is, offset_below}
+use Rattle.vdb_coord.proofs.Positions.{entries_is, offset_below}
 use Rattle.vdb_coord.proofs.Walk.{min_inside, none_before}
 use Rattle.vdb_node.specs.Leaf.{IsConstantLeaf, cell_in, Leaf as LeafOf}
 use Rattle.vdb_node.specs.Nodes.{entry_count}

@@ -126,7 +126,7 @@ impl Input {
         Some(bytes)
     }
 
-    /// Takes as many unread bytes as there are and as a field, from one place on, still wants, and answers how many.
+    /// Takes as many unread bytes as there are and as a field, from one position on, still wants, and answers how many.
     pub(crate) fn run(&mut self, field: &mut [u8], at: usize) -> usize
         requires within { at ≤ length field.old }
         requires fits { length field.old ≤ at + self.old.room }

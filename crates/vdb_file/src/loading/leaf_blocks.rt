@@ -13,7 +13,7 @@ ghost use Rattle.vdb_file.specs.Faults.{is_read_fault};
 ghost use Rattle.vdb_file.specs.internal.FieldFaults.{IsInner};
 ghost use Rattle.vdb_file.specs.internal.LeafVoxels.{IsMixed, voxel_count, voxels_bytes};
 ghost use Rattle.vdb_file.specs.internal.LoadedFields.{HasRoomAt, IsReady, KeptOutside, ShowsIn};
-ghost use Rattle.vdb_file.specs.internal.Reading.{EndsWith, Reads, byte_total, place};
+ghost use Rattle.vdb_file.specs.internal.Reading.{EndsWith, Reads, byte_total, position};
 
 use crate::fault::LoadFault;
 use crate::loading::block_head::{Head, take_head};
@@ -108,11 +108,11 @@ fn take_leaf<
     ensures ends { EndsWith input.new (R.remaining (source reader.new)) }
     ensures total { (n : ℕ) → byte_total input.old (R.remaining (source reader.old)) ≡ Some n → byte_total input.new (R.remaining (source reader.new)) ≡ Some n }
     ensures reads { Reads (λ _. field_of (bits_of U L F) tree.new) (λ f. IsMixed V.eq V.is_value tree.old.background (bits_of U L F) p f × (voxel_count V.eq V.bytes_of (bits_of U L F) p f ≡ count)) (voxels_bytes V.eq V.bytes_of (bits_of U L F) p) result
-        (place input.old (R.remaining (source reader.old))) (place input.new (R.remaining (source reader.new))) }
+        (position input.old (R.remaining (source reader.old))) (position input.new (R.remaining (source reader.new))) }
     ensures kept { OnOk result (KeptOutside (block_around (bits_of U L F) leaf_level p) (field_of (bits_of U L F) tree.old) (field_of (bits_of U L F) tree.new)) }
     ensures limit { OnOk result (tree.new.limit ≡ tree.old.limit) }
     ensures inner { IfErr result IsInner }
-    ensures ended { result ≡ Err LoadFault.Truncated → IsAtEnd (place input.new (R.remaining (source reader.new))).known }
+    ensures ended { result ≡ Err LoadFault.Truncated → IsAtEnd (position input.new (R.remaining (source reader.new))).known }
     ensures failed { has_failed reader.new ≡ (has_failed reader.old || is_read_fault result) }
 {
     tree.has_leaf_words();
@@ -151,11 +151,11 @@ pub(crate) fn take_leaf_block<
     ensures ends { EndsWith input.new (R.remaining (source reader.new)) }
     ensures total { (n : ℕ) → byte_total input.old (R.remaining (source reader.old)) ≡ Some n → byte_total input.new (R.remaining (source reader.new)) ≡ Some n }
     ensures reads { Reads (λ _. field_of (bits_of U L F) tree.new) (ShowsIn V.eq V.is_value tree.old.background (block_around (bits_of U L F) leaf_level p)) (λ f. leaf_body V.eq V.bytes_of (bits_of U L F) f (block_around (bits_of U L F) leaf_level p)) result
-        (place input.old (R.remaining (source reader.old))) (place input.new (R.remaining (source reader.new))) }
+        (position input.old (R.remaining (source reader.old))) (position input.new (R.remaining (source reader.new))) }
     ensures kept { OnOk result (KeptOutside (block_around (bits_of U L F) leaf_level p) (field_of (bits_of U L F) tree.old) (field_of (bits_of U L F) tree.new)) }
     ensures limit { OnOk result (tree.new.limit ≡ tree.old.limit) }
     ensures inner { IfErr result IsInner }
-    ensures ended { result ≡ Err LoadFault.Truncated → IsAtEnd (place input.new (R.remaining (source reader.new))).known }
+    ensures ended { result ≡ Err LoadFault.Truncated → IsAtEnd (position input.new (R.remaining (source reader.new))).known }
     ensures failed { has_failed reader.new ≡ (has_failed reader.old || is_read_fault result) }
 {
     let most = tree.bits().entries(Level::Leaf);

@@ -71,7 +71,7 @@ impl<
         Ok(())
     }
 
-    /// Makes a leaf of the leaf block around `p` where that is an active tile. It gives the first place of the box past that
+    /// Makes a leaf of the leaf block around `p` where that is an active tile. It gives the first coordinate of the box past that
     /// leaf, or past the leaf or the inactive tile that was there.
     fn voxelise_from(
         &mut self,
@@ -95,7 +95,7 @@ impl<
         }
     }
 
-    /// The first place of the box past the leaf or the inactive tile around `p`; `None` where there is an active tile, under an
+    /// The first coordinate of the box past the leaf or the inactive tile around `p`; `None` where there is an active tile, under an
     /// entry of the table.
     fn inactive_after(&self, bounds: Bounds, p: Coord, steps: &mut Steps) -> Option<Option<Coord>>
         requires inside { IsTrue (is_inside bounds p) }
@@ -107,20 +107,20 @@ impl<
     {
         let end = self.end_of(p, steps);
         if self.is_inactive(p, end) {
-            return Some(self.place_past_inactive(bounds, p, end));
+            return Some(self.start_past_inactive(bounds, p, end));
         }
         None
     }
 
-    /// The first place of the box past the leaf or the inactive tile in which the descent to `p` ends.
-    fn place_past_inactive(&self, bounds: Bounds, p: Coord, end: End<V>) -> Option<Coord>
+    /// The first coordinate of the box past the leaf or the inactive tile in which the descent to `p` ends.
+    fn start_past_inactive(&self, bounds: Bounds, p: Coord, end: End<V>) -> Option<Coord>
         requires inside { IsTrue (is_inside bounds p) }
         requires end { IsEnd (bits_of U L F) self.now p end }
         ensures done { IsVoxelisedAround (bits_of U L F) self.now (end_level (bits_of U L F) self.now p) p → IsVoxelisedFrom (bits_of U L F) self.now bounds p result }
         ensures inside { IfSome result (λ q. IsTrue (is_inside bounds q)) }
         ensures nearer { left_count (bits_of U L F) result < left_count (bits_of U L F) (Some p) }
     {
-        bounds.next_place_in(self.bits(), self.level_of(p, end), p)
+        bounds.next_coord_in(self.bits(), self.level_of(p, end), p)
     }
 
     /// The level of the tile or the leaf in which the descent to `p` ends.
@@ -149,7 +149,7 @@ impl<
         }
     }
 
-    /// Makes a leaf around `p`, which lies in a tile, and gives the first place of the box past that leaf.
+    /// Makes a leaf around `p`, which lies in a tile, and gives the first coordinate of the box past that leaf.
     fn voxelise_tile(
         &mut self,
         bounds: Bounds,
@@ -168,7 +168,7 @@ impl<
         ensures memory { IfErr result (λ refusal. refusal ≡ Memory) }
     {
         self.leaf_around(p, steps)?;
-        match bounds.next_place_in(self.bits(), Level::Leaf, p) {
+        match bounds.next_coord_in(self.bits(), Level::Leaf, p) {
             Some(next) => Ok(Some(next)),
             None => Ok(None),
         }

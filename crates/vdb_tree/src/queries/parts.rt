@@ -9,7 +9,7 @@ ghost use Rattle.vdb_coord.specs.declared.Level.TheVariants.{Leaf as leaf_level,
 ghost use Rattle.vdb_node.specs.declared.Entry.TheVariants.{Tile};
 ghost use Rattle.vdb_tree.specs.Layout.{bits_of, entry_over, field_of, background_cell};
 ghost use Rattle.vdb_tree.specs.Leaves.{IsLeafAround};
-ghost use Rattle.vdb_tree.specs.Parts.{IsEnd, IsPartAround, IsPartOfLeaf, IsPlace, IsSkipped, IsWalk, OnLeaf, OnTile, Passes, YieldsBox, end_level, is_left, left_count};
+ghost use Rattle.vdb_tree.specs.Parts.{IsEnd, IsPartAround, IsPartOfLeaf, IsStart, IsSkipped, IsWalk, OnLeaf, OnTile, Passes, YieldsBox, end_level, is_left, left_count};
 ghost use Rattle.vdb_tree.specs.Paths.{common, ends_in_leaf, in_leaf, Lives};
 ghost use Rattle.vdb_tree.specs.Sound.{IsConfigured};
 
@@ -164,17 +164,17 @@ impl<
         let mut walk = self.parts(bounds, skip);
         if bounds.contains(start) {
             let end = self.end_at(&mut walk, start, steps);
-            let place = self.place_around(bounds, start, end);
-            walk.go_to(Some(place));
+            let first = self.start_around(bounds, start, end);
+            walk.go_to(Some(first));
         }
         walk
     }
 
     /// The first coordinate, in block order, of what the box has of the tile or the leaf around `p`.
-    fn place_around(&self, bounds: Bounds, p: Coord, end: End<V>) -> Coord
+    fn start_around(&self, bounds: Bounds, p: Coord, end: End<V>) -> Coord
         requires inside { IsTrue (is_inside bounds p) }
         requires end { IsEnd (bits_of U L F) self.now p end }
-        ensures place { IsPlace (bits_of U L F) self.now bounds result }
+        ensures start { IsStart (bits_of U L F) self.now bounds result }
         ensures earlier { (q : Coord) → ComesBefore (bits_of U L F) q result → ComesBefore (bits_of U L F) q p }
     {
         match end {
@@ -220,7 +220,7 @@ impl<
         ensures end { IfNone result (Passes (bits_of U L F) self.now walk.old walk.new (λ q. false)) }
         ensures none_left { IfNone result (walk.new.at ≡ None) }
     {
-        'places: while let Some(p) = walk.at() {
+        'starts: while let Some(p) = walk.at() {
             let part = self.step(walk, p, steps);
             if part.is_some() {
                 return part;
@@ -251,7 +251,7 @@ impl<
         }
     }
 
-    /// Goes on from a place: yields the part around it, unless that is passed over.
+    /// Goes on from a start: yields the part around it, unless that is passed over.
     fn step(
         &self,
         walk: &mut Walk<Internal<V, U, WU>, Internal<V, L, WL>, Leaf<V, F, WF>>,
@@ -269,7 +269,7 @@ impl<
     {
         let end = self.end_at(walk, p, steps);
         let (bounds, skip) = (walk.bounds(), walk.skip());
-        let next = self.place_after(bounds, skip, p, end, walk.path(), steps);
+        let next = self.start_after(bounds, skip, p, end, walk.path(), steps);
         let part = self.part_around(bounds, skip, p, end, steps);
         walk.go_to(next);
         part

@@ -3,7 +3,7 @@ use Rattle.vdb_coord.specs.Blocks.{block_around, offset}
 use Rattle.vdb_coord.specs.Space.{is_inside}
 use Rattle.vdb_coord.specs.declared.Coord.{Coord}
 use Rattle.vdb_coord.specs.declared.Level.TheVariants.{Leaf}
-use Rattle.vdb_coord.proofs.Places.{offset_below}
+use Rattle.vdb_coord.proofs.Positions.{offset_below}
 use Rattle.vdb_mask.specs.Mask.{is_on}
 use Rattle.vdb_tree.specs.Layout.{bits_of, field_of}
 use Rattle.vdb_walk.proofs.Cuts.{same_boxes}

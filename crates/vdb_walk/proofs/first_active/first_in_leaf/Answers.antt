@@ -1,7 +1,7 @@
 use Rattle.std.proofs.Common.{◌∙◌, ℕ, ap, arith, rules, subst, sym}
 use Rattle.std.specs.Prelude.{None, Some}
 use Rattle.vdb_coord.specs.declared.Level.TheVariants.{Leaf}
-use Rattle.vdb_coord.proofs.Places.{entries_is, offset_below}
+use Rattle.vdb_coord.proofs.Positions.{entries_is, offset_below}
 use Rattle.vdb_node.specs.Leaf.{cell_in}
 use Rattle.vdb_node.specs.Nodes.{entry_count, IsOffFrom}
 use Rattle.vdb_tree.proofs.Sizes.{leaf_small}

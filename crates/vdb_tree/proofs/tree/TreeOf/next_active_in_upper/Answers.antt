@@ -3,7 +3,7 @@ use Rattle.std.specs.Prelude.{None, Some}
 use Rattle.vdb_coord.specs.Blocks.{entries}
 use Rattle.vdb_coord.specs.declared.Bits.{Bits}
 use Rattle.vdb_coord.specs.declared.Level.TheVariants.{Upper}
-use Rattle.vdb_coord.proofs.Places.{entries_is}
+use Rattle.vdb_coord.proofs.Positions.{entries_is}
 use Rattle.vdb_pool.specs.Contents.{node_at}
 use Rattle.vdb_tree.specs.Layout.{bits_of}
 use Rattle.vdb_tree.specs.declared.queries.parts.Skip.TheVariants.{Inactive}
