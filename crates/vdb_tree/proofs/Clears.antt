@@ -12,7 +12,7 @@ use Rattle.vdb_node.specs.declared.Entry.{Entry}
 use Rattle.vdb_node.specs.declared.Entry.TheVariants.{Child, Tile}
 use Rattle.vdb_value.specs.declared.Cell.{Cell}
 use Rattle.vdb_tree.specs.Changes.{Fills, KeepsBeyond, SameDescent}
-use Rattle.vdb_tree.specs.internal.Corners.{IsChildless, IsNextCornerAt}
+use Rattle.vdb_tree.specs.internal.Children.{IsChildless, IsNextCornerAt}
 use Rattle.vdb_tree.specs.Layout.{Layout}
 use Rattle.vdb_tree.specs.internal.Paints.{KeepsOutside}
 use Rattle.vdb_tree.specs.SplitBox.{IsCovered}

@@ -20,7 +20,7 @@ use Rattle.vdb_node.specs.declared.Entry.TheVariants.{Child, Tile}
 use Rattle.vdb_pool.specs.Contents.{node_at}
 use Rattle.vdb_value.specs.declared.Cell.{Cell}
 use Rattle.vdb_tree.specs.Changes.{IsConstantBlock}
-use Rattle.vdb_tree.specs.internal.Corners.{IsChildless, IsNextCornerAt, IsTiled}
+use Rattle.vdb_tree.specs.internal.Children.{IsChildless, IsNextCornerAt, IsTiled}
 use Rattle.vdb_tree.specs.Layout.{Layout, cell_at, lower_entry, background_cell}
 use Rattle.vdb_tree.proofs.Descents.{leaf_cell}
 use Rattle.vdb_tree.proofs.Levels.{tile_no_child}

@@ -13,7 +13,7 @@ use Rattle.vdb_coord.proofs.Positions.{offset_below}
 use Rattle.vdb_node.specs.declared.Entry.TheVariants.{Child, Tile}
 use Rattle.vdb_value.specs.declared.Cell.{Cell}
 use Rattle.vdb_tree.specs.Changes.{AddsNodes}
-use Rattle.vdb_tree.specs.internal.Corners.{IsChildless, IsNextCorner, IsNextCornerAt}
+use Rattle.vdb_tree.specs.internal.Children.{IsChildless, IsNextCorner, IsNextCornerAt}
 use Rattle.vdb_tree.specs.internal.Pairing.{IsIdleAt, IsReadyFor, made}
 use Rattle.vdb_tree.specs.internal.Refining.{IsRefinable, IsRefinedAt, IsRefinedTo, MakesNode, Refines}
 use Rattle.vdb_tree.specs.Layout.{Layout, background_cell, entry_over, lower_entry, root_at, root_entry, upper_entry}

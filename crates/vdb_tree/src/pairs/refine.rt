@@ -10,7 +10,7 @@ ghost use Rattle.vdb_value.specs.declared.Cell.{Cell};
 ghost use Rattle.vdb_tree.specs.Changes.{AddsNodes, Keeps, KeepsUppers};
 ghost use Rattle.vdb_tree.specs.Layout.{bits_of, lower_entry, root_at, root_entry, upper_entry};
 ghost use Rattle.vdb_tree.specs.Nodes.{MakesOnly};
-ghost use Rattle.vdb_tree.specs.internal.Corners.{IsNextCorner};
+ghost use Rattle.vdb_tree.specs.internal.Children.{IsNextCorner};
 ghost use Rattle.vdb_tree.specs.internal.Pairing.{IsReadyFor, IsIdleAt, made};
 ghost use Rattle.vdb_tree.specs.internal.Refining.{IsNodeOrMade, IsRefinable, IsRefinedTo, MakesNode, Refines};
 ghost use Rattle.vdb_tree.specs.declared.pairs.StateRule.TheVariants.{Unite as unites};

@@ -8,7 +8,7 @@ ghost use Rattle.vdb_coord.specs.declared.Level.TheVariants.{Leaf, Lower, Upper}
 ghost use Rattle.vdb_node.specs.Nodes.{entry_count};
 ghost use Rattle.vdb_node.specs.declared.Entry.TheVariants.{Child, Tile};
 ghost use Rattle.vdb_tree.specs.Changes.{AreNeeded, IsConstantBlock, IsNeededTo, IsSwept, Keeps, KeepsUppers, PassesFrom, PassesTo, PrunesRoot, SameDescent};
-ghost use Rattle.vdb_tree.specs.internal.Corners.{IsNextCorner, IsTiled};
+ghost use Rattle.vdb_tree.specs.internal.Children.{IsNextCorner, IsTiled};
 ghost use Rattle.vdb_tree.specs.Layout.{bits_of, field_of, lower_entry, background_cell, root_at, root_entry, upper_entry};
 ghost use Rattle.vdb_tree.specs.Smallest.{IsLeast};
 ghost use Rattle.vdb_tree.specs.Table.{IsNextKey};
