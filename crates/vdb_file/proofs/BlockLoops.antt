@@ -17,11 +17,11 @@ use Rattle.vdb_file.specs.Bodies.{listed}
 use Rattle.vdb_file.specs.declared.fault.LoadFault.{LoadFault}
 use Rattle.vdb_file.specs.internal.LeafVoxels.{HasValues}
 use Rattle.vdb_file.specs.internal.Loading.{IsIndex}
-use Rattle.vdb_file.specs.internal.LoadedFields.{AreReady, HasRoomAt, IsNext, IsReady, KeptOutside, ShowsIn, ShowsInEach, entry_box, next_bytes}
+use Rattle.vdb_file.specs.internal.LoadedFields.{AreReady, HasCapacityAt, IsNext, IsReady, KeptOutside, ShowsIn, ShowsInEach, entry_box, next_bytes}
 use Rattle.vdb_file.specs.internal.Reading.{Fails, Position, Took}
 use Rattle.vdb_file.specs.internal.Written.{numbered}
 use Rattle.vdb_file.proofs.Agreement.{AreValues}
-use Rattle.vdb_file.proofs.LoadedBlocks.{entry_in_block, in_upper, kept_wider, room_kept, same_upper}
+use Rattle.vdb_file.proofs.LoadedBlocks.{entry_in_block, in_upper, kept_wider, capacity_kept, same_upper}
 use Rattle.vdb_file.proofs.RowFrames.{below_member, member_below}
 use Rattle.vdb_file.proofs.RowInstances.{node_row}
 use Rattle.vdb_file.proofs.RowLoops.{IsUnderway, more_underway, next_clear, no_next, none_underway}
@@ -61,18 +61,18 @@ module _ {V : Type 0} {eq : V → V → Bool} {value_bytes : V → List ℕ} {P 
     entry_values = record { same = refl; values = so_far.values.values }
 
     -- each entry that may come next is ready, as a block of the level below
-    pub entries_ready : (few : AreBits bits) (below : Level) → ((i : ℕ) → i < entries bits level → block_around bits below (box i).min ≡ box i) → (limit : ℕ) → HasRoomAt eq bits limit (block_around bits Upper p) f → AreReady eq P bits limit below N box g
-    entries_ready few below own limit room = record { configured = few; each = ready }
+    pub entries_ready : (few : AreBits bits) (below : Level) → ((i : ℕ) → i < entries bits level → block_around bits below (box i).min ≡ box i) → (limit : ℕ) → HasCapacityAt eq bits limit (block_around bits Upper p) f → AreReady eq P bits limit below N box g
+    entries_ready few below own limit capacity = record { configured = few; each = ready }
       where
         ready : (i : ℕ) → N i → IsReady eq P bits limit below (box i).min g
         ready i index = record {
           configured = few;
           values = entry_values;
           clear = subst (λ (c : Box). is_background eq g c ≡ true) (sym (own i index.within)) (next_clear values is background b f old done before g now so_far i (below_member bits level i index.within) index.later);
-          room =
+          capacity =
               let inside : is_inside b (box i).min ≡ true = entry_in_block bits level p i index.within (box i).min (corner_inside bits level b i) in
-              subst (λ (c : Box). HasRoomAt eq bits limit c g) (sym (same_upper bits level p (box i).min inside))
-              (room_kept eq bits limit (block_around bits Upper p) f g (kept_wider (block_around bits Upper p) b f g (in_upper bits level p) so_far.kept) room);
+              subst (λ (c : Box). HasCapacityAt eq bits limit c g) (sym (same_upper bits level p (box i).min inside))
+              (capacity_kept eq bits limit (block_around bits Upper p) f g (kept_wider (block_around bits Upper p) b f g (in_upper bits level p) so_far.kept) capacity);
         }
 
     -- no entry is ahead

@@ -50,7 +50,7 @@ module _ {A : Type 0} (P : A → Type 0) (code : A → List ℕ) where
   pub fails_first : {B : Type 0} (Q : B → Type 0) (part : B → List ℕ) (field : A → B) (tail : A → List ℕ) (fault : LoadFault) (old : Position)
       → ((a : A) → P a → Q (field a)) → ((a : A) → P a → code a ≡ part (field a) ++ tail a) → Fails Q part fault old → Fails P code fault old
   fails_first Q part field tail fault old has split h = record {
-    none = λ claims. some_turn old.known (λ bytes. NoFront P code bytes old.room) (λ bytes. NoFront Q part bytes old.room)
+    none = λ claims. some_turn old.known (λ bytes. NoFront P code bytes old.capacity) (λ bytes. NoFront Q part bytes old.capacity)
         (λ bytes none a rest p fits e.
         let s = split a p in
         none (field a) (tail a ++ rest) (has a p) (omega (arith, ap length s, length-append (part (field a)) (tail a)))
@@ -63,7 +63,7 @@ module _ {A : Type 0} (P : A → Type 0) (code : A → List ℕ) where
       → Took old mid text → ((a : A) → P a → Says text (part a) (C a)) → ((a : A) → P a → code a ≡ part a ++ tail a)
       → Fails (λ a. P a × C a) tail fault mid → Fails P code fault old
   fails_after text C part tail fault old mid took says split h = record {
-    none = λ claims. some_after old.known mid.known text (λ bytes. NoFront P code bytes old.room) (λ bytes. NoFront (λ a. P a × C a) tail bytes mid.room) took.bytes
+    none = λ claims. some_after old.known mid.known text (λ bytes. NoFront P code bytes old.capacity) (λ bytes. NoFront (λ a. P a × C a) tail bytes mid.capacity) took.bytes
         (λ bytes here front none a rest p fits e.
         let s = split a p in
         let both = sym front ∙ e ∙ ap (λ t. t ++ rest) s ∙ append_assoc (part a) (tail a) rest in
@@ -75,19 +75,19 @@ module _ {A : Type 0} (P : A → Type 0) (code : A → List ℕ) where
 
   -- nothing has P
   pub fails_none : (fault : LoadFault) (old : Position) → ((a : A) → P a → ⊥) → Fails P code fault old
-  fails_none fault old h = record { none = λ claims. some_any old.known (λ bytes. NoFront P code bytes old.room) (λ bytes a rest p fits e. h a p) }
+  fails_none fault old h = record { none = λ claims. some_any old.known (λ bytes. NoFront P code bytes old.capacity) (λ bytes a rest p fits e. h a p) }
 
   -- the code is too long
-  pub fails_long : (fault : LoadFault) (old : Position) → ((a : A) → P a → old.room < length (code a)) → Fails P code fault old
+  pub fails_long : (fault : LoadFault) (old : Position) → ((a : A) → P a → old.capacity < length (code a)) → Fails P code fault old
   fails_long fault old h = record {
-    none = λ claims. some_any old.known (λ bytes. NoFront P code bytes old.room) (λ bytes a rest p fits e. let long = h a p in absurd (omega (arith, long, fits)));
+    none = λ claims. some_any old.known (λ bytes. NoFront P code bytes old.capacity) (λ bytes a rest p fits e. let long = h a p in absurd (omega (arith, long, fits)));
   }
 
   -- the reader ended before the field did
   pub fails_short : (text : List ℕ) (fault : LoadFault) (old mid : Position) → Took old mid text → IsAtEnd mid.known → ((a : A) → P a → length text < length (code a)) → Fails P code fault old
   fails_short text fault old mid took end h = record { none = λ claims. short old.known mid.known took.bytes end }
     where
-      short : (a b : Option (List ℕ)) → Consumes a b text → IsAtEnd b → IfSome a (λ bytes. NoFront P code bytes old.room)
+      short : (a b : Option (List ℕ)) → Consumes a b text → IsAtEnd b → IfSome a (λ bytes. NoFront P code bytes old.capacity)
       short None b c e = tt
       short (Some x) None c e = absurd c
       short (Some x) (Some y) c e = λ a rest p fits front.

@@ -19,7 +19,7 @@ use Rattle.vdb_tree.proofs.Uniform.{uniform_from}
 use Rattle.vdb_file.specs.Bodies.{key_bytes, root_body, roots_bytes}
 use Rattle.vdb_file.specs.declared.fault.LoadFault.{LoadFault}
 use Rattle.vdb_file.specs.internal.Loading.{IsKey}
-use Rattle.vdb_file.specs.internal.LoadedFields.{AreReady, HasRoomAt, IsNext, IsReady, IsWithin, KeptOutside, ShowsIn, ShowsInEach, next_bytes}
+use Rattle.vdb_file.specs.internal.LoadedFields.{AreReady, HasCapacityAt, IsNext, IsReady, IsWithin, KeptOutside, ShowsIn, ShowsInEach, next_bytes}
 use Rattle.vdb_file.specs.internal.Reading.{Fails, Position, Reads, Took}
 use Rattle.vdb_file.specs.internal.Following.{Follows}
 use Rattle.vdb_file.proofs.Ordered.{last_of}
@@ -166,7 +166,7 @@ module _ {V : Type 0} {eq : V → V → Bool} {value_bytes : V → List ℕ} {P 
         configured = configured;
         values = record { same = refl; values = so_far.values.values };
         clear = subst (λ (c : Box). is_background eq g c ≡ true) (sym own) clear_here;
-        room = subst (λ (c : Box). HasRoomAt eq bits limit c g) (sym own) (record { few = λ h kept. let n = one_more h kept in omega (arith, n, most) });
+        capacity = subst (λ (c : Box). HasCapacityAt eq bits limit c g) (sym own) (record { few = λ h kept. let n = one_more h kept in omega (arith, n, most) });
       }
 
     -- each that may come next is

@@ -55,7 +55,7 @@ not_held false e = refl
 pub fails_begin : {A B : Type 0} (P : A → Type 0) (code : A → List ℕ) (Q : B → Type 0) (part : B → List ℕ) (fault : LoadFault) (old : Position)
     → ((a : A) → P a → (b : B) × (tail : List ℕ) × Q b × (code a ≡ part b ++ tail)) → Fails Q part fault old → Fails P code fault old
 fails_begin P code Q part fault old begin h = record {
-  none = λ claims. some_turn old.known (λ bytes. NoFront P code bytes old.room) (λ bytes. NoFront Q part bytes old.room)
+  none = λ claims. some_turn old.known (λ bytes. NoFront P code bytes old.capacity) (λ bytes. NoFront Q part bytes old.capacity)
       (λ bytes none a rest p fits e.
       let s = begin a p in
       let long = ap length s.3 in

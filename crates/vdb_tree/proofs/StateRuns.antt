@@ -107,9 +107,9 @@ pub index_small : (bits : Bits) (i : ℕ) → AreBits bits → i < entries bits 
 index_small bits i configured h = let k = entries_few bits Lower configured in omega (arith, h, k)
 
 -- a mask of one state fills a leaf
-pub leaf_fills : {V : Type 0} (bits : Bits) (old new : Layout V) (p : Coord) (mask : List Bool) (on : Bool) (room : ℕ) → SetsLeaf bits old new p mask
-    → entry_count bits.leaf ≤ room → ((i : ℕ) → i < room → is_on mask i ≡ on) → FillsLeafStates bits old new p on
-leaf_fills bits old new p mask on room sets few all = record {
+pub leaf_fills : {V : Type 0} (bits : Bits) (old new : Layout V) (p : Coord) (mask : List Bool) (on : Bool) (capacity : ℕ) → SetsLeaf bits old new p mask
+    → entry_count bits.leaf ≤ capacity → ((i : ℕ) → i < capacity → is_on mask i ≡ on) → FillsLeafStates bits old new p on
+leaf_fills bits old new p mask on capacity sets few all = record {
   here = λ q b. sets.here q b ∙ ap (λ (s : Bool). record { value = (cell_at bits old q).value; on = s }) (all (offset bits Leaf q) (inside (offset bits Leaf q) (offset_below bits Leaf q)));
   there = sets.there;
   lowers = sets.lowers;
@@ -118,8 +118,8 @@ leaf_fills bits old new p mask on room sets few all = record {
     below : (i n m : ℕ) → i < n → n ≤ m → i < m
     below i n m h k = omega (arith, h, k)
 
-    inside : (i : ℕ) → i < entries bits Leaf → i < room
-    inside i h = below i (entry_count bits.leaf) room (subst (λ (n : ℕ). i < n) (entries_is bits Leaf) h) few
+    inside : (i : ℕ) → i < entries bits Leaf → i < capacity
+    inside i h = below i (entry_count bits.leaf) capacity (subst (λ (n : ℕ). i < n) (entries_is bits Leaf) h) few
 
 module _ {V X : Type 0} (bits : Bits) (rule : StateRule) (u : Layout X) where
   -- a cell with the same state

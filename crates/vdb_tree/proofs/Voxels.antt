@@ -44,8 +44,8 @@ module _ {V : Type 0} (bits : Bits) where
   tile_below t p Leaf cell tiled = tiled
 
   -- an active tile lies under an entry of the table
-  pub active_has_room : (t : Layout V) (p : Coord) (level : Level) (cell : Cell V) → entry_over bits level t p ≡ Tile cell → cell.on ≡ true → HasCapacity t (key bits p)
-  active_has_room t p level cell tiled on = elim (some_or_none (root_at t.root (key bits p))) [
+  pub active_has_capacity : (t : Layout V) (p : Coord) (level : Level) (cell : Cell V) → entry_over bits level t p ≡ Tile cell → cell.on ≡ true → HasCapacity t (key bits p)
+  active_has_capacity t p level cell tiled on = elim (some_or_none (root_at t.root (key bits p))) [
     | inl e ↦ inl (is_some_from (root_at t.root (key bits p)) e.0 e.1)
     | inr none ↦
         let background = tile_lower bits t (background_cell t) p (tile_upper bits t (background_cell t) p (absent_entry bits t p none)) in
@@ -71,8 +71,8 @@ module _ {V : Type 0} (bits : Bits) where
     pub tile_inactive : (level : Level) (cell : Cell V) → IsEnd bits t p (EndTile level cell) → cell.on ≡ false → IsVoxelisedAround bits t (end_level bits t p) p
     tile_inactive level cell end off = subst (λ (l : Level). IsVoxelisedAround bits t l p) (sym end.0) (inactive_done level cell end.1 off)
 
-    pub active_room : (level : Level) (cell : Cell V) → IsEnd bits t p (EndTile level cell) → not cell.on ≡ false → HasCapacity t (key bits p)
-    active_room level cell end on = active_has_room t p level cell end.1 (not_off cell.on on)
+    pub active_capacity : (level : Level) (cell : Cell V) → IsEnd bits t p (EndTile level cell) → not cell.on ≡ false → HasCapacity t (key bits p)
+    active_capacity level cell end on = active_has_capacity t p level cell end.1 (not_off cell.on on)
 
     pub active_cell : (level : Level) (cell : Cell V) → IsEnd bits t p (EndTile level cell) → not cell.on ≡ false → (cell_at bits t p).on ≡ true
     active_cell level cell end on = ap (λ (c : Cell V). c.on) (tile_gives bits level t p cell end.1) ∙ not_off cell.on on

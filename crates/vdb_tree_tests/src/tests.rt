@@ -2,6 +2,7 @@
 //! hand.
 mod acts;
 mod boxes;
+mod capacity;
 mod constant;
 mod copies;
 mod leaves;
@@ -9,7 +10,6 @@ mod limits;
 mod paths;
 mod pieces;
 mod random;
-mod room;
 mod sweeps;
 mod union;
 mod voxels;

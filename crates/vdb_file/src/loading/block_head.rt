@@ -197,7 +197,7 @@ fn take_coord<R: Read>(input: &mut Input, reader: &mut Watched<R>) -> Result<Coo
     ensures ended { result ≡ Err LoadFault.Truncated → IsAtEnd (position input.new (R.remaining (source reader.new))).known }
     ensures failed { has_failed reader.new ≡ (has_failed reader.old || is_read_fault result) }
 {
-    if input.room() < 12 {
+    if input.capacity() < 12 {
         return Err(LoadFault::TooLong);
     }
     let x = take_value::<i32, R>(input, reader)?;

@@ -30,7 +30,7 @@ pub(crate) fn take_field<R: Read>(
     ensures ended { result ≡ Err LoadFault.Truncated → IsAtEnd (position input.new (R.remaining (source reader.new))).known }
     ensures failed { has_failed reader.new ≡ (has_failed reader.old || is_read_fault result) }
 {
-    if field.len() > input.room() {
+    if field.len() > input.capacity() {
         return Err(LoadFault::TooLong);
     }
     let mut at = 0;

@@ -32,7 +32,7 @@ pub(crate) fn take_listed_voxels<V: Stored<WF>, R: Read, const F: u32, const WF:
 ) -> Result<Leaf<V, F, WF>, LoadFault>
     requires configured { AreBits bits }
     requires leaf { bits.leaf ≡ F }
-    requires room { entry_count F ≤ 64 * WF }
+    requires capacity { entry_count F ≤ 64 * WF }
     requires few_words { WF ≤ 512 }
     requires value { V.is_value background }
     requires ends { EndsWith input.old (R.remaining (source reader.old)) }

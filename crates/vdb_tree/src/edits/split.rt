@@ -30,7 +30,7 @@ impl<
     /// Gives p's root block an entry, the tile that it stands for.
     pub(crate) fn enter(&mut self, p: Coord, cell: Cell<V>) -> Result<(), AllocError>
         requires tiled { root_entry (bits_of U L F) self.old p ≡ Tile cell }
-        requires room { length self.old.root < self.old.limit }
+        requires capacity { length self.old.root < self.old.limit }
         ensures keeps { Keeps (bits_of U L F) self.old self.new }
         ensures adds { AddsNodes (bits_of U L F) self.old self.new }
         ensures same { (q : Coord) → SameDescent (bits_of U L F) self.old self.new q }

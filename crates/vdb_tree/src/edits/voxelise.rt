@@ -103,7 +103,7 @@ impl<
         ensures inside { IfSome result (λ next. IfSome next (λ q. IsTrue (is_inside bounds q))) }
         ensures nearer { IfSome result (λ next. left_count (bits_of U L F) next < left_count (bits_of U L F) (Some p)) }
         ensures active { IfNone result ((cell_at (bits_of U L F) self.now p).on ≡ true) }
-        ensures room { IfNone result (HasCapacity self.now (key (bits_of U L F) p)) }
+        ensures capacity { IfNone result (HasCapacity self.now (key (bits_of U L F) p)) }
     {
         let end = self.end_of(p, steps);
         if self.is_inactive(p, end) {
@@ -140,7 +140,7 @@ impl<
         requires { IsEnd (bits_of U L F) self.now p end }
         ensures inactive { IsTrue result → IsVoxelisedAround (bits_of U L F) self.now (end_level (bits_of U L F) self.now p) p }
         ensures active { result ≡ false → (cell_at (bits_of U L F) self.now p).on ≡ true }
-        ensures room { result ≡ false → HasCapacity self.now (key (bits_of U L F) p) }
+        ensures capacity { result ≡ false → HasCapacity self.now (key (bits_of U L F) p) }
     {
         let _ = &self.root;
         match end {
@@ -157,7 +157,7 @@ impl<
         steps: &mut Steps,
     ) -> Result<Option<Coord>, TreeRefusal>
         requires inside { IsTrue (is_inside bounds p) }
-        requires room { HasCapacity self.old (key (bits_of U L F) p) }
+        requires capacity { HasCapacity self.old (key (bits_of U L F) p) }
         ensures keeps { Keeps (bits_of U L F) self.old self.new }
         ensures adds { AddsNodes (bits_of U L F) self.old self.new }
         ensures made { (cell_at (bits_of U L F) self.old p).on ≡ true → MakesOnly (bits_of U L F) (IsActiveIn (bits_of U L F) bounds) self.old self.new }

@@ -191,7 +191,7 @@ impl<
     /// Makes sure that p's root block has an entry or that the table has capacity for one, by sweeping background entries out.
     pub(crate) fn make_capacity(&mut self, p: Coord, steps: &mut Steps) -> Result<(), TreeRefusal>
         ensures keeps { Keeps (bits_of U L F) self.old self.new }
-        ensures room { OnOk result (HasCapacity self.new (key (bits_of U L F) p)) }
+        ensures capacity { OnOk result (HasCapacity self.new (key (bits_of U L F) p)) }
         ensures there { HasCapacity self.old (key (bits_of U L F) p) → IsOk result × (self.new ≡ self.old) × (steps.new ≡ steps.old) }
         ensures within { OnOk result ((changed : Field V)
             → IsAlteredIn (bits_of U L F) (key (bits_of U L F) p) (field_of (bits_of U L F) self.old) changed
@@ -221,7 +221,7 @@ impl<
 
     /// The slot of the leaf around p. Where there is none it is made, with the nodes above it.
     pub(crate) fn leaf_around(&mut self, p: Coord, steps: &mut Steps) -> Result<u32, TreeRefusal>
-        requires room { HasCapacity self.old (key (bits_of U L F) p) }
+        requires capacity { HasCapacity self.old (key (bits_of U L F) p) }
         ensures keeps { Keeps (bits_of U L F) self.old self.new }
         ensures adds { AddsNodes (bits_of U L F) self.old self.new }
         ensures elsewhere { KeepsElsewhere (bits_of U L F) self.old self.new p }
@@ -238,7 +238,7 @@ impl<
 
     /// The slot of the upper node around p, which is made where there is none.
     pub(crate) fn upper_around(&mut self, p: Coord) -> Result<u32, TreeRefusal>
-        requires room { HasCapacity self.old (key (bits_of U L F) p) }
+        requires capacity { HasCapacity self.old (key (bits_of U L F) p) }
         ensures keeps { Keeps (bits_of U L F) self.old self.new }
         ensures adds { AddsNodes (bits_of U L F) self.old self.new }
         ensures but { KeepsAllBut (bits_of U L F) Upper self.old self.new p }

@@ -187,7 +187,7 @@ impl<
     /// at most.
     pub fn has_leaf_words(&self)
         ensures few { WF ≤ 512 }
-        ensures room { entries (bits_of U L F) leaf_level ≤ 64 * WF }
+        ensures capacity { entries (bits_of U L F) leaf_level ≤ 64 * WF }
     {
         let _ = &self.root;
     }

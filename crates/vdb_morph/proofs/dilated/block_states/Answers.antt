@@ -17,5 +17,5 @@ returns-in-Some g c = λ q inside h.
 pub returns-in-None : goal.returns-in-None
 returns-in-None g c = λ q inside h.
     let bits = bits_of g.row.U g.row.L g.row.F in
-    c.filled.ensures.within (offset bits Leaf q) (let below = offset_below bits Leaf q in let room = c.has_leaf_words.ensures.room in omega (arith, below, room))
+    c.filled.ensures.within (offset bits Leaf q) (let below = offset_below bits Leaf q in let capacity = c.has_leaf_words.ensures.capacity in omega (arith, below, capacity))
     ∙ ap (λ (d : Cell g.row.V.Denot). d.on) (c.get.ensures.cell ∙ sym (c.in-None.ensures.tile refl q inside (from_around bits c.args.p q h)))

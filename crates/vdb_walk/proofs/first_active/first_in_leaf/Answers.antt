@@ -11,12 +11,12 @@ use Rattle.vdb_walk.proofs.first_active.first_in_leaf.Goals as goal
 pub next_set-requires : goal.next_set-requires
 next_set-requires g c =
     let past = subst (λ (n : ℕ). IsOffFrom c.states.result.now n) (sym (entries_is c.args.bits Leaf ∙ ap entry_count c.requires.leaf)) c.states.ensures.past_end in
-    let room = c.requires.room in
+    let capacity = c.requires.capacity in
     let within = c.in-Some.ensures.within in (
       search rules,
       (
         c.requires.configured,
-        (c.requires.few_words, (past, (λ i h. past i (omega (arith, h, room)), (in_first_block c.args.bits c.args.part c.requires.block (search rules), omega (arith, within, room))))),
+        (c.requires.few_words, (past, (λ i h. past i (omega (arith, h, capacity)), (in_first_block c.args.bits c.args.part c.requires.block (search rules), omega (arith, within, capacity))))),
       ),
     )
 

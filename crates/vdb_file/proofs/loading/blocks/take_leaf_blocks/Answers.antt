@@ -7,7 +7,7 @@ use Rattle.vdb_tree.specs.Layout.{bits_of, field_of}
 use Rattle.vdb_tree.proofs.Uniform.{exact_by}
 use Rattle.vdb_scene.specs.Watched.{source}
 use Rattle.vdb_file.specs.Bodies.{leaf_body}
-use Rattle.vdb_file.specs.internal.LoadedFields.{HasRoomAt}
+use Rattle.vdb_file.specs.internal.LoadedFields.{HasCapacityAt}
 use Rattle.vdb_file.specs.internal.Reading.{position}
 use Rattle.vdb_file.proofs.Bodies.{entry_is_leaf}
 use Rattle.vdb_file.proofs.BlockLoops.{entries_ready, more_entries, no_entries, no_next_entry}
@@ -30,7 +30,7 @@ loop-init g c =
     let under = no_entries values bits Lower p (leaf_body g.V.PartialEq.eq g.V.Voxel.bytes_of bits) t.background row f old c.requires.ready.values c.requires.ready.clear in
     record {
       underway = under;
-      ready = entries_ready values bits Lower p (leaf_body g.V.PartialEq.eq g.V.Voxel.bytes_of bits) t.background row f old 0 None f old under configured Leaf (entry_is_leaf bits p) t.limit c.requires.ready.room;
+      ready = entries_ready values bits Lower p (leaf_body g.V.PartialEq.eq g.V.Voxel.bytes_of bits) t.background row f old 0 None f old under configured Leaf (entry_is_leaf bits p) t.limit c.requires.ready.capacity;
       ends = c.requires.ends;
       total = λ n h. h;
       limit = refl;
@@ -71,10 +71,10 @@ loop-preserved g c =
     let next = position c.take_next_leaf_block.new.input (g.R.Read.remaining (source c.take_next_leaf_block.new.reader)) in
     let under = more_entries values bits Lower p (leaf_body g.V.PartialEq.eq g.V.Voxel.bytes_of bits) t.background row f old c.loop.counter c.loop.before s now c.loop.invariant.underway c.in_ok-i.i next after read.0 read.1 c.in_ok-i.ensures.kept in
     let limit = c.in_ok-i.ensures.limit ∙ c.loop.invariant.limit in
-    let room = subst (λ (n : ℕ). HasRoomAt g.V.PartialEq.eq bits n (block_around bits Upper p) f) (sym limit) c.requires.ready.room in
+    let capacity = subst (λ (n : ℕ). HasCapacityAt g.V.PartialEq.eq bits n (block_around bits Upper p) f) (sym limit) c.requires.ready.capacity in
     record {
       underway = under;
-      ready = entries_ready values bits Lower p (leaf_body g.V.PartialEq.eq g.V.Voxel.bytes_of bits) t.background row f old (c.loop.counter + 1) (Some c.in_ok-i.i) after next under configured Leaf (entry_is_leaf bits p) c.take_next_leaf_block.new.tree.limit room;
+      ready = entries_ready values bits Lower p (leaf_body g.V.PartialEq.eq g.V.Voxel.bytes_of bits) t.background row f old (c.loop.counter + 1) (Some c.in_ok-i.i) after next under configured Leaf (entry_is_leaf bits p) c.take_next_leaf_block.new.tree.limit capacity;
       ends = c.in_ok-i.ensures.ends;
       total = λ n h. c.in_ok-i.ensures.total n (c.loop.invariant.total n h);
       limit = limit;

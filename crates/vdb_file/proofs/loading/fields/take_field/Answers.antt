@@ -29,7 +29,7 @@ returns-then-not-more-clause-reads g c =
     let new = position c.fill.new.self (g.R.Read.remaining (source c.fill.new.reader)) in
     let text = take c.loop-at.at c.loop-at.field in
     fails_short (λ bytes. length bytes ≡ length c.args.field.now) (λ bytes. bytes) text Truncated old new
-    (took_kept old mid new text c.loop-at.invariant.took c.in_ok-more.ensures.kept c.in_ok-more.ensures.room)
+    (took_kept old mid new text c.loop-at.invariant.took c.in_ok-more.ensures.kept c.in_ok-more.ensures.capacity)
     (at_end _ _ (c.in_ok-more.ensures.none (ap Ok c.if-not-more.true)) (c.in_ok-more.ensures.end (ap Ok c.if-not-more.true))) (λ a p. omega (arith, p, short))
 
 pub loop-at-preserved : goal.loop-at-preserved
@@ -40,8 +40,8 @@ loop-at-preserved g c =
     let count = c.run-at.ensures.count in
     record {
       took = piece_taken old c.fill.new.self c.run-at.new.self (g.R.Read.remaining (source c.fill.new.reader)) c.loop-at.field c.run-at.new.field c.loop-at.at c.run-at.result
-          (took_kept old mid more _ c.loop-at.invariant.took c.in_ok-more.ensures.kept c.in_ok-more.ensures.room)
-          c.run-at.ensures.field c.run-at.ensures.unread c.run-at.ensures.room (omega (arith, count)) (omega (arith, count)) c.loop-at.invariant.within (omega (arith, c.loop-at.invariant.same, c.loop-at.invariant.fits));
+          (took_kept old mid more _ c.loop-at.invariant.took c.in_ok-more.ensures.kept c.in_ok-more.ensures.capacity)
+          c.run-at.ensures.field c.run-at.ensures.unread c.run-at.ensures.capacity (omega (arith, count)) (omega (arith, count)) c.loop-at.invariant.within (omega (arith, c.loop-at.invariant.same, c.loop-at.invariant.fits));
       total = λ n h. search (rules, c.loop-at.invariant.total n h);
       ends = λ e. c.in_ok-more.ensures.ends (search rules);
       within = search rules;

@@ -11,7 +11,7 @@ invariant-loop-at g l = record {
   total : (n : ℕ) → byte_total l.fn.input (g.R.Read.remaining (source l.fn.reader)) ≡ Some n → byte_total l.input (g.R.Read.remaining (source l.reader)) ≡ Some n;
   within : l.at ≤ length l.field;
   same : length l.field ≡ length l.fn.field;
-  fits : length l.fn.field ≤ l.fn.input.room;
+  fits : length l.fn.field ≤ l.fn.input.capacity;
   failed : has_failed l.reader ≡ has_failed l.fn.reader;
 }
 

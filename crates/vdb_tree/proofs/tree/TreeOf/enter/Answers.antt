@@ -11,7 +11,7 @@ pub invariant_of-self-2 : goal.invariant_of-self-2
 invariant_of-self-2 g c = (
   c.self.invariant.0,
   with_entry_sound _ _ c.self.invariant.1 c.args.p _ _ (rw (← c.self.view_is) at c.requires.tiled) (rw c.key-key.ensures.value at c.in_ok-put.ensures.ok) c.key-key.ensures.within
-      (one_more _ _ _ c.in_ok-put.ensures.size (rw (← c.self.view_is) at c.requires.room)) c.in_ok-put.ensures.apart,
+      (one_more _ _ _ c.in_ok-put.ensures.size (rw (← c.self.view_is) at c.requires.capacity)) c.in_ok-put.ensures.apart,
   not_known,
 )
 

@@ -101,7 +101,7 @@ returns-in_err-make_capacity_for-clause-adds g c =
     let exact = exact_by g.V.PartialEq.eq g.V.Ord.cmp g.met.V.Ord.matches_eq g.met.V.Voxel.exact in
     λ h. elim h [
       | inl same ↦ absurd (never c.if-eq.false (c.eq.ensures ∙ cell_same g.V.PartialEq.eq exact g.met.V.Eq.laws.refl c.args.cell _ (subst (λ (s : Layout g.row.V.Denot). c.args.cell ≡ background_cell s) (sym c.self.view_is) same)))
-      | inr room ↦ subst (λ (t : Layout g.row.V.Denot). AddsNodes bits c.args.self.now t) (sym (c.in_err-make_capacity_for.ensures.stays room)) (adds_itself bits c.args.self.now)
+      | inr capacity ↦ subst (λ (t : Layout g.row.V.Denot). AddsNodes bits c.args.self.now t) (sym (c.in_err-make_capacity_for.ensures.stays capacity)) (adds_itself bits c.args.self.now)
     ]
 
 pub returns-clause-nodes : goal.returns-clause-nodes
@@ -128,5 +128,5 @@ returns-clause-adds g c =
     let exact = exact_by g.V.PartialEq.eq g.V.Ord.cmp g.met.V.Ord.matches_eq g.met.V.Voxel.exact in
     λ h. elim h [
       | inl same ↦ absurd (never c.if-eq.false (c.eq.ensures ∙ cell_same g.V.PartialEq.eq exact g.met.V.Eq.laws.refl c.args.cell _ (subst (λ (s : Layout g.row.V.Denot). c.args.cell ≡ background_cell s) (sym c.self.view_is) same)))
-      | inr room ↦ subst (λ (t : Layout g.row.V.Denot). AddsNodes bits t c.enter_blocks.new.self) (c.in_ok-make_capacity_for.ensures.stays room) c.enter_blocks.ensures.adds
+      | inr capacity ↦ subst (λ (t : Layout g.row.V.Denot). AddsNodes bits t c.enter_blocks.new.self) (c.in_ok-make_capacity_for.ensures.stays capacity) c.enter_blocks.ensures.adds
     ]
