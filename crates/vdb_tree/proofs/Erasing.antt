@@ -43,8 +43,8 @@ module _ {V : Type 0} (bits : Bits) where
   }
 
   -- what is split for the background cell stays so
-  pub ready_background : (old new : Layout V) → AddsBackgroundTiles bits old new → (box : Box) → IsSplit bits box (background_cell old) old → IsSplit bits box (background_cell old) new
-  ready_background old new adds box edges = record {
+  pub split_background : (old new : Layout V) → AddsBackgroundTiles bits old new → (box : Box) → IsSplit bits box (background_cell old) old → IsSplit bits box (background_cell old) new
+  split_background old new adds box edges = record {
     tiles = λ level p inside tile e. elim (adds.tiles level p tile e) [ inl f ↦ edges.tiles level p inside tile f | inr same ↦ inr same ];
     entered = λ p inside. inl (sym (background_stays old new adds.keeps));
   }

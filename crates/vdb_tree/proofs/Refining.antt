@@ -14,7 +14,7 @@ use Rattle.vdb_node.specs.declared.Entry.TheVariants.{Child, Tile}
 use Rattle.vdb_value.specs.declared.Cell.{Cell}
 use Rattle.vdb_tree.specs.Changes.{AddsNodes}
 use Rattle.vdb_tree.specs.internal.Children.{IsChildless, IsNextCorner, IsNextCornerAt}
-use Rattle.vdb_tree.specs.internal.Pairing.{IsIdleAt, IsReadyFor, made}
+use Rattle.vdb_tree.specs.internal.Pairing.{IsIdleAt, IsRefinedFor, made}
 use Rattle.vdb_tree.specs.internal.Refining.{IsRefinable, IsRefinedAt, IsRefinedTo, MakesNode, Refines}
 use Rattle.vdb_tree.specs.Layout.{Layout, background_cell, entry_over, lower_entry, root_at, root_entry, upper_entry}
 use Rattle.vdb_tree.specs.Nodes.{MakesOnly}
@@ -243,5 +243,5 @@ module _ {V X : Type 0} (bits : Bits) (rule : StateRule) (u : Layout X) where
       ]
     ]
 
-    pub ready_from : IsReadyFor bits rule new u
-    ready_from = record { tiles = each; entered = λ q none. without q (no_entry q none) }
+    pub refined_from : IsRefinedFor bits rule new u
+    refined_from = record { tiles = each; entered = λ q none. without q (no_entry q none) }

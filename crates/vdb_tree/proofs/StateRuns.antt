@@ -22,7 +22,7 @@ use Rattle.vdb_tree.specs.Layout.{Layout, cell_at, entry_over, field_of, lower_e
 use Rattle.vdb_tree.specs.declared.pairs.StateRule.{StateRule}
 use Rattle.vdb_tree.specs.declared.pairs.StateRule.TheVariants.{Unite, Subtract, Intersect}
 use Rattle.vdb_tree.specs.internal.Active.{IsInactiveFrom, IsNextActive}
-use Rattle.vdb_tree.specs.internal.Pairing.{acts_at, IsReadyFor, made, SetsBlock, state_of}
+use Rattle.vdb_tree.specs.internal.Pairing.{acts_at, IsRefinedFor, made, SetsBlock, state_of}
 use Rattle.vdb_tree.specs.internal.StateRuns.{acts, AreSettled, AreStatesOf, FillsLeafStates, IsAmong, IsNextToSet, IsNextToSetAt, SetsLeaf, SetsRun}
 use Rattle.vdb_tree.proofs.Constants.{entries_few}
 use Rattle.vdb_tree.proofs.Descents.{leaf_cell, lower_by_block, tile_cell, tile_lower, upper_by_block}
@@ -147,10 +147,10 @@ module _ {V X : Type 0} (bits : Bits) (rule : StateRule) (u : Layout X) where
       rw at (idle_stays rule (cell_at bits t q).on tile.on idle))
 
   -- a tile where the other tree has a leaf
-  pub ready_settled : (t : Layout V) (p : Coord) (cell : Cell V) (slot : ℕ) → IsReadyFor bits rule t u → lower_entry bits t p ≡ Tile cell → lower_entry bits u p ≡ Child slot → SetsBlock bits rule u Leaf t t p
-  ready_settled t p cell slot ready tiled over = block_settled Leaf t p (λ q b.
+  pub refined_settled : (t : Layout V) (p : Coord) (cell : Cell V) (slot : ℕ) → IsRefinedFor bits rule t u → lower_entry bits t p ≡ Tile cell → lower_entry bits u p ≡ Child slot → SetsBlock bits rule u Leaf t t p
+  refined_settled t p cell slot refined tiled over = block_settled Leaf t p (λ q b.
       let at = lower_by_block bits t q p b ∙ tiled in
-      elim (ready.tiles Leaf q cell slot at (lower_by_block bits u q p b ∙ over)) [
+      elim (refined.tiles Leaf q cell slot at (lower_by_block bits u q p b ∙ over)) [
         | inl e ↦ made_stays rule (cell_at bits t q).on (cell_at bits u q).on (ap (λ (c : Cell V). c.on) (tile_cell bits t cell q at) ∙ e)
         | inr idle ↦ idle_stays rule (cell_at bits t q).on (cell_at bits u q).on idle
       ])
@@ -232,20 +232,20 @@ module _ {V X : Type 0} (bits : Bits) (rule : StateRule) (u : Layout X) where
         let a : is_on copy (offset bits Leaf q) ≡ (cell_at bits old q).on = ap (λ (m : List Bool). is_on m (offset bits Leaf q)) copied ∙ first q b in
         one (offset bits Leaf q) ∙ ap (λ (s : Bool). state_of rule s (is_on others (offset bits Leaf q))) a ∙ ap (λ (s : Bool). state_of rule (cell_at bits old q).on s) (second q b))
 
-  -- ---- ready trees
+  -- ---- refined trees
 
-  -- a tree stays ready
-  pub ready_kept : (old new : Layout V) → IsReadyFor bits rule old u
+  -- a tree stays refined
+  pub refined_kept : (old new : Layout V) → IsRefinedFor bits rule old u
       → ((l : Level) (q : Coord) (tile : Cell V) → entry_over bits l new q ≡ Tile tile → (was : Cell V) × (entry_over bits l old q ≡ Tile was) × ((tile ≡ was) ⊎ (tile.on ≡ made rule)))
-      → ((k : Coord) → root_at new.root k ≡ None → root_at old.root k ≡ None) → IsReadyFor bits rule new u
-  ready_kept old new ready tiles keys = record {
+      → ((k : Coord) → root_at new.root k ≡ None → root_at old.root k ≡ None) → IsRefinedFor bits rule new u
+  refined_kept old new refined tiles keys = record {
     tiles = λ level q tile slot e over.
         let was = tiles level q tile e in
         elim was.2 [
-          | inl same ↦ ready.tiles level q tile slot (was.1 ∙ ap Tile (sym same)) over
+          | inl same ↦ refined.tiles level q tile slot (was.1 ∙ ap Tile (sym same)) over
           | inr is ↦ inl is
         ];
-    entered = λ q e. ready.entered q (keys _ e);
+    entered = λ q e. refined.entered q (keys _ e);
   }
 
   -- ---- entries in which nothing changes

@@ -3,7 +3,7 @@ use Rattle.vdb_tree.specs.Field.{ruled}
 use Rattle.vdb_tree.specs.Layout.{Layout, bits_of, field_of}
 use Rattle.vdb_tree.proofs.KeysPast.{fewer_past}
 use Rattle.vdb_tree.proofs.Ruled.{next_at_first, roots_end, roots_next, roots_none}
-use Rattle.vdb_tree.proofs.tree.TreeOf.set_ready_states.Goals as goal
+use Rattle.vdb_tree.proofs.tree.TreeOf.set_refined_states.Goals as goal
 
 pub loop-key-init : goal.loop-key-init
 loop-key-init g c = roots_none (bits_of g.row.U g.row.L g.row.F) c.args.rule c.args.other.now c.args.self.now c.requires
