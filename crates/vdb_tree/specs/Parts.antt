@@ -40,7 +40,7 @@ abbrev pub TreeWalk : Type 0 → Type 0
 TreeWalk V = WalkOf (List (Entry V)) (List (Entry V)) (LeafOf V)
 
 module _ (bits : Bits) where
-  -- whether q is left: it doesn't come before the start of the walk
+  -- whether q is left: it doesn't come before where the walk stands
   abbrev pub is_left : Option Coord → Coord → Bool
   is_left None q = false
   is_left (Some p) q = not (is_lt (block_cmp bits q p))

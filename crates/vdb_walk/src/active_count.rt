@@ -69,8 +69,8 @@ fn count_blocks<
     total
 }
 
-/// How many voxels are active that the box has of the first root block with an active one from a coordinate on, and the coordinate past
-/// it.
+/// How many voxels are active that the box has of the first root block with an active one from `p` on, and its first coordinate past
+/// that block.
 fn count_next<
     V: Stored<WU> + Stored<WL> + Stored<WF>,
     const U: u32,

@@ -94,9 +94,9 @@ fn node_count<
     }
 }
 
-/// Whether the cells differ of the first block from a coordinate on that isn't passed over, and a coordinate past it. Passed over are
-/// blocks of the background, inactive, and a tile of a level above counts as one block; past a leaf block the next coordinate is that
-/// of the next leaf.
+/// Whether the cells differ of the first block from `p` on that isn't passed over, and a coordinate past it. Passed over are blocks
+/// of the background, inactive, and a tile of a level above counts as one block; past a leaf block the coordinate is that of the
+/// next leaf.
 fn next_block<
     V: Stored<WU> + Stored<WL> + Stored<WF>,
     const U: u32,

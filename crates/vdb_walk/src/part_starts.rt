@@ -11,8 +11,8 @@ use vdb_node::{Internal, Leaf, Stored};
 use vdb_pool::Steps;
 use vdb_tree::{Skip, TreeOf, Walk};
 
-/// The first coordinate, from a coordinate of the box on, of what the box has of the tiles and leaves that aren't passed over; `None`
-/// where there is none.
+/// The first coordinate, from `p` on, of what the box has of the tiles and leaves that aren't passed over; `None` where there is
+/// none.
 pub(crate) fn start_from<
     V: Stored<WU> + Stored<WL> + Stored<WF>,
     const U: u32,
