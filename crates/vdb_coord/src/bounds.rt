@@ -208,7 +208,10 @@ impl Bounds {
         let min = self.min.greater(block.min);
         let max = self.max.lesser(block.max);
         match Bounds::new(min, max) {
-            Some(_) => Some(Bounds::between(min.position_in(bits, level), max.position_in(bits, level))),
+            Some(_) => Some(Bounds::between(
+                min.position_in(bits, level),
+                max.position_in(bits, level),
+            )),
             None => None,
         }
     }

@@ -69,7 +69,7 @@ fn files_of_version_2_are_saved_as_they_were(rt: HostRuntime) {
 fn loaded_voxels_are_those_of_the_file(rt: HostRuntime) {
     let mut steps = Steps::new(&rt);
     let origin = at(0, 0, 0);
-    for (file, grid, position, value, on, background) in [
+    for (file, grid, place, value, on, background) in [
         (
             OLD_VOXEL,
             b"a".as_slice(),
@@ -145,7 +145,7 @@ fn loaded_voxels_are_those_of_the_file(rt: HostRuntime) {
     ] {
         let scene = loaded(&rt, file, &mut steps);
         assert!(rt;
-            holds(&rt, &scene, grid, position, value, on, &mut steps),
+            holds(&rt, &scene, grid, place, value, on, &mut steps),
             "{file:?}"
         );
         for other in [
@@ -200,7 +200,7 @@ fn tiles_of_each_level_are_loaded(rt: HostRuntime) {
         .as_slice(),
     );
     let scene = loaded(&rt, file.as_slice(), &mut steps);
-    for (position, value, on) in [
+    for (place, value, on) in [
         (at(-1, 4095, 0), 9, false),
         (at(-4096, 0, 4095), 9, false),
         (at(-4097, 0, 0), 0, false),
@@ -211,8 +211,8 @@ fn tiles_of_each_level_are_loaded(rt: HostRuntime) {
         (at(119, 120, 248), 0, false),
     ] {
         assert!(rt;
-            holds(&rt, &scene, b"a", position, Scalar::I32(value), on, &mut steps),
-            "{position:?}"
+            holds(&rt, &scene, b"a", place, Scalar::I32(value), on, &mut steps),
+            "{place:?}"
         );
     }
     assert!(rt; saves(&rt, &scene, file.as_slice(), &mut steps));
