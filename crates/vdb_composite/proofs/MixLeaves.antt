@@ -12,7 +12,7 @@ use Rattle.vdb_coord.proofs.Boxes.{both}
 use Rattle.vdb_coord.proofs.Meeting.{within_each}
 use Rattle.vdb_coord.proofs.Members.{coord_equiv}
 use Rattle.vdb_coord.proofs.Nesting.{inside_numbered, number_in_block}
-use Rattle.vdb_coord.proofs.Places.{entries_is, offset_below}
+use Rattle.vdb_coord.proofs.Positions.{entries_is, offset_below}
 use Rattle.vdb_coord.proofs.Walk.{min_inside}
 use Rattle.vdb_node.specs.Leaf.{cell_in, Leaf as LeafOf}
 use Rattle.vdb_node.specs.Nodes.{entry_count}

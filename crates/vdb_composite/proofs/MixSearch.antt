@@ -8,7 +8,7 @@ use Rattle.vdb_coord.specs.declared.Coord.{Coord}
 use Rattle.vdb_coord.specs.declared.Level.TheVariants.{Leaf}
 use Rattle.vdb_coord.proofs.Loops.{corner}
 use Rattle.vdb_coord.proofs.Nesting.{corner_of_entry}
-use Rattle.vdb_coord.proofs.Places.{offset_below}
+use Rattle.vdb_coord.proofs.Positions.{offset_below}
 use Rattle.vdb_value.specs.declared.Cell.{Cell}
 use Rattle.vdb_tree.specs.ConstantBlocks.{cell_eq}
 use Rattle.vdb_tree.specs.Field.{Field}

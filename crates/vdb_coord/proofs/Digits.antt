@@ -26,7 +26,7 @@ entry_quotient b a x hb ha hba =
 span_is : (low bits : ℕ) → 2 ^ (low + bits) ≡ 2 ^ bits * 2 ^ low
 span_is low bits = pow-add 2 low bits ∙ mul_comm (2 ^ low) (2 ^ bits)
 
--- an entry's number, by the number of its block and its place in it
+-- an entry's number, by the number of its block and its position in it
 pub number_split : (low bits : ℕ) (x : ℤ) → number_at low x ≡ number_at (low + bits) x *ℤ pos (2 ^ bits) +ℤ pos (digit low bits x)
 number_split low bits x =
     let e = span_is low bits in
@@ -34,13 +34,13 @@ number_split low bits x =
     subst (λ t. quotient (2 ^ low) x ≡ quotient t x *ℤ pos (2 ^ bits) +ℤ pos (rest t x / 2 ^ low)) (sym e)
     (entry_quotient (2 ^ bits) (2 ^ low) x (pow_pos bits) (pow_pos low) h)
 
--- a place is one of the entries
+-- a position is one of the entries
 pub digit_below : (low bits : ℕ) (x : ℤ) → digit low bits x < 2 ^ bits
 digit_below low bits x =
     div_below (rest (2 ^ (low + bits)) x) (2 ^ low) (2 ^ bits) (pow_pos low)
     (subst (λ t. rest (2 ^ (low + bits)) x < t) (span_is low bits) (rest_below (2 ^ (low + bits)) x (pow_pos (low + bits))))
 
--- the place is what is left of the entry's number
+-- the position is what is left of the entry's number
 pub digit_is : (low bits : ℕ) (x : ℤ) → digit low bits x ≡ rest (2 ^ bits) (number_at low x)
 digit_is low bits x =
     sym (ap (rest (2 ^ bits)) (number_split low bits x) ∙ rest_of (2 ^ bits) (number_at (low + bits) x) (digit low bits x) (digit_below low bits x))
@@ -50,13 +50,13 @@ pub number_up : (low bits : ℕ) (x : ℤ) → number_at (low + bits) x ≡ numb
 number_up low bits x =
     sym (ap (number_at bits) (number_split low bits x) ∙ quotient_of (2 ^ bits) (number_at (low + bits) x) (digit low bits x) (digit_below low bits x))
 
--- two numbers in one block and in one place of it are in one entry
+-- two numbers in one block and in one position of it are in one entry
 pub same_entry : (low bits : ℕ) (x y : ℤ) → number_at (low + bits) x ≡ number_at (low + bits) y → digit low bits x ≡ digit low bits y → number_at low x ≡ number_at low y
 same_entry low bits x y e d =
     number_split low bits x ∙ ap (λ n. n *ℤ pos (2 ^ bits) +ℤ pos (digit low bits x)) e ∙ ap (λ k. number_at (low + bits) y *ℤ pos (2 ^ bits) +ℤ pos k) d
     ∙ sym (number_split low bits y)
 
--- the entry d of block n lies in that block, in that place
+-- the entry d of block n lies in that block, in that position
 pub number_of_entry : (bits : ℕ) (n : ℤ) (d : ℕ) → d < 2 ^ bits → number_at bits (n *ℤ pos (2 ^ bits) +ℤ pos d) ≡ n
 number_of_entry bits n d h = quotient_of (2 ^ bits) n d h
 

@@ -6,7 +6,7 @@ use Rattle.vdb_coord.specs.declared.Bits.{Bits}
 use Rattle.vdb_coord.specs.declared.Coord.{Coord}
 use Rattle.vdb_coord.specs.declared.Level.{Level}
 use Rattle.vdb_coord.proofs.Nesting.{corner_of_entry, entry_from_offset, offset_from_entry}
-use Rattle.vdb_coord.proofs.Places.{offset_below}
+use Rattle.vdb_coord.proofs.Positions.{offset_below}
 
 -- the least coordinate of an entry of the node around p
 abbrev pub corner : Bits → Level → Coord → ℕ → Coord

@@ -19,7 +19,7 @@ use Rattle.vdb_coord.specs.declared.Level.TheVariants.{Leaf, Lower, Upper}
 use Rattle.vdb_coord.proofs.Boxes.{three, together}
 use Rattle.vdb_coord.proofs.Division.{rest, rest_of}
 use Rattle.vdb_coord.proofs.Digits.{digit_below, digit_is, first_of_entry, inside_own, number_inside, number_of_entry, number_split, number_up, number_zero, same_entry}
-use Rattle.vdb_coord.proofs.Places.{block_bits_split, index_joined, index_places, joined, offset_below, offset_is, sub_block_is}
+use Rattle.vdb_coord.proofs.Positions.{block_bits_split, index_joined, index_positions, joined, offset_below, offset_is, sub_block_is}
 use Rattle.vdb_coord.proofs.Members.{coord_exact, coord_total}
 
 same_coord : (p q : Coord) → p.x ≡ q.x → p.y ≡ q.y → p.z ≡ q.z → p ≡ q
@@ -45,10 +45,10 @@ block_number_is bits level p = ap (λ (k : ℕ). numbers k p) (block_bits_split 
 same_numbers : (bits : Bits) (level : Level) (p q : Coord) → block_number bits level p ≡ block_number bits level q → numbers (entry_bits bits level + node_bits bits level) p ≡ numbers (entry_bits bits level + node_bits bits level) q
 same_numbers bits level p q e = sym (block_number_is bits level p) ∙ e ∙ block_number_is bits level q
 
--- the places of two equal offsets
-same_places : (bits : Bits) (level : Level) (p q : Coord) → offset bits level p ≡ offset bits level q → let d : ℤ → ℕ = digit (entry_bits bits level) (node_bits bits level) in
+-- the positions of two equal offsets
+same_positions : (bits : Bits) (level : Level) (p q : Coord) → offset bits level p ≡ offset bits level q → let d : ℤ → ℕ = digit (entry_bits bits level) (node_bits bits level) in
     (d p.x ≡ d q.x) × (d p.y ≡ d q.y) × (d p.z ≡ d q.z)
-same_places bits level p q e =
+same_positions bits level p q e =
     let low = entry_bits bits level in
     let b = node_bits bits level in
     let n = 2 ^ b in
@@ -64,7 +64,7 @@ entry_from_offset bits level p q e d =
     let low = entry_bits bits level in
     let b = node_bits bits level in
     let n = same_numbers bits level p q e in
-    let ds = same_places bits level p q d in
+    let ds = same_positions bits level p q d in
     same_coord (entry_number bits level p) (entry_number bits level q)
     (same_entry low b p.x q.x (field_x (numbers (low + b) p) (numbers (low + b) q) n) ds.0)
     (same_entry low b p.y q.y (field_y (numbers (low + b) p) (numbers (low + b) q) n) ds.1)
@@ -165,15 +165,15 @@ along_back low b n x d small en ed =
     subst (λ (t : ℤ). is_between t (t +ℤ pos (2 ^ low - 1)) x ≡ true) (sym (first_of_entry low b n d small))
     (subst (λ (t : ℤ). is_between (first_of low t) (last_of low t) x ≡ true) e (inside_own low x))
 
--- an offset's places are those of its index
-offset_places : (bits : Bits) (level : Level) (q : Coord) (i : ℕ) → i < entries bits level → offset bits level q ≡ i → let n = 2 ^ node_bits bits level in
+-- an offset's positions are those of its index
+offset_positions : (bits : Bits) (level : Level) (q : Coord) (i : ℕ) → i < entries bits level → offset bits level q ≡ i → let n = 2 ^ node_bits bits level in
     let d : ℤ → ℕ = digit (entry_bits bits level) (node_bits bits level) in (d q.x ≡ i / n / n) × (d q.y ≡ i / n % n) × (d q.z ≡ i % n)
-offset_places bits level q i small e =
+offset_positions bits level q i small e =
     let low = entry_bits bits level in
     let b = node_bits bits level in
     let n = 2 ^ b in
     let d : ℤ → ℕ = digit low b in
-    let ps = index_places bits level i small in
+    let ps = index_positions bits level i small in
     let whole : joined n (d q.x) (d q.y) (d q.z) ≡ joined n (i / n / n) (i / n % n) (i % n) = sym (offset_is bits level q) ∙ e ∙ sym (index_joined n i) in
     let outer = same_from_place (d q.x * n + d q.y) (d q.z) (i / n / n * n + i / n % n) (i % n) n (digit_below low b q.z) ps.2 whole in
     let inner = same_from_place (d q.x) (d q.y) (i / n / n) (i / n % n) n (digit_below low b q.y) ps.1 outer.0 in
@@ -185,7 +185,7 @@ in_entry bits level p q i small h =
     let low = entry_bits bits level in
     let b = node_bits bits level in
     let n = 2 ^ b in
-    let ps = index_places bits level i small in
+    let ps = index_positions bits level i small in
     let first : ℤ → ℕ → ℤ = λ v d. first_of (low + b) (number_at (low + b) v) +ℤ pos (d * 2 ^ low) in
     let between : ℤ → ℕ → ℤ → Bool = λ v d x. is_between (first v d) (first v d +ℤ pos (2 ^ low - 1)) x in
     let hs = three (between p.x (i / n / n) q.x) (between p.y (i / n % n) q.y) (between p.z (i % n) q.z) (subst (λ (t : Box). is_inside t q ≡ true) (sub_block_is bits level p i) h) in
@@ -203,9 +203,9 @@ entry_holds bits level p q i small e d =
     let low = entry_bits bits level in
     let b = node_bits bits level in
     let n = 2 ^ b in
-    let ps = index_places bits level i small in
+    let ps = index_positions bits level i small in
     let ns = same_numbers bits level q p e in
-    let ds = offset_places bits level q i small d in
+    let ds = offset_positions bits level q i small d in
     let first : ℤ → ℕ → ℤ = λ v k. first_of (low + b) (number_at (low + b) v) +ℤ pos (k * 2 ^ low) in
     let between : ℤ → ℕ → ℤ → Bool = λ v k x. is_between (first v k) (first v k +ℤ pos (2 ^ low - 1)) x in
     subst (λ (t : Box). is_inside t q ≡ true) (sym (sub_block_is bits level p i))
@@ -246,7 +246,7 @@ entry_at_offset bits level p =
     let n = 2 ^ b in
     let i = offset bits level p in
     let small = offset_below bits level p in
-    let ds = offset_places bits level p i small refl in
+    let ds = offset_positions bits level p i small refl in
     let first : ℤ → ℕ → ℤ = λ v d. first_of (low + b) (number_at (low + b) v) +ℤ pos (d * 2 ^ low) in
     let start : (x : ℤ) (d : ℕ) → digit low b x ≡ d → first x d ≡ first_of low (number_at low x)
     = λ x d e. ap (first x) (sym e) ∙ first_of_entry low b (number_at (low + b) x) (digit low b x) (digit_below low b x) ∙ ap (first_of low) (sym (number_split low b x)) in

@@ -1,4 +1,4 @@
--- Which entries of a node meet a box, by their places.
+-- Which entries of a node meet a box, by their positions.
 use Rattle.std.proofs.Common.{◌≡◌, ℕ, ℤ, pos, ◌+◌, ◌-◌, ◌*◌, ◌<◌, ◌≤◌, ◌%◌, ◌/◌, ◌^◌, ◌+ℤ◌, ◌*ℤ◌, Bool, true, false, ◌&&◌, int_le, to_z, w32, arith, ap, sym, subst, ◌∙◌, refl}
 use Rattle.std.specs.Int.{int_max, int_min}
 use Rattle.std.proofs.Math.Pow.{pow_mono}
@@ -7,7 +7,7 @@ use Rattle.std.proofs.Math.Nat.{div-div-eq-div-mul}
 use Rattle.vdb_coord.specs.Blocks.{block_around, entries, entry_bits, node_bits, sub_block}
 use Rattle.vdb_coord.specs.Boxes.{box_of, meets}
 use Rattle.vdb_coord.specs.Components.{digit, first_of, last_of, number_at}
-use Rattle.vdb_coord.specs.Entries.{AreBits, place, place_of}
+use Rattle.vdb_coord.specs.Entries.{AreBits, position, position_of}
 use Rattle.vdb_coord.specs.Space.{Box, coord, is_between, is_box, is_inside}
 use Rattle.vdb_coord.specs.declared.Bits.{Bits}
 use Rattle.vdb_coord.specs.declared.Coord.{Coord}
@@ -15,7 +15,7 @@ use Rattle.vdb_coord.specs.declared.Level.{Level}
 use Rattle.vdb_coord.proofs.Boxes.{above_both, below_both, both, le_through, not_true, three, together}
 use Rattle.vdb_coord.proofs.Digits.{entry_end, first_of_entry, number_inside, number_split}
 use Rattle.vdb_coord.proofs.Meeting.{begins_by, ends_by, le_up, number_le}
-use Rattle.vdb_coord.proofs.Places.{block_bits_split, index_places, node_bits_fit, sub_block_is}
+use Rattle.vdb_coord.proofs.Positions.{block_bits_split, index_positions, node_bits_fit, sub_block_is}
 
 cancelled : (u : ℤ) (a c : ℕ) → int_le (u +ℤ pos a) (u +ℤ pos c) ≡ int_le (pos a) (pos c)
 cancelled u a c = grind (arith, ints)
@@ -26,25 +26,25 @@ entry_start low b n d = first_of (low + b) n +ℤ pos (d * 2 ^ low)
 abbrev entry_stop : ℕ → ℕ → ℤ → ℕ → ℤ
 entry_stop low b n d = entry_start low b n d +ℤ pos (2 ^ low - 1)
 
--- a number of block n lies before or in the entry d exactly where its place isn't above d
-place_upto : (low b : ℕ) (n x : ℤ) (d : ℕ) → d < 2 ^ b → number_at (low + b) x ≡ n → int_le (pos (digit low b x)) (pos d) ≡ int_le x (entry_stop low b n d)
-place_upto low b n x d small e =
+-- a number of block n lies before or in the entry d exactly where its position isn't above d
+position_upto : (low b : ℕ) (n x : ℤ) (d : ℕ) → d < 2 ^ b → number_at (low + b) x ≡ n → int_le (pos (digit low b x)) (pos d) ≡ int_le x (entry_stop low b n d)
+position_upto low b n x d small e =
     let entry = n *ℤ pos (2 ^ b) +ℤ pos d in
     let split : number_at low x ≡ n *ℤ pos (2 ^ b) +ℤ pos (digit low b x) = number_split low b x ∙ ap (λ (t : ℤ). t *ℤ pos (2 ^ b) +ℤ pos (digit low b x)) e in
     sym (cancelled (n *ℤ pos (2 ^ b)) (digit low b x) d) ∙ ap (λ (t : ℤ). int_le t entry) (sym split) ∙ sym (ends_by low entry x)
     ∙ ap (λ (t : ℤ). int_le x (t +ℤ pos (2 ^ low - 1))) (sym (first_of_entry low b n d small))
 
--- and in it or behind it exactly where d isn't above its place
-place_from : (low b : ℕ) (n x : ℤ) (d : ℕ) → d < 2 ^ b → number_at (low + b) x ≡ n → int_le (pos d) (pos (digit low b x)) ≡ int_le (entry_start low b n d) x
-place_from low b n x d small e =
+-- and in it or behind it exactly where d isn't above its position
+position_from : (low b : ℕ) (n x : ℤ) (d : ℕ) → d < 2 ^ b → number_at (low + b) x ≡ n → int_le (pos d) (pos (digit low b x)) ≡ int_le (entry_start low b n d) x
+position_from low b n x d small e =
     let entry = n *ℤ pos (2 ^ b) +ℤ pos d in
     let split : number_at low x ≡ n *ℤ pos (2 ^ b) +ℤ pos (digit low b x) = number_split low b x ∙ ap (λ (t : ℤ). t *ℤ pos (2 ^ b) +ℤ pos (digit low b x)) e in
     sym (cancelled (n *ℤ pos (2 ^ b)) d (digit low b x)) ∙ ap (λ (t : ℤ). int_le entry t) (sym split) ∙ sym (begins_by low entry x)
     ∙ ap (λ (t : ℤ). int_le t x) (sym (first_of_entry low b n d small))
 
--- the order of places in one block
-place_order : (low b : ℕ) (n x y : ℤ) → number_at (low + b) x ≡ n → number_at (low + b) y ≡ n → int_le x y ≡ true → int_le (pos (digit low b x)) (pos (digit low b y)) ≡ true
-place_order low b n x y ex ey h =
+-- the order of positions in one block
+position_order : (low b : ℕ) (n x y : ℤ) → number_at (low + b) x ≡ n → number_at (low + b) y ≡ n → int_le x y ≡ true → int_le (pos (digit low b x)) (pos (digit low b y)) ≡ true
+position_order low b n x y ex ey h =
     let split : (z : ℤ) → number_at (low + b) z ≡ n → number_at low z ≡ n *ℤ pos (2 ^ b) +ℤ pos (digit low b z)
     = λ z e. number_split low b z ∙ ap (λ (t : ℤ). t *ℤ pos (2 ^ b) +ℤ pos (digit low b z)) e in
     sym (cancelled (n *ℤ pos (2 ^ b)) (digit low b x) (digit low b y)) ∙ ap (λ (t : ℤ). int_le t (n *ℤ pos (2 ^ b) +ℤ pos (digit low b y))) (sym (split x ex))
@@ -98,9 +98,9 @@ meets_along low b n least greatest d small h =
     let y = int_min greatest (last_of k n) in
     let es = ends_in k n least greatest h in
     let lower : int_le (pos (digit low b x)) (pos d) ≡ int_le least (entry_stop low b n d)
-    = place_upto low b n x d small es.0 ∙ below_both least (first_of k n) (entry_stop low b n d) ∙ true_second (int_le least (entry_stop low b n d)) (int_le (first_of k n) (entry_stop low b n d)) (stops_in low b n d) in
+    = position_upto low b n x d small es.0 ∙ below_both least (first_of k n) (entry_stop low b n d) ∙ true_second (int_le least (entry_stop low b n d)) (int_le (first_of k n) (entry_stop low b n d)) (stops_in low b n d) in
     let upper : int_le (pos d) (pos (digit low b y)) ≡ int_le (entry_start low b n d) greatest
-    = place_from low b n y d small es.1 ∙ above_both greatest (last_of k n) (entry_start low b n d) ∙ true_second (int_le (entry_start low b n d) greatest) (int_le (entry_start low b n d) (last_of k n)) (starts_in low b n d small) in
+    = position_from low b n y d small es.1 ∙ above_both greatest (last_of k n) (entry_start low b n d) ∙ true_second (int_le (entry_start low b n d) greatest) (int_le (entry_start low b n d) (last_of k n)) (starts_in low b n d small) in
     ap (λ (t : Bool). t && int_le (pos d) (pos (digit low b y))) lower ∙ ap (λ (t : Bool). int_le least (entry_stop low b n d) && t) upper
 
 -- an entry that meets a range shows that the range and the block have a number in common
@@ -137,18 +137,18 @@ common_with bits level p b =
 common_is : (bits : Bits) (level : Level) (p : Coord) (b : Box) → common_with bits level p b ≡ common_by (entry_bits bits level + node_bits bits level) p b
 common_is bits level p b = ap (λ (k : ℕ). common_by k p b) (block_bits_split bits level)
 
--- the places of those corners
-abbrev pub places_with : Bits → Level → Coord → Box → Box
-places_with bits level p b = record { min = place bits level (common_with bits level p b).min; max = place bits level (common_with bits level p b).max }
+-- the positions of those corners
+abbrev pub positions_with : Bits → Level → Coord → Box → Box
+positions_with bits level p b = record { min = position bits level (common_with bits level p b).min; max = position bits level (common_with bits level p b).max }
 
-abbrev places_by : ℕ → ℕ → Box → Box
-places_by low b c =
+abbrev positions_by : ℕ → ℕ → Box → Box
+positions_by low b c =
     let along : ℤ → ℤ = λ x. pos (digit low b x) in
     record { min = coord (along c.min.x) (along c.min.y) (along c.min.z); max = coord (along c.max.x) (along c.max.y) (along c.max.z) }
 
 -- they are in order
-pub places_are_box : (bits : Bits) (level : Level) (p : Coord) (b : Box) → is_box (common_with bits level p b) ≡ true → is_box (places_with bits level p b) ≡ true
-places_are_box bits level p b h =
+pub positions_are_box : (bits : Bits) (level : Level) (p : Coord) (b : Box) → is_box (common_with bits level p b) ≡ true → is_box (positions_with bits level p b) ≡ true
+positions_are_box bits level p b h =
     let low = entry_bits bits level in
     let n = node_bits bits level in
     let k = low + n in
@@ -158,34 +158,34 @@ places_are_box bits level p b h =
     let y = ends_in k (number_at k p.y) b.min.y b.max.y hs.1 in
     let z = ends_in k (number_at k p.z) b.min.z b.max.z hs.2 in
     let d : ℤ → ℤ = λ v. pos (digit low n v) in
-    subst (λ (t : Box). is_box (places_by low n t) ≡ true) (sym (common_is bits level p b))
+    subst (λ (t : Box). is_box (positions_by low n t) ≡ true) (sym (common_is bits level p b))
     (together (int_le (d c.min.x) (d c.max.x)) (int_le (d c.min.y) (d c.max.y)) (int_le (d c.min.z) (d c.max.z))
-    (place_order low n (number_at k p.x) c.min.x c.max.x x.0 x.1 hs.0)
-    (place_order low n (number_at k p.y) c.min.y c.max.y y.0 y.1 hs.1)
-    (place_order low n (number_at k p.z) c.min.z c.max.z z.0 z.1 hs.2))
+    (position_order low n (number_at k p.x) c.min.x c.max.x x.0 x.1 hs.0)
+    (position_order low n (number_at k p.y) c.min.y c.max.y y.0 y.1 hs.1)
+    (position_order low n (number_at k p.z) c.min.z c.max.z z.0 z.1 hs.2))
 
 -- where an entry stands in its node
-pub place_of_is : (bits : Bits) (level : Level) (i : ℕ) → let n = 2 ^ node_bits bits level in place_of bits level i ≡ coord (pos (i / n / n)) (pos (i / n % n)) (pos (i % n))
-place_of_is bits level i =
+pub position_of_is : (bits : Bits) (level : Level) (i : ℕ) → let n = 2 ^ node_bits bits level in position_of bits level i ≡ coord (pos (i / n / n)) (pos (i / n % n)) (pos (i % n))
+position_of_is bits level i =
     let n = 2 ^ node_bits bits level in
     ap (λ (d : ℕ). coord (pos d) (pos (i / n % n)) (pos (i % n))) (sym (div-div-eq-div-mul i n n))
 
--- the entries that meet the box are those whose places lie between
-pub places_meet : (bits : Bits) (level : Level) (p : Coord) (b : Box) (i : ℕ) → i < entries bits level → is_box (common_with bits level p b) ≡ true
-    → is_inside (places_with bits level p b) (place_of bits level i) ≡ meets (sub_block bits level (block_around bits level p) i) b
-places_meet bits level p b i small h =
+-- the entries that meet the box are those whose positions lie between
+pub positions_meet : (bits : Bits) (level : Level) (p : Coord) (b : Box) (i : ℕ) → i < entries bits level → is_box (common_with bits level p b) ≡ true
+    → is_inside (positions_with bits level p b) (position_of bits level i) ≡ meets (sub_block bits level (block_around bits level p) i) b
+positions_meet bits level p b i small h =
     let low = entry_bits bits level in
     let n = node_bits bits level in
     let k = low + n in
     let w = 2 ^ n in
     let c = common_by k p b in
-    let ps = index_places bits level i small in
+    let ps = index_positions bits level i small in
     let hs = three (int_le c.min.x c.max.x) (int_le c.min.y c.max.y) (int_le c.min.z c.max.z) (subst (λ (t : Box). is_box t ≡ true) (common_is bits level p b) h) in
     let x = meets_along low n (number_at k p.x) b.min.x b.max.x (i / w / w) ps.0 hs.0 in
     let y = meets_along low n (number_at k p.y) b.min.y b.max.y (i / w % w) ps.1 hs.1 in
     let z = meets_along low n (number_at k p.z) b.min.z b.max.z (i % w) ps.2 hs.2 in
-    ap (λ (t : Coord). is_inside (places_with bits level p b) t) (place_of_is bits level i)
-    ∙ ap (λ (t : Box). is_inside (places_by low n t) (coord (pos (i / w / w)) (pos (i / w % w)) (pos (i % w)))) (common_is bits level p b)
+    ap (λ (t : Coord). is_inside (positions_with bits level p b) t) (position_of_is bits level i)
+    ∙ ap (λ (t : Box). is_inside (positions_by low n t) (coord (pos (i / w / w)) (pos (i / w % w)) (pos (i % w)))) (common_is bits level p b)
     ∙ (λ j. x j && y j && z j)
     ∙ ap (λ (t : Box). meets t b) (sym (sub_block_is bits level p i))
 
@@ -199,7 +199,7 @@ none_meets bits level p b i small ordered out =
     let k = low + n in
     let w = 2 ^ n in
     let c = common_by k p b in
-    let ps = index_places bits level i small in
+    let ps = index_positions bits level i small in
     let os = three (int_le b.min.x b.max.x) (int_le b.min.y b.max.y) (int_le b.min.z b.max.z) ordered in
     let touch : ℤ → ℤ → ℤ → ℕ → Bool = λ v least greatest d. int_le least (entry_stop low n (number_at k v) d) && int_le (entry_start low n (number_at k v) d) greatest in
     let ms = three (touch p.x b.min.x b.max.x (i / w / w)) (touch p.y b.min.y b.max.y (i / w % w)) (touch p.z b.min.z b.max.z (i % w)) (ap (λ (t : Box). meets t b) (sym (sub_block_is bits level p i)) ∙ h) in
@@ -229,25 +229,25 @@ same_box p q r s e f = λ j. record { min = e j; max = f j }
 pub same_answer : (p q r s : Coord) → p ≡ r → q ≡ s → box_of p q ≡ box_of r s
 same_answer p q r s e f = λ j. box_of (e j) (f j)
 
--- the places of an index are small
-pub small_places : (bits : Bits) (level : Level) (i : ℕ) → AreBits bits → i < entries bits level → let n = 2 ^ node_bits bits level in (i / n / n < 32) × (i / n % n < 32) × (i % n < 32)
-small_places bits level i configured h =
-    let ps = index_places bits level i h in
+-- the positions of an index are small
+pub small_positions : (bits : Bits) (level : Level) (i : ℕ) → AreBits bits → i < entries bits level → let n = 2 ^ node_bits bits level in (i / n / n < 32) × (i / n % n < 32) × (i % n < 32)
+small_positions bits level i configured h =
+    let ps = index_positions bits level i h in
     let few : 2 ^ node_bits bits level ≤ 2 ^ 5 = pow_mono (node_bits_fit bits level configured) in
     let x = ps.0 in
     let y = ps.1 in
     let z = ps.2 in
     (omega (arith, x, few), omega (arith, y, few), omega (arith, z, few))
 
-pub signed_places : (bits : Bits) (level : Level) (i : ℕ) → AreBits bits → i < entries bits level → let n = 2 ^ node_bits bits level in
-    coord (to_z w32 (i / n / n)) (to_z w32 (i / n % n)) (to_z w32 (i % n)) ≡ place_of bits level i
-signed_places bits level i configured h =
+pub signed_positions : (bits : Bits) (level : Level) (i : ℕ) → AreBits bits → i < entries bits level → let n = 2 ^ node_bits bits level in
+    coord (to_z w32 (i / n / n)) (to_z w32 (i / n % n)) (to_z w32 (i % n)) ≡ position_of bits level i
+signed_positions bits level i configured h =
     let n = 2 ^ node_bits bits level in
-    let s = small_places bits level i configured h in
+    let s = small_positions bits level i configured h in
     let sx = s.0 in
     let sy = s.1 in
     let sz = s.2 in
     let x : to_z w32 (i / n / n) ≡ pos (i / n / n) = to_z_pos w32 (i / n / n) (omega (arith, sx)) in
     let y : to_z w32 (i / n % n) ≡ pos (i / n % n) = to_z_pos w32 (i / n % n) (omega (arith, sy)) in
     let z : to_z w32 (i % n) ≡ pos (i % n) = to_z_pos w32 (i % n) (omega (arith, sz)) in
-    (λ j. coord (x j) (y j) (z j)) ∙ sym (place_of_is bits level i)
+    (λ j. coord (x j) (y j) (z j)) ∙ sym (position_of_is bits level i)

@@ -23,14 +23,14 @@ entry_number bits level p =
     coord (number p.x) (number p.y) (number p.z)
 
 -- where p's entry is in the level's node around p, along each axis
-abbrev pub place : Bits → Level → Coord → Coord
-place bits level p =
+abbrev pub position : Bits → Level → Coord → Coord
+position bits level p =
     let along : ℤ → ℤ = λ x. pos (digit (entry_bits bits level) (node_bits bits level) x) in
     coord (along p.x) (along p.y) (along p.z)
 
 -- where entry i is in its node, along each axis
-abbrev pub place_of : Bits → Level → ℕ → Coord
-place_of bits level i =
+abbrev pub position_of : Bits → Level → ℕ → Coord
+position_of bits level i =
     let n = width bits level in
     coord (pos (i / (n * n))) (pos (i / n % n)) (pos (i % n))
 

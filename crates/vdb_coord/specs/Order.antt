@@ -22,9 +22,9 @@ pub record IsFirstPast (bits : Bits) (level : Level) (box : Box) (p next : Coord
   pub between : (q : Coord) → IsTrue (is_inside box q) → ComesBefore bits q next → IsUpToBlock bits level p q
 
 -- that coordinate; none where no coordinate of the box comes past the block
-abbrev pub IsNextPlace : Bits → Level → Box → Coord → Option Coord → Type 0
-IsNextPlace bits level box p None = (q : Coord) → IsTrue (is_inside box q) → IsUpToBlock bits level p q
-IsNextPlace bits level box p (Some next) = IsFirstPast bits level box p next
+abbrev pub IsNextCoord : Bits → Level → Box → Coord → Option Coord → Type 0
+IsNextCoord bits level box p None = (q : Coord) → IsTrue (is_inside box q) → IsUpToBlock bits level p q
+IsNextCoord bits level box p (Some next) = IsFirstPast bits level box p next
 
 -- the first coordinate, in block order, of what the box has of the level's block around p
 pub record IsFirstInBlock (bits : Bits) (level : Level) (box : Box) (p first : Coord) : Type 0 where

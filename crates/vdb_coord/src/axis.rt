@@ -64,24 +64,24 @@ pub(crate) fn width(bits: u32) -> u32
     1 << bits
 }
 
-/// The first number of the entry of `2 ^ low` numbers in this place of the component's block of `2 ^ bits` entries.
-pub(crate) fn entry_first(component: i32, low: u32, bits: u32, place: u32) -> i32
+/// The first number of the entry of `2 ^ low` numbers in this position of the component's block of `2 ^ bits` entries.
+pub(crate) fn entry_first(component: i32, low: u32, bits: u32, position: u32) -> i32
     requires low_fits { low ≤ 10 }
     requires bits_fit { bits ≤ 5 }
-    requires within { place < 2 ^ bits }
-    ensures { result ≡ first_of (low + bits) (number_at (low + bits) component) +ℤ pos (place * 2 ^ low) }
+    requires within { position < 2 ^ bits }
+    ensures { result ≡ first_of (low + bits) (number_at (low + bits) component) +ℤ pos (position * 2 ^ low) }
 {
-    first_around(component, low + bits) + (place << low) as i32
+    first_around(component, low + bits) + (position << low) as i32
 }
 
 /// The last number of that entry.
-pub(crate) fn entry_last(component: i32, low: u32, bits: u32, place: u32) -> i32
+pub(crate) fn entry_last(component: i32, low: u32, bits: u32, position: u32) -> i32
     requires low_fits { low ≤ 10 }
     requires bits_fit { bits ≤ 5 }
-    requires within { place < 2 ^ bits }
-    ensures { result ≡ first_of (low + bits) (number_at (low + bits) component) +ℤ pos (place * 2 ^ low) +ℤ pos (2 ^ low - 1) }
+    requires within { position < 2 ^ bits }
+    ensures { result ≡ first_of (low + bits) (number_at (low + bits) component) +ℤ pos (position * 2 ^ low) +ℤ pos (2 ^ low - 1) }
 {
-    entry_first(component, low, bits, place) + reach(low)
+    entry_first(component, low, bits, position) + reach(low)
 }
 
 /// How many whole numbers there are from `low` to `high`.

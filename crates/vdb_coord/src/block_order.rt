@@ -2,7 +2,7 @@
 ghost use Rattle.std.specs.Prelude.{◌≡◌, ◌<◌, ◌&&◌, IfSome, IsTrue};
 ghost use Rattle.vdb_coord.specs.Blocks.{block_around};
 ghost use Rattle.vdb_coord.specs.Entries.{AreBits};
-ghost use Rattle.vdb_coord.specs.Order.{IsFirstInBlock, IsNextPlace, coordinates_past};
+ghost use Rattle.vdb_coord.specs.Order.{IsFirstInBlock, IsNextCoord, coordinates_past};
 ghost use Rattle.vdb_coord.specs.Space.{everywhere, is_inside};
 ghost use Rattle.vdb_coord.specs.declared.Coord.{Coord};
 ghost use Rattle.vdb_coord.specs.declared.Level.TheVariants.{Leaf, Lower, Upper};
@@ -12,52 +12,52 @@ use crate::{Bits, Bounds, Coord, Level};
 impl Bounds {
     /// The first coordinate of the box, in block order, past the level's block around `p`, which is one of the box.
     /// `None` where no coordinate of the box comes past that block.
-    pub fn next_place_in(self, bits: Bits, level: Level, p: Coord) -> Option<Coord>
+    pub fn next_coord_in(self, bits: Bits, level: Level, p: Coord) -> Option<Coord>
         requires bits { AreBits bits }
         requires inside { IsTrue (is_inside self p) }
-        ensures next { IsNextPlace bits level self p result }
+        ensures next { IsNextCoord bits level self p result }
         ensures nearer { IfSome result (λ next. coordinates_past bits next < coordinates_past bits p) }
     {
         match level {
-            Level::Leaf => self.place_past_leaf(bits, p),
-            Level::Lower => self.place_past_lower(bits, p),
-            Level::Upper => self.place_past_upper(bits, p),
+            Level::Leaf => self.coord_past_leaf(bits, p),
+            Level::Lower => self.coord_past_lower(bits, p),
+            Level::Upper => self.coord_past_upper(bits, p),
         }
     }
 
     /// That coordinate past a leaf block: first sought in the lower block around it.
-    fn place_past_leaf(self, bits: Bits, p: Coord) -> Option<Coord>
+    fn coord_past_leaf(self, bits: Bits, p: Coord) -> Option<Coord>
         requires bits { AreBits bits }
         requires inside { IsTrue (is_inside self p) }
-        ensures next { IsNextPlace bits Leaf self p result }
+        ensures next { IsNextCoord bits Leaf self p result }
         ensures within { IfSome result (λ next. IsTrue (is_inside everywhere next)) }
     {
         let part = self.part_around(bits, Level::Lower, p);
         match part.next_block_in(bits, Level::Leaf, p) {
             Some(next) => Some(self.first_in_block(bits, Level::Leaf, next)),
-            None => self.place_past_lower(bits, p),
+            None => self.coord_past_lower(bits, p),
         }
     }
 
     /// That coordinate past a lower block: first sought in the upper block around it.
-    fn place_past_lower(self, bits: Bits, p: Coord) -> Option<Coord>
+    fn coord_past_lower(self, bits: Bits, p: Coord) -> Option<Coord>
         requires bits { AreBits bits }
         requires inside { IsTrue (is_inside self p) }
-        ensures next { IsNextPlace bits Lower self p result }
+        ensures next { IsNextCoord bits Lower self p result }
         ensures within { IfSome result (λ next. IsTrue (is_inside everywhere next)) }
     {
         let part = self.part_around(bits, Level::Upper, p);
         match part.next_block_in(bits, Level::Lower, p) {
             Some(next) => Some(self.first_in_block(bits, Level::Lower, next)),
-            None => self.place_past_upper(bits, p),
+            None => self.coord_past_upper(bits, p),
         }
     }
 
     /// That coordinate past an upper block.
-    fn place_past_upper(self, bits: Bits, p: Coord) -> Option<Coord>
+    fn coord_past_upper(self, bits: Bits, p: Coord) -> Option<Coord>
         requires bits { AreBits bits }
         requires inside { IsTrue (is_inside self p) }
-        ensures next { IsNextPlace bits Upper self p result }
+        ensures next { IsNextCoord bits Upper self p result }
         ensures within { IfSome result (λ next. IsTrue (is_inside everywhere next)) }
     {
         match self.next_block_in(bits, Level::Upper, p) {

@@ -2,7 +2,7 @@
 ghost use Rattle.std.specs.Prelude.{◌≡◌, ◌<◌, ◌≤◌, ℤ, IsTrue};
 ghost use Rattle.vdb_coord.specs.Blocks.{block, block_around, block_cmp, block_number, block_numbers, entries, key, offset, sub_block, vdb};
 ghost use Rattle.vdb_coord.specs.Components.{first_of, last_of, number_at};
-ghost use Rattle.vdb_coord.specs.Entries.{AreBits, place};
+ghost use Rattle.vdb_coord.specs.Entries.{AreBits, position};
 ghost use Rattle.vdb_coord.specs.Space.{coord, is_inside};
 ghost use Rattle.vdb_coord.specs.declared.Level.TheVariants.{Upper};
 
@@ -160,9 +160,9 @@ impl Coord {
     }
 
     /// Where the entry that holds this coordinate is in the level's node around it, counted in entries along each axis.
-    pub fn place_in(self, bits: Bits, level: Level) -> Coord
+    pub fn position_in(self, bits: Bits, level: Level) -> Coord
         requires { AreBits bits }
-        ensures { result ≡ place bits level self }
+        ensures { result ≡ position bits level self }
     {
         let low = bits.entry_bits(level);
         let node = bits.node_bits(level);

@@ -4,7 +4,7 @@ ghost use Rattle.std.specs.Int.{int_max, int_min};
 ghost use Rattle.vdb_coord.specs.Space.{coord, everywhere, is_box, is_inside, is_within, volume};
 ghost use Rattle.vdb_coord.specs.Boxes.{box_of, is_bounds, meets, overlap};
 ghost use Rattle.vdb_coord.specs.Blocks.{block_around, entries, sub_block, vdb};
-ghost use Rattle.vdb_coord.specs.Entries.{AreBits, blocks_meeting, numbers_over, place_of};
+ghost use Rattle.vdb_coord.specs.Entries.{AreBits, blocks_meeting, numbers_over, position_of};
 ghost use Rattle.vdb_coord.specs.declared.Coord.{Coord};
 
 use crate::axis::{extent, is_between, touches};
@@ -195,12 +195,12 @@ impl Bounds {
         self.blocks_meeting_in(Bits::VDB, level)
     }
 
-    /// Which entries of the level's node around `p` have a coordinate in the box: a box of their places in the node,
+    /// Which entries of the level's node around `p` have a coordinate in the box: a box of their positions in the node,
     /// counted in entries along each axis, and `None` where no entry has one.
     pub fn entries_meeting_in(self, bits: Bits, level: Level, p: Coord) -> Option<Bounds>
         requires { AreBits bits }
-        ensures some { IfSome result (λ places. (i : ℕ) → i < entries bits level
-            → is_inside places (place_of bits level i) ≡ meets (sub_block bits level (block_around bits level p) i) self) }
+        ensures some { IfSome result (λ positions. (i : ℕ) → i < entries bits level
+            → is_inside positions (position_of bits level i) ≡ meets (sub_block bits level (block_around bits level p) i) self) }
         ensures none { IfNone result ((i : ℕ) → i < entries bits level
             → meets (sub_block bits level (block_around bits level p) i) self ≡ false) }
     {
@@ -208,7 +208,10 @@ impl Bounds {
         let min = self.min.greater(block.min);
         let max = self.max.lesser(block.max);
         match Bounds::new(min, max) {
-            Some(_) => Some(Bounds::between(min.place_in(bits, level), max.place_in(bits, level))),
+            Some(_) => Some(Bounds::between(
+                min.position_in(bits, level),
+                max.position_in(bits, level),
+            )),
             None => None,
         }
     }

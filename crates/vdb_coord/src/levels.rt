@@ -1,7 +1,7 @@
 //! What the bits of a tree's nodes say of each level.
 ghost use Rattle.std.specs.Prelude.{◌≡◌, ◌<◌};
 ghost use Rattle.vdb_coord.specs.Blocks.{block_bits, entries, entry_bits, node_bits};
-ghost use Rattle.vdb_coord.specs.Entries.{AreBits, place_of};
+ghost use Rattle.vdb_coord.specs.Entries.{AreBits, position_of};
 
 use crate::axis::width;
 use crate::{Bits, Coord, Level};
@@ -50,10 +50,10 @@ impl Bits {
     }
 
     /// Where the entry with this index is in a node of the level, counted in entries along each axis.
-    pub fn place_of(self, level: Level, index: u16) -> Coord
+    pub fn position_of(self, level: Level, index: u16) -> Coord
         requires configured { AreBits self }
         requires within { index < entries self level }
-        ensures { result ≡ place_of self level index }
+        ensures { result ≡ position_of self level index }
     {
         let count = width(self.node_bits(level));
         let row = u32::from(index) / count;

@@ -65,10 +65,10 @@ fn entries_of_a_node(rt: HostRuntime) -> Result<(), Fail> {
     let leaf = p.entry_block_in(Bits::VDB, Level::Lower, 4095);
     assert_eq!(rt; leaf.min(), at(-8, 120, 4088));
     assert_eq!(rt; leaf.max(), at(-1, 127, 4095));
-    assert_eq!(rt; p.place_in(Bits::VDB, Level::Upper), at(31, 0, 31));
+    assert_eq!(rt; p.position_in(Bits::VDB, Level::Upper), at(31, 0, 31));
     assert_eq!(rt; Bits::VDB.entries(Level::Upper), 32768);
-    assert_eq!(rt; Bits::VDB.place_of(Level::Leaf, 83), at(1, 2, 3));
-    assert_eq!(rt; NARROW.place_of(Level::Upper, 4095), all(15));
+    assert_eq!(rt; Bits::VDB.position_of(Level::Leaf, 83), at(1, 2, 3));
+    assert_eq!(rt; NARROW.position_of(Level::Upper, 4095), all(15));
     Ok(())
 }
 
@@ -136,8 +136,8 @@ fn entries_that_meet_a_box(rt: HostRuntime) -> Result<(), Fail> {
             Bounds::new(at(0, 0, 15), at(1, 0, 15)),
         ),
     ];
-    for (level, p, places) in cases {
-        assert_eq!(rt; bounds.entries_meeting_in(Bits::VDB, level, p), places);
+    for (level, p, positions) in cases {
+        assert_eq!(rt; bounds.entries_meeting_in(Bits::VDB, level, p), positions);
     }
     Ok(())
 }
@@ -178,16 +178,16 @@ fn blocks_that_meet_a_box_one_by_one(rt: HostRuntime) -> Result<(), Fail> {
     Ok(())
 }
 
-// The next place of the box past a block, from one of its coordinates on.
-fn next_place(bounds: Bounds, level: Level, p: Coord) -> Option<Coord> {
+// The next coordinate of the box past a block, from one of its coordinates on.
+fn next_coord(bounds: Bounds, level: Level, p: Coord) -> Option<Coord> {
     if !bounds.contains(p) {
         return None;
     }
-    bounds.next_place_in(Bits::VDB, level, p)
+    bounds.next_coord_in(Bits::VDB, level, p)
 }
 
 #[test]
-fn places_of_a_box_in_block_order(rt: HostRuntime) -> Result<(), Fail> {
+fn coords_of_a_box_in_block_order(rt: HostRuntime) -> Result<(), Fail> {
     let cube = Bounds::new(all(0), all(8)).expect(&rt, "a box");
     let mut next = Some(all(0));
     for (x, y, z) in [
@@ -202,21 +202,21 @@ fn places_of_a_box_in_block_order(rt: HostRuntime) -> Result<(), Fail> {
     ] {
         let p = at(x, y, z);
         assert_eq!(rt; next, Some(p));
-        next = next_place(cube, Level::Leaf, p);
+        next = next_coord(cube, Level::Leaf, p);
     }
     assert_eq!(rt; next, None);
-    assert_eq!(rt; next_place(cube, Level::Lower, all(3)), None);
+    assert_eq!(rt; next_coord(cube, Level::Lower, all(3)), None);
     let corner = at(i32::MAX, i32::MAX, i32::MAX - 7);
     let last = Bounds::new(at(i32::MAX, i32::MAX, i32::MAX - 8), all(i32::MAX)).expect(
         &rt, "a box",
     );
-    assert_eq!(rt; next_place(last, Level::Leaf, last.min()), Some(corner));
-    assert_eq!(rt; next_place(last, Level::Leaf, corner), None);
+    assert_eq!(rt; next_coord(last, Level::Leaf, last.min()), Some(corner));
+    assert_eq!(rt; next_coord(last, Level::Leaf, corner), None);
     Ok(())
 }
 
 #[test]
-fn places_across_larger_blocks(rt: HostRuntime) -> Result<(), Fail> {
+fn coords_across_larger_blocks(rt: HostRuntime) -> Result<(), Fail> {
     let wide = Bounds::new(at(0, 0, 120), at(8, 0, 130)).expect(&rt, "a box");
     let tall = Bounds::new(at(-128, 0, 4000), at(0, 0, 4100)).expect(&rt, "a box");
     let cases = [
@@ -234,7 +234,7 @@ fn places_across_larger_blocks(rt: HostRuntime) -> Result<(), Fail> {
         (tall, Level::Upper, at(0, 0, 4100), None),
     ];
     for (bounds, level, p, next) in cases {
-        assert_eq!(rt; next_place(bounds, level, p), next);
+        assert_eq!(rt; next_coord(bounds, level, p), next);
     }
     Ok(())
 }
@@ -249,11 +249,11 @@ fn all_coordinates_and_one(rt: HostRuntime) -> Result<(), Fail> {
     assert_eq!(rt; Some(one), Bounds::new(p, p));
     assert_eq!(rt; one.volume(), 1);
     for level in LEVELS {
-        assert_eq!(rt; next_place(one, level, p), None);
-        assert_eq!(rt; next_place(everywhere, level, all(i32::MAX)), None);
+        assert_eq!(rt; next_coord(one, level, p), None);
+        assert_eq!(rt; next_coord(everywhere, level, all(i32::MAX)), None);
     }
     let second = at(i32::MIN, i32::MIN, i32::MIN + 4096);
-    let first = next_place(everywhere, Level::Upper, all(i32::MIN));
+    let first = next_coord(everywhere, Level::Upper, all(i32::MIN));
     assert_eq!(rt; first, Some(second));
     Ok(())
 }

@@ -6,7 +6,7 @@ use Rattle.std.specs.Io.KnownBytes.{Consumes}
 use Rattle.vdb_file.specs.Faults.{HasOtherMagic, HasOtherVersion, StartsWithOther}
 use Rattle.vdb_file.specs.internal.FieldFaults.{IsFieldFault, IsInner, IsMagicFault, IsVersionFault}
 use Rattle.vdb_file.specs.internal.Parts.{version_number}
-use Rattle.vdb_file.specs.internal.Reading.{Fails, Place, Took}
+use Rattle.vdb_file.specs.internal.Reading.{Fails, Position, Took}
 use Rattle.vdb_file.specs.declared.fault.LoadFault.{LoadFault}
 use Rattle.vdb_file.specs.declared.fault.LoadFault.TheVariants as faults
 use Rattle.vdb_file.specs.declared.loading.versions.Version.{Version}
@@ -48,7 +48,7 @@ version_field _ h = tt
 -- ---- magic
 
 -- four other bytes were read
-pub other_magic : (fault : LoadFault) (old one : Place) (field : List ℕ) → Took old one field → length field ≡ 4 → (field ≡ codes "VDBS" → ⊥) → Fails (λ (u : Unit {0}). ⊤) (λ u. codes "VDBS") fault old
+pub other_magic : (fault : LoadFault) (old one : Position) (field : List ℕ) → Took old one field → length field ≡ 4 → (field ≡ codes "VDBS" → ⊥) → Fails (λ (u : Unit {0}). ⊤) (λ u. codes "VDBS") fault old
 other_magic fault old one field took len none =
     fails_after (λ (u : Unit {0}). ⊤) (λ u. codes "VDBS") field (λ u. field ≡ codes "VDBS") (λ u. codes "VDBS") (λ u. []) fault old one took (λ u p. says_fixed field (codes "VDBS") len) (λ u p. refl)
     (fails_none (λ (u : Unit {0}). ⊤ × (field ≡ codes "VDBS")) (λ u. []) fault one (λ u p. none p.1))
@@ -69,11 +69,11 @@ abbrev pub version_bytes : Version → List ℕ
 version_bytes v = to_be_bytes w16 (version_number v)
 
 -- no number was read
-pub no_version : (fault : LoadFault) (old : Place) → Fails (λ n. n < 2 ^ 16) (to_be_bytes w16) fault old → Fails (λ (v : Version). ⊤) version_bytes fault old
+pub no_version : (fault : LoadFault) (old : Position) → Fails (λ n. n < 2 ^ 16) (to_be_bytes w16) fault old → Fails (λ (v : Version). ⊤) version_bytes fault old
 no_version fault old h = fails_turn (λ (v : Version). ⊤) version_bytes (λ n. n < 2 ^ 16) (to_be_bytes w16) version_number fault old (λ v p. small_version v) (λ v p. refl) h
 
 -- another number was read
-pub other_version : (fault : LoadFault) (old mid : Place) (n : ℕ) → n < 2 ^ 16 → Took old mid (to_be_bytes w16 n) → (n ≡ 1 → ⊥) → (n ≡ 2 → ⊥) → Fails (λ (v : Version). ⊤) version_bytes fault old
+pub other_version : (fault : LoadFault) (old mid : Position) (n : ℕ) → n < 2 ^ 16 → Took old mid (to_be_bytes w16 n) → (n ≡ 1 → ⊥) → (n ≡ 2 → ⊥) → Fails (λ (v : Version). ⊤) version_bytes fault old
 other_version fault old mid n small took not_one not_two =
     fails_after (λ (v : Version). ⊤) version_bytes (to_be_bytes w16 n) (λ v. n ≡ version_number v) version_bytes (λ v. []) fault old mid took (λ v p. says_u16 n (version_number v) small (small_version v)) (λ v p. refl)
     (fails_none (λ (v : Version). ⊤ × (n ≡ version_number v)) (λ v. []) fault mid none)

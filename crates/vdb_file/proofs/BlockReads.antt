@@ -23,7 +23,7 @@ use Rattle.vdb_file.specs.declared.loading.block_head.Head.TheVariants.{Node, On
 use Rattle.vdb_file.specs.internal.LeafVoxels.{HasValues}
 use Rattle.vdb_file.specs.internal.Loading.{IsHead, head_bytes}
 use Rattle.vdb_file.specs.internal.LoadedFields.{ShowsIn, ShowsInEach}
-use Rattle.vdb_file.specs.internal.Reading.{Fails, Place, Took}
+use Rattle.vdb_file.specs.internal.Reading.{Fails, Position, Took}
 use Rattle.vdb_file.specs.internal.Written.{numbered}
 use Rattle.vdb_file.proofs.Unambiguous.{says_fixed, says_map}
 use Rattle.vdb_file.proofs.Agreement.{Agree, AreValues, is_held}
@@ -121,12 +121,12 @@ module _ {V : Type 0} {eq : V → V → Bool} {value_bytes : V → List ℕ} {P 
           (some_listed f shows.values shows.shown, let kept = few_kept (is_held eq (sub_block bits level b) f) (entry_numbers bits level) in let n = numbers_count bits level in omega (arith, kept, n))
 
   -- no head is ahead
-  pub no_block_head : (fault : LoadFault) (old : Place) → Fails (IsHead eq P background most) (head_bytes eq value_bytes) fault old → Fails (ShowsIn eq P background b) body fault old
+  pub no_block_head : (fault : LoadFault) (old : Position) → Fails (IsHead eq P background most) (head_bytes eq value_bytes) fault old → Fails (ShowsIn eq P background b) body fault old
   no_block_head fault old h =
       fails_first (ShowsIn eq P background b) body (IsHead eq P background most) (head_bytes eq value_bytes) (λ f. head_by (is_constant eq f b) f) (λ f. tail_by (is_constant eq f b) f) fault old head_is (λ f p. split f) h
 
   -- a head of a node was read, and no such entries are ahead
-  pub no_block_list : (n : ℕ) → (1 ≤ n) × (n ≤ most) → (fault : LoadFault) (old mid : Place) → Took old mid (head_bytes eq value_bytes (Node n)) → Fails (Mixed n) list fault mid → Fails (ShowsIn eq P background b) body fault old
+  pub no_block_list : (n : ℕ) → (1 ≤ n) × (n ≤ most) → (fault : LoadFault) (old mid : Position) → Took old mid (head_bytes eq value_bytes (Node n)) → Fails (Mixed n) list fault mid → Fails (ShowsIn eq P background b) body fault old
   no_block_list n fits fault old mid took h =
       fails_after (ShowsIn eq P background b) body (head_bytes eq value_bytes (Node n)) (λ f. Node n ≡ head_by (is_constant eq f b) f) (λ f. head_bytes eq value_bytes (head_by (is_constant eq f b) f)) (λ f. tail_by (is_constant eq f b) f) fault old mid took
       (λ f p. says_head values background most most_fits (Node n) (head_by (is_constant eq f b) f) fits (head_is f p)) (λ f p. split f)
@@ -139,7 +139,7 @@ module _ {V : Type 0} {eq : V → V → Bool} {value_bytes : V → List ℕ} {P 
       differs false f e = (refl, cc)
 
   -- a block of one cell was read
-  pub one_read : (cell : Cell V) (f : Field V) (old new : Place) → is_constant eq f b ≡ true → f.cell b.min ≡ cell → Took old new (head_bytes eq value_bytes (One cell)) → Took old new (body f)
+  pub one_read : (cell : Cell V) (f : Field V) (old new : Position) → is_constant eq f b ≡ true → f.cell b.min ≡ cell → Took old new (head_bytes eq value_bytes (One cell)) → Took old new (body f)
   one_read cell f old new one at took = rw one (subst (λ (x : Cell V). Took old new (cell_bytes eq value_bytes x)) (sym at) took)
 
   -- another was
@@ -149,16 +149,16 @@ module _ {V : Type 0} {eq : V → V → Bool} {value_bytes : V → List ℕ} {P 
     shown = elim (cases_Bool (is_background eq f b)) [ inl h ↦ let never : true ≡ false = sym (plain_constant f h) ∙ p.1 in absurd cc | inr h ↦ h ];
   }
 
-  pub node_read : (n : ℕ) (f : Field V) (old mid new : Place) → Mixed n f → Took old mid (head_bytes eq value_bytes (Node n)) → Took mid new (list f) → Took old new (body f)
+  pub node_read : (n : ℕ) (f : Field V) (old mid new : Position) → Mixed n f → Took old mid (head_bytes eq value_bytes (Node n)) → Took mid new (list f) → Took old new (body f)
   node_read n f old mid new p head took =
       rw p.1 (took_both old mid new (3 ∷ to_be_bytes w16 (length (listed eq value_bytes bits f level b))) (list f) (subst (λ (m : ℕ). Took old mid (3 ∷ to_be_bytes w16 m)) (sym p.0.counted) head) took)
 
   -- no such entries are ahead, and so none whose cells differ
-  pub no_mixed_list : (n : ℕ) (fault : LoadFault) (old : Place) → Fails (ShowsInEach eq P background (sub_block bits level b) (entry_numbers bits level) n) list fault old → Fails (Mixed n) list fault old
+  pub no_mixed_list : (n : ℕ) (fault : LoadFault) (old : Position) → Fails (ShowsInEach eq P background (sub_block bits level b) (entry_numbers bits level) n) list fault old → Fails (Mixed n) list fault old
   no_mixed_list n fault old h = fails_turn (Mixed n) list (ShowsInEach eq P background (sub_block bits level b) (entry_numbers bits level) n) list (λ f. f) fault old (λ f p. p.0) (λ f p. refl) h
 
   -- the entries were read, and all are one cell
-  pub no_mixed : {Q : ℕ → Type 0} → IsRow P Q (node_row bits level b entry) → (n : ℕ) (g : Field V) (fault : LoadFault) (old new : Place) → ShowsInEach eq P background (sub_block bits level b) (entry_numbers bits level) n g → is_constant eq g b ≡ true
+  pub no_mixed : {Q : ℕ → Type 0} → IsRow P Q (node_row bits level b entry) → (n : ℕ) (g : Field V) (fault : LoadFault) (old new : Position) → ShowsInEach eq P background (sub_block bits level b) (entry_numbers bits level) n g → is_constant eq g b ≡ true
       → Took old new (list g) → Fails (Mixed n) list fault old
   no_mixed is n g fault old new shows one took =
       no_row values is background (λ m. []) (λ m. m ≡ n) (λ i j pi pj. says_map (λ _. pi ∙ sym pj) (says_fixed [] [] refl)) (Mixed n) (λ f p. p.0.values) (λ f p. p.0.counted) fault old new g shows.values

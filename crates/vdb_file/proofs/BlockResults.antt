@@ -22,7 +22,7 @@ use Rattle.vdb_file.specs.declared.loading.block_head.Head.TheVariants.{Node, On
 use Rattle.vdb_file.specs.internal.LeafVoxels.{HasValues, IsMixed, leaf_field, voxel_count, voxels_bytes}
 use Rattle.vdb_file.specs.internal.Loading.{IsSpelled, head_bytes}
 use Rattle.vdb_file.specs.internal.LoadedFields.{ShowsIn, ShowsInEach}
-use Rattle.vdb_file.specs.internal.Reading.{Fails, Place, Reads, Took}
+use Rattle.vdb_file.specs.internal.Reading.{Fails, Position, Reads, Took}
 use Rattle.vdb_file.specs.internal.Written.{numbered}
 use Rattle.vdb_file.proofs.Agreement.{Agree, AreValues}
 use Rattle.vdb_file.proofs.BlockReads.{no_block_list, node_read, node_shows, one_read}
@@ -52,7 +52,7 @@ memory_failed (Err fault) h old = rw h (either old)
     either false = refl
 
 -- they say nothing of the bytes
-memory_silent : {A : Type 0} (P : A → Type 0) (code : A → List ℕ) (fault : LoadFault) (old : Place) → fault ≡ Memory → Fails P code fault old
+memory_silent : {A : Type 0} (P : A → Type 0) (code : A → List ℕ) (fault : LoadFault) (old : Position) → fault ≡ Memory → Fails P code fault old
 memory_silent P code fault old e = rw e (fails_silent P code Memory old (λ claims. claims))
 
 module _ {V : Type 0} {eq : V → V → Bool} {value_bytes : V → List ℕ} {P : V → Type 0} (values : AreValues eq value_bytes P) (bits : Bits) (few : AreBits bits) (level : Level) (p : Coord) (entry : Field V → Box → List ℕ) (background : V) where
@@ -69,7 +69,7 @@ module _ {V : Type 0} {eq : V → V → Bool} {value_bytes : V → List ℕ} {P 
   Mixed n f = ShowsInEach eq P background (sub_block bits level b) (entry_numbers bits level) n f × (is_constant eq f b ≡ false)
 
   -- a block of one cell
-  pub one_result : is_inside everywhere p ≡ true → (cells : Coord → Cell V) → HasValues P background (field background cells) → (cell : Cell V) → IsSpelled eq P background cell → (old mid : Place) → Took old mid (head_bytes eq value_bytes (One cell))
+  pub one_result : is_inside everywhere p ≡ true → (cells : Coord → Cell V) → HasValues P background (field background cells) → (cell : Cell V) → IsSpelled eq P background cell → (old mid : Position) → Took old mid (head_bytes eq value_bytes (One cell))
       → (new : Field V) (result : Result (Unit {0}) LoadFault) → IfErr result (λ fault. fault ≡ Memory) → OnOk result (new ≡ fill b cell (field background cells)) → Reads (λ _. new) (ShowsIn eq P background b) body result old mid
   one_result inside cells has cell spelled old mid took new (Ok x) memory is =
       let filled : Field V = fill b cell (field background cells) in
@@ -81,7 +81,7 @@ module _ {V : Type 0} {eq : V → V → Bool} {value_bytes : V → List ℕ} {P 
   one_result inside cells has cell spelled old mid took new (Err fault) memory is = memory_silent (ShowsIn eq P background b) body fault old memory
 
   -- another block
-  pub node_result : (n : ℕ) → (1 ≤ n) × (n ≤ entries bits level) → (old mid end : Place) → Took old mid (head_bytes eq value_bytes (Node n)) → (new : Field V) (result : Result (Unit {0}) LoadFault) → Reads (λ _. new) (Mixed n) list result mid end
+  pub node_result : (n : ℕ) → (1 ≤ n) × (n ≤ entries bits level) → (old mid end : Position) → Took old mid (head_bytes eq value_bytes (Node n)) → (new : Field V) (result : Result (Unit {0}) LoadFault) → Reads (λ _. new) (Mixed n) list result mid end
       → Reads (λ _. new) (ShowsIn eq P background b) body result old end
   node_result n fits old mid end took new (Ok x) h = (node_shows values bits few level p entry background n new h.0, node_read values bits few level p entry background n new old mid end h.0 took h.1)
   node_result n fits old mid end took new (Err fault) h = no_block_list values bits few level p entry background n fits fault old mid took h
@@ -92,7 +92,7 @@ module _ {V : Type 0} {eq : V → V → Bool} {value_bytes : V → List ℕ} {P 
   Voxels n f = IsMixed eq P background bits p f × (voxel_count eq value_bytes bits p f ≡ n)
 
   -- the leaf's cells are those of the tree
-  pub leaf_result : (n : ℕ) (leaf : LeafOf V) → Voxels n (leaf_field bits p background leaf) → (old mid : Place) → Took old mid (voxels_bytes eq value_bytes bits p (leaf_field bits p background leaf))
+  pub leaf_result : (n : ℕ) (leaf : LeafOf V) → Voxels n (leaf_field bits p background leaf) → (old mid : Position) → Took old mid (voxels_bytes eq value_bytes bits p (leaf_field bits p background leaf))
       → (new : Field V) (result : Result (Unit {0}) LoadFault) → IfErr result (λ fault. fault ≡ Memory) → OnOk result (new ≡ with_leaf bits p leaf (field background cells)) → Reads (λ _. new) (Voxels n) (voxels_bytes eq value_bytes bits p) result old mid
   leaf_result n leaf of_leaf old mid took new (Ok x) memory is =
       let alone : Field V = leaf_field bits p background leaf in
@@ -120,7 +120,7 @@ module _ {V : Type 0} {eq : V → V → Bool} {value_bytes : V → List ℕ} {P 
   AnyOf n f = ShowsInEach eq P background (sub_block bits Leaf (block_around bits Leaf p)) (entry_numbers bits Leaf) n f × (is_constant eq f (block_around bits Leaf p) ≡ false)
 
   -- a leaf block of such voxels
-  pub voxels_result : (n : ℕ) → (1 ≤ n) × (n ≤ entries bits Leaf) → (old mid end : Place) → Took old mid (head_bytes eq value_bytes (Node n)) → (new : Field V) (result : Result (Unit {0}) LoadFault) → Reads (λ _. new) (Those n) (voxels_bytes eq value_bytes bits p) result mid end
+  pub voxels_result : (n : ℕ) → (1 ≤ n) × (n ≤ entries bits Leaf) → (old mid end : Position) → Took old mid (head_bytes eq value_bytes (Node n)) → (new : Field V) (result : Result (Unit {0}) LoadFault) → Reads (λ _. new) (Those n) (voxels_bytes eq value_bytes bits p) result mid end
       → Reads (λ _. new) (ShowsIn eq P background (block_around bits Leaf p)) (λ f. leaf_body eq value_bytes bits f (block_around bits Leaf p)) result old end
   voxels_result n fits old mid end took new (Ok x) h =
       node_result values bits few Leaf p (voxel_body eq value_bytes bits) background n fits old mid end took new (Ok x) ((record { values = h.0.0.values; counted = h.0.1 }, h.0.0.differs), h.1)

@@ -12,7 +12,7 @@ use Rattle.vdb_coord.specs.declared.Coord.{Coord}
 use Rattle.vdb_coord.specs.declared.Level.{Level}
 use Rattle.vdb_coord.specs.declared.Level.TheVariants.{Leaf, Lower, Upper}
 use Rattle.vdb_coord.proofs.Nesting.{corner_of_entry, entry_holds, in_entry, leaf_block_at_offset, lower_block_at_offset, number_in_block, voxel_from_leaf}
-use Rattle.vdb_coord.proofs.Places.{offset_below}
+use Rattle.vdb_coord.proofs.Positions.{offset_below}
 use Rattle.vdb_tree.specs.ConstantBlocks.{is_constant}
 use Rattle.vdb_tree.specs.Field.{Field}
 use Rattle.vdb_tree.proofs.Constants.{entries_few}

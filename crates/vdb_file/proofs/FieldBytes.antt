@@ -8,14 +8,14 @@ use Rattle.std.specs.Int.{w16, w32, to_be_bytes}
 use Rattle.std.specs.Io.KnownBytes.{Consumes, IsAtEnd, Keeps, prepend_known}
 use Rattle.std.proofs.KnownBytes.{Consumes-kept}
 use Rattle.vdb_file.specs.Readers.{GaveAtMost}
-use Rattle.vdb_file.specs.internal.Reading.{Place, Stock, Took, byte_total, given_count, place}
+use Rattle.vdb_file.specs.internal.Reading.{Position, Stock, Took, byte_total, given_count, position}
 use Rattle.vdb_file.proofs.Fronts.{took_both}
 
 -- ---- pieces of a field
 
--- the place stays where no byte was taken
-pub took_kept : (a b c : Place) (text : List ℕ) → Took a b text → Keeps b.known c.known → c.room ≡ b.room → Took a c text
-took_kept a b c text took kept room = record { bytes = Consumes-kept a.known b.known c.known text took.bytes kept; fewer = omega (arith, took.fewer, room) }
+-- the position stays where no byte was taken
+pub took_kept : (a b c : Position) (text : List ℕ) → Took a b text → Keeps b.known c.known → c.capacity ≡ b.capacity → Took a c text
+took_kept a b c text took kept capacity = record { bytes = Consumes-kept a.known b.known c.known text took.bytes kept; fewer = omega (arith, took.fewer, capacity) }
 
 -- nothing is unread, and the reader has no more
 pub at_end : (unread : List ℕ) (known : Option (List ℕ)) → unread ≡ [] → IsAtEnd known → IsAtEnd (prepend_known unread known)
@@ -28,14 +28,14 @@ front_taken None n unread left e = tt
 front_taken (Some x) n unread left e = ap (λ t. t ++ x) (sym (take-append-drop n unread)) ∙ append_assoc (take n unread) (drop n unread) x ∙ ap (λ t. take n unread ++ (t ++ x)) (sym e)
 
 -- a field goes on with unread bytes
-pub piece_taken : (old : Place) (mid new : Stock) (known : Option (List ℕ)) (field grown : List ℕ) (at n : ℕ) → Took old (place mid known) (take at field) → take (at + n) grown ≡ take at field ++ take n mid.unread
-    → new.unread ≡ drop n mid.unread → new.room ≡ mid.room - n → n ≤ length mid.unread → n ≤ length field - at → at ≤ length field → length field ≤ old.room → Took old (place new known) (take (at + n) grown)
-piece_taken old mid new known field grown at n took text left room some wanted within fits =
+pub piece_taken : (old : Position) (mid new : Stock) (known : Option (List ℕ)) (field grown : List ℕ) (at n : ℕ) → Took old (position mid known) (take at field) → take (at + n) grown ≡ take at field ++ take n mid.unread
+    → new.unread ≡ drop n mid.unread → new.capacity ≡ mid.capacity - n → n ≤ length mid.unread → n ≤ length field - at → at ≤ length field → length field ≤ old.capacity → Took old (position new known) (take (at + n) grown)
+piece_taken old mid new known field grown at n took text left capacity some wanted within fits =
     let front : length (take at field) ≡ at = omega (arith, length-take at field) in
     let piece : length (take n mid.unread) ≡ n = omega (arith, length-take n mid.unread) in
-    subst (Took old (place new known)) (sym text)
-    (took_both old (place mid known) (place new known) (take at field) (take n mid.unread) took
-    (record { bytes = front_taken known n mid.unread new.unread left; fewer = omega (arith, front, piece, took.fewer, room) }))
+    subst (Took old (position new known)) (sym text)
+    (took_both old (position mid known) (position new known) (take at field) (take n mid.unread) took
+    (record { bytes = front_taken known n mid.unread new.unread left; fewer = omega (arith, front, piece, took.fewer, capacity) }))
 
 -- a later part of a part
 pub later_part : (xs : List ℕ) (a b n : ℕ) → a + n ≤ b → slice_range xs (a + n) b ≡ drop n (slice_range xs a b)
@@ -48,7 +48,7 @@ later_part xs a b n h =
 -- ---- what the reader gave
 
 -- what was asked for since nothing was unread and no field was there yet
-pub gave_few : (s : Stock) (before after : Option (List ℕ)) → ((n : ℕ) → byte_total (record { unread = []; room = 268435456; ended = false }) before ≡ Some n → byte_total s after ≡ Some n) → GaveAtMost 268435457 before after
+pub gave_few : (s : Stock) (before after : Option (List ℕ)) → ((n : ℕ) → byte_total (record { unread = []; capacity = 268435456; ended = false }) before ≡ Some n → byte_total s after ≡ Some n) → GaveAtMost 268435457 before after
 gave_few s None after h = tt
 gave_few s (Some x) None h = let zero_first : 0 + length x ≡ length x = omega arith in let e = h (length x) (ap Some zero_first) in absurd cc
 gave_few s (Some x) (Some y) h = let zero_first : 0 + length x ≡ length x = omega arith in counted (nat_le (given_count s) 268435457) refl (h (length x) (ap Some zero_first))

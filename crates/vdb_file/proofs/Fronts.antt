@@ -1,21 +1,21 @@
--- Reading one field after another: what was taken, and what a fault at a later place says of the bytes at an earlier one.
+-- Reading one field after another: what was taken, and what a fault at a later position says of the bytes at an earlier one.
 use Rattle.std.proofs.Common.{◌≡◌, ℕ, ◌<◌, List, [], ◌++◌, length, sym, ap, ◌∙◌, append_assoc, append-nil, length-append, arith}
 use Rattle.std.specs.Prelude.{Option, Some, None, IfSome}
 use Rattle.std.specs.Io.KnownBytes.{Consumes, IsAtEnd}
 use Rattle.std.proofs.KnownBytes.{Consumes-nil, Consumes-trans}
 use Rattle.vdb_file.specs.Faults.{Claims}
 use Rattle.vdb_file.specs.declared.fault.LoadFault.{LoadFault}
-use Rattle.vdb_file.specs.internal.Reading.{Fails, NoFront, Place, Took}
+use Rattle.vdb_file.specs.internal.Reading.{Fails, NoFront, Position, Took}
 use Rattle.vdb_file.proofs.Unambiguous.{Says}
 
 -- ---- what was taken
 
 -- nothing, at first
-pub took_nothing : (p : Place) → Took p p []
+pub took_nothing : (p : Position) → Took p p []
 took_nothing p = record { bytes = Consumes-nil p.known; fewer = omega arith }
 
 -- one text after another
-pub took_both : (a b c : Place) (x y : List ℕ) → Took a b x → Took b c y → Took a c (x ++ y)
+pub took_both : (a b c : Position) (x y : List ℕ) → Took a b x → Took b c y → Took a c (x ++ y)
 took_both a b c x y p q = record {
   bytes = Consumes-trans a.known b.known c.known x y p.bytes q.bytes;
   fewer = omega (arith, length-append x y, p.fewer, q.fewer);
@@ -23,7 +23,7 @@ took_both a b c x y p q = record {
 
 -- ---- bytes that may not be known
 
--- what is known of bytes ahead of one place, from what is known of those ahead of a later one
+-- what is known of bytes ahead of one position, from what is known of those ahead of a later one
 pub some_after : (a b : Option (List ℕ)) (text : List ℕ) (P Q : List ℕ → Type 0) → Consumes a b text → ((bytes here : List ℕ) → bytes ≡ text ++ here → Q here → P bytes) → IfSome b Q → IfSome a P
 some_after None b text P Q c f q = tt
 some_after (Some x) None text P Q c f q = absurd c
@@ -47,10 +47,10 @@ same_length p q x y e h = omega (arith, ap length h, ap length e, length-append 
 
 module _ {A : Type 0} (P : A → Type 0) (code : A → List ℕ) where
   -- a field at the front of all those things isn't ahead, so none of them is
-  pub fails_first : {B : Type 0} (Q : B → Type 0) (part : B → List ℕ) (field : A → B) (tail : A → List ℕ) (fault : LoadFault) (old : Place)
+  pub fails_first : {B : Type 0} (Q : B → Type 0) (part : B → List ℕ) (field : A → B) (tail : A → List ℕ) (fault : LoadFault) (old : Position)
       → ((a : A) → P a → Q (field a)) → ((a : A) → P a → code a ≡ part (field a) ++ tail a) → Fails Q part fault old → Fails P code fault old
   fails_first Q part field tail fault old has split h = record {
-    none = λ claims. some_turn old.known (λ bytes. NoFront P code bytes old.room) (λ bytes. NoFront Q part bytes old.room)
+    none = λ claims. some_turn old.known (λ bytes. NoFront P code bytes old.capacity) (λ bytes. NoFront Q part bytes old.capacity)
         (λ bytes none a rest p fits e.
         let s = split a p in
         none (field a) (tail a ++ rest) (has a p) (omega (arith, ap length s, length-append (part (field a)) (tail a)))
@@ -59,11 +59,11 @@ module _ {A : Type 0} (P : A → Type 0) (code : A → List ℕ) where
   }
 
   -- a field was read; from here on only the things that have it count, by what follows it in their codes
-  pub fails_after : (text : List ℕ) (C : A → Type 0) (part tail : A → List ℕ) (fault : LoadFault) (old mid : Place)
+  pub fails_after : (text : List ℕ) (C : A → Type 0) (part tail : A → List ℕ) (fault : LoadFault) (old mid : Position)
       → Took old mid text → ((a : A) → P a → Says text (part a) (C a)) → ((a : A) → P a → code a ≡ part a ++ tail a)
       → Fails (λ a. P a × C a) tail fault mid → Fails P code fault old
   fails_after text C part tail fault old mid took says split h = record {
-    none = λ claims. some_after old.known mid.known text (λ bytes. NoFront P code bytes old.room) (λ bytes. NoFront (λ a. P a × C a) tail bytes mid.room) took.bytes
+    none = λ claims. some_after old.known mid.known text (λ bytes. NoFront P code bytes old.capacity) (λ bytes. NoFront (λ a. P a × C a) tail bytes mid.capacity) took.bytes
         (λ bytes here front none a rest p fits e.
         let s = split a p in
         let both = sym front ∙ e ∙ ap (λ t. t ++ rest) s ∙ append_assoc (part a) (tail a) rest in
@@ -74,20 +74,20 @@ module _ {A : Type 0} (P : A → Type 0) (code : A → List ℕ) where
   }
 
   -- nothing has P
-  pub fails_none : (fault : LoadFault) (old : Place) → ((a : A) → P a → ⊥) → Fails P code fault old
-  fails_none fault old h = record { none = λ claims. some_any old.known (λ bytes. NoFront P code bytes old.room) (λ bytes a rest p fits e. h a p) }
+  pub fails_none : (fault : LoadFault) (old : Position) → ((a : A) → P a → ⊥) → Fails P code fault old
+  fails_none fault old h = record { none = λ claims. some_any old.known (λ bytes. NoFront P code bytes old.capacity) (λ bytes a rest p fits e. h a p) }
 
   -- the code is too long
-  pub fails_long : (fault : LoadFault) (old : Place) → ((a : A) → P a → old.room < length (code a)) → Fails P code fault old
+  pub fails_long : (fault : LoadFault) (old : Position) → ((a : A) → P a → old.capacity < length (code a)) → Fails P code fault old
   fails_long fault old h = record {
-    none = λ claims. some_any old.known (λ bytes. NoFront P code bytes old.room) (λ bytes a rest p fits e. let long = h a p in absurd (omega (arith, long, fits)));
+    none = λ claims. some_any old.known (λ bytes. NoFront P code bytes old.capacity) (λ bytes a rest p fits e. let long = h a p in absurd (omega (arith, long, fits)));
   }
 
   -- the reader ended before the field did
-  pub fails_short : (text : List ℕ) (fault : LoadFault) (old mid : Place) → Took old mid text → IsAtEnd mid.known → ((a : A) → P a → length text < length (code a)) → Fails P code fault old
+  pub fails_short : (text : List ℕ) (fault : LoadFault) (old mid : Position) → Took old mid text → IsAtEnd mid.known → ((a : A) → P a → length text < length (code a)) → Fails P code fault old
   fails_short text fault old mid took end h = record { none = λ claims. short old.known mid.known took.bytes end }
     where
-      short : (a b : Option (List ℕ)) → Consumes a b text → IsAtEnd b → IfSome a (λ bytes. NoFront P code bytes old.room)
+      short : (a b : Option (List ℕ)) → Consumes a b text → IsAtEnd b → IfSome a (λ bytes. NoFront P code bytes old.capacity)
       short None b c e = tt
       short (Some x) None c e = absurd c
       short (Some x) (Some y) c e = λ a rest p fits front.
@@ -96,10 +96,10 @@ module _ {A : Type 0} (P : A → Type 0) (code : A → List ℕ) where
           absurd (omega (arith, long, none, ap length front, ap length c, length-append (code a) rest, length-append text y))
 
   -- other things with other codes, as what a value of the code stands for
-  pub fails_turn : {B : Type 0} (Q : B → Type 0) (part : B → List ℕ) (field : A → B) (fault : LoadFault) (old : Place)
+  pub fails_turn : {B : Type 0} (Q : B → Type 0) (part : B → List ℕ) (field : A → B) (fault : LoadFault) (old : Position)
       → ((a : A) → P a → Q (field a)) → ((a : A) → P a → code a ≡ part (field a)) → Fails Q part fault old → Fails P code fault old
   fails_turn Q part field fault old has same h = fails_first Q part field (λ a. []) fault old has (λ a p. same a p ∙ sym (append-nil (part (field a)))) h
 
   -- a fault that says nothing of the bytes
-  pub fails_silent : (fault : LoadFault) (old : Place) → (Claims fault → ⊥) → Fails P code fault old
+  pub fails_silent : (fault : LoadFault) (old : Position) → (Claims fault → ⊥) → Fails P code fault old
   fails_silent fault old h = record { none = λ claims. absurd (h claims) }

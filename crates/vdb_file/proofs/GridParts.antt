@@ -12,7 +12,7 @@ use Rattle.vdb_file.specs.Scenes.{IsGrid}
 use Rattle.vdb_file.specs.Spelling.{counted, kind_code}
 use Rattle.vdb_file.specs.internal.Parts.{Head, IsBody, IsHead, IsItem, IsLoadedGrid, IsNamed, IsNext, LoadedGrid, body_bytes, head_code, head_of, loaded_bytes, name_of, named_bytes}
 use Rattle.vdb_file.specs.internal.LoadedFields.{IsWithin}
-use Rattle.vdb_file.specs.internal.Reading.{Fails, Place, Took}
+use Rattle.vdb_file.specs.internal.Reading.{Fails, Position, Took}
 use Rattle.vdb_file.specs.declared.fault.LoadFault.{LoadFault}
 use Rattle.vdb_file.specs.declared.loading.versions.Version.{Version}
 use Rattle.vdb_file.specs.declared.loading.versions.Version.TheVariants.{One, Two}
@@ -48,7 +48,7 @@ named_code version = says_grid (is_version version)
 pub within_same : {V : Type 0} (eq : V → V → Bool) (IsValue : V → Type 0) (f : Field V) (base other : V) (limit most : ℕ) → base ≡ other → limit ≡ most → IsWithin eq IsValue base vdb limit f → IsWithin eq IsValue other vdb most f
 within_same eq IsValue f base other limit most e l h = subst (λ n. IsWithin eq IsValue other vdb n f) l (subst (λ v. IsWithin eq IsValue v vdb limit f) e h)
 
-module _ {V : Type 0} (IsValue : V → Type 0) (eq : V → V → Bool) (bytes : V → List ℕ) (code : IsCode IsValue bytes) (version : Version) (fault : LoadFault) (old : Place) where
+module _ {V : Type 0} (IsValue : V → Type 0) (eq : V → V → Bool) (bytes : V → List ℕ) (code : IsCode IsValue bytes) (version : Version) (fault : LoadFault) (old : Position) where
   abbrev Is : LoadedGrid V → Type 0
   Is = IsLoadedGrid IsValue eq bytes version
 
@@ -65,7 +65,7 @@ module _ {V : Type 0} (IsValue : V → Type 0) (eq : V → V → Bool) (bytes : 
   pub no_background : Fails IsValue bytes fault old → Fails Is text fault old
   no_background h = fails_first Is text IsValue bytes (λ g. g.field.background) behind fault old (λ g p. p.value) (λ g p. refl) h
 
-  module _ (one : Place) (background : V) (value : IsValue background) (took : Took old one (bytes background)) where
+  module _ (one : Position) (background : V) (value : IsValue background) (took : Took old one (bytes background)) where
     after_background : Fails (λ g. Is g × (background ≡ g.field.background)) behind fault one → Fails Is text fault old
     after_background h = fails_after Is text (bytes background) (λ g. background ≡ g.field.background) (λ g. bytes g.field.background) behind fault old one took (λ g p. code background g.field.background value p.value) (λ g p. refl) h
 
@@ -75,7 +75,7 @@ module _ {V : Type 0} (IsValue : V → Type 0) (eq : V → V → Bool) (bytes : 
         after_background (fails_first (λ g. Is g × (background ≡ g.field.background)) behind (IsHead version) (head_code version) (λ g. g.head) the_roots fault one (λ g p. p.0.head) (λ g p. refl) h)
 
     -- the root blocks aren't there
-    pub no_roots : (two : Place) (head : Head) (base : V) (limit : ℕ) → base ≡ background → limit ≡ head.limit → IsHead version head → Took one two (head_code version head)
+    pub no_roots : (two : Position) (head : Head) (base : V) (limit : ℕ) → base ≡ background → limit ≡ head.limit → IsHead version head → Took one two (head_code version head)
         → Fails (IsWithin eq IsValue base vdb limit) (roots_bytes eq bytes vdb) fault two → Fails Is text fault old
     no_roots two head base limit e l is more h =
         after_background (fails_after (λ g. Is g × (background ≡ g.field.background)) behind (head_code version head) (λ g. (head.limit ≡ g.head.limit) × (head.pairs ≡ g.head.pairs)) (λ g. head_code version g.head) the_roots fault one two more
@@ -85,7 +85,7 @@ module _ {V : Type 0} (IsValue : V → Type 0) (eq : V → V → Bool) (bytes : 
         (λ g p. refl) h))
 
 -- all of it was read
-pub tree_read : {V : Type 0} (IsValue : V → Type 0) (eq : V → V → Bool) (bytes : V → List ℕ) (version : Version) (old one two new : Place) (background base : V) (limit most : ℕ) (head : Head) (f : Field V)
+pub tree_read : {V : Type 0} (IsValue : V → Type 0) (eq : V → V → Bool) (bytes : V → List ℕ) (version : Version) (old one two new : Position) (background base : V) (limit most : ℕ) (head : Head) (f : Field V)
     → base ≡ background → limit ≡ head.limit → most ≡ limit → IsValue background → IsHead version head → IsWithin eq IsValue base vdb limit f
     → Took old one (bytes background) → Took one two (head_code version head) → Took two new (roots_bytes eq bytes vdb f)
     → let g : LoadedGrid V = record { field = f; head = record { limit = most; pairs = head.pairs } } in IsLoadedGrid IsValue eq bytes version g × Took old new (loaded_bytes IsValue eq bytes version g)
@@ -103,13 +103,13 @@ tree_read IsValue eq bytes version old one two new background base limit most he
 
 -- ---- the kind
 
-module _ (version : Version) (fault : LoadFault) (old : Place) where
+module _ (version : Version) (fault : LoadFault) (old : Position) where
   -- it isn't there
   pub no_kind : Fails (λ n. ⊤) (λ n. n ∷ []) fault old → Fails (IsBody version) (body_bytes version) fault old
   no_kind h = fails_first (IsBody version) (body_bytes version) (λ n. ⊤) (λ n. n ∷ []) (λ g. kind_code (kind_of g.field.background)) (λ g. scalar_bytes g.field.background ++ (head_code version (head_of g) ++ roots_bytes scalar_eq scalar_bytes vdb g.field)) fault old (λ g p. tt) (λ g p. refl) h
 
   -- another was read
-  pub other_kind : (mid : Place) (n : ℕ) → Took old mid (n ∷ []) → (n ≡ 0 → ⊥) → (n ≡ 1 → ⊥) → (n ≡ 2 → ⊥) → Fails (IsBody version) (body_bytes version) fault old
+  pub other_kind : (mid : Position) (n : ℕ) → Took old mid (n ∷ []) → (n ≡ 0 → ⊥) → (n ≡ 1 → ⊥) → (n ≡ 2 → ⊥) → Fails (IsBody version) (body_bytes version) fault old
   other_kind mid n took not_zero not_one not_two =
       fails_after (IsBody version) (body_bytes version) (n ∷ []) (λ g. n ≡ kind_code (kind_of g.field.background)) (λ g. kind_code (kind_of g.field.background) ∷ []) (λ g. scalar_bytes g.field.background ++ (head_code version (head_of g) ++ roots_bytes scalar_eq scalar_bytes vdb g.field)) fault old mid took
       (λ g p. says_byte n (kind_code (kind_of g.field.background))) (λ g p. refl)
@@ -122,19 +122,19 @@ module _ (version : Version) (fault : LoadFault) (old : Place) where
 
 -- ---- a grid under its name
 
-module _ (version : Version) (before : Option (List ℕ)) (fault : LoadFault) (old : Place) where
+module _ (version : Version) (before : Option (List ℕ)) (fault : LoadFault) (old : Position) where
   -- the name isn't there
   pub no_grid_name : Fails (IsNext before) counted fault old → Fails (IsItem (IsNamed version) name_of before) (named_bytes version) fault old
   no_grid_name h = fails_first (IsItem (IsNamed version) name_of before) (named_bytes version) (IsNext before) counted (λ e. e.0) (λ e. body_bytes version e.1) fault old (λ e p. record { form = p.has.name; rises = p.rises }) (λ e p. refl) h
 
   -- the grid isn't there
-  pub no_grid_body : (mid : Place) (name : List ℕ) → Took old mid (counted name) → Fails (IsBody version) (body_bytes version) fault mid → Fails (IsItem (IsNamed version) name_of before) (named_bytes version) fault old
+  pub no_grid_body : (mid : Position) (name : List ℕ) → Took old mid (counted name) → Fails (IsBody version) (body_bytes version) fault mid → Fails (IsItem (IsNamed version) name_of before) (named_bytes version) fault old
   no_grid_body mid name took h =
       fails_after (IsItem (IsNamed version) name_of before) (named_bytes version) (counted name) (λ e. name ≡ e.0) (λ e. counted e.0) (λ e. body_bytes version e.1) fault old mid took (λ e p. says_counted name e.0) (λ e p. refl)
       (fails_turn (λ e. IsItem (IsNamed version) name_of before e × (name ≡ e.0)) (λ e. body_bytes version e.1) (IsBody version) (body_bytes version) (λ e. e.1) fault mid (λ e p. p.0.has.body) (λ e p. refl) h)
 
 -- both were read
-pub named_read : (version : Version) (before : Option (List ℕ)) (old mid new : Place) (name : List ℕ) (g : Grid) → IsNext before name → IsBody version g → Took old mid (counted name) → Took mid new (body_bytes version g)
+pub named_read : (version : Version) (before : Option (List ℕ)) (old mid new : Position) (name : List ℕ) (g : Grid) → IsNext before name → IsBody version g → Took old mid (counted name) → Took mid new (body_bytes version g)
     → IsItem (IsNamed version) name_of before (name, g) × Took old new (named_bytes version (name, g))
 named_read version before old mid new name g next body first more =
     (record { has = record { name = next.form; body = body }; rises = next.rises }, took_both old mid new (counted name) (body_bytes version g) first more)

@@ -14,7 +14,7 @@ use Rattle.vdb_file.specs.declared.fault.LoadFault.{LoadFault}
 use Rattle.vdb_file.specs.declared.loading.block_head.Head.{Head}
 use Rattle.vdb_file.specs.declared.loading.block_head.Head.TheVariants.{Node, One}
 use Rattle.vdb_file.specs.internal.Loading.{IsHead, IsSpelled, head_bytes}
-use Rattle.vdb_file.specs.internal.Reading.{Fails, Place, Took}
+use Rattle.vdb_file.specs.internal.Reading.{Fails, Position, Took}
 use Rattle.vdb_file.proofs.Unambiguous.{IsCode, Says, says_after, says_fixed, says_map, says_never}
 use Rattle.vdb_file.proofs.Agreement.{AreValues, says_cell}
 use Rattle.vdb_file.proofs.Numbers.{says_u16}
@@ -43,7 +43,7 @@ voxel_values eq value_bytes is_value kind exact itself known bytes_exact = recor
 
 module _ {V : Type 0} {eq : V → V → Bool} {value_bytes : V → List ℕ} {P : V → Type 0} (values : AreValues eq value_bytes P) (background : V) where
   -- an inactive cell of the background's value was read
-  pub no_state : (on : Bool) (value : V) → on ≡ false → eq value background ≡ true → P value → (old mid : Place) → Took old mid (value_bytes value)
+  pub no_state : (on : Bool) (value : V) → on ≡ false → eq value background ≡ true → P value → (old mid : Position) → Took old mid (value_bytes value)
       → (fault : LoadFault) → Fails (λ (c : Cell V). IsSpelled eq P background c × (c.on ≡ on)) (λ c. value_bytes c.value) fault old
   no_state on value is_off same pv old mid took fault =
       fails_after (λ (c : Cell V). IsSpelled eq P background c × (c.on ≡ on)) (λ c. value_bytes c.value) (value_bytes value) (λ c. value ≡ c.value) (λ c. value_bytes c.value) (λ c. []) fault old mid took
@@ -60,7 +60,7 @@ module _ {V : Type 0} {eq : V → V → Bool} {value_bytes : V → List ℕ} {P 
   tag on = if on then 2 else 1
 
   -- the tag was read, and no value is ahead
-  pub no_cell : (on : Bool) (fault : LoadFault) (old mid : Place) → Took old mid (tag on ∷ []) → Fails (λ (c : Cell V). IsSpelled eq P background c × (c.on ≡ on)) (λ c. value_bytes c.value) fault mid
+  pub no_cell : (on : Bool) (fault : LoadFault) (old mid : Position) → Took old mid (tag on ∷ []) → Fails (λ (c : Cell V). IsSpelled eq P background c × (c.on ≡ on)) (λ c. value_bytes c.value) fault mid
       → Fails (IsSpelled eq P background) (cell_bytes eq value_bytes) fault old
   no_cell on fault old mid took h =
       fails_after (IsSpelled eq P background) (cell_bytes eq value_bytes) (tag on ∷ []) (λ c. on ≡ c.on) (λ c. tag c.on ∷ []) (λ c. value_bytes c.value) fault old mid took
@@ -75,7 +75,7 @@ module _ {V : Type 0} {eq : V → V → Bool} {value_bytes : V → List ℕ} {P 
       says_state false true = record { same = λ x y e. cc }
 
   -- it was another byte
-  pub no_tag : (n : ℕ) → (n ≡ 1 → ⊥) → (n ≡ 2 → ⊥) → (fault : LoadFault) (old mid : Place) → Took old mid (n ∷ []) → Fails (IsSpelled eq P background) (cell_bytes eq value_bytes) fault old
+  pub no_tag : (n : ℕ) → (n ≡ 1 → ⊥) → (n ≡ 2 → ⊥) → (fault : LoadFault) (old mid : Position) → Took old mid (n ∷ []) → Fails (IsSpelled eq P background) (cell_bytes eq value_bytes) fault old
   no_tag n one two fault old mid took =
       fails_after (IsSpelled eq P background) (cell_bytes eq value_bytes) (n ∷ []) (λ c. ⊥) (λ c. tag c.on ∷ []) (λ c. value_bytes c.value) fault old mid took
       (λ c p. says_never n (tag c.on) [] [] (apart c.on)) (λ c p. refl)
@@ -87,7 +87,7 @@ module _ {V : Type 0} {eq : V → V → Bool} {value_bytes : V → List ℕ} {P 
 
   module _ (most : ℕ) where
     -- a head of one cell was read in part
-    pub no_one : (on : Bool) (fault : LoadFault) (old mid : Place) → Took old mid (tag on ∷ []) → Fails (λ (c : Cell V). IsSpelled eq P background c × (c.on ≡ on)) (λ c. value_bytes c.value) fault mid
+    pub no_one : (on : Bool) (fault : LoadFault) (old mid : Position) → Took old mid (tag on ∷ []) → Fails (λ (c : Cell V). IsSpelled eq P background c × (c.on ≡ on)) (λ c. value_bytes c.value) fault mid
         → Fails (IsHead eq P background most) (head_bytes eq value_bytes) fault old
     no_one on fault old mid took h =
         fails_after (IsHead eq P background most) (head_bytes eq value_bytes) (tag on ∷ []) (has on) (front on) (behind on) fault old mid took (says on) (split on)
@@ -136,7 +136,7 @@ module _ {V : Type 0} {eq : V → V → Bool} {value_bytes : V → List ℕ} {P 
         same on (Node n) p = absurd p.1
 
     -- so was one of a node
-    pub no_node : (fault : LoadFault) (old mid : Place) → Took old mid (3 ∷ []) → Fails (λ n. (1 ≤ n) × (n ≤ most)) (to_be_bytes w16) fault mid → Fails (IsHead eq P background most) (head_bytes eq value_bytes) fault old
+    pub no_node : (fault : LoadFault) (old mid : Position) → Took old mid (3 ∷ []) → Fails (λ n. (1 ≤ n) × (n ≤ most)) (to_be_bytes w16) fault mid → Fails (IsHead eq P background most) (head_bytes eq value_bytes) fault old
     no_node fault old mid took h =
         fails_after (IsHead eq P background most) (head_bytes eq value_bytes) (3 ∷ []) has front behind fault old mid took says split
         (fails_turn (λ x. IsHead eq P background most x × has x) behind (λ n. (1 ≤ n) × (n ≤ most)) (to_be_bytes w16) count fault mid counted same h)
@@ -178,7 +178,7 @@ module _ {V : Type 0} {eq : V → V → Bool} {value_bytes : V → List ℕ} {P 
         same (Node n) p = refl
 
     -- and another byte
-    pub no_head_tag : (n : ℕ) → (n ≡ 1 → ⊥) → (n ≡ 2 → ⊥) → (n ≡ 3 → ⊥) → (fault : LoadFault) (old mid : Place) → Took old mid (n ∷ []) → Fails (IsHead eq P background most) (head_bytes eq value_bytes) fault old
+    pub no_head_tag : (n : ℕ) → (n ≡ 1 → ⊥) → (n ≡ 2 → ⊥) → (n ≡ 3 → ⊥) → (fault : LoadFault) (old mid : Position) → Took old mid (n ∷ []) → Fails (IsHead eq P background most) (head_bytes eq value_bytes) fault old
     no_head_tag n one two three fault old mid took =
         fails_after (IsHead eq P background most) (head_bytes eq value_bytes) (n ∷ []) (λ x. ⊥) front behind fault old mid took
         says split
@@ -222,11 +222,11 @@ module _ {V : Type 0} {eq : V → V → Bool} {value_bytes : V → List ℕ} {P 
 -- ---- numbers
 
 -- a number was read that has not what is wanted of it
-pub no_number : (P : ℕ → Type 0) (fault : LoadFault) (old mid : Place) (n : ℕ) → n < 2 ^ 16 → Took old mid (to_be_bytes w16 n) → ((m : ℕ) → P m → m < 2 ^ 16) → (P n → ⊥) → Fails P (to_be_bytes w16) fault old
+pub no_number : (P : ℕ → Type 0) (fault : LoadFault) (old mid : Position) (n : ℕ) → n < 2 ^ 16 → Took old mid (to_be_bytes w16 n) → ((m : ℕ) → P m → m < 2 ^ 16) → (P n → ⊥) → Fails P (to_be_bytes w16) fault old
 no_number P fault old mid n small took few none =
     fails_after P (to_be_bytes w16) (to_be_bytes w16 n) (λ m. n ≡ m) (to_be_bytes w16) (λ m. []) fault old mid took (λ m p. says_u16 n m small (few m p)) (λ m p. sym (append-nil (to_be_bytes w16 m)))
     (fails_none (λ m. P m × (n ≡ m)) (λ m. []) fault mid (λ m p. none (subst P (sym p.1) p.0)))
 
 -- no number is ahead
-pub no_u16 : (P : ℕ → Type 0) (fault : LoadFault) (old : Place) → ((m : ℕ) → P m → m < 2 ^ 16) → Fails (λ n. n < 2 ^ 16) (to_be_bytes w16) fault old → Fails P (to_be_bytes w16) fault old
+pub no_u16 : (P : ℕ → Type 0) (fault : LoadFault) (old : Position) → ((m : ℕ) → P m → m < 2 ^ 16) → Fails (λ n. n < 2 ^ 16) (to_be_bytes w16) fault old → Fails P (to_be_bytes w16) fault old
 no_u16 P fault old few h = fails_turn P (to_be_bytes w16) (λ n. n < 2 ^ 16) (to_be_bytes w16) (λ n. n) fault old few (λ n p. refl) h

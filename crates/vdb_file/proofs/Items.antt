@@ -11,7 +11,7 @@ use Rattle.std.specs.declared.cmp.Ordering.TheVariants.{Less}
 use Rattle.std.proofs.lemmas.Grind.{flat_map-append}
 use Rattle.vdb_scene.proofs.Copying.{insert_last}
 use Rattle.vdb_file.specs.internal.Parts.{AreItems, IsItem, name_of}
-use Rattle.vdb_file.specs.internal.Reading.{Fails, Place, Took}
+use Rattle.vdb_file.specs.internal.Reading.{Fails, Position, Took}
 use Rattle.vdb_file.specs.declared.fault.LoadFault.{LoadFault}
 use Rattle.vdb_file.proofs.Unambiguous.{IsCode, says_all}
 use Rattle.vdb_file.proofs.Fronts.{fails_after, fails_first, took_both}
@@ -100,7 +100,7 @@ module _ {E : Type 0} (P : E → Type 0) (key : E → List ℕ) where
     code_parts k es = ap (flat_map code) (sym (take-append-drop k es)) ∙ flat_map-append code (take k es) (drop k es)
 
     -- where one can't be read after those that were, no list of more of them is ahead of the first
-    pub fails_within : IsCode P code → E → (fault : LoadFault) (n : ℕ) (done : List E) (old mid : Place) → length done < n → IsChain None done → Took old mid (flat_map code done)
+    pub fails_within : IsCode P code → E → (fault : LoadFault) (n : ℕ) (done : List E) (old mid : Position) → length done < n → IsChain None done → Took old mid (flat_map code done)
         → Fails (IsItem P key (last_of None done)) code fault mid → Fails (AreItems P key n) (flat_map code) fault old
     fails_within is_code none fault n done old mid short chain took h =
         let k = length done in
@@ -115,7 +115,7 @@ module _ {E : Type 0} (P : E → Type 0) (key : E → List ℕ) where
         h)
 
     -- one more was read
-    pub more_read : (a b c : Place) (done : List E) (e : E) → Took a b (flat_map code done) → Took b c (code e) → Took a c (flat_map code (done ++ e ∷ []))
+    pub more_read : (a b c : Position) (done : List E) (e : E) → Took a b (flat_map code done) → Took b c (code e) → Took a c (flat_map code (done ++ e ∷ []))
     more_read a b c done e p q = subst (Took a c) (ap (λ t. flat_map code done ++ t) (sym (append-nil (code e))) ∙ sym (flat_map-append code done (e ∷ []))) (took_both a b c (flat_map code done) (code e) p q)
 
 -- an entry that follows the last of a chain is put at its end

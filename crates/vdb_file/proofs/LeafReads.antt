@@ -15,7 +15,7 @@ use Rattle.vdb_coord.specs.declared.Level.TheVariants.{Leaf}
 use Rattle.vdb_coord.proofs.Boxes.{not_true}
 use Rattle.vdb_coord.proofs.Members.{coord_equiv, coord_exact}
 use Rattle.vdb_coord.proofs.Nesting.{corner_inside, corner_of_entry, entry_holds, in_entry, inside_numbered, number_in_block, voxel_from_leaf}
-use Rattle.vdb_coord.proofs.Places.{entries_is, offset_below}
+use Rattle.vdb_coord.proofs.Positions.{entries_is, offset_below}
 use Rattle.vdb_node.specs.Leaf.{IsConstantLeaf, Leaf as LeafOf, SetsVoxel, cell_in}
 use Rattle.vdb_node.specs.Nodes.{entry_count}
 use Rattle.vdb_value.specs.declared.Cell.{Cell}
@@ -27,7 +27,7 @@ use Rattle.vdb_file.specs.declared.fault.LoadFault.{LoadFault}
 use Rattle.vdb_file.specs.internal.Following.{Follows}
 use Rattle.vdb_file.specs.internal.LeafVoxels.{HasValues, IsMixed, IsVoxel, leaf_field, voxel_bytes, voxel_count, voxels_bytes}
 use Rattle.vdb_file.specs.internal.Loading.{IsIndex, IsSpelled}
-use Rattle.vdb_file.specs.internal.Reading.{Fails, Place, Took}
+use Rattle.vdb_file.specs.internal.Reading.{Fails, Position, Took}
 use Rattle.vdb_file.proofs.Unambiguous.{IsCode}
 use Rattle.vdb_file.proofs.Numbers.{says_u16}
 use Rattle.vdb_file.proofs.Agreement.{Agree, AreValues, is_held}
@@ -61,14 +61,14 @@ entries_are bits leaf_bits e = entries_is bits Leaf ∙ ap (λ (n : ℕ). 2 ^ (3
 
 -- ---- one voxel
 
-module _ {V : Type 0} (eq : V → V → Bool) (value_bytes : V → List ℕ) (P : V → Type 0) (background : V) (most : ℕ) (before : Option ℕ) (fault : LoadFault) (old : Place) where
+module _ {V : Type 0} (eq : V → V → Bool) (value_bytes : V → List ℕ) (P : V → Type 0) (background : V) (most : ℕ) (before : Option ℕ) (fault : LoadFault) (old : Position) where
   -- no number is ahead
   pub no_index : Fails (IsIndex most before) (to_be_bytes w16) fault old → Fails (IsVoxel eq P background most before) (voxel_bytes eq value_bytes) fault old
   no_index h =
       fails_first (IsVoxel eq P background most before) (voxel_bytes eq value_bytes) (IsIndex most before) (to_be_bytes w16) (λ e. e.0) (λ e. cell_bytes eq value_bytes e.1) fault old (λ e is. is.index) (λ e is. refl) h
 
   -- a number was read, and no cell is ahead
-  pub no_cell : most < 2 ^ 16 → (mid : Place) (i : ℕ) → IsIndex most before i → Took old mid (to_be_bytes w16 i) → Fails (IsSpelled eq P background) (cell_bytes eq value_bytes) fault mid → Fails (IsVoxel eq P background most before) (voxel_bytes eq value_bytes) fault old
+  pub no_cell : most < 2 ^ 16 → (mid : Position) (i : ℕ) → IsIndex most before i → Took old mid (to_be_bytes w16 i) → Fails (IsSpelled eq P background) (cell_bytes eq value_bytes) fault mid → Fails (IsVoxel eq P background most before) (voxel_bytes eq value_bytes) fault old
   no_cell small mid i index took h =
       fails_after (IsVoxel eq P background most before) (voxel_bytes eq value_bytes) (to_be_bytes w16 i) (λ e. i ≡ e.0) (λ e. to_be_bytes w16 e.0) (λ e. cell_bytes eq value_bytes e.1) fault old mid took
       (λ e is. let within = index.within in let other = is.index.within in says_u16 i e.0 (omega (arith, within, small)) (omega (arith, other, small))) (λ e is. refl)
@@ -92,7 +92,7 @@ abbrev pub AreCells : {V : Type 0} → (V → Type 0) → Bits → V → LeafOf 
 AreCells P bits background leaf = (i : ℕ) → i < entries bits Leaf → P (cell_in (off background) leaf i).value
 
 -- what was read so far: so many voxels, the last of them with this number
-pub record HasRead {V : Type 0} (eq : V → V → Bool) (value_bytes : V → List ℕ) (bits : Bits) (background : V) (p : Coord) (leaf : LeafOf V) (old now : Place) (n : ℕ) (before : Option ℕ) : Type 0 where
+pub record HasRead {V : Type 0} (eq : V → V → Bool) (value_bytes : V → List ℕ) (bits : Bits) (background : V) (p : Coord) (leaf : LeafOf V) (old now : Position) (n : ℕ) (before : Option ℕ) : Type 0 where
   pub took : Took old now (voxels_bytes eq value_bytes bits p (leaf_field bits p background leaf))
   pub count : voxel_count eq value_bytes bits p (leaf_field bits p background leaf) ≡ n
   pub last : before ≡ last_of None (listed eq value_bytes bits (leaf_field bits p background leaf) Leaf (block_around bits Leaf p))
@@ -175,7 +175,7 @@ module _ {V : Type 0} {eq : V → V → Bool} {value_bytes : V → List ℕ} {P 
     -- ---- what was read so far
 
     -- nothing at first
-    pub none_read : (leaf : LeafOf V) (old : Place) (n : ℕ) → entries bits Leaf ≡ n → IsConstantLeaf leaf n (off background) → HasRead eq value_bytes bits background p leaf old old 0 None
+    pub none_read : (leaf : LeafOf V) (old : Position) (n : ℕ) → entries bits Leaf ≡ n → IsConstantLeaf leaf n (off background) → HasRead eq value_bytes bits background p leaf old old 0 None
     none_read leaf old n e constant =
         let empty : held eq row (shown leaf) ≡ [] =
         none_kept (is_held eq row.box (shown leaf)) row.keys
@@ -209,7 +209,7 @@ module _ {V : Type 0} {eq : V → V → Bool} {value_bytes : V → List ℕ} {P 
       adds = adds_outside (is_leaf_row values bits few p) (shown old) (shown new) i (below_member bits Leaf i less) refl kept (held_from (shown new) i cell refl new_cell other)
 
       -- one more voxel was read
-      pub voxel_read : (a b c : Place) (n : ℕ) (before : Option ℕ) → HasRead eq value_bytes bits background p old a b n before → Follows nat_cmp before i → Took b c (voxel_bytes eq value_bytes (i, cell)) → HasRead eq value_bytes bits background p new a c (n + 1) (Some i)
+      pub voxel_read : (a b c : Position) (n : ℕ) (before : Option ℕ) → HasRead eq value_bytes bits background p old a b n before → Follows nat_cmp before i → Took b c (voxel_bytes eq value_bytes (i, cell)) → HasRead eq value_bytes bits background p new a c (n + 1) (Some i)
       voxel_read a b c n before r follows took =
           let is = is_leaf_row values bits few p in
           let member = below_member bits Leaf i less in
@@ -235,7 +235,7 @@ module _ {V : Type 0} {eq : V → V → Bool} {value_bytes : V → List ℕ} {P 
     no_text count a b pa pb = record { same = λ x y e. (pa ∙ sym pb, e) }
 
     -- no voxel is ahead, so no entry is
-    voxel_fails : (most : ℕ) → most ≡ entries bits Leaf → (before : Option ℕ) (fault : LoadFault) (mid : Place) → Fails (IsVoxel eq P background most before) (voxel_bytes eq value_bytes) fault mid
+    voxel_fails : (most : ℕ) → most ≡ entries bits Leaf → (before : Option ℕ) (fault : LoadFault) (mid : Position) → Fails (IsVoxel eq P background most before) (voxel_bytes eq value_bytes) fault mid
         → Fails (IsNextOf eq P row background before) (entry_bytes row) fault mid
     voxel_fails most all before fault mid h =
         fails_turn (IsNextOf eq P row background before) (entry_bytes row) (IsVoxel eq P background most before) (voxel_bytes eq value_bytes) (λ e. (e.0, e.1.cell (at e.0).min)) fault mid
@@ -246,7 +246,7 @@ module _ {V : Type 0} {eq : V → V → Bool} {value_bytes : V → List ℕ} {P 
         })
         (λ e next. refl) h
 
-    module _ (leaf : LeafOf V) (fits : P background) (cells : AreCells P bits background leaf) (fault : LoadFault) (old mid : Place) (n count : ℕ) (before : Option ℕ) (read : HasRead eq value_bytes bits background p leaf old mid n before) where
+    module _ (leaf : LeafOf V) (fits : P background) (cells : AreCells P bits background leaf) (fault : LoadFault) (old mid : Position) (n count : ℕ) (before : Option ℕ) (read : HasRead eq value_bytes bits background p leaf old mid n before) where
       -- a voxel was wanted, and none is ahead
       pub voxels_fail : n < count → (most : ℕ) → most ≡ entries bits Leaf → Fails (IsVoxel eq P background most before) (voxel_bytes eq value_bytes) fault mid → Fails (IsListed count) (voxels_bytes eq value_bytes bits p) fault old
       voxels_fail more most all h =

@@ -23,7 +23,7 @@ use Rattle.vdb_tree.specs.declared.refusal.TreeRefusal.{TreeRefusal}
 use Rattle.vdb_tree.specs.declared.refusal.TreeRefusal.TheVariants.{RootLimit}
 use Rattle.vdb_tree.proofs.Uniform.{cell_same, uniform_cells, uniform_from}
 use Rattle.vdb_file.specs.internal.LeafVoxels.{HasValues, leaf_field}
-use Rattle.vdb_file.specs.internal.LoadedFields.{HasRoomAt, KeptOutside}
+use Rattle.vdb_file.specs.internal.LoadedFields.{HasCapacityAt, KeptOutside}
 use Rattle.vdb_file.proofs.Agreement.{Agree, AreValues}
 use Rattle.vdb_file.proofs.RowFrames.{corner_in_block}
 
@@ -43,14 +43,14 @@ outside_of b true h e = sym (h refl) ∙ e
 pub kept_wider : {V : Type 0} (b c : Box) (f g : Field V) → ((p : Coord) → is_inside c p ≡ true → is_inside b p ≡ true) → KeptOutside c f g → KeptOutside b f g
 kept_wider b c f g within kept = record { background = kept.background; cells = λ p out. kept.cells p (outside_of (is_inside b p) (is_inside c p) (within p) out) }
 
-pub room_kept : {V : Type 0} (eq : V → V → Bool) (bits : Bits) (limit : ℕ) (b : Box) (f g : Field V) → KeptOutside b f g → HasRoomAt eq bits limit b f → HasRoomAt eq bits limit b g
-room_kept eq bits limit b f g kept room = record { few = λ h more. room.few h (kept_both b f g h kept more) }
+pub capacity_kept : {V : Type 0} (eq : V → V → Bool) (bits : Bits) (limit : ℕ) (b : Box) (f g : Field V) → KeptOutside b f g → HasCapacityAt eq bits limit b f → HasCapacityAt eq bits limit b g
+capacity_kept eq bits limit b f g kept capacity = record { few = λ h more. capacity.few h (kept_both b f g h kept more) }
 
--- where a box has room, a change of it isn't refused for the limit
-pub no_root_limit : {V : Type 0} (eq : V → V → Bool) (bits : Bits) (limit : ℕ) (b : Box) (f changed new : Field V) (result : Result (Unit {0}) TreeRefusal) → IsOutcome eq bits limit f changed new result → result ≡ Err RootLimit → HasRoomAt eq bits limit b f → KeptOutside b f changed → ⊥
-no_root_limit eq bits limit b f changed new result outcome e room kept =
+-- where a box has capacity, a change of it isn't refused for the limit
+pub no_root_limit : {V : Type 0} (eq : V → V → Bool) (bits : Bits) (limit : ℕ) (b : Box) (f changed new : Field V) (result : Result (Unit {0}) TreeRefusal) → IsOutcome eq bits limit f changed new result → result ≡ Err RootLimit → HasCapacityAt eq bits limit b f → KeptOutside b f changed → ⊥
+no_root_limit eq bits limit b f changed new result outcome e capacity kept =
     let over : limit < roots eq bits changed = (subst (λ (r : Result (Unit {0}) TreeRefusal). IsOutcome eq bits limit f changed new r) e outcome).1 in
-    let most = room.few changed kept in
+    let most = capacity.few changed kept in
     omega (arith, over, most)
 
 -- ---- blocks within blocks

@@ -19,8 +19,8 @@ use Rattle.vdb_tree.proofs.Uniform.{uniform_from}
 use Rattle.vdb_file.specs.Bodies.{key_bytes, root_body, roots_bytes}
 use Rattle.vdb_file.specs.declared.fault.LoadFault.{LoadFault}
 use Rattle.vdb_file.specs.internal.Loading.{IsKey}
-use Rattle.vdb_file.specs.internal.LoadedFields.{AreReady, HasRoomAt, IsNext, IsReady, IsWithin, KeptOutside, ShowsIn, ShowsInEach, next_bytes}
-use Rattle.vdb_file.specs.internal.Reading.{Fails, Place, Reads, Took}
+use Rattle.vdb_file.specs.internal.LoadedFields.{AreReady, HasCapacityAt, IsNext, IsReady, IsWithin, KeptOutside, ShowsIn, ShowsInEach, next_bytes}
+use Rattle.vdb_file.specs.internal.Reading.{Fails, Position, Reads, Took}
 use Rattle.vdb_file.specs.internal.Following.{Follows}
 use Rattle.vdb_file.proofs.Ordered.{last_of}
 use Rattle.vdb_file.proofs.Numbers.{says_u32}
@@ -54,10 +54,10 @@ module _ {V : Type 0} (eq : V → V → Bool) (value_bytes : V → List ℕ) (P 
   few f p = let h = p.few in omega (arith, h, small)
 
   -- no count is ahead
-  pub no_root_count : (fault : LoadFault) (old : Place) → Fails (λ n. n < 2 ^ 32) (to_be_bytes w32) fault old → Fails Within bytes fault old
+  pub no_root_count : (fault : LoadFault) (old : Position) → Fails (λ n. n < 2 ^ 32) (to_be_bytes w32) fault old → Fails Within bytes fault old
   no_root_count fault old h = fails_first Within bytes (λ n. n < 2 ^ 32) (to_be_bytes w32) (roots eq bits) keyed fault old few (λ f p. count_first eq value_bytes bits f) h
 
-  module _ (count : ℕ) (fits : count < 2 ^ 32) (old mid : Place) (took : Took old mid (to_be_bytes w32 count)) where
+  module _ (count : ℕ) (fits : count < 2 ^ 32) (old mid : Position) (took : Took old mid (to_be_bytes w32 count)) where
     after_roots : (fault : LoadFault) → Fails (λ f. Within f × (count ≡ roots eq bits f)) keyed fault mid → Fails Within bytes fault old
     after_roots fault h =
         fails_after Within bytes (to_be_bytes w32 count) (λ f. count ≡ roots eq bits f) (λ f. to_be_bytes w32 (roots eq bits f)) keyed fault old mid took
@@ -68,7 +68,7 @@ module _ {V : Type 0} (eq : V → V → Bool) (value_bytes : V → List ℕ) (P 
     too_many_roots over fault = after_roots fault (fails_none (λ f. Within f × (count ≡ roots eq bits f)) keyed fault mid (λ f p. let e = p.1 in let h = p.0.few in omega (arith, e, h, over)))
 
     -- it was within the limit, and so many root blocks are read
-    pub roots_result : count ≤ limit → (cells : Coord → Cell V) (b : V) (result : Result (Unit {0}) LoadFault) (end : Place)
+    pub roots_result : count ≤ limit → (cells : Coord → Cell V) (b : V) (result : Result (Unit {0}) LoadFault) (end : Position)
         → Reads (λ _. field b cells) (ShowsInEach eq P background (block bits Upper) (coordinates (block_numbers bits Upper)) count) keyed result mid end → Reads (λ _. field b cells) Within bytes result old end
     roots_result most cells b (Ok x) end h =
         let g : Field V = field b cells in
@@ -89,9 +89,9 @@ module _ {V : Type 0} (eq : V → V → Bool) (value_bytes : V → List ℕ) (P 
 
 -- ---- one after another
 
-module _ {V : Type 0} {eq : V → V → Bool} {value_bytes : V → List ℕ} {P : V → Type 0} (values : AreValues eq value_bytes P) (bits : Bits) (configured : AreBits bits) (background : V) (f : Field V) (old : Place) where
+module _ {V : Type 0} {eq : V → V → Bool} {value_bytes : V → List ℕ} {P : V → Type 0} (values : AreValues eq value_bytes P) (bits : Bits) (configured : AreBits bits) (background : V) (f : Field V) (old : Position) where
   -- so many root blocks were read
-  abbrev Under : ℕ → Option Coord → Field V → Place → Type 0
+  abbrev Under : ℕ → Option Coord → Field V → Position → Type 0
   Under = IsUnderway eq P (root_row eq value_bytes bits) background everywhere f old
 
   abbrev list : Field V → List ℕ
@@ -113,7 +113,7 @@ module _ {V : Type 0} {eq : V → V → Bool} {value_bytes : V → List ℕ} {P 
       either true = refl
       either false = refl
 
-  module _ (done : ℕ) (before : Option Coord) (g : Field V) (now : Place) (so_far : Under done before g now) (count : ℕ) (more : done < count) where
+  module _ (done : ℕ) (before : Option Coord) (g : Field V) (now : Position) (so_far : Under done before g now) (count : ℕ) (more : done < count) where
     abbrev N : Coord → Type 0
     N = IsKey bits before
 
@@ -166,7 +166,7 @@ module _ {V : Type 0} {eq : V → V → Bool} {value_bytes : V → List ℕ} {P 
         configured = configured;
         values = record { same = refl; values = so_far.values.values };
         clear = subst (λ (c : Box). is_background eq g c ≡ true) (sym own) clear_here;
-        room = subst (λ (c : Box). HasRoomAt eq bits limit c g) (sym own) (record { few = λ h kept. let n = one_more h kept in omega (arith, n, most) });
+        capacity = subst (λ (c : Box). HasCapacityAt eq bits limit c g) (sym own) (record { few = λ h kept. let n = one_more h kept in omega (arith, n, most) });
       }
 
     -- each that may come next is
@@ -180,7 +180,7 @@ module _ {V : Type 0} {eq : V → V → Bool} {value_bytes : V → List ℕ} {P 
         (subst (λ (v : V). Fails (IsNext eq P v N box) (next_bytes key_bytes (root_body eq value_bytes bits) box) fault now) so_far.values.same h)
 
     -- one was read
-    pub more_roots : (k : Coord) (next : Place) (h : Field V) → IsNext eq P g.background N box (k, h) → Took now next (next_bytes key_bytes (root_body eq value_bytes bits) box (k, h)) → KeptOutside (box k) g h → Under (done + 1) (Some k) h next
+    pub more_roots : (k : Coord) (next : Position) (h : Field V) → IsNext eq P g.background N box (k, h) → Took now next (next_bytes key_bytes (root_body eq value_bytes bits) box (k, h)) → KeptOutside (box k) g h → Under (done + 1) (Some k) h next
     more_roots k next h is_next took kept =
         more_underway values (is_root_row values bits configured) background everywhere f old done before g now so_far k (inside_member bits k is_next.key.inside) is_next.key.later
         (λ p inside. numbered_in_range bits Upper configured p (subst (λ (n : Coord). is_inside (block_numbers bits Upper) n ≡ true) (sym (number_in_block bits Upper k p inside)) is_next.key.inside))

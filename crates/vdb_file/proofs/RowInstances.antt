@@ -5,7 +5,7 @@ use Rattle.std.specs.Cmp.{nat_cmp_is}
 use Rattle.std.specs.declared.cmp.Ordering.TheVariants.{Less}
 use Rattle.std.proofs.lemmas.List.FromFn.{length-range_with_len}
 use Rattle.vdb_coord.proofs.Nesting.{entry_holds, number_in_block}
-use Rattle.vdb_coord.proofs.Places.{offset_below}
+use Rattle.vdb_coord.proofs.Positions.{offset_below}
 use Rattle.vdb_file.proofs.Kept.{few_kept}
 use Rattle.vdb_file.proofs.RowFrames.{below_member, member_below}
 use Rattle.std.specs.List.Sorted.{IsStrictlySortedBy}

@@ -13,7 +13,7 @@ use Rattle.vdb_file.specs.declared.fault.LoadFault.{LoadFault}
 use Rattle.vdb_file.specs.internal.Following.{Follows}
 use Rattle.vdb_file.specs.internal.LeafVoxels.{HasValues}
 use Rattle.vdb_file.specs.internal.LoadedFields.{IsNext, KeptOutside, ShowsIn, ShowsInEach, next_bytes}
-use Rattle.vdb_file.specs.internal.Reading.{Fails, Place, Took}
+use Rattle.vdb_file.specs.internal.Reading.{Fails, Position, Took}
 use Rattle.vdb_file.proofs.Unambiguous.{says_fixed, says_map}
 use Rattle.vdb_file.proofs.Agreement.{AreValues, is_held}
 use Rattle.vdb_file.proofs.Fronts.{fails_turn, took_nothing}
@@ -24,15 +24,15 @@ use Rattle.vdb_file.proofs.RowReads.{IsNextOf, entry_bytes, entry_read, within}
 use Rattle.vdb_file.proofs.Rows.{IsRow, Row, adds_outside, all_before, behind_key, held, held_more, texts, texts_more}
 
 -- so many entries of a row were read into a field that was another
-pub record IsUnderway {V K : Type 0} (eq : V → V → Bool) (P : V → Type 0) (row : Row V K) (background : V) (b : Box) (f : Field V) (old : Place) (done : ℕ) (before : Option K) (g : Field V) (now : Place) : Type 0 where
+pub record IsUnderway {V K : Type 0} (eq : V → V → Bool) (P : V → Type 0) (row : Row V K) (background : V) (b : Box) (f : Field V) (old : Position) (done : ℕ) (before : Option K) (g : Field V) (now : Position) : Type 0 where
   pub values : HasValues P background g
   pub kept : KeptOutside b f g
   pub counted : length (held eq row g) ≡ done
   pub last : before ≡ last_of None (held eq row g)
   pub took : Took old now (texts eq row g)
 
-module _ {V K : Type 0} {eq : V → V → Bool} {value_bytes : V → List ℕ} {P : V → Type 0} {Q : K → Type 0} {row : Row V K} (values : AreValues eq value_bytes P) (is : IsRow P Q row) (background : V) (b : Box) (f : Field V) (old : Place) where
-  abbrev Underway : ℕ → Option K → Field V → Place → Type 0
+module _ {V K : Type 0} {eq : V → V → Bool} {value_bytes : V → List ℕ} {P : V → Type 0} {Q : K → Type 0} {row : Row V K} (values : AreValues eq value_bytes P) (is : IsRow P Q row) (background : V) (b : Box) (f : Field V) (old : Position) where
+  abbrev Underway : ℕ → Option K → Field V → Position → Type 0
   Underway = IsUnderway eq P row background b f old
 
   -- at first none were
@@ -47,7 +47,7 @@ module _ {V K : Type 0} {eq : V → V → Bool} {value_bytes : V → List ℕ} {
         took = subst (λ (ks : List K). Took old old (flat_map (behind_key row f) ks)) (sym none) (took_nothing old);
       }
 
-  module _ (done : ℕ) (before : Option K) (g : Field V) (now : Place) (so_far : Underway done before g now) where
+  module _ (done : ℕ) (before : Option K) (g : Field V) (now : Position) (so_far : Underway done before g now) where
     follows_last : (k : K) → Follows row.cmp before k → Follows row.cmp (last_of None (held eq row g)) k
     follows_last k h = subst (λ (o : Option K). Follows row.cmp o k) so_far.last h
 
@@ -77,7 +77,7 @@ module _ {V K : Type 0} {eq : V → V → Bool} {value_bytes : V → List ℕ} {
           (λ e p. record { key = has e.0 p.member (subst (λ (o : Option K). Follows row.cmp o e.0) (sym so_far.last) p.follows); shows = record { values = p.values; shown = p.held } }) (λ e p. refl) h)
 
     -- one more was read
-    pub more_underway : (k : K) → Contains row.keys k → Follows row.cmp before k → ((p : Coord) → is_inside (row.box k) p ≡ true → is_inside b p ≡ true) → (next : Place) (h : Field V) → Took now next (next_bytes row.code row.body row.box (k, h))
+    pub more_underway : (k : K) → Contains row.keys k → Follows row.cmp before k → ((p : Coord) → is_inside (row.box k) p ≡ true → is_inside b p ≡ true) → (next : Position) (h : Field V) → Took now next (next_bytes row.code row.body row.box (k, h))
         → ShowsIn eq P background (row.box k) h → KeptOutside (row.box k) g h → Underway (done + 1) (Some k) h next
     more_underway k member follows inside next h took shows kept =
         let adds = adds_outside is g h k member (sym kept.background) (λ p out. sym (kept.cells p out)) shows.shown in

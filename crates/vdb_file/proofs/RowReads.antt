@@ -11,7 +11,7 @@ use Rattle.vdb_tree.specs.Field.{Field}
 use Rattle.vdb_file.specs.declared.fault.LoadFault.{LoadFault}
 use Rattle.vdb_file.specs.internal.Following.{Follows}
 use Rattle.vdb_file.specs.internal.LeafVoxels.{HasValues}
-use Rattle.vdb_file.specs.internal.Reading.{Fails, NoFront, Place, Took}
+use Rattle.vdb_file.specs.internal.Reading.{Fails, NoFront, Position, Took}
 use Rattle.vdb_file.proofs.Unambiguous.{IsCode, Says, says_each, says_map, says_then}
 use Rattle.vdb_file.proofs.Agreement.{Agree, AreAlike, AreValues, is_held, says_listed, says_one}
 use Rattle.vdb_file.proofs.Ordered.{by_member, last_of, next_follows}
@@ -52,10 +52,10 @@ not_held false e = refl
 -- ---- things of which each begins with another
 
 -- none of those others is ahead, so none of the things is
-pub fails_begin : {A B : Type 0} (P : A → Type 0) (code : A → List ℕ) (Q : B → Type 0) (part : B → List ℕ) (fault : LoadFault) (old : Place)
+pub fails_begin : {A B : Type 0} (P : A → Type 0) (code : A → List ℕ) (Q : B → Type 0) (part : B → List ℕ) (fault : LoadFault) (old : Position)
     → ((a : A) → P a → (b : B) × (tail : List ℕ) × Q b × (code a ≡ part b ++ tail)) → Fails Q part fault old → Fails P code fault old
 fails_begin P code Q part fault old begin h = record {
-  none = λ claims. some_turn old.known (λ bytes. NoFront P code bytes old.room) (λ bytes. NoFront Q part bytes old.room)
+  none = λ claims. some_turn old.known (λ bytes. NoFront P code bytes old.capacity) (λ bytes. NoFront Q part bytes old.capacity)
       (λ bytes none a rest p fits e.
       let s = begin a p in
       let long = ap length s.3 in
@@ -77,11 +77,11 @@ module _ {V K : Type 0} {eq : V → V → Bool} {value_bytes : V → List ℕ} {
   -- ---- all of them behind their count, of the fields that have R
 
   module _ (count : ℕ → List ℕ) (N : ℕ → Type 0) (is_count : IsCode N count)
-      (R : Field V → Type 0) (has : (f : Field V) → R f → HasValues P background f) (few : (f : Field V) → R f → N (length (held eq row f))) (fault : LoadFault) (old : Place) where
+      (R : Field V → Type 0) (has : (f : Field V) → R f → HasValues P background f) (few : (f : Field V) → R f → N (length (held eq row f))) (fault : LoadFault) (old : Position) where
     abbrev NoRow : Type 0
     NoRow = Fails R (row_bytes eq row count) fault old
 
-    module _ (mid : Place) where
+    module _ (mid : Position) where
       module _ (g : Field V) (of : HasValues P background g) where
         -- both fields are of this background and these values
         alike : (f : Field V) → R f → AreAlike P g f
@@ -164,7 +164,7 @@ module _ {V K : Type 0} {eq : V → V → Bool} {value_bytes : V → List ℕ} {
             (fails_none (λ f. R f × All f) (λ f. []) fault mid (λ f p. none f p.0 p.1))
 
 -- one more entry was read
-pub entry_read : {V K : Type 0} (eq : V → V → Bool) (row : Row V K) (count : ℕ → List ℕ) (n : ℕ) (f g : Field V) (k : K) (a b c : Place)
+pub entry_read : {V K : Type 0} (eq : V → V → Bool) (row : Row V K) (count : ℕ → List ℕ) (n : ℕ) (f g : Field V) (k : K) (a b c : Position)
     → texts eq row g ≡ texts eq row f ++ behind_key row g k → Took a b (count n ++ texts eq row f) → Took b c (entry_bytes row (k, g)) → Took a c (count n ++ texts eq row g)
 entry_read eq row count n f g k a b c e first second =
     subst (Took a c) (append_assoc (count n) (texts eq row f) (behind_key row g k) ∙ ap (λ l. count n ++ l) (sym e)) (took_both a b c (count n ++ texts eq row f) (behind_key row g k) first second)

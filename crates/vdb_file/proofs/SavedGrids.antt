@@ -46,21 +46,21 @@ before_at : (m n : List ℕ) → cmp m n ≡ Less → is_eq (cmp n m) ≡ false
 before_at m n h = ap is_eq (nat_list_cmp_total.antisymm n m ∙ ap ordering_reverse h)
 
 -- the grid at an index is that of its name
-pub grid_of_place : (s : Scene) → IsStrictlySortedBy cmp (map (λ e. e.0) s) → (i : ℕ) (e : List ℕ × Grid) → slice_get s i ≡ Some e → grid_at s e.0 ≡ Some e.1
+pub grid_of_position : (s : Scene) → IsStrictlySortedBy cmp (map (λ e. e.0) s) → (i : ℕ) (e : List ℕ × Grid) → slice_get s i ≡ Some e → grid_at s e.0 ≡ Some e.1
 unfolding IsStrictlySortedBy
-grid_of_place [] sorted i e h = cc
-grid_of_place (x ∷ xs) sorted zero e h =
+grid_of_position [] sorted i e h = cc
+grid_of_position (x ∷ xs) sorted zero e h =
     let same = same_some x e h in
     subst (λ (y : List ℕ × Grid). lookup (is_named y.0) (x ∷ xs) ≡ Some y.1) same (ap (λ b. cond b (Some x.1) (lookup (is_named x.0) xs)) (itself_at x.0))
-grid_of_place (x ∷ xs) sorted (suc i) e h =
+grid_of_position (x ∷ xs) sorted (suc i) e h =
     let below = image_at (λ (y : List ℕ × Grid). y.0) (λ n. cmp x.0 n ≡ Less) xs i e h sorted.0 in
-    ap (λ b. cond b (Some x.1) (lookup (is_named e.0) xs)) (before_at x.0 e.0 below) ∙ grid_of_place xs sorted.1 i e h
+    ap (λ b. cond b (Some x.1) (lookup (is_named e.0) xs)) (before_at x.0 e.0 below) ∙ grid_of_position xs sorted.1 i e h
 
 -- the name at an index is that of the entry
-pub name_of_place : (s : Scene) (i : ℕ) (e : List ℕ × Grid) → slice_get s i ≡ Some e → slice_get (map (λ e. e.0) s) i ≡ Some e.0
-name_of_place [] i e h = cc
-name_of_place (x ∷ xs) zero e h = ap (λ o. option_map (λ (y : List ℕ × Grid). y.0) o) h
-name_of_place (x ∷ xs) (suc i) e h = name_of_place xs i e h
+pub name_of_position : (s : Scene) (i : ℕ) (e : List ℕ × Grid) → slice_get s i ≡ Some e → slice_get (map (λ e. e.0) s) i ≡ Some e.0
+name_of_position [] i e h = cc
+name_of_position (x ∷ xs) zero e h = ap (λ o. option_map (λ (y : List ℕ × Grid). y.0) o) h
+name_of_position (x ∷ xs) (suc i) e h = name_of_position xs i e h
 
 -- what isn't there isn't what is made of one that is
 pub not_there : {A B : Type 0} (f : A → B) (o : Option A) (x : A) → ◌≡◌ {A = Option B} None (option_map f o) → o ≡ Some x → ⊥

@@ -6,7 +6,7 @@ use Rattle.std.specs.Int.{w16, to_be_bytes}
 use Rattle.vdb_scene.specs.Scene.{Grid, Scene, new_grid}
 use Rattle.vdb_scene.specs.declared.scalar.Scalar.TheVariants.{Bool as truth}
 use Rattle.vdb_file.specs.internal.Parts.{AreItems, IsFile, IsNamed, IsSceneOf, bytes_of_file, name_of, named_bytes, scene_bytes, version_number}
-use Rattle.vdb_file.specs.internal.Reading.{Fails, Place, Took}
+use Rattle.vdb_file.specs.internal.Reading.{Fails, Position, Took}
 use Rattle.vdb_file.specs.declared.fault.LoadFault.{LoadFault}
 use Rattle.vdb_file.specs.declared.loading.versions.Version.{Version}
 use Rattle.vdb_file.specs.declared.loading.versions.Version.TheVariants.{One, Two}
@@ -25,13 +25,13 @@ any_named = ([], new_grid (truth false) 0)
 few_grids : (n : ℕ) → n ≤ 64 → n < 2 ^ 16
 few_grids n h = omega (arith, h)
 
-module _ (version : Version) (fault : LoadFault) (old : Place) where
+module _ (version : Version) (fault : LoadFault) (old : Position) where
   -- the count isn't there
   pub no_grid_count : Fails (λ n. n < 2 ^ 16) (to_be_bytes w16) fault old → Fails (IsSceneOf version) (scene_bytes version) fault old
   no_grid_count h =
       fails_first (IsSceneOf version) (scene_bytes version) (λ n. n < 2 ^ 16) (to_be_bytes w16) (λ s. length s) (λ s. flat_map (named_bytes version) s) fault old (λ s p. few_grids (length s) p.few) (λ s p. refl) h
 
-  module _ (mid : Place) (n : ℕ) (small : n < 2 ^ 16) (took : Took old mid (to_be_bytes w16 n)) where
+  module _ (mid : Position) (n : ℕ) (small : n < 2 ^ 16) (took : Took old mid (to_be_bytes w16 n)) where
     -- the count was read
     after_grid_count : Fails (λ s. IsSceneOf version s × (n ≡ length s)) (flat_map (named_bytes version)) fault mid → Fails (IsSceneOf version) (scene_bytes version) fault old
     after_grid_count h =
@@ -50,7 +50,7 @@ module _ (version : Version) (fault : LoadFault) (old : Place) where
         (λ s p. record { count = sym p.1; each = p.0.grids; in_order = p.0.in_order }) (λ s p. refl) h)
 
 -- they were read
-pub grids_read : (version : Version) (old mid new : Place) (n : ℕ) (s : Scene) → n ≤ 64 → AreItems (IsNamed version) name_of n s → Took old mid (to_be_bytes w16 n) → Took mid new (flat_map (named_bytes version) s)
+pub grids_read : (version : Version) (old mid new : Position) (n : ℕ) (s : Scene) → n ≤ 64 → AreItems (IsNamed version) name_of n s → Took old mid (to_be_bytes w16 n) → Took mid new (flat_map (named_bytes version) s)
     → IsSceneOf version s × Took old new (scene_bytes version s)
 grids_read version old mid new n s few are first more = (
   record { few = omega (arith, are.count, few); in_order = are.in_order; grids = are.each },
@@ -69,12 +69,12 @@ same_version Two Two e = refl
 abbrev behind_magic : Version × Scene → List ℕ
 behind_magic file = version_bytes file.0 ++ scene_bytes file.0 file.1
 
-module _ (fault : LoadFault) (old : Place) where
+module _ (fault : LoadFault) (old : Position) where
   -- the bytes that it begins with aren't there
   pub no_magic : Fails (λ (u : Unit {0}). ⊤) (λ u. codes "VDBS") fault old → Fails IsFile bytes_of_file fault old
   no_magic h = fails_first IsFile bytes_of_file (λ (u : Unit {0}). ⊤) (λ u. codes "VDBS") (λ file. tt) behind_magic fault old (λ file p. tt) (λ file p. refl) h
 
-  module _ (one : Place) (took : Took old one (codes "VDBS")) where
+  module _ (one : Position) (took : Took old one (codes "VDBS")) where
     after_magic : Fails (λ file. IsFile file × (codes "VDBS" ≡ codes "VDBS")) behind_magic fault one → Fails IsFile bytes_of_file fault old
     after_magic h =
         fails_after IsFile bytes_of_file (codes "VDBS") (λ file. codes "VDBS" ≡ codes "VDBS") (λ file. codes "VDBS") behind_magic fault old one took (λ file p. says_fixed (codes "VDBS") (codes "VDBS") refl) (λ file p. refl) h
@@ -85,7 +85,7 @@ module _ (fault : LoadFault) (old : Place) where
         after_magic (fails_first (λ file. IsFile file × (codes "VDBS" ≡ codes "VDBS")) behind_magic (λ (v : Version). ⊤) version_bytes (λ file. file.0) (λ file. scene_bytes file.0 file.1) fault one (λ file p. tt) (λ file p. refl) h)
 
     -- the grids aren't there
-    pub no_file_scene : (two : Place) (version : Version) → Took one two (version_bytes version) → Fails (IsSceneOf version) (scene_bytes version) fault two → Fails IsFile bytes_of_file fault old
+    pub no_file_scene : (two : Position) (version : Version) → Took one two (version_bytes version) → Fails (IsSceneOf version) (scene_bytes version) fault two → Fails IsFile bytes_of_file fault old
     no_file_scene two version more h =
         let Is : Version × Scene → Type 0 = λ file. IsFile file × (codes "VDBS" ≡ codes "VDBS") in
         let same : (v : Version) → version_number version ≡ version_number v → v ≡ version = λ v e. sym (same_version version v e) in
@@ -95,7 +95,7 @@ module _ (fault : LoadFault) (old : Place) where
         (λ file p. subst (λ v. IsSceneOf v file.1) (same file.0 p.1) p.0.0) (λ file p. ap (λ v. scene_bytes v file.1) (same file.0 p.1)) h))
 
 -- all of it was read
-pub file_read : (old one two new : Place) (version : Version) (s : Scene) → IsSceneOf version s → Took old one (codes "VDBS") → Took one two (version_bytes version) → Took two new (scene_bytes version s)
+pub file_read : (old one two new : Position) (version : Version) (s : Scene) → IsSceneOf version s → Took old one (codes "VDBS") → Took one two (version_bytes version) → Took two new (scene_bytes version s)
     → IsFile (version, s) × Took old new (bytes_of_file (version, s))
 file_read old one two new version s is first second third =
     (is, took_both old one new (codes "VDBS") (version_bytes version ++ scene_bytes version s) first (took_both one two new (version_bytes version) (scene_bytes version s) second third))

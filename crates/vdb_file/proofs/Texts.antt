@@ -6,7 +6,7 @@ use Rattle.std.proofs.lemmas.Bool.{leb-true, ltb-true}
 use Rattle.vdb_scene.specs.Metas.{is_text, is_text_byte}
 use Rattle.vdb_scene.specs.Names.{is_lower, is_name, is_name_byte}
 use Rattle.vdb_file.specs.Spelling.{counted}
-use Rattle.vdb_file.specs.internal.Reading.{Fails, Place, Took}
+use Rattle.vdb_file.specs.internal.Reading.{Fails, Position, Took}
 use Rattle.vdb_file.specs.declared.fault.LoadFault.{LoadFault}
 use Rattle.vdb_file.proofs.Unambiguous.{says_byte, says_fixed}
 use Rattle.vdb_file.proofs.Fronts.{fails_after, fails_first, fails_none, fails_turn, took_both}
@@ -26,15 +26,15 @@ pub few_of_text : (text : List ℕ) → is_text text ≡ true → length text �
 few_of_text text h = leb-true (length text) 64 (third (list_all is_text_byte text) (nat_le 1 (length text)) (nat_le (length text) 64) h)
 
 -- count and bytes were read
-pub counted_read : (old mid new : Place) (len : ℕ) (bytes : List ℕ) → Took old mid (len ∷ []) → Took mid new bytes → length bytes ≡ len → Took old new (counted bytes)
+pub counted_read : (old mid new : Position) (len : ℕ) (bytes : List ℕ) → Took old mid (len ∷ []) → Took mid new bytes → length bytes ≡ len → Took old new (counted bytes)
 counted_read old mid new len bytes first more same = subst (λ n. Took old new (n ∷ bytes)) (sym same) (took_both old mid new (len ∷ []) bytes first more)
 
-module _ (P : List ℕ → Type 0) (fault : LoadFault) (old : Place) where
+module _ (P : List ℕ → Type 0) (fault : LoadFault) (old : Position) where
   -- the count isn't there
   pub no_count : Fails (λ n. ⊤) (λ n. n ∷ []) fault old → Fails P counted fault old
   no_count h = fails_first P counted (λ n. ⊤) (λ n. n ∷ []) (λ t. length t) (λ t. t) fault old (λ t p. tt) (λ t p. refl) h
 
-  module _ (mid : Place) (len : ℕ) (took : Took old mid (len ∷ [])) where
+  module _ (mid : Position) (len : ℕ) (took : Took old mid (len ∷ [])) where
     -- the count was read
     after_count : Fails (λ t. P t × (len ≡ length t)) (λ t. t) fault mid → Fails P counted fault old
     after_count h = fails_after P counted (len ∷ []) (λ t. len ≡ length t) (λ t. length t ∷ []) (λ t. t) fault old mid took (λ t p. says_byte len (length t)) (λ t p. refl) h
@@ -48,7 +48,7 @@ module _ (P : List ℕ → Type 0) (fault : LoadFault) (old : Place) where
     no_bytes h = after_count (fails_turn (λ t. P t × (len ≡ length t)) (λ t. t) (λ bytes. length bytes ≡ len) (λ bytes. bytes) (λ t. t) fault mid (λ t p. sym p.1) (λ t p. refl) h)
 
     -- the bytes were read, and are no such text
-    pub no_text : (new : Place) (bytes : List ℕ) → Took mid new bytes → length bytes ≡ len → (P bytes → ⊥) → Fails P counted fault old
+    pub no_text : (new : Position) (bytes : List ℕ) → Took mid new bytes → length bytes ≡ len → (P bytes → ⊥) → Fails P counted fault old
     no_text new bytes more same none =
         after_count (fails_after (λ t. P t × (len ≡ length t)) (λ t. t) bytes (λ t. bytes ≡ t) (λ t. t) (λ t. []) fault mid new more
         (λ t p. says_fixed bytes t (same ∙ p.1)) (λ t p. sym (append-nil t))

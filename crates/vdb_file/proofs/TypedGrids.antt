@@ -17,7 +17,7 @@ use Rattle.vdb_file.specs.Bodies.{roots_bytes}
 use Rattle.vdb_file.specs.Scenes.{IsField, is_value_of}
 use Rattle.vdb_file.specs.Spelling.{kind_bytes, kind_code}
 use Rattle.vdb_file.specs.internal.Parts.{IsBody, IsLoadedGrid, LoadedGrid, body_bytes, head_code, head_of, loaded, loaded_bytes}
-use Rattle.vdb_file.specs.internal.Reading.{Fails, Place, Took}
+use Rattle.vdb_file.specs.internal.Reading.{Fails, Position, Took}
 use Rattle.vdb_file.specs.declared.fault.LoadFault.{LoadFault}
 use Rattle.vdb_file.specs.declared.loading.versions.Version.{Version}
 use Rattle.vdb_file.proofs.Fronts.{fails_after, fails_turn, took_both}
@@ -153,7 +153,7 @@ module _ {V : Type 0} (IsValue : V → Type 0) (eq : V → V → Bool) (bytes : 
       ∙ ap (λ t. bytes (back g.field.background) ++ (head_code version (head_of g) ++ t)) (same_text (as_field_of back g.field) (typed_outside g.field))
 
   -- the kind was read, and no such grid is behind it
-  pub no_typed : (version : Version) (fault : LoadFault) (old mid : Place) → Took old mid (kind_code kind ∷ []) → Fails (IsLoadedGrid IsValue eq bytes version) (loaded_bytes IsValue eq bytes version) fault mid
+  pub no_typed : (version : Version) (fault : LoadFault) (old mid : Position) → Took old mid (kind_code kind ∷ []) → Fails (IsLoadedGrid IsValue eq bytes version) (loaded_bytes IsValue eq bytes version) fault mid
       → Fails (IsBody version) (body_bytes version) fault old
   no_typed version fault old mid took h =
       fails_after (IsBody version) (body_bytes version) (kind_code kind ∷ []) (λ g. kind ≡ kind_of g.field.background) (λ g. kind_code (kind_of g.field.background) ∷ []) (behind_kind version) fault old mid took
@@ -162,7 +162,7 @@ module _ {V : Type 0} (IsValue : V → Type 0) (eq : V → V → Bool) (bytes : 
       (λ g p. typed_loaded version g p.0 (sym p.1)) (λ g p. typed_text version g p.0 (sym p.1)) h)
 
   -- kind and grid were read
-  pub typed_read : (version : Version) (old mid new : Place) (g : LoadedGrid V) → Took old mid (kind_code kind ∷ []) → IsLoadedGrid IsValue eq bytes version g → Took mid new (loaded_bytes IsValue eq bytes version g)
+  pub typed_read : (version : Version) (old mid new : Position) (g : LoadedGrid V) → Took old mid (kind_code kind ∷ []) → IsLoadedGrid IsValue eq bytes version g → Took mid new (loaded_bytes IsValue eq bytes version g)
       → IsBody version (made_grid g) × Took old new (body_bytes version (made_grid g))
   typed_read version old mid new g first h more =
       (made_body version g h, subst (Took old new) (made_text version g h) (took_both old mid new (kind_code kind ∷ []) (loaded_bytes IsValue eq bytes version g) first more))
@@ -172,7 +172,7 @@ module _ {V : Type 0} (IsValue : V → Type 0) (eq : V → V → Bool) (bytes : 
   tree_grid t pairs = record { field = as_field_of make (field_of vdb t); limit = t.limit; pairs = pairs }
 
   -- kind and tree were read
-  pub tree_typed : (version : Version) (old mid new : Place) (t u : Layout V) (pairs : Pairs) → u ≡ t → Took old mid (kind_code kind ∷ []) → IsLoadedGrid IsValue eq bytes version (loaded t pairs)
+  pub tree_typed : (version : Version) (old mid new : Position) (t u : Layout V) (pairs : Pairs) → u ≡ t → Took old mid (kind_code kind ∷ []) → IsLoadedGrid IsValue eq bytes version (loaded t pairs)
       → Took mid new (loaded_bytes IsValue eq bytes version (loaded t pairs)) → IsBody version (tree_grid u pairs) × Took old new (body_bytes version (tree_grid u pairs))
   tree_typed version old mid new t u pairs e first h more =
       subst (λ (w : Layout V). IsBody version (tree_grid w pairs) × Took old new (body_bytes version (tree_grid w pairs))) (sym e) (typed_read version old mid new (loaded t pairs) first h more)

@@ -8,7 +8,7 @@ use Rattle.vdb_file.specs.Faults.{Claims}
 use Rattle.vdb_file.specs.Scenes.{BeginsWithFile, IsGrid, IsScene}
 use Rattle.vdb_file.specs.Spelling.{IsFileOf, IsOldGrid}
 use Rattle.vdb_file.specs.internal.Parts.{IsFile, IsNamed, IsSceneOf, bytes_of_file}
-use Rattle.vdb_file.specs.internal.Reading.{Fails, Place, Took}
+use Rattle.vdb_file.specs.internal.Reading.{Fails, Position, Took}
 use Rattle.vdb_file.specs.declared.fault.LoadFault.{LoadFault}
 use Rattle.vdb_file.specs.declared.loading.versions.Version.{Version}
 use Rattle.vdb_file.specs.declared.loading.versions.Version.TheVariants.{One, Two}
@@ -61,7 +61,7 @@ of_version bytes s h (inr old) = (One, old_scene s h old.grids, old.same, old.sh
 -- ---- all bytes of a reader
 
 -- a fault that says something of the bytes says that they are no file
-pub no_file : (fault : LoadFault) (known : Option (List ℕ)) → Fails IsFile bytes_of_file fault (record { known = prepend_known [] known; room = 268435456 })
+pub no_file : (fault : LoadFault) (known : Option (List ℕ)) → Fails IsFile bytes_of_file fault (record { known = prepend_known [] known; capacity = 268435456 })
     → Claims fault → IfSome known (λ bytes. (s : Scene) → IsScene s → IsFileOf bytes s → ⊥)
 no_file fault None h claims = tt
 no_file fault (Some bytes) h claims = λ s is file.
@@ -69,7 +69,7 @@ no_file fault (Some bytes) h claims = λ s is file.
     h.none claims (v.0, s) [] v.1 (subst (λ t. length t ≤ 268435456) v.2 v.3) (v.2 ∙ sym (append-nil (bytes_of_file (v.0, s))))
 
 -- all bytes were read
-pub whole_file : (file : Version × Scene) (known : Option (List ℕ)) (mid : Place) → IsFile file → Took (record { known = prepend_known [] known; room = 268435456 }) mid (bytes_of_file file) → IsAtEnd mid.known
+pub whole_file : (file : Version × Scene) (known : Option (List ℕ)) (mid : Position) → IsFile file → Took (record { known = prepend_known [] known; capacity = 268435456 }) mid (bytes_of_file file) → IsAtEnd mid.known
     → IfSome known (λ bytes. IsFileOf bytes file.1)
 whole_file file None mid is took end = tt
 whole_file file (Some bytes) mid is took end = more mid.known took.bytes end
@@ -82,7 +82,7 @@ whole_file file (Some bytes) mid is took end = more mid.known took.bytes end
         file_of file bytes is whole (omega (arith, few, ap length whole))
 
 -- all fields were read, and a byte follows them
-pub file_and_more : (file : Version × Scene) (known rest : Option (List ℕ)) (mid : Place) (unread : List ℕ) → IsFile file → Took (record { known = prepend_known [] known; room = 268435456 }) mid (bytes_of_file file)
+pub file_and_more : (file : Version × Scene) (known rest : Option (List ℕ)) (mid : Position) (unread : List ℕ) → IsFile file → Took (record { known = prepend_known [] known; capacity = 268435456 }) mid (bytes_of_file file)
     → Keeps mid.known (prepend_known unread rest) → 0 < length unread → IfSome known BeginsWithFile
 file_and_more file None rest mid unread is took kept some = tt
 file_and_more file (Some bytes) rest mid unread is took kept some = more mid.known rest unread took.bytes kept some

@@ -13,7 +13,7 @@ ghost use Rattle.vdb_file.specs.Readers.{GaveAtMost};
 ghost use Rattle.vdb_file.specs.Scenes.{BeginsWithFile, IsScene};
 ghost use Rattle.vdb_file.specs.Spelling.{IsFileOf, file_limit};
 ghost use Rattle.vdb_file.specs.internal.Parts.{AreItems, IsFile, IsNamed, IsSceneOf, bytes_of_file, name_of, named_bytes, named_view, scene_bytes};
-ghost use Rattle.vdb_file.specs.internal.Reading.{EndsWith, Reads, byte_total, place};
+ghost use Rattle.vdb_file.specs.internal.Reading.{EndsWith, Reads, byte_total, position};
 
 mod block_head;
 mod blocks;
@@ -81,11 +81,11 @@ fn take_file<R: Read>(
     ensures ends { EndsWith input.new (R.remaining (source reader.new)) }
     ensures total { (n : ℕ) → byte_total input.old (R.remaining (source reader.old)) ≡ Some n → byte_total input.new (R.remaining (source reader.new)) ≡ Some n }
     ensures reads { Reads (λ r. (r.0, scene_of r.1)) IsFile bytes_of_file result
-        (place input.old (R.remaining (source reader.old))) (place input.new (R.remaining (source reader.new))) }
+        (position input.old (R.remaining (source reader.old))) (position input.new (R.remaining (source reader.new))) }
     ensures fault { IfErr result IsFieldFault }
-    ensures magic { result ≡ Err LoadFault.Magic → IfSome (place input.old (R.remaining (source reader.old))).known HasOtherMagic }
-    ensures version { result ≡ Err LoadFault.Version → IfSome (place input.old (R.remaining (source reader.old))).known HasOtherVersion }
-    ensures ended { result ≡ Err LoadFault.Truncated → IsAtEnd (place input.new (R.remaining (source reader.new))).known }
+    ensures magic { result ≡ Err LoadFault.Magic → IfSome (position input.old (R.remaining (source reader.old))).known HasOtherMagic }
+    ensures version { result ≡ Err LoadFault.Version → IfSome (position input.old (R.remaining (source reader.old))).known HasOtherVersion }
+    ensures ended { result ≡ Err LoadFault.Truncated → IsAtEnd (position input.new (R.remaining (source reader.new))).known }
     ensures failed { has_failed reader.new ≡ (has_failed reader.old || is_read_fault result) }
 {
     take_magic(input, reader)?;
@@ -106,9 +106,9 @@ fn take_scene<R: Read>(
     ensures ends { EndsWith input.new (R.remaining (source reader.new)) }
     ensures total { (n : ℕ) → byte_total input.old (R.remaining (source reader.old)) ≡ Some n → byte_total input.new (R.remaining (source reader.new)) ≡ Some n }
     ensures reads { Reads scene_of (IsSceneOf version) (scene_bytes version) result
-        (place input.old (R.remaining (source reader.old))) (place input.new (R.remaining (source reader.new))) }
+        (position input.old (R.remaining (source reader.old))) (position input.new (R.remaining (source reader.new))) }
     ensures inner { IfErr result IsInner }
-    ensures ended { result ≡ Err LoadFault.Truncated → IsAtEnd (place input.new (R.remaining (source reader.new))).known }
+    ensures ended { result ≡ Err LoadFault.Truncated → IsAtEnd (position input.new (R.remaining (source reader.new))).known }
     ensures failed { has_failed reader.new ≡ (has_failed reader.old || is_read_fault result) }
 {
     let count = take_u16(input, reader)?;
@@ -132,9 +132,9 @@ fn take_grids<R: Read>(
     ensures ends { EndsWith input.new (R.remaining (source reader.new)) }
     ensures total { (n : ℕ) → byte_total input.old (R.remaining (source reader.old)) ≡ Some n → byte_total input.new (R.remaining (source reader.new)) ≡ Some n }
     ensures reads { Reads scene_of (AreItems (IsNamed version) name_of count) (flat_map (named_bytes version)) result
-        (place input.old (R.remaining (source reader.old))) (place input.new (R.remaining (source reader.new))) }
+        (position input.old (R.remaining (source reader.old))) (position input.new (R.remaining (source reader.new))) }
     ensures inner { IfErr result IsInner }
-    ensures ended { result ≡ Err LoadFault.Truncated → IsAtEnd (place input.new (R.remaining (source reader.new))).known }
+    ensures ended { result ≡ Err LoadFault.Truncated → IsAtEnd (position input.new (R.remaining (source reader.new))).known }
     ensures failed { has_failed reader.new ≡ (has_failed reader.old || is_read_fault result) }
 {
     let mut scene = Scene::new(alloc);

@@ -8,7 +8,7 @@ ghost use Rattle.std.specs.Ordering.{nat_cmp};
 ghost use Rattle.std.specs.Int.{w16, w32, to_be_bytes};
 ghost use Rattle.std.specs.Io.KnownBytes.{Appends};
 ghost use Rattle.vdb_coord.specs.Blocks.{vdb};
-ghost use Rattle.vdb_scene.specs.Grids.{grid_field, grid_limit, scene_of};
+ghost use Rattle.vdb_scene.specs.Grids.{grid_field, grid_root_limit, scene_of};
 ghost use Rattle.vdb_scene.specs.Scalars.{scalar_bytes, scalar_eq};
 ghost use Rattle.vdb_scene.specs.Scene.{Grid as AbstractGrid, grid_at};
 ghost use Rattle.vdb_scene.specs.Watched.{has_failed, source};
@@ -159,7 +159,7 @@ fn put_limit<W: Write, const C: u32>(
 ) -> Result<(), SaveFault>
     ensures counts { C ≡ 1 → IsOk result }
     ensures puts { OnOk result (Puts (sent C out.old (W.contents (source writer.old))) (sent C out.new (W.contents (source writer.new)))
-        (to_be_bytes w32 (grid_limit grid.now))) }
+        (to_be_bytes w32 (grid_root_limit grid.now))) }
     ensures failed { has_failed writer.new ≡ (has_failed writer.old || is_err result) }
 {
     let limit = match grid {
@@ -263,7 +263,7 @@ fn put_head<W: Write, const C: u32>(
 ) -> Result<(), SaveFault>
     ensures counts { C ≡ 1 → IsOk result }
     ensures puts { OnOk result (Puts (sent C out.old (W.contents (source writer.old))) (sent C out.new (W.contents (source writer.new)))
-        (to_be_bytes w32 (grid_limit grid.now) ++ pairs_bytes metas.now)) }
+        (to_be_bytes w32 (grid_root_limit grid.now) ++ pairs_bytes metas.now)) }
     ensures failed { has_failed writer.new ≡ (has_failed writer.old || is_err result) }
 {
     put_limit(out, writer, grid)?;
@@ -280,7 +280,7 @@ fn put_rest<W: Write, const C: u32>(
 ) -> Result<(), SaveFault>
     ensures counts { C ≡ 1 → IsOk result }
     ensures puts { OnOk result (Puts (sent C out.old (W.contents (source writer.old))) (sent C out.new (W.contents (source writer.new)))
-        ((to_be_bytes w32 (grid_limit grid.now) ++ pairs_bytes metas.now) ++ roots_bytes scalar_eq scalar_bytes vdb (grid_field grid.now))) }
+        ((to_be_bytes w32 (grid_root_limit grid.now) ++ pairs_bytes metas.now) ++ roots_bytes scalar_eq scalar_bytes vdb (grid_field grid.now))) }
     ensures failed { has_failed writer.new ≡ (has_failed writer.old || is_err result) }
 {
     put_head(out, writer, grid, metas)?;
@@ -297,7 +297,7 @@ fn put_grid<W: Write, const C: u32>(
 ) -> Result<(), SaveFault>
     ensures counts { C ≡ 1 → IsOk result }
     ensures puts { OnOk result (Puts (sent C out.old (W.contents (source writer.old))) (sent C out.new (W.contents (source writer.new)))
-        (kind_bytes (grid_field grid.now).background ++ ((to_be_bytes w32 (grid_limit grid.now) ++ pairs_bytes metas.now) ++ roots_bytes scalar_eq scalar_bytes vdb (grid_field grid.now)))) }
+        (kind_bytes (grid_field grid.now).background ++ ((to_be_bytes w32 (grid_root_limit grid.now) ++ pairs_bytes metas.now) ++ roots_bytes scalar_eq scalar_bytes vdb (grid_field grid.now)))) }
     ensures failed { has_failed writer.new ≡ (has_failed writer.old || is_err result) }
 {
     put_background(out, writer, grid)?;
@@ -315,7 +315,7 @@ fn put_entry<W: Write, const C: u32>(
 ) -> Result<(), SaveFault>
     ensures counts { C ≡ 1 → IsOk result }
     ensures puts { OnOk result (Puts (sent C out.old (W.contents (source writer.old))) (sent C out.new (W.contents (source writer.new)))
-        (counted name.now ++ (kind_bytes (grid_field grid.now).background ++ ((to_be_bytes w32 (grid_limit grid.now) ++ pairs_bytes metas.now) ++ roots_bytes scalar_eq scalar_bytes vdb (grid_field grid.now))))) }
+        (counted name.now ++ (kind_bytes (grid_field grid.now).background ++ ((to_be_bytes w32 (grid_root_limit grid.now) ++ pairs_bytes metas.now) ++ roots_bytes scalar_eq scalar_bytes vdb (grid_field grid.now))))) }
     ensures failed { has_failed writer.new ≡ (has_failed writer.old || is_err result) }
 {
     put_counted(out, writer, name.bytes())?;

@@ -25,9 +25,9 @@ use Rattle.vdb_morph.specs.internal.Turning.{is_around}
 some : 0 < 8
 some = omega arith
 
--- a component, by its block and its place
-at_place : (n : ℤ) (d : ℕ) (x : ℤ) → d < 8 → n *ℤ pos 8 +ℤ pos d ≡ x → (quotient 8 x ≡ n) × (rest 8 x ≡ d)
-at_place n d x h e = (ap (quotient 8) (sym e) ∙ quotient_of 8 n d h, ap (rest 8) (sym e) ∙ rest_of 8 n d h)
+-- a component, by its block and its position
+at_position : (n : ℤ) (d : ℕ) (x : ℤ) → d < 8 → n *ℤ pos 8 +ℤ pos d ≡ x → (quotient 8 x ≡ n) × (rest 8 x ≡ d)
+at_position n d x h e = (ap (quotient 8) (sym e) ∙ quotient_of 8 n d h, ap (rest 8) (sym e) ∙ rest_of 8 n d h)
 
 one_less : (first x : ℤ) (d : ℕ) → first +ℤ pos d ≡ x → 0 < d → first +ℤ pos (d - 1) ≡ x -ℤ pos 1
 one_less first x d e h = omega (arith, ints, e, h)
@@ -56,17 +56,17 @@ module _ (x : ℤ) where
 
   -- one less, in the block and out of it
   less_in : 0 < rest 8 x → (quotient 8 (x -ℤ pos 1) ≡ quotient 8 x) × (rest 8 (x -ℤ pos 1) ≡ rest 8 x - 1)
-  less_in h = at_place (quotient 8 x) (rest 8 x - 1) (x -ℤ pos 1) (omega (arith, below)) (one_less (quotient 8 x *ℤ pos 8) x (rest 8 x) own_parts h)
+  less_in h = at_position (quotient 8 x) (rest 8 x - 1) (x -ℤ pos 1) (omega (arith, below)) (one_less (quotient 8 x *ℤ pos 8) x (rest 8 x) own_parts h)
 
   less_out : rest 8 x ≡ 0 → (quotient 8 (x -ℤ pos 1) ≡ quotient 8 x -ℤ pos 1) × (rest 8 (x -ℤ pos 1) ≡ 7)
-  less_out h = at_place (quotient 8 x -ℤ pos 1) 7 (x -ℤ pos 1) (omega arith) (last_before (quotient 8 x) x (rest 8 x) own_parts h)
+  less_out h = at_position (quotient 8 x -ℤ pos 1) 7 (x -ℤ pos 1) (omega arith) (last_before (quotient 8 x) x (rest 8 x) own_parts h)
 
   -- one more
   more_in : rest 8 x < 7 → (quotient 8 (x +ℤ pos 1) ≡ quotient 8 x) × (rest 8 (x +ℤ pos 1) ≡ rest 8 x + 1)
-  more_in h = at_place (quotient 8 x) (rest 8 x + 1) (x +ℤ pos 1) (omega (arith, h)) (one_more (quotient 8 x *ℤ pos 8) x (rest 8 x) own_parts)
+  more_in h = at_position (quotient 8 x) (rest 8 x + 1) (x +ℤ pos 1) (omega (arith, h)) (one_more (quotient 8 x *ℤ pos 8) x (rest 8 x) own_parts)
 
   more_out : rest 8 x ≡ 7 → (quotient 8 (x +ℤ pos 1) ≡ quotient 8 x +ℤ pos 1) × (rest 8 (x +ℤ pos 1) ≡ 0)
-  more_out h = at_place (quotient 8 x +ℤ pos 1) 0 (x +ℤ pos 1) some (first_after (quotient 8 x) x (rest 8 x) own_parts h)
+  more_out h = at_position (quotient 8 x +ℤ pos 1) 0 (x +ℤ pos 1) some (first_after (quotient 8 x) x (rest 8 x) own_parts h)
 
 -- ---- one axis: of a coordinate that moves along it, the number of its block and its index in that
 
@@ -118,7 +118,7 @@ on_in_own false own i = refl
 
 -- ---- the six faces
 
--- the offset of these places, as `offset` computes it
+-- the offset of these positions, as `offset` computes it
 abbrev index_of : ℕ → ℕ → ℕ → ℕ
 index_of x y z = (x / 1 * 8 + y / 1) * 8 + z / 1
 

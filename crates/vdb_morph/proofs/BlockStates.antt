@@ -9,7 +9,7 @@ use Rattle.vdb_coord.specs.declared.Bits.{Bits}
 use Rattle.vdb_coord.specs.declared.Coord.{Coord}
 use Rattle.vdb_coord.specs.declared.Level.TheVariants.{Leaf}
 use Rattle.vdb_coord.proofs.Members.{coord_exact}
-use Rattle.vdb_coord.proofs.Places.{entries_is, offset_below}
+use Rattle.vdb_coord.proofs.Positions.{entries_is, offset_below}
 use Rattle.vdb_mask.specs.Mask.{is_on}
 use Rattle.vdb_node.specs.Leaf.{cell_in, IsConstantLeaf, Leaf as LeafOf}
 use Rattle.vdb_node.specs.Nodes.{entry_count}
@@ -36,7 +36,7 @@ offset_within bits q = subst (λ k. offset bits Leaf q < k) (entries_is bits Lea
 
 -- so within its words
 pub within_words : (bits : Bits) (q : Coord) (words : ℕ) → entry_count bits.leaf ≤ 64 * words → offset bits Leaf q < 64 * words
-within_words bits q words room = let small = offset_within bits q in omega (arith, small, room)
+within_words bits q words capacity = let small = offset_within bits q in omega (arith, small, capacity)
 
 under : {A : Type 0} (b : Bool) (x y z : A) → (IsTrue b → x ≡ y) → cond b x z ≡ cond b y z
 under true x y z h = h refl
@@ -116,5 +116,5 @@ leaf_states bits p mask f leaf around same q inside here =
 pub tile_states : {V : Type 0} (bits : Bits) (p : Coord) (mask : List Bool) (words : ℕ) (f : Field V) (tile : Cell V) → entry_count bits.leaf ≤ 64 * words
     → ((i : ℕ) → i < 64 * words → is_on mask i ≡ tile.on) → tile ≡ f.cell p
     → ((q : Coord) → IsTrue (is_inside everywhere q) → block_number bits Leaf q ≡ block_number bits Leaf p → f.cell q ≡ f.cell p) → HasStates bits f p mask
-tile_states bits p mask words f tile room on is all q inside here =
-    on (offset bits Leaf q) (within_words bits q words room) ∙ ap (λ (c : Cell _). c.on) (is ∙ sym (all q inside (around_number bits p q here)))
+tile_states bits p mask words f tile capacity on is all q inside here =
+    on (offset bits Leaf q) (within_words bits q words capacity) ∙ ap (λ (c : Cell _). c.on) (is ∙ sym (all q inside (around_number bits p q here)))

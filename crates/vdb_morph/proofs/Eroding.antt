@@ -5,7 +5,7 @@ use Rattle.std.specs.Prelude.{Option, Some, None, IfSome}
 use Rattle.vdb_coord.specs.Blocks.{block_around, block_number}
 use Rattle.vdb_coord.specs.Boxes.{is_bounds}
 use Rattle.vdb_coord.specs.Faces.{neighbours}
-use Rattle.vdb_coord.specs.Order.{ComesBefore, IsNextPlace, coordinates_past}
+use Rattle.vdb_coord.specs.Order.{ComesBefore, IsNextCoord, coordinates_past}
 use Rattle.vdb_coord.specs.Space.{Box, coord_eq, everywhere, is_box, is_inside, is_within}
 use Rattle.vdb_coord.specs.declared.Bits.{Bits}
 use Rattle.vdb_coord.specs.declared.Coord.{Coord}
@@ -20,11 +20,11 @@ use Rattle.vdb_node.specs.Leaf.{Leaf as LeafOf}
 use Rattle.vdb_tree.specs.Field.{Field, as_cell_of, erode, field, off}
 use Rattle.vdb_tree.specs.Layout.{Layout, field_of}
 use Rattle.vdb_tree.specs.Parts.{IsPartOfLeaf, IsSkipped, Passes, TreeWalk, YieldsBox, is_left, left_count}
-use Rattle.vdb_tree.specs.declared.reading.parts.Skip.{Skip}
-use Rattle.vdb_tree.specs.declared.reading.parts.Skip.TheVariants.{Inactive}
+use Rattle.vdb_tree.specs.declared.queries.parts.Skip.{Skip}
+use Rattle.vdb_tree.specs.declared.queries.parts.Skip.TheVariants.{Inactive}
 use Rattle.vdb_tree.proofs.Fields.{cell_inside, same_cells}
 use Rattle.vdb_tree.proofs.Levels.{bool_cases}
-use Rattle.vdb_tree.proofs.PartStarts.{before_place}
+use Rattle.vdb_tree.proofs.PartStarts.{gone_before}
 use Rattle.vdb_value.specs.declared.Cell.{Cell}
 use Rattle.vdb_morph.specs.internal.Eroding.{Erodes, IsEither, IsEroded}
 use Rattle.vdb_morph.specs.internal.Turning.{is_around, taken, topology}
@@ -128,7 +128,7 @@ module _ {V : Type 0} (f : Field V) where
 
   -- ---- block after block of a box
 
-  -- the box's coordinates up to a place have the states from after the turn
+  -- the box's coordinates up to one of them have the states from after the turn
   pub record IsDoneTo (bits : Bits) (box : Box) (states : Field Bool) (at : Option Coord) : Type 0 where
     pub inside : IfSome at (λ p. IsTrue (is_inside box p))
     pub done : (q : Coord) → IsTrue (is_inside box q) → is_left bits at q ≡ false → IsEroded f states q
@@ -137,27 +137,27 @@ module _ {V : Type 0} (f : Field V) where
   pub done_none : (bits : Bits) (box : Box) (states : Field Bool) → IsTrue (is_bounds box) → (p : Coord) → p ≡ box.min → IsDoneTo bits box states (Some p)
   done_none bits box states bounds p e = record {
     inside = subst (λ (r : Coord). is_inside box r ≡ true) (sym e) (bounds_corner box bounds);
-    done = λ q i gone. absurd (not_before_min bits box q i (subst (λ (r : Coord). ComesBefore bits q r) e (before_place bits p q gone)));
+    done = λ q i gone. absurd (not_before_min bits box q i (subst (λ (r : Coord). ComesBefore bits q r) e (gone_before bits p q gone)));
   }
 
   -- past the block around p
   pub done_more : (bits : Bits) (box : Box) (s u : Field Bool) → IsTrue (is_bounds box) → (p : Coord) → IsDoneTo bits box s (Some p) → Erodes f s u
-      → ((q : Coord) → IsTrue (is_inside everywhere q) → is_around bits p q ≡ true → IsEroded f u q) → (next : Option Coord) → IsNextPlace bits Leaf box p next → IsDoneTo bits box u next
+      → ((q : Coord) → IsTrue (is_inside everywhere q) → is_around bits p q ≡ true → IsEroded f u q) → (next : Option Coord) → IsNextCoord bits Leaf box p next → IsDoneTo bits box u next
   done_more bits box s u bounds p had erodes here next is = record { inside = inside next is; done = λ q i gone. by q i (up_to next is q i gone) }
     where
-      inside : (next : Option Coord) → IsNextPlace bits Leaf box p next → IfSome next (λ n. IsTrue (is_inside box n))
+      inside : (next : Option Coord) → IsNextCoord bits Leaf box p next → IfSome next (λ n. IsTrue (is_inside box n))
       inside None h = tt
       inside (Some n) h = h.inside
 
-      up_to : (next : Option Coord) → IsNextPlace bits Leaf box p next → (q : Coord) → IsTrue (is_inside box q) → is_left bits next q ≡ false → ComesBefore bits q p ⊎ (block_number bits Leaf q ≡ block_number bits Leaf p)
+      up_to : (next : Option Coord) → IsNextCoord bits Leaf box p next → (q : Coord) → IsTrue (is_inside box q) → is_left bits next q ≡ false → ComesBefore bits q p ⊎ (block_number bits Leaf q ≡ block_number bits Leaf p)
       up_to None h q i gone = h q i
-      up_to (Some n) h q i gone = h.between q i (before_place bits n q gone)
+      up_to (Some n) h q i gone = h.between q i (gone_before bits n q gone)
 
       by : (q : Coord) → IsTrue (is_inside box q) → ComesBefore bits q p ⊎ (block_number bits Leaf q ≡ block_number bits Leaf p) → IsEroded f u q
       by q i (inl before) = still_eroded s u erodes q (had.done q i (ap not before))
       by q i (inr same) = here q (bounds_within box bounds q i) (is_around_same bits p q same)
 
--- fewer coordinates are left from the next place on
+-- fewer coordinates are left from the next coordinate on
 pub nearer_left : (bits : Bits) (p : Coord) (at next : Option Coord) → at ≡ Some p → IfSome next (λ n. coordinates_past bits n < coordinates_past bits p) → left_count bits next < left_count bits at
 nearer_left bits p at next e h = rw e (by next h)
   where
@@ -179,7 +179,7 @@ module _ {V : Type 0} (bits : Bits) (t : Layout V) where
   underway_first states is at start = record {
     background = ap (λ (g : Field Bool). g.background) is;
     either = λ q i. inl (ap (λ (g : Field Bool). g.cell q) is);
-    done = λ q i gone. absurd (not_before_min bits everywhere q i (before_place bits everywhere.min q (subst (λ (o : Option Coord). is_left bits o q ≡ false) start gone)));
+    done = λ q i gone. absurd (not_before_min bits everywhere q i (gone_before bits everywhere.min q (subst (λ (o : Option Coord). is_left bits o q ≡ false) start gone)));
   }
 
   module _ (old new : TreeWalk V) (box : old.box ≡ everywhere) where

@@ -18,10 +18,10 @@ use Rattle.vdb_value.specs.declared.Cell.{Cell}
 use Rattle.vdb_tree.specs.Field.{Field, dilate, field}
 use Rattle.vdb_tree.specs.Layout.{Layout, cell_at, field_of}
 use Rattle.vdb_tree.specs.Parts.{IsSkipped, OnLeaf, OnTile, Passes, TreeWalk, YieldsBox, is_left}
-use Rattle.vdb_tree.specs.declared.reading.parts.Content.{Content}
-use Rattle.vdb_tree.specs.declared.reading.parts.Content.TheVariants.{Leaf as PartLeaf, Tile}
-use Rattle.vdb_tree.specs.declared.reading.parts.Skip.{Skip}
-use Rattle.vdb_tree.specs.declared.reading.parts.Skip.TheVariants.{Inactive}
+use Rattle.vdb_tree.specs.declared.queries.parts.Content.{Content}
+use Rattle.vdb_tree.specs.declared.queries.parts.Content.TheVariants.{Leaf as PartLeaf, Tile}
+use Rattle.vdb_tree.specs.declared.queries.parts.Skip.{Skip}
+use Rattle.vdb_tree.specs.declared.queries.parts.Skip.TheVariants.{Inactive}
 use Rattle.vdb_tree.proofs.Fields.{same_cells}
 use Rattle.vdb_tree.proofs.Levels.{bool_cases, like_coords}
 use Rattle.vdb_tree.proofs.Rooted.{not_from, or_cases, or_first, or_second, was_false}

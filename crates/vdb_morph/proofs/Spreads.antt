@@ -16,7 +16,7 @@ use Rattle.vdb_coord.proofs.Boxes.{same_truth}
 use Rattle.vdb_coord.proofs.InRange.{block_in_range, number_in_range}
 use Rattle.vdb_coord.proofs.Members.{coord_exact}
 use Rattle.vdb_coord.proofs.Nesting.{voxel_from_leaf}
-use Rattle.vdb_coord.proofs.Places.{offset_below}
+use Rattle.vdb_coord.proofs.Positions.{offset_below}
 use Rattle.vdb_mask.specs.Mask.{is_on}
 use Rattle.vdb_tree.specs.Field.{Field, field}
 use Rattle.vdb_tree.proofs.Levels.{coord_cases, like_coords, unlike_coords}

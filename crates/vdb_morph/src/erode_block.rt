@@ -131,7 +131,7 @@ fn states_at<
 >(tree: &TreeOf<V, U, L, F, WU, WL, WF>, p: Coord, steps: &mut Steps) -> Mask<WF>
     ensures { HasStates (bits_of U L F) (field_of (bits_of U L F) tree.now) p result }
 {
-    let _ = tree.mask_words(); // the proof learns from it that the mask has room for the entries
+    let _ = tree.mask_words(); // the proof learns from it that the mask has capacity for the entries
     match tree.leaf(p, steps) {
         Some(leaf) => leaf.states().copied(),
         None => Mask::filled(tree.get(p, steps).on),
@@ -150,7 +150,7 @@ fn states_behind<
 >(tree: &TreeOf<V, U, L, F, WU, WL, WF>, p: Coord, face: Face, steps: &mut Steps) -> Mask<WF>
     ensures { HasStatesBehind (bits_of U L F) (field_of (bits_of U L F) tree.now) face p result }
 {
-    let _ = tree.mask_words(); // the proof learns from it that the mask has room for the entries
+    let _ = tree.mask_words(); // the proof learns from it that the mask has capacity for the entries
     match block_behind(tree.bits(), p, face) {
         Some(r) => states_at(tree, r, steps),
         None => Mask::filled(true),

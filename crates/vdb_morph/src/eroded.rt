@@ -211,9 +211,9 @@ fn erode_blocks<
 {
     let bits = tree.bits();
     let mut at = Some(bounds.min());
-    'places: while let Some(p) = at {
+    'coords: while let Some(p) = at {
         erode_block(tree, states, p, steps)?;
-        at = bounds.next_place_in(bits, Level::Leaf, p);
+        at = bounds.next_coord_in(bits, Level::Leaf, p);
     }
     Ok(())
 }

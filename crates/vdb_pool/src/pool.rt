@@ -145,8 +145,8 @@ impl<T> Pool<T> {
     /// memory, or where there would be more than 4,294,967,295 slots. Nodes, vacant slots and live places stay as they were,
     /// also with an error, which may leave more capacity than there was.
     pub fn reserve(&mut self, n: u64) -> Result<(), Memory>
-        ensures room { OnOk result (n ≤ spare_of self.new) }
-        ensures had_room { n ≤ spare_of self.old → IsOk result × (self.new ≡ self.old) }
+        ensures capacity { OnOk result (n ≤ spare_of self.new) }
+        ensures had_capacity { n ≤ spare_of self.old → IsOk result × (self.new ≡ self.old) }
         ensures too_many { 2 ^ 32 - 1 < n + count_of self.old → IsErr result × (self.new ≡ self.old) }
         ensures grows { Grows self.old self.new }
         ensures live { KeepsLive self.old self.new }
@@ -163,7 +163,7 @@ impl<T> Pool<T> {
     /// One more chunk.
     fn grow(&mut self) -> Result<(), Memory>
         requires { length self.old.places < 2 ^ 32 - 1 }
-        ensures room { OnOk result (spare_of self.new ≡ spare_of self.old + chunk_len) }
+        ensures capacity { OnOk result (spare_of self.new ≡ spare_of self.old + chunk_len) }
         ensures grows { Grows self.old self.new }
         ensures live { KeepsLive self.old self.new }
     {
@@ -326,8 +326,8 @@ impl<T: Drop> Drop for Pool<T> {
         }
         while let Some(chunk) = chunks.pop() {
             let Chunk { base, block } = chunk;
-            let room = storage.split_off(chunks.len() * CHUNK_LEN);
-            deallocate(&alloc, base, CHUNK_LEN, room, block);
+            let freed = storage.split_off(chunks.len() * CHUNK_LEN);
+            deallocate(&alloc, base, CHUNK_LEN, freed, block);
         }
         storage.end();
         chunks.destroy_empty();

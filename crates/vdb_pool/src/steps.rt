@@ -1,9 +1,9 @@
-//! How many nodes were reached.
+//! How many nodes were visited.
 ghost use Rattle.std.specs.Prelude.{◌≡◌, ◌+◌, ◌-◌, ◌^◌, min};
 
 use std::marker::Model;
 
-/// Counts the nodes that were reached, and stays at 18,446,744,073,709,551,615 once it is there.
+/// Counts the nodes that were visited, and stays at 18,446,744,073,709,551,615 once it is there.
 ///
 /// Each count begins at 0 with `Steps::new`. Nothing outside this crate can copy one, set it back or add to it but by
 /// a call of a `Pool`.
@@ -28,7 +28,7 @@ impl Steps {
         Steps { count: 0 }
     }
 
-    /// How many nodes were reached so far.
+    /// How many nodes were visited so far.
     pub fn count(&self) -> u64
         ensures { result ≡ self.now }
     {

@@ -128,25 +128,25 @@ module _ (bits : Bits) (b : Box) where
     abbrev Sides : Ring → Type 0
     Sides r = (q : Coord) → is_inside s q ≡ (is_inside (outer bits b r) q && is_beyond (inner bits b r) q face)
 
-    abbrev Ready : Level → Type 0
-    Ready level = (p : Coord) → IsTrue (is_inside s p) → (tile : Cell V) → entry_over bits level t p ≡ Tile tile → IsCovered bits s level p ⊎ (tile ≡ background_cell t)
+    abbrev SplitAt : Level → Type 0
+    SplitAt level = (p : Coord) → IsTrue (is_inside s p) → (tile : Cell V) → entry_over bits level t p ≡ Tile tile → IsCovered bits s level p ⊎ (tile ≡ background_cell t)
 
-    around : (level : Level) → ((q r : Coord) → block_number bits level q ≡ block_number bits level r → block_number bits Upper q ≡ block_number bits Upper r) → Sides AroundRoots → Ready level
+    around : (level : Level) → ((q r : Coord) → block_number bits level q ≡ block_number bits level r → block_number bits Upper q ≡ block_number bits Upper r) → Sides AroundRoots → SplitAt level
     around level up ins p h tile e = inl (covered_side everywhere (hull bits Upper b) ins level p h (λ r same range. block_in_range bits level configured p r range same) (λ r same. beyond_alike Upper face p r (up r p same)))
 
     within : (out inn level : Level) → ((q r : Coord) → block_number bits level q ≡ block_number bits level r → block_number bits out q ≡ block_number bits out r)
         → ((q r : Coord) → block_number bits level q ≡ block_number bits level r → block_number bits inn q ≡ block_number bits inn r)
-        → ((q : Coord) → is_inside s q ≡ (is_inside (hull bits out b) q && is_beyond (hull bits inn b) q face)) → Ready level
+        → ((q : Coord) → is_inside s q ≡ (is_inside (hull bits out b) q && is_beyond (hull bits inn b) q face)) → SplitAt level
     within out inn level up_out up_inn ins p h tile e =
         inl (covered_side (hull bits out b) (hull bits inn b) ins level p h (λ r same held. held_alike out p r (up_out r p same) ∙ held) (λ r same. beyond_alike inn face p r (up_inn r p same)))
 
     across : (r : Ring) (meeting level : Level) → ((q r : Coord) → block_number bits meeting q ≡ block_number bits meeting r → block_number bits level q ≡ block_number bits level r)
-        → ((q : Coord) → is_inside s q ≡ (is_inside (hull bits meeting b) q && is_beyond (inner bits b r) q face)) → Ready level
+        → ((q : Coord) → is_inside s q ≡ (is_inside (hull bits meeting b) q && is_beyond (inner bits b r) q face)) → SplitAt level
     across r meeting level up ins p h tile e =
         let parts = both (is_inside (hull bits meeting b) p) (is_beyond (inner bits b r) p face) (sym (ins p) ∙ h) in
         inr (crossing_tile meeting level up p parts.0 (λ held. inside_beyond (inner bits b r) p face (inner_holds r p held) parts.1) tile e)
 
-    each : (r : Ring) → Sides r → (level : Level) → Ready level
+    each : (r : Ring) → Sides r → (level : Level) → SplitAt level
     each AroundRoots ins Leaf = around Leaf upper_from_leaf ins
     each AroundRoots ins Lower = around Lower (upper_from_lower bits) ins
     each AroundRoots ins Upper = around Upper (itself Upper) ins

@@ -7,7 +7,7 @@ use Rattle.vdb_tree.specs.Field.{Field}
 use Rattle.vdb_tree.specs.Outcome.{IsOutcome}
 use Rattle.vdb_tree.specs.declared.refusal.TreeRefusal.{TreeRefusal}
 use Rattle.vdb_tree.specs.declared.refusal.TreeRefusal.TheVariants.{Memory, RootLimit}
-use Rattle.vdb_scene.specs.Grids.{grid_field, grid_limit, grid_of, scene_over}
+use Rattle.vdb_scene.specs.Grids.{grid_field, grid_root_limit, grid_of, scene_over}
 use Rattle.vdb_scene.specs.Scalars.{scalar_eq}
 use Rattle.vdb_scene.specs.Scene.{Grid, grid_at, is_named}
 use Rattle.vdb_scene.specs.Metas.{Pairs}
@@ -19,7 +19,7 @@ use Rattle.vdb_scene.proofs.Entries.{lookup-over, set_value-found, set_value-ove
 use Rattle.vdb_scene.proofs.Steps.{grid_found}
 
 -- an entry with a grid of this field and this limit
-one_grid : (entry : GridEntry) (given : AnyGrid) (f : Field Scalar) (limit : ℕ) → grid_field given ≡ f → grid_limit given ≡ limit
+one_grid : (entry : GridEntry) (given : AnyGrid) (f : Field Scalar) (limit : ℕ) → grid_field given ≡ f → grid_root_limit given ≡ limit
     → grid_of (record entry { grid = given }) ≡ record { field = f; limit = limit; pairs = entry.metas }
 one_grid entry given f limit field is = λ i. record { field = field i; limit = is i; pairs = entry.metas }
 
@@ -55,15 +55,15 @@ module _ (grids : List (List ℕ × GridEntry)) (name : List ℕ) where
       back_over = ap scene_over back ∙ sym (set_value-over grid_of (is_named name) grids (record entry { grid = given }))
 
       -- its cells are as they were
-      pub unchanged : grid_field given ≡ grid_field entry.grid → grid_limit given ≡ grid_limit entry.grid → scene_over after ≡ scene_over grids
+      pub unchanged : grid_field given ≡ grid_field entry.grid → grid_root_limit given ≡ grid_root_limit entry.grid → scene_over after ≡ scene_over grids
       unchanged field limit =
-          back_over ∙ ap (set_value (is_named name) (scene_over grids)) (one_grid entry given (grid_field entry.grid) (grid_limit entry.grid) field limit)
+          back_over ∙ ap (set_value (is_named name) (scene_over grids)) (one_grid entry given (grid_field entry.grid) (grid_root_limit entry.grid) field limit)
           ∙ set_value-found (is_named name) (scene_over grids) (grid_of entry) (found entry there)
 
       -- its field was changed
-      pub changed_field : (change : Field Scalar → Field Scalar) → grid_field given ≡ change (grid_field entry.grid) → grid_limit given ≡ grid_limit entry.grid → scene_over after ≡ changed (scene_over grids) name change
+      pub changed_field : (change : Field Scalar → Field Scalar) → grid_field given ≡ change (grid_field entry.grid) → grid_root_limit given ≡ grid_root_limit entry.grid → scene_over after ≡ changed (scene_over grids) name change
       changed_field change field limit =
-          back_over ∙ ap (set_value (is_named name) (scene_over grids)) (one_grid entry given (change (grid_field entry.grid)) (grid_limit entry.grid) field limit)
+          back_over ∙ ap (set_value (is_named name) (scene_over grids)) (one_grid entry given (change (grid_field entry.grid)) (grid_root_limit entry.grid) field limit)
           ∙ ap (λ (g : Grid). set_value (is_named name) (scene_over grids) (record g { field = change g.field }))
           (sym (grid_found (scene_over grids) name (grid_of entry) (found entry there)))
 

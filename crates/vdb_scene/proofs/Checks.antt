@@ -88,7 +88,7 @@ kind_next = refl
 range_next : refusal with_a (commands.Set a (Some Far) (point (pos 0) (pos 0) (pos 2147483648)) (near (pos 1))) ≡ Some refusals.ValueRange
 range_next = refl
 
--- a box from one place to another; with its corners exchanged, and past the range
+-- a box from one coordinate to another; with its corners exchanged, and past the range
 abbrev between : Point → Point → Corners
 between p q = record { min = p; max = q }
 

@@ -11,11 +11,11 @@ use Rattle.vdb_tree.specs.ConstantBlocks.{roots}
 use Rattle.vdb_tree.specs.declared.refusal.TreeRefusal.{TreeRefusal}
 use Rattle.vdb_tree.specs.declared.refusal.TreeRefusal.TheVariants.{Memory, RootLimit}
 use Rattle.vdb_scene.specs.Doing.{CarriesOut}
-use Rattle.vdb_scene.specs.Grids.{grid_field, grid_limit, grid_of, scene_over}
+use Rattle.vdb_scene.specs.Grids.{grid_field, grid_root_limit, grid_of, scene_over}
 use Rattle.vdb_scene.specs.Scalars.{has_form, has_value, kind_of, scalar, scalar_eq}
 use Rattle.vdb_scene.specs.Scene.{Grid, Scene, is_named}
 use Rattle.vdb_scene.specs.Replies as replies
-use Rattle.vdb_scene.specs.Places.{are_coords, box_between}
+use Rattle.vdb_scene.specs.Arguments.{are_coords, box_between}
 use Rattle.vdb_scene.specs.Refusals.{first_of_all, no_box, of_tree, other_form, out_of_range, refused_if}
 use Rattle.vdb_scene.specs.Step.{after, changed, refusal}
 use Rattle.vdb_scene.specs.declared.grid_entry.GridEntry.{GridEntry}
@@ -63,7 +63,7 @@ module _ (grids : List (List ℕ × GridEntry)) (name : List ℕ) (c : Corners) 
 
   module _ (entry : GridEntry) (there : lookup (is_named name) grids ≡ Some entry) (kind : Kind) (is_kind : kind ≡ kind_of (grid_field entry.grid).background) where
     abbrev over : Bool
-    over = nat_lt (grid_limit entry.grid) (roots scalar_eq vdb (fill (box_between c) (record { value = scalar kind v; on = on }) (grid_field entry.grid)))
+    over = nat_lt (grid_root_limit entry.grid) (roots scalar_eq vdb (fill (box_between c) (record { value = scalar kind v; on = on }) (grid_field entry.grid)))
 
     -- what is said of the scene's grid is said of the one that was found
     refusal_is : refusal scene command ≡ first_of_all (tests (has_form kind v) (are_coords c) (has_value kind v) (is_box (box_between c)) over)
@@ -73,7 +73,7 @@ module _ (grids : List (List ℕ × GridEntry)) (name : List ℕ) (c : Corners) 
         (nat_lt g.limit (roots scalar_eq vdb (fill (box_between c) (record { value = scalar (kind_of g.field.background) v; on = on }) g.field)))))
         (grid_found scene name (grid_of entry) (found grids name entry there))
         ∙ ap (λ k. first_of_all (tests (has_form k v) (are_coords c) (has_value k v) (is_box (box_between c))
-        (nat_lt (grid_limit entry.grid) (roots scalar_eq vdb (fill (box_between c) (record { value = scalar k v; on = on }) (grid_field entry.grid))))))
+        (nat_lt (grid_root_limit entry.grid) (roots scalar_eq vdb (fill (box_between c) (record { value = scalar k v; on = on }) (grid_field entry.grid))))))
         (sym is_kind)
 
     -- a value that the kind doesn't have
@@ -94,16 +94,16 @@ module _ (grids : List (List ℕ × GridEntry)) (name : List ℕ) (c : Corners) 
         abbrev filled : Field Scalar
         filled = fill box (record { value = x; on = on }) (grid_field entry.grid)
 
-        over_is : over ≡ nat_lt (grid_limit entry.grid) (roots scalar_eq vdb filled)
+        over_is : over ≡ nat_lt (grid_root_limit entry.grid) (roots scalar_eq vdb filled)
         over_is =
-            ap (λ b. nat_lt (grid_limit entry.grid) (roots scalar_eq vdb (fill b (record { value = scalar kind v; on = on }) (grid_field entry.grid)))) (sym is_bounds)
-            ∙ ap (λ y. nat_lt (grid_limit entry.grid) (roots scalar_eq vdb (fill box (record { value = y; on = on }) (grid_field entry.grid)))) (sym is_x)
+            ap (λ b. nat_lt (grid_root_limit entry.grid) (roots scalar_eq vdb (fill b (record { value = scalar kind v; on = on }) (grid_field entry.grid)))) (sym is_bounds)
+            ∙ ap (λ y. nat_lt (grid_root_limit entry.grid) (roots scalar_eq vdb (fill box (record { value = y; on = on }) (grid_field entry.grid)))) (sym is_x)
 
-        accepted : roots scalar_eq vdb filled ≤ grid_limit entry.grid → refusal scene command ≡ None
+        accepted : roots scalar_eq vdb filled ≤ grid_root_limit entry.grid → refusal scene command ≡ None
         accepted few = refusal_is ∙ none_left _ _ _ _ over form placed value ordered (over_is ∙ le-ltb _ _ few)
 
         -- the box is filled
-        pub fill_done : roots scalar_eq vdb filled ≤ grid_limit entry.grid → next ≡ changed scene name (fill box (record { value = x; on = on })) → CarriesOut scene command (Ok Done) next
+        pub fill_done : roots scalar_eq vdb filled ≤ grid_root_limit entry.grid → next ≡ changed scene name (fill box (record { value = x; on = on })) → CarriesOut scene command (Ok Done) next
         fill_done few is = (
           accepted few,
           (replies.Done, refl, refl),
@@ -113,6 +113,6 @@ module _ (grids : List (List ℕ × GridEntry)) (name : List ℕ) (c : Corners) 
         )
 
         -- the grid's tree refuses it
-        pub fill_refused : (e : TreeRefusal) (after : Field Scalar) → IsOutcome scalar_eq vdb (grid_limit entry.grid) (grid_field entry.grid) filled after (Err e) → next ≡ scene → CarriesOut scene command (Err (of_tree e)) next
+        pub fill_refused : (e : TreeRefusal) (after : Field Scalar) → IsOutcome scalar_eq vdb (grid_root_limit entry.grid) (grid_field entry.grid) filled after (Err e) → next ≡ scene → CarriesOut scene command (Err (of_tree e)) next
         fill_refused RootLimit after h same = (refusal_is ∙ limit_left _ _ _ _ over form placed value ordered (over_is ∙ lt-ltb _ _ h.1), same)
         fill_refused Memory after h same = (accepted h.1, refl, same)

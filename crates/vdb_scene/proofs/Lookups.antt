@@ -7,8 +7,8 @@ use Rattle.vdb_value.specs.declared.Cell.{Cell}
 use Rattle.vdb_tree.specs.Field.{Field, as_field_of}
 use Rattle.vdb_tree.specs.Layout.{Layout, field_of}
 use Rattle.vdb_scene.specs.Doing.{CarriesOut}
-use Rattle.vdb_scene.specs.Grids.{HasSameTree, grid_field, grid_limit, grid_of, scene_over}
-use Rattle.vdb_scene.specs.Places.{is_accessor, is_coord, coord_of}
+use Rattle.vdb_scene.specs.Grids.{HasSameTree, grid_field, grid_root_limit, grid_of, scene_over}
+use Rattle.vdb_scene.specs.Arguments.{is_accessor, is_coord, coord_of}
 use Rattle.vdb_scene.specs.Replies.{Value}
 use Rattle.vdb_scene.specs.Scene.{field_at, is_named}
 use Rattle.vdb_scene.specs.declared.answer.Answer.TheVariants as answers
@@ -36,7 +36,7 @@ same_field (I32 g) (I64 h) e = absurd e
 same_field (I64 g) (Bool h) e = absurd e
 same_field (I64 g) (I32 h) e = absurd e
 
-pub same_limit : (g h : AnyGrid) → HasSameTree g h → grid_limit h ≡ grid_limit g
+pub same_limit : (g h : AnyGrid) → HasSameTree g h → grid_root_limit h ≡ grid_root_limit g
 same_limit (Bool g) (Bool h) e = ap (λ (t : Layout _). t.limit) e
 same_limit (I32 g) (I32 h) e = ap (λ (t : Layout _). t.limit) e
 same_limit (I64 g) (I64 h) e = ap (λ (t : Layout _). t.limit) e
@@ -53,9 +53,9 @@ module _ (grids : List (List ℕ × GridEntry)) (name : List ℕ) (k : Option Nu
   get_missing none same = (rw (missing grids name none) refl, ap scene_over same)
 
   module _ (entry : GridEntry) (there : lookup (is_named name) grids ≡ Some entry) where
-    -- a place that is no coordinate
-    pub get_place_refused : is_coord p ≡ false → scene_over after ≡ scene_over grids → CarriesOut (scene_over grids) (commands.Get name k p) (Err refusals.ValueRange) (scene_over after)
-    get_place_refused nowhere same = (rw (found grids name entry there, nowhere) refl, same)
+    -- a point that is no coordinate
+    pub get_coord_refused : is_coord p ≡ false → scene_over after ≡ scene_over grids → CarriesOut (scene_over grids) (commands.Get name k p) (Err refusals.ValueRange) (scene_over after)
+    get_coord_refused nowhere same = (rw (found grids name entry there, nowhere) refl, same)
 
     -- no such accessor
     pub get_accessor_refused : is_coord p ≡ true → is_accessor k ≡ false → scene_over after ≡ scene_over grids → CarriesOut (scene_over grids) (commands.Get name k p) (Err refusals.NoAccessor) (scene_over after)

@@ -6,7 +6,7 @@ use Rattle.vdb_scene.specs.Scalars.{kind_of}
 use Rattle.vdb_scene.specs.Scene.{Grid, Scene, field_at, grid_at, kind_at, new_grid, the_grid}
 use Rattle.vdb_scene.specs.declared.scalar.Scalar.{Scalar}
 use Rattle.vdb_scene.specs.declared.scalar.Scalar.TheVariants.{Bool as truth}
-use Rattle.vdb_scene.specs.Places.{is_accessor, is_coord}
+use Rattle.vdb_scene.specs.Arguments.{is_accessor, is_coord}
 use Rattle.vdb_scene.specs.Refusals.{first_of_all}
 use Rattle.vdb_scene.specs.Replies.{Refused}
 use Rattle.vdb_scene.specs.Step.{refusal}
@@ -59,14 +59,14 @@ kind_memory h = cc
 range_memory : refusals.ValueRange ≡ refusals.Memory → ⊥
 range_memory h = cc
 
--- a value that is refused by itself is refused beside a place
-pub value_first : (form value place : Bool) (rest : List (Option Refusal)) (r : Refusal)
+-- a value that is refused by itself is refused beside a point
+pub value_first : (form value point : Bool) (rest : List (Option Refusal)) (r : Refusal)
     → first_of_all (cond (not form) (Some refusals.Kind) None ∷ cond (not value) (Some refusals.ValueRange) None ∷ []) ≡ Some r
-    → (first_of_all (cond (not form) (Some refusals.Kind) None ∷ cond (not (place && value)) (Some refusals.ValueRange) None ∷ rest) ≡ Some r) × (r ≡ refusals.Memory → ⊥)
-value_first false value place rest r h = (h, λ e. kind_memory (some_exact _ _ h ∙ e))
+    → (first_of_all (cond (not form) (Some refusals.Kind) None ∷ cond (not (point && value)) (Some refusals.ValueRange) None ∷ rest) ≡ Some r) × (r ≡ refusals.Memory → ⊥)
+value_first false value point rest r h = (h, λ e. kind_memory (some_exact _ _ h ∙ e))
 value_first true false true rest r h = (h, λ e. range_memory (some_exact _ _ h ∙ e))
 value_first true false false rest r h = (h, λ e. range_memory (some_exact _ _ h ∙ e))
-value_first true true place rest r h = absurd (none_some r h)
+value_first true true point rest r h = absurd (none_some r h)
 
 box_memory : refusals.Box ≡ refusals.Memory → ⊥
 box_memory h = cc

@@ -8,7 +8,7 @@ use Rattle.vdb_tree.specs.declared.refusal.TreeRefusal.{TreeRefusal}
 use Rattle.vdb_tree.specs.declared.refusal.TreeRefusal.TheVariants.{Memory, RootLimit}
 use Rattle.vdb_scene.specs.Doing.{KeepsGrids, LeavesTrees, PutsAccessed, PutsGrid, changed_name, coords_by}
 use Rattle.vdb_scene.specs.Grids.{coords_after, grid_coords}
-use Rattle.vdb_scene.specs.Places.{accessor_of, coord_of}
+use Rattle.vdb_scene.specs.Arguments.{accessor_of, coord_of}
 use Rattle.vdb_scene.specs.Scene.{is_named}
 use Rattle.vdb_scene.specs.Refusals.{first_of_all, of_tree, other_form, out_of_range}
 use Rattle.vdb_scene.specs.Step.{write_command}

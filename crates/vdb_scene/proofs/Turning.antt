@@ -9,8 +9,8 @@ use Rattle.vdb_tree.specs.declared.refusal.TreeRefusal.{TreeRefusal}
 use Rattle.vdb_tree.specs.declared.refusal.TreeRefusal.TheVariants.{Memory, RootLimit}
 use Rattle.vdb_morph.specs.Growth.{IsGrowth}
 use Rattle.vdb_scene.specs.Doing.{CarriesOut}
-use Rattle.vdb_scene.specs.Grids.{grid_field, grid_limit, grid_of, scene_over}
-use Rattle.vdb_scene.specs.Places.{count_of, is_turn_count}
+use Rattle.vdb_scene.specs.Grids.{grid_field, grid_root_limit, grid_of, scene_over}
+use Rattle.vdb_scene.specs.Arguments.{count_of, is_turn_count}
 use Rattle.vdb_scene.specs.Refusals.{beyond_limit, first_of_all, of_tree, refused_if}
 use Rattle.vdb_scene.specs.Replies as replies
 use Rattle.vdb_scene.specs.Scalars.{scalar_eq}
@@ -51,7 +51,7 @@ within_limit : (b : Bool) → b ≡ false → first_of_all (refused_if b refusal
 within_limit b h = rw h refl
 
 module _ (grids after : List (List ℕ × GridEntry)) (name : List ℕ) (n : Num) (was : GridEntry) (grid : AnyGrid) (there : lookup (is_named name) grids ≡ Some was)
-    (back : after ≡ set_value (is_named name) grids (record was { grid = grid })) (limit : grid_limit grid ≡ grid_limit was.grid) (fits : is_turn_count n ≡ true) (k : ℕ) (is : count_of n ≡ k) where
+    (back : after ≡ set_value (is_named name) grids (record was { grid = grid })) (limit : grid_root_limit grid ≡ grid_root_limit was.grid) (fits : is_turn_count n ≡ true) (k : ℕ) (is : count_of n ≡ k) where
   abbrev scene : Scene
   scene = scene_over grids
 
@@ -67,24 +67,24 @@ module _ (grids after : List (List ℕ × GridEntry)) (name : List ℕ) (n : Num
   dilated = turns k dilate (grid_field was.grid)
 
   -- nothing but the root limit refuses a dilation
-  limit_left : refusal scene (commands.Dilate name n) ≡ first_of_all (beyond_limit (grid_limit was.grid) dilated ∷ [])
+  limit_left : refusal scene (commands.Dilate name n) ≡ first_of_all (beyond_limit (grid_root_limit was.grid) dilated ∷ [])
   limit_left = rw (found grids name was there, fits) (
       ap (λ (g : Grid). first_of_all (beyond_limit g.limit (turns (count_of n) dilate g.field) ∷ [])) (grid_found scene name (grid_of was) (found grids name was there))
-      ∙ ap (λ m. first_of_all (beyond_limit (grid_limit was.grid) (turns m dilate (grid_field was.grid)) ∷ [])) is)
+      ∙ ap (λ m. first_of_all (beyond_limit (grid_root_limit was.grid) (turns m dilate (grid_field was.grid)) ∷ [])) is)
 
-  pub dilate_done : (u : Unit {0}) → IsGrowth scalar_eq vdb (grid_limit was.grid) (grid_field was.grid) dilated (grid_field grid) (Ok u) → CarriesOut scene (commands.Dilate name n) (Ok Done) (scene_over after)
+  pub dilate_done : (u : Unit {0}) → IsGrowth scalar_eq vdb (grid_root_limit was.grid) (grid_field was.grid) dilated (grid_field grid) (Ok u) → CarriesOut scene (commands.Dilate name n) (Ok Done) (scene_over after)
   dilate_done u h = (limit_left ∙ within_limit _ (le-ltb _ _ h.1), (replies.Done, refl, refl), turned dilate h.0)
 
-  pub dilate_refused : (e : TreeRefusal) → IsGrowth scalar_eq vdb (grid_limit was.grid) (grid_field was.grid) dilated (grid_field grid) (Err e) → CarriesOut scene (commands.Dilate name n) (Err (of_tree e)) (scene_over after)
+  pub dilate_refused : (e : TreeRefusal) → IsGrowth scalar_eq vdb (grid_root_limit was.grid) (grid_field was.grid) dilated (grid_field grid) (Err e) → CarriesOut scene (commands.Dilate name n) (Err (of_tree e)) (scene_over after)
   dilate_refused RootLimit h = (limit_left ∙ over_limit _ (lt-ltb _ _ h.1), same_scene h.0)
   dilate_refused Memory h = (rw (found grids name was there, fits) refl, refl, same_scene h.0)
 
   abbrev pub eroded : Field Scalar
   eroded = turns k erode (grid_field was.grid)
 
-  pub erode_done : (u : Unit {0}) → IsOutcome scalar_eq vdb (grid_limit was.grid) (grid_field was.grid) eroded (grid_field grid) (Ok u) → CarriesOut scene (commands.Erode name n) (Ok Done) (scene_over after)
+  pub erode_done : (u : Unit {0}) → IsOutcome scalar_eq vdb (grid_root_limit was.grid) (grid_field was.grid) eroded (grid_field grid) (Ok u) → CarriesOut scene (commands.Erode name n) (Ok Done) (scene_over after)
   erode_done u h = (rw (found grids name was there, fits) refl, (replies.Done, refl, refl), turned erode h.0)
 
-  pub erode_refused : (e : TreeRefusal) → e ≡ Memory → IsOutcome scalar_eq vdb (grid_limit was.grid) (grid_field was.grid) eroded (grid_field grid) (Err e) → CarriesOut scene (commands.Erode name n) (Err (of_tree e)) (scene_over after)
+  pub erode_refused : (e : TreeRefusal) → e ≡ Memory → IsOutcome scalar_eq vdb (grid_root_limit was.grid) (grid_field was.grid) eroded (grid_field grid) (Err e) → CarriesOut scene (commands.Erode name n) (Err (of_tree e)) (scene_over after)
   erode_refused RootLimit is h = cc
   erode_refused Memory is h = (rw (found grids name was there, fits) refl, refl, same_scene h.0)

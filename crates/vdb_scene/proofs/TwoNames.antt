@@ -5,7 +5,7 @@ use Rattle.std.specs.Prelude.{nat_eq}
 use Rattle.std.specs.Map.{lookup, set_value}
 use Rattle.vdb_coord.specs.declared.Coord.{Coord}
 use Rattle.vdb_scene.specs.Doing.{CarriesOut, LeavesTrees, PutsGrid, PutsTree, changed_name, coords_by}
-use Rattle.vdb_scene.specs.Grids.{grid_coords, grid_field, grid_limit, grid_of, scene_over}
+use Rattle.vdb_scene.specs.Grids.{grid_coords, grid_field, grid_root_limit, grid_of, scene_over}
 use Rattle.vdb_scene.specs.Refusals.{first_of_all, no_grid, same_grid}
 use Rattle.vdb_scene.specs.Replies as replies
 use Rattle.vdb_scene.specs.Scene as abstract_scene
@@ -107,17 +107,17 @@ twice_refused s name other o h k e = ap first_of_all (tried_is s name other o) �
 
 module _ (grids after_grids : List (List ℕ × GridEntry)) (name other : List ℕ) (was given : GridEntry) (grid : AnyGrid) (o : Operation)
     (there : lookup (is_named name) grids ≡ Some was) (there_too : lookup (is_named other) grids ≡ Some given) (apart : is_named name other ≡ false)
-    (back : after_grids ≡ set_value (is_named name) grids (record was { grid = grid })) (limit : grid_limit grid ≡ grid_limit was.grid) where
+    (back : after_grids ≡ set_value (is_named name) grids (record was { grid = grid })) (limit : grid_root_limit grid ≡ grid_root_limit was.grid) where
   abbrev scene : abstract_scene.Scene
   scene = scene_over grids
 
-  refusal_is : refusal scene (command_of o name other) ≡ first_of_all (tried_of o (grid_limit was.grid) (grid_field was.grid) (grid_field given.grid))
+  refusal_is : refusal scene (command_of o name other) ≡ first_of_all (tried_of o (grid_root_limit was.grid) (grid_field was.grid) (grid_field given.grid))
   refusal_is = ap first_of_all (tried_is scene name other o) ∙ rw (found grids name was there, found grids other given there_too, apart) (
       ap (λ (x : abstract_scene.Grid). first_of_all (tried_of o x.limit x.field (field_at scene other))) (grid_found scene name (grid_of was) (found grids name was there))
-      ∙ ap (λ (x : abstract_scene.Grid). first_of_all (tried_of o (grid_limit was.grid) (grid_field was.grid) x.field)) (grid_found scene other (grid_of given) (found grids other given there_too)))
+      ∙ ap (λ (x : abstract_scene.Grid). first_of_all (tried_of o (grid_root_limit was.grid) (grid_field was.grid) x.field)) (grid_found scene other (grid_of given) (found grids other given there_too)))
 
   -- it is carried out
-  pub two_done : (u : Unit {0}) → IsMade o (grid_limit was.grid) (grid_field was.grid) (grid_field given.grid) (grid_field grid) (Ok u) → CarriesOut scene (command_of o name other) (Ok Done) (scene_over after_grids)
+  pub two_done : (u : Unit {0}) → IsMade o (grid_root_limit was.grid) (grid_field was.grid) (grid_field given.grid) (grid_field grid) (Ok u) → CarriesOut scene (command_of o name other) (Ok Done) (scene_over after_grids)
   two_done u h = (
     refusal_is ∙ h.0,
     (replies.Done, refl, done_is scene name other o),
@@ -130,7 +130,7 @@ module _ (grids after_grids : List (List ℕ × GridEntry)) (name other : List �
   same h = unchanged grids name after_grids was there grid back h limit
 
   -- it is refused
-  pub two_refused : (r : Refusal) → IsMade o (grid_limit was.grid) (grid_field was.grid) (grid_field given.grid) (grid_field grid) (Err r) → CarriesOut scene (command_of o name other) (Err r) (scene_over after_grids)
+  pub two_refused : (r : Refusal) → IsMade o (grid_root_limit was.grid) (grid_field was.grid) (grid_field given.grid) (grid_field grid) (Err r) → CarriesOut scene (command_of o name other) (Err r) (scene_over after_grids)
   two_refused refusals.Memory h = (first_is scene name other o ∙ refusal_is ∙ h.0, may_take scene name other o, same h.1)
   two_refused r h = (refusal_is ∙ h.0, same h.1)
 

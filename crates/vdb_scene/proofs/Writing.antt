@@ -13,11 +13,11 @@ use Rattle.vdb_tree.specs.declared.Write.TheVariants as writes
 use Rattle.vdb_tree.specs.declared.refusal.TreeRefusal.{TreeRefusal}
 use Rattle.vdb_tree.specs.declared.refusal.TreeRefusal.TheVariants.{Memory, RootLimit}
 use Rattle.vdb_scene.specs.Doing.{CarriesOut}
-use Rattle.vdb_scene.specs.Grids.{grid_field, grid_limit, grid_of, scene_over}
+use Rattle.vdb_scene.specs.Grids.{grid_field, grid_root_limit, grid_of, scene_over}
 use Rattle.vdb_scene.specs.Scalars.{has_form, has_value, kind_of, scalar, scalar_eq}
 use Rattle.vdb_scene.specs.Scene.{Grid, Scene, field_at, grid_at, is_named, kind_at, limit_at}
 use Rattle.vdb_scene.specs.Replies as replies
-use Rattle.vdb_scene.specs.Places.{is_accessor, is_coord, coord_of}
+use Rattle.vdb_scene.specs.Arguments.{is_accessor, is_coord, coord_of}
 use Rattle.vdb_scene.specs.Refusals.{first_of_all, of_tree, other_form, out_of_range, refused_if}
 use Rattle.vdb_scene.specs.Step.{IsReply, after, after_write, changed, first_refusal, line_takes_memory, passes, refusal, takes_memory, tried_write, write_at, write_command, write_takes_memory}
 use Rattle.vdb_scene.specs.declared.grid_entry.GridEntry.{GridEntry}
@@ -156,9 +156,9 @@ module _ (grids : List (List ℕ × GridEntry)) (name : List ℕ) (k : Option Nu
       value_here : passes (has_value (kind_at scene name)) w ≡ true
       value_here = subst (λ h. passes (has_value h) w ≡ true) kind_here value
 
-      -- a place that is no coordinate
-      pub write_place_refused : is_coord p ≡ false → next ≡ scene → CarriesOut scene command (Err refusals.ValueRange) next
-      write_place_refused nowhere same =
+      -- a point that is no coordinate
+      pub write_coord_refused : is_coord p ≡ false → next ≡ scene → CarriesOut scene command (Err refusals.ValueRange) next
+      write_coord_refused nowhere same =
           (tried_for scene name k p w ∙ first_range absent fits in_range (is_accessor k) over is_there fits_here (first_fails (is_coord p) _ nowhere), same)
 
       -- no such accessor
@@ -171,11 +171,11 @@ module _ (grids : List (List ℕ × GridEntry)) (name : List ℕ) (k : Option Nu
         change_here = ap (λ h. as_write_of (scalar h) w) (sym kind_here) ∙ sym is_change
 
         -- what is said of the scene's grid is said of the one that was found
-        over_is : over ≡ nat_lt (grid_limit entry.grid) (roots scalar_eq vdb (write q change (grid_field entry.grid)))
+        over_is : over ≡ nat_lt (grid_root_limit entry.grid) (roots scalar_eq vdb (write q change (grid_field entry.grid)))
         over_is =
             ap (λ (g : Grid). nat_lt g.limit (roots scalar_eq vdb (write (coord_of p) (write_at scene name w) g.field))) (grid_found scene name (grid_of entry) (found grids name entry there))
-            ∙ ap (λ r. nat_lt (grid_limit entry.grid) (roots scalar_eq vdb (write r (write_at scene name w) (grid_field entry.grid)))) is_q
-            ∙ ap (λ c. nat_lt (grid_limit entry.grid) (roots scalar_eq vdb (write q c (grid_field entry.grid)))) change_here
+            ∙ ap (λ r. nat_lt (grid_root_limit entry.grid) (roots scalar_eq vdb (write r (write_at scene name w) (grid_field entry.grid)))) is_q
+            ∙ ap (λ c. nat_lt (grid_root_limit entry.grid) (roots scalar_eq vdb (write q c (grid_field entry.grid)))) change_here
 
         memory_is : takes_memory scene command ≡ write_takes_memory (grid_field entry.grid) q change
         memory_is =
@@ -184,13 +184,13 @@ module _ (grids : List (List ℕ × GridEntry)) (name : List ℕ) (k : Option Nu
             ∙ ap (λ r. write_takes_memory (grid_field entry.grid) r (write_at scene name w)) is_q
             ∙ ap (λ c. write_takes_memory (grid_field entry.grid) q c) change_here
 
-        accepted : roots scalar_eq vdb (write q change (grid_field entry.grid)) ≤ grid_limit entry.grid → refusal scene command ≡ None
+        accepted : roots scalar_eq vdb (write q change (grid_field entry.grid)) ≤ grid_root_limit entry.grid → refusal scene command ≡ None
         accepted few =
             tried_for scene name k p w
             ∙ first_none absent fits in_range (is_accessor k) over is_there fits_here (both (is_coord p) _ at value_here) accessor (over_is ∙ le-ltb _ _ few)
 
         -- the voxel is written
-        pub write_done : roots scalar_eq vdb (write q change (grid_field entry.grid)) ≤ grid_limit entry.grid → next ≡ changed scene name (write q change) → CarriesOut scene command (Ok Done) next
+        pub write_done : roots scalar_eq vdb (write q change (grid_field entry.grid)) ≤ grid_root_limit entry.grid → next ≡ changed scene name (write q change) → CarriesOut scene command (Ok Done) next
         write_done few is = (
           accepted few,
           (replies.Done, refl, answer_for scene name k p w),
@@ -198,7 +198,7 @@ module _ (grids : List (List ℕ × GridEntry)) (name : List ℕ) (k : Option Nu
         )
 
         -- the grid's tree refuses it
-        pub write_refused : (e : TreeRefusal) (after : Field Scalar) → IsOutcome scalar_eq vdb (grid_limit entry.grid) (grid_field entry.grid) (write q change (grid_field entry.grid)) after (Err e)
+        pub write_refused : (e : TreeRefusal) (after : Field Scalar) → IsOutcome scalar_eq vdb (grid_root_limit entry.grid) (grid_field entry.grid) (write q change (grid_field entry.grid)) after (Err e)
             → (write_takes_memory (grid_field entry.grid) q change ≡ false → IsOk {T = Unit {0}} (Err e)) → next ≡ scene → CarriesOut scene command (Err (of_tree e)) next
         write_refused RootLimit after h free same = (
           tried_for scene name k p w

@@ -10,7 +10,7 @@ use Rattle.vdb_scene.specs.Scene as abstract_scene
 use Rattle.vdb_scene.specs.Scene.{is_named}
 use Rattle.vdb_scene.specs.Shown.{Shows}
 use Rattle.vdb_scene.specs.Metas.{Pairs}
-use Rattle.vdb_scene.specs.Places.{accessor_of, box_between, coord_of}
+use Rattle.vdb_scene.specs.Arguments.{accessor_of, box_between, coord_of}
 use Rattle.vdb_scene.specs.Replies.{Reply}
 use Rattle.vdb_scene.specs.Step.{IsReply, Step, after, first_refusal, refusal, takes_memory}
 use Rattle.vdb_scene.specs.declared.grid_entry.GridEntry.{GridEntry}

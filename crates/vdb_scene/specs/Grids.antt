@@ -27,10 +27,10 @@ grid_field (I32 g) = as_field_of scalars.I32 (field_of vdb g.tree)
 grid_field (I64 g) = as_field_of scalars.I64 (field_of vdb g.tree)
 
 -- how many of its root blocks may hold anything but the background
-abbrev pub grid_limit : AnyGrid → ℕ
-grid_limit (Bool g) = g.tree.limit
-grid_limit (I32 g) = g.tree.limit
-grid_limit (I64 g) = g.tree.limit
+abbrev pub grid_root_limit : AnyGrid → ℕ
+grid_root_limit (Bool g) = g.tree.limit
+grid_root_limit (I32 g) = g.tree.limit
+grid_root_limit (I64 g) = g.tree.limit
 
 -- its tree has no entry and no node that its field doesn't make it have
 abbrev pub IsPruned : AnyGrid → Type 0
@@ -71,15 +71,15 @@ IsCopyOf g h = ⊥
 
 -- what an entry of a scene is in the abstract scene
 abbrev pub grid_of : GridEntry → abstract_scene.Grid
-grid_of e = record { field = grid_field e.grid; limit = grid_limit e.grid; pairs = e.metas }
+grid_of e = record { field = grid_field e.grid; limit = grid_root_limit e.grid; pairs = e.metas }
 
 -- what a grid is there without metadata
 abbrev pub grid_alone : AnyGrid → abstract_scene.Grid
-grid_alone g = record { field = grid_field g; limit = grid_limit g; pairs = [] }
+grid_alone g = record { field = grid_field g; limit = grid_root_limit g; pairs = [] }
 
 -- what it is there with these pairs
 abbrev pub grid_with : AnyGrid → Pairs → abstract_scene.Grid
-grid_with g pairs = record { field = grid_field g; limit = grid_limit g; pairs = pairs }
+grid_with g pairs = record { field = grid_field g; limit = grid_root_limit g; pairs = pairs }
 
 -- the abstract scene of these entries
 abbrev pub scene_over : List (List ℕ × GridEntry) → abstract_scene.Scene

@@ -3,7 +3,7 @@ pub mod Names
 pub mod Metas
 pub mod Scalars
 pub mod Scene
-pub mod Places
+pub mod Arguments
 pub mod Replies
 pub mod Refusals
 pub mod TwoGrids

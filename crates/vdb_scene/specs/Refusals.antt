@@ -8,7 +8,7 @@ use Rattle.vdb_tree.specs.ConstantBlocks.{roots}
 use Rattle.vdb_tree.specs.declared.refusal.TreeRefusal.{TreeRefusal}
 use Rattle.vdb_tree.specs.declared.refusal.TreeRefusal.TheVariants.{Memory, RootLimit}
 use Rattle.vdb_scene.specs.Metas.{may_set}
-use Rattle.vdb_scene.specs.Places.{are_coords, box_between, is_accessor}
+use Rattle.vdb_scene.specs.Arguments.{are_coords, box_between, is_accessor}
 use Rattle.vdb_scene.specs.Scalars.{kind_eq, kind_of, scalar_eq, scalar_sum}
 use Rattle.vdb_scene.specs.Scene.{Scene, field_at, grid_at, is_named, limit_at, pairs_at}
 use Rattle.vdb_scene.specs.declared.answer.Refusal.{Refusal}

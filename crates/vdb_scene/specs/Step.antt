@@ -11,7 +11,7 @@ use Rattle.vdb_tree.specs.Field.{Field, as_write_of, clip, dilate, erode, fill, 
 use Rattle.vdb_tree.specs.ConstantBlocks.{cell_eq, count, is_constant}
 use Rattle.vdb_walk.specs.Reports.{IsActiveBounds, active, census}
 use Rattle.vdb_scene.specs.Metas.{Pairs, has_pair, with_pair, without_pair}
-use Rattle.vdb_scene.specs.Places.{are_coords, box_between, count_of, flat, is_limit, is_coord, is_root_limit, is_turn_count, coord_of, region, root_limit_of}
+use Rattle.vdb_scene.specs.Arguments.{are_coords, box_between, count_of, flat, is_limit, is_coord, is_root_limit, is_turn_count, coord_of, region, root_limit_of}
 use Rattle.vdb_scene.specs.Refusals.{first_of_all, meta_limit, too_many_grids, name_taken, no_accessor, no_box, no_grid, other_form, out_of_range, root_limit, same_grid, too_large, too_wide, tried_region}
 use Rattle.vdb_scene.specs.Replies.{Bounds, Census, Count, Done, Pairs as PairsReply, Refused, Reply, Slice, Value, listing, rows}
 use Rattle.vdb_scene.specs.Scalars.{has_form, has_value, scalar, scalar_eq}

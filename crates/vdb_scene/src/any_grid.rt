@@ -10,7 +10,7 @@ ghost use Rattle.vdb_tree.specs.declared.refusal.TreeRefusal.TheVariants.{Memory
 ghost use Rattle.vdb_morph.specs.Growth.{IsGrowth};
 ghost use Rattle.vdb_walk.specs.Reports.{IsActiveBounds, census as census_of};
 ghost use Rattle.vdb_scene.specs.Scalars.{is_of, kind_of, scalar_eq};
-ghost use Rattle.vdb_scene.specs.Grids.{HasSameTree, IsCopyOf, IsPruned, IsVoxelised, coords_after, grid_coords, grid_field, grid_limit};
+ghost use Rattle.vdb_scene.specs.Grids.{HasSameTree, IsCopyOf, IsPruned, IsVoxelised, coords_after, grid_coords, grid_field, grid_root_limit};
 ghost use Rattle.vdb_scene.specs.Step.{passes, write_takes_memory};
 ghost use Rattle.vdb_scene.specs.TwoGrids.{IsMade, StaysBut};
 
@@ -40,7 +40,7 @@ impl AnyGrid {
     /// the background, inactive. It takes no memory.
     pub fn new(alloc: Global, background: Scalar, limit: u32) -> AnyGrid
         ensures field { grid_field result ≡ new background }
-        ensures limit { grid_limit result ≡ limit }
+        ensures limit { grid_root_limit result ≡ limit }
     {
         match background {
             Scalar::Bool(value) => AnyGrid::Bool(Grid::new(alloc, value, limit)),
@@ -100,8 +100,8 @@ impl AnyGrid {
     ) -> Result<(), TreeRefusal>
         requires kind { IsTrue (passes (is_of (kind_of (grid_field self.old).background)) change) }
         requires within { (k : ℕ) → accessor ≡ Some k → k < ACCESSORS }
-        ensures outcome { IsOutcome scalar_eq vdb (grid_limit self.old) (grid_field self.old) (write at change (grid_field self.old)) (grid_field self.new) result }
-        ensures limit { grid_limit self.new ≡ grid_limit self.old }
+        ensures outcome { IsOutcome scalar_eq vdb (grid_root_limit self.old) (grid_field self.old) (write at change (grid_field self.old)) (grid_field self.new) result }
+        ensures limit { grid_root_limit self.new ≡ grid_root_limit self.old }
         ensures last { grid_coords self.new ≡ coords_after accessor at (grid_coords self.old) }
         ensures memory { write_takes_memory (grid_field self.old) at change ≡ false → IsOk result }
     {
@@ -121,8 +121,8 @@ impl AnyGrid {
         steps: &mut Steps,
     ) -> Result<(), TreeRefusal>
         requires { IsTrue (is_of (kind_of (grid_field self.old).background) cell.value) }
-        ensures outcome { IsOutcome scalar_eq vdb (grid_limit self.old) (grid_field self.old) (filled bounds cell (grid_field self.old)) (grid_field self.new) result }
-        ensures limit { grid_limit self.new ≡ grid_limit self.old }
+        ensures outcome { IsOutcome scalar_eq vdb (grid_root_limit self.old) (grid_field self.old) (filled bounds cell (grid_field self.old)) (grid_field self.new) result }
+        ensures limit { grid_root_limit self.new ≡ grid_root_limit self.old }
         ensures last { grid_coords self.new ≡ grid_coords self.old }
     {
         match self {
@@ -135,8 +135,8 @@ impl AnyGrid {
     /// Makes each coordinate outside a box the background, inactive. `Memory` says that a growth was refused, and leaves every
     /// cell as it was.
     pub fn clip(&mut self, bounds: Bounds, steps: &mut Steps) -> Result<(), TreeRefusal>
-        ensures outcome { IsOutcome scalar_eq vdb (grid_limit self.old) (grid_field self.old) (clipped bounds (grid_field self.old)) (grid_field self.new) result }
-        ensures limit { grid_limit self.new ≡ grid_limit self.old }
+        ensures outcome { IsOutcome scalar_eq vdb (grid_root_limit self.old) (grid_field self.old) (clipped bounds (grid_field self.old)) (grid_field self.new) result }
+        ensures limit { grid_root_limit self.new ≡ grid_root_limit self.old }
         ensures last { grid_coords self.new ≡ grid_coords self.old }
         ensures memory { IfErr result (λ refusal. refusal ≡ Memory) }
     {
@@ -153,8 +153,8 @@ impl AnyGrid {
     pub fn dilate(&mut self, turns: u32, steps: &mut Steps) -> Result<(), TreeRefusal>
         requires some { 1 ≤ turns }
         requires few { turns ≤ 16 }
-        ensures outcome { IsGrowth scalar_eq vdb (grid_limit self.old) (grid_field self.old) (turned turns dilation (grid_field self.old)) (grid_field self.new) result }
-        ensures limit { grid_limit self.new ≡ grid_limit self.old }
+        ensures outcome { IsGrowth scalar_eq vdb (grid_root_limit self.old) (grid_field self.old) (turned turns dilation (grid_field self.old)) (grid_field self.new) result }
+        ensures limit { grid_root_limit self.new ≡ grid_root_limit self.old }
         ensures last { grid_coords self.new ≡ grid_coords self.old }
     {
         match self {
@@ -169,8 +169,8 @@ impl AnyGrid {
     pub fn erode(&mut self, turns: u32, steps: &mut Steps) -> Result<(), TreeRefusal>
         requires some { 1 ≤ turns }
         requires few { turns ≤ 16 }
-        ensures outcome { IsOutcome scalar_eq vdb (grid_limit self.old) (grid_field self.old) (turned turns erosion (grid_field self.old)) (grid_field self.new) result }
-        ensures limit { grid_limit self.new ≡ grid_limit self.old }
+        ensures outcome { IsOutcome scalar_eq vdb (grid_root_limit self.old) (grid_field self.old) (turned turns erosion (grid_field self.old)) (grid_field self.new) result }
+        ensures limit { grid_root_limit self.new ≡ grid_root_limit self.old }
         ensures last { grid_coords self.new ≡ grid_coords self.old }
         ensures memory { IfErr result (λ refusal. refusal ≡ Memory) }
     {
@@ -192,8 +192,8 @@ impl AnyGrid {
         steps: &mut Steps,
     ) -> Result<(), Refusal>
         ensures kept { IfErr result (λ refusal. StaysBut refusal self.old self.new) }
-        ensures outcome { IsMade operation (grid_limit self.old) (grid_field self.old) (grid_field other.now) (grid_field self.new) result }
-        ensures limit { grid_limit self.new ≡ grid_limit self.old }
+        ensures outcome { IsMade operation (grid_root_limit self.old) (grid_field self.old) (grid_field other.now) (grid_field self.new) result }
+        ensures limit { grid_root_limit self.new ≡ grid_root_limit self.old }
         ensures last { grid_coords self.new ≡ grid_coords self.old }
     {
         match self {
@@ -240,7 +240,7 @@ impl AnyGrid {
     /// Makes the tree as small as its field allows. No cell changes, and it takes no memory.
     pub fn prune(&mut self, steps: &mut Steps)
         ensures field { grid_field self.new ≡ grid_field self.old }
-        ensures limit { grid_limit self.new ≡ grid_limit self.old }
+        ensures limit { grid_root_limit self.new ≡ grid_root_limit self.old }
         ensures last { grid_coords self.new ≡ grid_coords self.old }
         ensures least { IsPruned self.new }
     {
@@ -256,7 +256,7 @@ impl AnyGrid {
     pub fn try_copy(&self) -> Result<AnyGrid, TreeRefusal>
         ensures same { IfOk result (λ copy. IsCopyOf self.now copy) }
         ensures field { IfOk result (λ copy. grid_field copy ≡ grid_field self.now) }
-        ensures limit { IfOk result (λ copy. grid_limit copy ≡ grid_limit self.now) }
+        ensures limit { IfOk result (λ copy. grid_root_limit copy ≡ grid_root_limit self.now) }
         ensures memory { IfErr result (λ refusal. refusal ≡ Memory) }
     {
         match self {
@@ -269,7 +269,7 @@ impl AnyGrid {
     /// Makes each active voxel of a box lie in a leaf. No cell changes. `Memory` says that a growth was refused.
     pub fn voxelise(&mut self, bounds: Bounds, steps: &mut Steps) -> Result<(), TreeRefusal>
         ensures field { grid_field self.new ≡ grid_field self.old }
-        ensures limit { grid_limit self.new ≡ grid_limit self.old }
+        ensures limit { grid_root_limit self.new ≡ grid_root_limit self.old }
         ensures last { grid_coords self.new ≡ grid_coords self.old }
         ensures leaves { OnOk result (IsVoxelised self.new bounds) }
         ensures memory { IfErr result (λ refusal. refusal ≡ Memory) }

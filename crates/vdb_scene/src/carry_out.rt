@@ -12,8 +12,8 @@ ghost use Rattle.vdb_scene.specs.Step.{passes, write_command};
 ghost use Rattle.vdb_tree.specs.Field.{as_write_of};
 ghost use Rattle.vdb_scene.specs.declared.command.Command.TheVariants as commands;
 
-use crate::places::{
-    bounds_of, component_of, flat, is_wide, limit_of, named_accessor, place_of, root_limit_of,
+use crate::arguments::{
+    bounds_of, component_of, flat, is_wide, limit_of, named_accessor, named_coord, root_limit_of,
 };
 use crate::two_grids::{Composite, Operation};
 use crate::{
@@ -143,7 +143,7 @@ impl Scene {
         let Some(entry) = self.grids.get_mut(name) else {
             return Err(Refusal::NoGrid);
         };
-        let Some(at) = place_of(at) else {
+        let Some(at) = named_coord(at) else {
             return Err(Refusal::ValueRange);
         };
         let accessor = named_accessor(accessor)?;
@@ -167,7 +167,7 @@ impl Scene {
             return Err(Refusal::NoGrid);
         };
         let change = write_of(entry.grid.kind(), change)?;
-        let Some(at) = place_of(at) else {
+        let Some(at) = named_coord(at) else {
             return Err(Refusal::ValueRange);
         };
         let accessor = named_accessor(accessor)?;

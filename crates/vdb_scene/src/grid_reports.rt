@@ -3,7 +3,7 @@ ghost use Rattle.vdb_scene.specs.Doing.{CarriesOut};
 ghost use Rattle.vdb_scene.specs.Grids.{scene_of};
 ghost use Rattle.vdb_scene.specs.declared.command.Command.TheVariants as commands;
 
-use crate::places::bounds_of;
+use crate::arguments::bounds_of;
 use crate::{Answer, Corners, Name, Refusal, Scene};
 use vdb_pool::Steps;
 

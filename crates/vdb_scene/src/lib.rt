@@ -3,6 +3,7 @@
 
 mod answer;
 mod any_grid;
+mod arguments;
 mod carry_out;
 mod command;
 mod grid_entry;
@@ -13,7 +14,6 @@ mod grid_tree;
 mod meta_text;
 mod metas;
 mod name;
-mod places;
 mod reader;
 mod scalar;
 mod scene;

@@ -6,7 +6,7 @@ ghost use Rattle.std.specs.Map.{lookup};
 ghost use Rattle.std.specs.Option.{option_map};
 ghost use Rattle.std.specs.Ordering.{nat_cmp};
 ghost use Rattle.vdb_scene.specs.Doing.{AddsGrid, KeepsGrids};
-ghost use Rattle.vdb_scene.specs.Grids.{grid_alone, grid_field, grid_limit, grid_of, grid_with, scene_of};
+ghost use Rattle.vdb_scene.specs.Grids.{grid_alone, grid_field, grid_root_limit, grid_of, grid_with, scene_of};
 ghost use Rattle.vdb_scene.specs.Scene.{grid_at, is_named, with_grid};
 ghost use Rattle.vdb_scene.specs.Step.{Inserts};
 
@@ -47,7 +47,7 @@ impl Scene {
     pub fn get(&self, name: &Name) -> Option<&AnyGrid>
         ensures grid { option_map (λ grid. grid.now) result ≡ option_map (λ e. e.grid) (lookup (is_named name.now) self.now.grids.entries) }
         ensures field { option_map (λ grid. grid_field grid.now) result ≡ option_map (λ g. g.field) (grid_at (scene_of self.now) name.now) }
-        ensures limit { option_map (λ grid. grid_limit grid.now) result ≡ option_map (λ g. g.limit) (grid_at (scene_of self.now) name.now) }
+        ensures limit { option_map (λ grid. grid_root_limit grid.now) result ≡ option_map (λ g. g.limit) (grid_at (scene_of self.now) name.now) }
     {
         match self.entry(name) {
             Some(entry) => Some(&entry.grid),

@@ -3,7 +3,7 @@
 ghost use Rattle.std.specs.Prelude.{◌≡◌, ◌≤◌, if◌then◌else◌, IfSome, None, Some};
 ghost use Rattle.vdb_scene.specs.Doing.{CarriesOut, LeavesTrees, answer_of};
 ghost use Rattle.vdb_scene.specs.Grids.{scene_of};
-ghost use Rattle.vdb_scene.specs.Places.{count_of, is_turn_count};
+ghost use Rattle.vdb_scene.specs.Arguments.{count_of, is_turn_count};
 ghost use Rattle.vdb_scene.specs.declared.command.Command.TheVariants as commands;
 
 use crate::{Answer, Name, Num, Refusal, Scene};

@@ -3,7 +3,7 @@
 ghost use Rattle.std.specs.Map.{lookup, set_value};
 ghost use Rattle.std.specs.Prelude.{◌≡◌, IfErr, IsSome, Some};
 ghost use Rattle.vdb_scene.specs.Doing.{CarriesOut, LeavesTrees, answer_of};
-ghost use Rattle.vdb_scene.specs.Grids.{grid_coords, grid_field, grid_limit, scene_of};
+ghost use Rattle.vdb_scene.specs.Grids.{grid_coords, grid_field, grid_root_limit, scene_of};
 ghost use Rattle.vdb_scene.specs.Scene.{is_named};
 ghost use Rattle.vdb_scene.specs.TwoGrids.{IsMade, StaysBut, command_of};
 ghost use Rattle.vdb_scene.specs.declared.any_grid.AnyGrid.{AnyGrid};
@@ -71,7 +71,7 @@ impl Scene {
         requires apart { name.now ≡ other.now → ⊥ }
         ensures grids { (was : GridEntry) × (given : GridEntry) × (grid : AnyGrid) × (lookup (is_named name.now) self.old.grids.entries ≡ Some was) × (lookup (is_named other.now) self.old.grids.entries ≡ Some given)
             × (self.new.grids.entries ≡ set_value (is_named name.now) self.old.grids.entries (record was { grid = grid }))
-            × (grid_limit grid ≡ grid_limit was.grid) × (grid_coords grid ≡ grid_coords was.grid) × IsMade operation (grid_limit was.grid) (grid_field was.grid) (grid_field given.grid) (grid_field grid) result
+            × (grid_root_limit grid ≡ grid_root_limit was.grid) × (grid_coords grid ≡ grid_coords was.grid) × IsMade operation (grid_root_limit was.grid) (grid_field was.grid) (grid_field given.grid) (grid_field grid) result
             × IfErr result (λ refusal. StaysBut refusal was.grid grid) }
     {
         let mut entry = self.lend(name);

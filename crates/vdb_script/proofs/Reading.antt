@@ -96,7 +96,7 @@ split_at bytes n h passes =
 pub KeepsText-long : (text line bytes : List ℕ) → KeepsText false text line → KeepsText false text (line ++ bytes)
 KeepsText-long text line bytes h = omega (arith, length-append line bytes)
 
--- a line that fits takes more bytes where there is room
-pub KeepsText-more : (room : Bool) (text line bytes : List ℕ) → KeepsText true text line → IsTrue room ↔ (length text + length bytes ≤ 256) → KeepsText room (if room then text ++ bytes else text) (line ++ bytes)
+-- a line that fits takes more bytes where there is capacity
+pub KeepsText-more : (capacity : Bool) (text line bytes : List ℕ) → KeepsText true text line → IsTrue capacity ↔ (length text + length bytes ≤ 256) → KeepsText capacity (if capacity then text ++ bytes else text) (line ++ bytes)
 KeepsText-more true text line bytes h r = (ap (λ l. l ++ bytes) h.0, let q : length text + length bytes ≤ 256 = search rules in omega (arith, length-append line bytes, ap length h.0))
 KeepsText-more false text line bytes h r = let q : length text + length bytes ≤ 256 → ⊥ = search rules in omega (arith, length-append line bytes, ap length h.0)

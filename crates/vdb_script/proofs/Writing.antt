@@ -41,10 +41,10 @@ module _ {A : Type 0} (f : A → List ℕ) (parts : List A) (i : ℕ) (d : A) (c
       let g = get_or-map f parts i d [] h in
       rw (add-one, so_far, ← g) (sym e)
 
-  -- there is room for it
+  -- there is capacity for it
   pub composed-fits : (limit : ℕ) → length (line (map f parts)) ≤ limit → length ((if i == 0 then composed else composed ++ 32 ∷ []) ++ f (get_or parts i d)) ≤ limit
-  composed-fits limit room =
-      rw composed-more (omega (arith, join-first 32 (map f parts) (i + 1), length-append (join_with_byte 32 (map f parts)) (10 ∷ []), room))
+  composed-fits limit capacity =
+      rw composed-more (omega (arith, join-first 32 (map f parts) (i + 1), length-append (join_with_byte 32 (map f parts)) (10 ∷ []), capacity))
 
 -- ---- bytes that are taken in several calls
 

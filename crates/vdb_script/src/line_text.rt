@@ -49,9 +49,9 @@ impl LineText {
         self.len = 0;
     }
 
-    /// Adds bytes where there is room for all of them, and answers whether there was. The text stays where there is not.
+    /// Adds bytes where there is capacity for all of them, and answers whether there was. The text stays where there is not.
     pub fn extend(&mut self, bytes: &[u8]) -> bool
-        ensures room { IsTrue result ↔ (length self.old + length bytes.now ≤ LINE_LIMIT) }
+        ensures capacity { IsTrue result ↔ (length self.old + length bytes.now ≤ LINE_LIMIT) }
         ensures text { self.new ≡ (if result then self.old ++ bytes.now else self.old) }
     {
         if bytes.len() > LINE_LIMIT - self.len {

@@ -37,7 +37,7 @@ pub(crate) fn write_bytes<W: Write>(writer: &mut Watched<W>, bytes: &[u8]) -> Re
     Ok(())
 }
 
-/// Puts a part of at most a page behind what is composed. Where it has no room there, what is composed is written first.
+/// Puts a part of at most a page behind what is composed. Where it has no capacity there, what is composed is written first.
 pub(crate) fn add<W: Write>(
     page: &mut Page,
     part: &[u8],

@@ -74,7 +74,7 @@ fn state_word(on: bool) -> &'static [u8]
 
 /// Adds a part of a line, behind a space unless it is the first.
 fn add_part(composed: &mut ArrayVec<u8, ANSWER_LIMIT>, is_first: bool, part: &[u8])
-    requires room { length ((if is_first then composed.old.items else composed.old.items ++ 32 ∷ [])
+    requires capacity { length ((if is_first then composed.old.items else composed.old.items ++ 32 ∷ [])
         ++ part.now) ≤ ANSWER_LIMIT }
     ensures { composed.new.items ≡
         (if is_first then composed.old.items else composed.old.items ++ 32 ∷ []) ++ part.now }
@@ -87,7 +87,7 @@ fn add_part(composed: &mut ArrayVec<u8, ANSWER_LIMIT>, is_first: bool, part: &[u
 
 /// A line: its parts with a space between each two, and a newline.
 pub(crate) fn compose(parts: &[&[u8]]) -> ArrayVec<u8, ANSWER_LIMIT>
-    requires room { length (line (map (λ part. part.now) parts.now)) ≤ ANSWER_LIMIT }
+    requires capacity { length (line (map (λ part. part.now) parts.now)) ≤ ANSWER_LIMIT }
     ensures { result.items ≡ line (map (λ part. part.now) parts.now) }
 {
     let mut composed = ArrayVec::new();

@@ -15,7 +15,7 @@ use Rattle.vdb_coord.proofs.CountBounds.{count_at_least, member_passing}
 use Rattle.vdb_coord.proofs.InRange.{block_in_range}
 use Rattle.vdb_coord.proofs.Members.{coord_equiv, coord_exact}
 use Rattle.vdb_coord.proofs.Nesting.{inside_numbered, leaf_from_lower, lower_from_leaf, lower_from_upper, number_in_block, upper_from_lower}
-use Rattle.vdb_coord.proofs.Places.{offset_below}
+use Rattle.vdb_coord.proofs.Positions.{offset_below}
 use Rattle.vdb_node.specs.declared.Entry.TheVariants.{Tile}
 use Rattle.vdb_value.specs.declared.Cell.{Cell}
 use Rattle.vdb_tree.specs.internal.Active.{HasActive, IsInactive, IsInactiveAt, IsInactiveFrom}

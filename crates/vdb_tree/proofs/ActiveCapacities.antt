@@ -51,25 +51,25 @@ module _ {V X : Type 0} (eq : V → V → Bool) (exact : (x y : V) → eq x y �
 
   -- a table with capacity keeps to the limit
   pub unite_within : HasCapacityForActive bits u t → roots eq bits united ≤ t.limit
-  unite_within room =
-      let a = roots_at_most eq bits united room.keys each in
-      let b = room.few in
+  unite_within capacity =
+      let a = roots_at_most eq bits united capacity.keys each in
+      let b = capacity.few in
       omega (arith, a, b)
     where
-      still : (k : Coord) → is_member coord_eq room.keys k ≡ false → (q : Coord) → IsTrue (is_inside everywhere q) → block_number bits Upper q ≡ k → united.cell q ≡ background_cell t
+      still : (k : Coord) → is_member coord_eq capacity.keys k ≡ false → (q : Coord) → IsTrue (is_inside everywhere q) → block_number bits Upper q ≡ k → united.cell q ≡ background_cell t
       still k out q range at =
-          let unlisted : is_member coord_eq room.keys (key bits q) ≡ false = subst (λ (n : Coord). is_member coord_eq room.keys n ≡ false) (sym at) out in
+          let unlisted : is_member coord_eq capacity.keys (key bits q) ≡ false = subst (λ (n : Coord). is_member coord_eq capacity.keys n ≡ false) (sym at) out in
           let plain : cell_at bits t q ≡ background_cell t =
           elim (some_or_none (root_at t.root (key bits q))) [
-            | inl x ↦ absurd (never unlisted (room.entered (key bits q) (is_some_from _ x.0 x.1)))
+            | inl x ↦ absurd (never unlisted (capacity.entered (key bits q) (is_some_from _ x.0 x.1)))
             | inr none ↦ absent_block bits t q none q refl
           ] in
-          let idle : (cell_at bits u q).on ≡ false = not_true _ (λ on. never unlisted (room.met q on)) in
+          let idle : (cell_at bits u q).on ≡ false = not_true _ (λ on. never unlisted (capacity.met q on)) in
           united_cell q range ∙ rw (plain, idle) refl
 
-      each : (k : Coord) → IsTrue (is_inside (block_numbers bits Upper) k) → is_background eq united (block bits Upper k) ≡ false → is_member coord_eq room.keys k ≡ true
+      each : (k : Coord) → IsTrue (is_inside (block_numbers bits Upper) k) → is_background eq united (block bits Upper k) ≡ false → is_member coord_eq capacity.keys k ≡ true
       each k within h =
-          elim (bool_cases (is_member coord_eq room.keys k)) [
+          elim (bool_cases (is_member coord_eq capacity.keys k)) [
             | inl m ↦ m
             | inr out ↦ absurd (never h (uniform_block_from eq exact itself bits Upper united k (background_cell t) (λ q at. still k out q (in_root bits configured k q within at) at)))
           ]
@@ -135,13 +135,13 @@ module _ {X : Type 0} (bits : Bits) (u : Layout X) where
   none_past passed none q on past = unheld _ (active_entered bits u q on) (none (key bits q) past)
 
   module _ {V : Type 0} (t : Layout V) where
-    -- ---- whether there is room
+    -- ---- whether there is capacity
 
     -- the keys of the table with those of the other tree's active root blocks that were passed, and how many more the limit allows
-    pub record CountsActive (passed : Option Coord) (room : ℕ) : Type 0 where
+    pub record CountsActive (passed : Option Coord) (capacity : ℕ) : Type 0 where
       pub keys : List Coord
       pub apart : IsDistinct coord_eq keys
-      pub size : length keys + room ≡ t.limit
+      pub size : length keys + capacity ≡ t.limit
       pub entered : (k : Coord) → IsSome (root_at t.root k) → is_member coord_eq keys k ≡ true
       pub met : (q : Coord) → (cell_at bits u q).on ≡ true → IsPast passed (key bits q) ⊎ (is_member coord_eq keys (key bits q) ≡ true)
       pub each : (k : Coord) → is_member coord_eq keys k ≡ true → IsSome (root_at t.root k) ⊎ (IsActiveKey bits u k × (IsPast passed k → ⊥))
@@ -156,7 +156,7 @@ module _ {X : Type 0} (bits : Bits) (u : Layout X) where
       each = λ k m. inl (member_entry t k m);
     }
 
-    module _ (passed : Option Coord) (room : ℕ) (so_far : CountsActive passed room) (k : Coord) (next : IsNextKey u.root passed (Some k)) where
+    module _ (passed : Option Coord) (capacity : ℕ) (so_far : CountsActive passed capacity) (k : Coord) (next : IsNextKey u.root passed (Some k)) where
       behind : (j : Coord) → (IsPast passed j → ⊥) → IsPast (Some k) j → ⊥
       behind j gone later = gone (past_on passed k j next.1 later)
 
@@ -164,7 +164,7 @@ module _ {X : Type 0} (bits : Bits) (u : Layout X) where
       still j m = elim (so_far.each j m) [ inl held ↦ inl held | inr h ↦ inr (h.0, behind j h.1) ]
 
       -- what adds no key
-      counts_same : ((q : Coord) → key bits q ≡ k → (cell_at bits u q).on ≡ true → is_member coord_eq so_far.keys (key bits q) ≡ true) → CountsActive (Some k) room
+      counts_same : ((q : Coord) → key bits q ≡ k → (cell_at bits u q).on ≡ true → is_member coord_eq so_far.keys (key bits q) ≡ true) → CountsActive (Some k) capacity
       counts_same here = record {
         keys = so_far.keys;
         apart = so_far.apart;
@@ -178,11 +178,11 @@ module _ {X : Type 0} (bits : Bits) (u : Layout X) where
       }
 
       -- a key with an entry is counted already
-      pub counts_held : IsSome (root_at t.root k) → CountsActive (Some k) room
+      pub counts_held : IsSome (root_at t.root k) → CountsActive (Some k) capacity
       counts_held held = counts_same (λ q e on. so_far.entered (key bits q) (subst (λ (n : Coord). IsSome (root_at t.root n)) (sym e) held))
 
       -- a root block without active voxels needs none
-      pub counts_idle : ((q : Coord) → key bits q ≡ k → (cell_at bits u q).on ≡ false) → CountsActive (Some k) room
+      pub counts_idle : ((q : Coord) → key bits q ≡ k → (cell_at bits u q).on ≡ false) → CountsActive (Some k) capacity
       counts_idle idle = counts_same (λ q e on. absurd (never (idle q e) on))
 
       module _ (none : root_at t.root k ≡ None) (active : IsActiveKey bits u k) where
@@ -192,8 +192,8 @@ module _ {X : Type 0} (bits : Bits) (u : Layout X) where
         not_past : (j : Coord) → j ≡ k → IsPast (Some k) j → ⊥
         not_past j e later = less_apart k j later (sym e)
 
-        -- another takes room
-        pub counts_more : 0 < room → CountsActive (Some k) (room - 1)
+        -- another takes capacity
+        pub counts_more : 0 < capacity → CountsActive (Some k) (capacity - 1)
         counts_more some = record {
           keys = k ∷ so_far.keys;
           apart = more;
@@ -213,7 +213,7 @@ module _ {X : Type 0} (bits : Bits) (u : Layout X) where
         }
 
         -- where there is none left, it is one too many
-        pub counts_full : room ≡ 0 → LacksCapacityForActive bits u t
+        pub counts_full : capacity ≡ 0 → LacksCapacityForActive bits u t
         counts_full full = record {
           keys = k ∷ so_far.keys;
           apart = more;
@@ -225,8 +225,8 @@ module _ {X : Type 0} (bits : Bits) (u : Layout X) where
         }
 
     -- past the last key all are counted
-    pub counts_all : (passed : Option Coord) (room : ℕ) → CountsActive passed room → IsNextKey u.root passed None → HasCapacityForActive bits u t
-    counts_all passed room done none = record {
+    pub counts_all : (passed : Option Coord) (capacity : ℕ) → CountsActive passed capacity → IsNextKey u.root passed None → HasCapacityForActive bits u t
+    counts_all passed capacity done none = record {
       keys = done.keys;
       few = let e = done.size in omega (arith, e);
       entered = done.entered;
@@ -235,21 +235,21 @@ module _ {X : Type 0} (bits : Bits) (u : Layout X) where
 
     -- ---- the table gets entries
 
-    module _ (room : HasCapacityForActive bits u t) (k : Coord) (active : IsActiveKey bits u k) where
-      listed : is_member coord_eq room.keys k ≡ true
-      listed = subst (λ (n : Coord). is_member coord_eq room.keys n ≡ true) active.1 (room.met active.0 active.2)
+    module _ (capacity : HasCapacityForActive bits u t) (k : Coord) (active : IsActiveKey bits u k) where
+      listed : is_member coord_eq capacity.keys k ≡ true
+      listed = subst (λ (n : Coord). is_member coord_eq capacity.keys n ≡ true) active.1 (capacity.met active.0 active.2)
 
       -- where an active root block has no entry, the table has capacity for one
-      pub active_room : IsDistinct coord_eq (keys_of t.root) → HasCapacity t k
-      active_room apart = capacity_from t room.keys room.entered k listed room.few apart
+      pub active_capacity : IsDistinct coord_eq (keys_of t.root) → HasCapacity t k
+      active_capacity apart = capacity_from t capacity.keys capacity.entered k listed capacity.few apart
 
-      -- once it has its entry, the others still have room
-      pub active_room_stays : (n : Layout V) → n.limit ≡ t.limit → ((j : Coord) → j ≢ k → root_at n.root j ≡ root_at t.root j) → HasCapacityForActive bits u n
-      active_room_stays n same table = record {
-        keys = room.keys;
-        few = rw same room.few;
-        entered = entered_still t room.keys room.entered k listed n table;
-        met = room.met;
+      -- once it has its entry, the others still have capacity
+      pub active_capacity_stays : (n : Layout V) → n.limit ≡ t.limit → ((j : Coord) → j ≢ k → root_at n.root j ≡ root_at t.root j) → HasCapacityForActive bits u n
+      active_capacity_stays n same table = record {
+        keys = capacity.keys;
+        few = rw same capacity.few;
+        entered = entered_still t capacity.keys capacity.entered k listed n table;
+        met = capacity.met;
       }
 
   module _ {V : Type 0} where

@@ -21,7 +21,7 @@ use Rattle.vdb_coord.proofs.Distinct.{distinct_coordinates}
 use Rattle.vdb_coord.proofs.InRange.{block_in_range}
 use Rattle.vdb_coord.proofs.Members.{coord_equiv, coord_exact, member_coordinates}
 use Rattle.vdb_coord.proofs.Nesting.{entry_holds, in_entry, inside_numbered, leaf_block_at_offset, lower_block_at_offset, number_in_block}
-use Rattle.vdb_coord.proofs.Places.{entries_is, offset_below}
+use Rattle.vdb_coord.proofs.Positions.{entries_is, offset_below}
 use Rattle.vdb_coord.proofs.Volume.{length_coordinates}
 use Rattle.vdb_node.specs.Entries.{IsFirstWithout, IsInactiveTile}
 use Rattle.vdb_node.specs.Nodes.{entry_count}

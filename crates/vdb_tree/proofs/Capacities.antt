@@ -99,7 +99,7 @@ module _ {V : Type 0} (eq : V → V → Bool) (exact : (x y : V) → eq x y ≡ 
 
   -- a table with capacity for the box keeps to the limit
   pub fill_within : HasCapacityFor bits t box → roots eq bits filled ≤ t.limit
-  fill_within room = let a = fill_at_most room.keys room.entered (λ p i. inr (room.met p i)) in let b = room.few in omega (arith, a, b)
+  fill_within capacity = let a = fill_at_most capacity.keys capacity.entered (λ p i. inr (capacity.met p i)) in let b = capacity.few in omega (arith, a, b)
 
   module _ (in_range : is_within box everywhere ≡ true) (other : cell ≢ background_cell t) where
     range_of : (p : Coord) → IsTrue (is_inside box p) → IsTrue (is_inside everywhere p)
@@ -167,13 +167,13 @@ module _ {V : Type 0} (eq : V → V → Bool) (exact : (x y : V) → eq x y ≡ 
     fill_too_wide is wide = let a = fill_meeting is in omega (arith, a, wide)
 
 -- a table doesn't both have capacity for a box and lack it
-pub room_or_lack : {V : Type 0} (bits : Bits) (t : Layout V) (box : Box) → HasCapacityFor bits t box → LacksCapacityFor bits t box → ⊥
-room_or_lack bits t box room lacks =
-    let among = length-le_from_is_member coord_equiv lacks.keys room.keys lacks.apart (λ k m. elim (lacks.each k m) [
-      | inl held ↦ room.entered k held
-      | inr p ↦ subst (λ (n : Coord). is_member coord_eq room.keys n ≡ true) p.2 (room.met p.0 p.1)
+pub capacity_or_lack : {V : Type 0} (bits : Bits) (t : Layout V) (box : Box) → HasCapacityFor bits t box → LacksCapacityFor bits t box → ⊥
+capacity_or_lack bits t box capacity lacks =
+    let among = length-le_from_is_member coord_equiv lacks.keys capacity.keys lacks.apart (λ k m. elim (lacks.each k m) [
+      | inl held ↦ capacity.entered k held
+      | inr p ↦ subst (λ (n : Coord). is_member coord_eq capacity.keys n ≡ true) p.2 (capacity.met p.0 p.1)
     ]) in
-    let few = room.few in
+    let few = capacity.few in
     let many = lacks.many in
     omega (arith, among, few, many)
 
@@ -204,18 +204,18 @@ module _ {V : Type 0} (t : Layout V) (keys : List Coord) (entered : (k : Coord) 
     | inr d ↦ entered j (subst (λ o. IsSome o) (table j d) held)
   ]
 
-module _ {V : Type 0} (bits : Bits) (t : Layout V) (box : Box) (room : HasCapacityFor bits t box) (p : Coord) (inside : IsTrue (is_inside box p)) where
+module _ {V : Type 0} (bits : Bits) (t : Layout V) (box : Box) (capacity : HasCapacityFor bits t box) (p : Coord) (inside : IsTrue (is_inside box p)) where
   -- where a root block of the box has no entry, the table has capacity for one
-  pub room_at : IsDistinct coord_eq (keys_of t.root) → HasCapacity t (key bits p)
-  room_at apart = capacity_from t room.keys room.entered (key bits p) (room.met p inside) room.few apart
+  pub capacity_at : IsDistinct coord_eq (keys_of t.root) → HasCapacity t (key bits p)
+  capacity_at apart = capacity_from t capacity.keys capacity.entered (key bits p) (capacity.met p inside) capacity.few apart
 
-  -- once it has its entry, the others still have room
-  pub room_stays : (n : Layout V) → n.limit ≡ t.limit → ((k : Coord) → k ≢ key bits p → root_at n.root k ≡ root_at t.root k) → HasCapacityFor bits n box
-  room_stays n same table = record {
-    keys = room.keys;
-    few = rw same room.few;
-    entered = entered_still t room.keys room.entered (key bits p) (room.met p inside) n table;
-    met = room.met;
+  -- once it has its entry, the others still have capacity
+  pub capacity_stays : (n : Layout V) → n.limit ≡ t.limit → ((k : Coord) → k ≢ key bits p → root_at n.root k ≡ root_at t.root k) → HasCapacityFor bits n box
+  capacity_stays n same table = record {
+    keys = capacity.keys;
+    few = rw same capacity.few;
+    entered = entered_still t capacity.keys capacity.entered (key bits p) (capacity.met p inside) n table;
+    met = capacity.met;
   }
 
 -- ---- what comes of it

@@ -73,25 +73,25 @@ some_from None h = cc
 some_from (Some x) h = refl
 
 module _ {V : Type 0} (bits : Bits) (box : Box) where
-  -- ---- whether there is room
+  -- ---- whether there is capacity
 
   module _ (t : Layout V) where
     -- the keys of the table with those of the box that were passed, and how many more the limit allows
-    pub record IsCounted (IsPassed : Coord → Type 0) (room : ℕ) : Type 0 where
+    pub record IsCounted (IsPassed : Coord → Type 0) (capacity : ℕ) : Type 0 where
       pub keys : List Coord
       pub apart : IsDistinct coord_eq keys
-      pub size : length keys + room ≡ t.limit
+      pub size : length keys + capacity ≡ t.limit
       pub entered : (k : Coord) → IsSome (root_at t.root k) → is_member coord_eq keys k ≡ true
       pub met : (q : Coord) → IsTrue (is_inside box q) → IsPassed q → is_member coord_eq keys (key bits q) ≡ true
       pub each : (k : Coord) → is_member coord_eq keys k ≡ true → IsSome (root_at t.root k) ⊎ ((q : Coord) × IsTrue (is_inside box q) × (key bits q ≡ k) × IsPassed q)
 
     -- all before a block
     abbrev pub CountsTo : Coord → ℕ → Type 0
-    CountsTo p room = IsCounted (λ q. IsBlockBefore bits Upper q p) room
+    CountsTo p capacity = IsCounted (λ q. IsBlockBefore bits Upper q p) capacity
 
     -- and that block
     abbrev pub CountsWith : Coord → ℕ → Type 0
-    CountsWith p room = IsCounted (λ q. IsBlockBefore bits Upper q p ⊎ (block_number bits Upper q ≡ block_number bits Upper p)) room
+    CountsWith p capacity = IsCounted (λ q. IsBlockBefore bits Upper q p ⊎ (block_number bits Upper q ≡ block_number bits Upper p)) capacity
 
     pub counts_none : is_box box ≡ true → IsSound bits t → CountsTo box.min (t.limit - length t.root)
     counts_none is sound = record {
@@ -103,9 +103,9 @@ module _ {V : Type 0} (bits : Bits) (box : Box) where
       each = λ k m. inl (member_entry t k m);
     }
 
-    module _ (p : Coord) (room : ℕ) (so_far : CountsTo p room) where
+    module _ (p : Coord) (capacity : ℕ) (so_far : CountsTo p capacity) where
       -- a block with an entry is counted already
-      pub counts_held : IsSome (root_at t.root (key bits p)) → CountsWith p room
+      pub counts_held : IsSome (root_at t.root (key bits p)) → CountsWith p capacity
       counts_held held = record {
         keys = so_far.keys;
         apart = so_far.apart;
@@ -128,8 +128,8 @@ module _ {V : Type 0} (bits : Bits) (box : Box) where
         more : IsDistinct coord_eq (key bits p ∷ so_far.keys)
         more = one_more (key bits p) so_far.keys so_far.apart fresh
 
-        -- another takes room
-        pub counts_more : 0 < room → CountsWith p (room - 1)
+        -- another takes capacity
+        pub counts_more : 0 < capacity → CountsWith p (capacity - 1)
         counts_more some = record {
           keys = key bits p ∷ so_far.keys;
           apart = more;
@@ -146,7 +146,7 @@ module _ {V : Type 0} (bits : Bits) (box : Box) where
         }
 
         -- where there is none left, it is one too many
-        pub counts_full : room ≡ 0 → LacksCapacityFor bits t box
+        pub counts_full : capacity ≡ 0 → LacksCapacityFor bits t box
         counts_full full = record {
           keys = key bits p ∷ so_far.keys;
           apart = more;
@@ -157,8 +157,8 @@ module _ {V : Type 0} (bits : Bits) (box : Box) where
           ];
         }
 
-    module _ (p : Coord) (room : ℕ) (with : CountsWith p room) where
-      pub counts_next : (next : Coord) → IsNextBlock bits Upper box p (Some next) → CountsTo next room
+    module _ (p : Coord) (capacity : ℕ) (with : CountsWith p capacity) where
+      pub counts_next : (next : Coord) → IsNextBlock bits Upper box p (Some next) → CountsTo next capacity
       counts_next next h = record {
         keys = with.keys;
         apart = with.apart;

@@ -7,12 +7,12 @@ use Rattle.vdb_coord.specs.declared.Bits.{Bits}
 use Rattle.vdb_coord.specs.declared.Coord.{Coord}
 use Rattle.vdb_coord.specs.declared.Level.{Level}
 use Rattle.vdb_coord.proofs.Nesting.{corner_of_entry, entry_from_offset}
-use Rattle.vdb_coord.proofs.Places.{offset_below}
+use Rattle.vdb_coord.proofs.Positions.{offset_below}
 use Rattle.vdb_node.specs.declared.Entry.{Entry}
 use Rattle.vdb_node.specs.declared.Entry.TheVariants.{Child, Tile}
 use Rattle.vdb_value.specs.declared.Cell.{Cell}
 use Rattle.vdb_tree.specs.Changes.{Fills, KeepsBeyond, SameDescent}
-use Rattle.vdb_tree.specs.internal.Corners.{IsChildless, IsNextCornerAt}
+use Rattle.vdb_tree.specs.internal.Children.{IsChildless, IsNextCornerAt}
 use Rattle.vdb_tree.specs.Layout.{Layout}
 use Rattle.vdb_tree.specs.internal.Paints.{KeepsOutside}
 use Rattle.vdb_tree.specs.SplitBox.{IsCovered}

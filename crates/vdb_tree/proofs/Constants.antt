@@ -10,7 +10,7 @@ use Rattle.vdb_coord.specs.declared.Coord.{Coord}
 use Rattle.vdb_coord.specs.declared.Level.{Level}
 use Rattle.vdb_coord.proofs.Loops.{corner}
 use Rattle.vdb_coord.proofs.Nesting.{corner_of_entry}
-use Rattle.vdb_coord.proofs.Places.{entries_is, node_bits_fit, offset_below}
+use Rattle.vdb_coord.proofs.Positions.{entries_is, node_bits_fit, offset_below}
 use Rattle.vdb_coord.specs.declared.Level.TheVariants.{Leaf}
 use Rattle.vdb_node.specs.Entries.{HasChild, IsConstant, IsNextChildAt}
 use Rattle.vdb_node.specs.Leaf.{cell_in, IsConstantLeaf, Leaf as LeafOf}
@@ -20,7 +20,7 @@ use Rattle.vdb_node.specs.declared.Entry.TheVariants.{Child, Tile}
 use Rattle.vdb_pool.specs.Contents.{node_at}
 use Rattle.vdb_value.specs.declared.Cell.{Cell}
 use Rattle.vdb_tree.specs.Changes.{IsConstantBlock}
-use Rattle.vdb_tree.specs.internal.Corners.{IsChildless, IsNextCornerAt, IsTiled}
+use Rattle.vdb_tree.specs.internal.Children.{IsChildless, IsNextCornerAt, IsTiled}
 use Rattle.vdb_tree.specs.Layout.{Layout, cell_at, lower_entry, background_cell}
 use Rattle.vdb_tree.proofs.Descents.{leaf_cell}
 use Rattle.vdb_tree.proofs.Levels.{tile_no_child}

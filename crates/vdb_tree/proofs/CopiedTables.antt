@@ -12,7 +12,7 @@ use Rattle.vdb_tree.proofs.KeysPast.{fewer_past, keys_past, past_on}
 use Rattle.vdb_tree.proofs.Levels.{coord_cases}
 use Rattle.vdb_tree.proofs.Needed.{is_some_from, some_or_none}
 use Rattle.vdb_tree.proofs.RootCounts.{all_past, at_least}
-use Rattle.vdb_tree.proofs.Sweeps.{apart, other_key, past_or_not, that_key}
+use Rattle.vdb_tree.proofs.RootSweeps.{apart, other_key, past_or_not, that_key}
 
 -- the copy has the entries up to this key, and no other
 pub record IsCopiedTo {V : Type 0} (root copy : List (Coord × Entry V)) (passed : Option Coord) : Type 0 where

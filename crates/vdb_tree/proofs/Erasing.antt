@@ -21,7 +21,7 @@ use Rattle.vdb_tree.proofs.Levels.{coord_cases}
 use Rattle.vdb_tree.proofs.MadeNodes.{keys_but, keys_twice, no_node_twice, same_no_node}
 use Rattle.vdb_tree.proofs.Needed.{child_of, is_some_from, some_or_none}
 use Rattle.vdb_tree.proofs.Passes.{keeps_same, keeps_trans, tile_gives}
-use Rattle.vdb_tree.proofs.Sweeps.{apart, equal_left, past_or_not, same_keys}
+use Rattle.vdb_tree.proofs.RootSweeps.{apart, equal_left, past_or_not, same_keys}
 
 module _ {V : Type 0} (bits : Bits) where
   -- the background stays
@@ -43,8 +43,8 @@ module _ {V : Type 0} (bits : Bits) where
   }
 
   -- what is split for the background cell stays so
-  pub ready_background : (old new : Layout V) → AddsBackgroundTiles bits old new → (box : Box) → IsSplit bits box (background_cell old) old → IsSplit bits box (background_cell old) new
-  ready_background old new adds box edges = record {
+  pub split_background : (old new : Layout V) → AddsBackgroundTiles bits old new → (box : Box) → IsSplit bits box (background_cell old) old → IsSplit bits box (background_cell old) new
+  split_background old new adds box edges = record {
     tiles = λ level p inside tile e. elim (adds.tiles level p tile e) [ inl f ↦ edges.tiles level p inside tile f | inr same ↦ inr same ];
     entered = λ p inside. inl (sym (background_stays old new adds.keeps));
   }

@@ -1,8 +1,8 @@
--- The next place in a node: by its entries, and by the box alone.
+-- The next start in a node: by its entries, and by the box alone.
 use Rattle.std.proofs.Common.{◌≡◌, ◌⊎◌, inl, inr, ℕ, ◌+◌, ◌<◌, ◌≤◌, true, false, List, arith, ap, refl, sym, subst, ◌∙◌}
 use Rattle.std.specs.Prelude.{◌&&◌, Option, Some, None, IsTrue}
 use Rattle.vdb_coord.specs.Blocks.{block_around, block_number, entries, node_bits, offset, sub_block}
-use Rattle.vdb_coord.specs.Order.{ComesBefore, IsFirstPast, IsNextPlace, IsUpToBlock}
+use Rattle.vdb_coord.specs.Order.{ComesBefore, IsFirstPast, IsNextCoord, IsUpToBlock}
 use Rattle.vdb_coord.specs.Space.{Box, is_box, is_inside}
 use Rattle.vdb_coord.specs.declared.Bits.{Bits}
 use Rattle.vdb_coord.specs.declared.Coord.{Coord}
@@ -11,7 +11,7 @@ use Rattle.vdb_coord.specs.declared.Level.TheVariants.{Leaf, Lower, Upper}
 use Rattle.vdb_coord.proofs.BlockOrder.{contiguous, from_lower, from_upper, not_before_min, not_both, not_itself}
 use Rattle.vdb_coord.proofs.Boxes.{and_true, both}
 use Rattle.vdb_coord.proofs.Nesting.{entry_holds, in_entry, leaf_from_lower, lower_from_leaf, lower_from_upper, offset_from_entry, upper_from_lower}
-use Rattle.vdb_coord.proofs.Places.{entries_is, offset_below}
+use Rattle.vdb_coord.proofs.Positions.{entries_is, offset_below}
 use Rattle.vdb_coord.proofs.Walk.{min_inside}
 use Rattle.vdb_node.specs.Entries.{IsFirstWithout, IsInactiveTile, IsTileOf}
 use Rattle.vdb_node.specs.Nodes.{entry_count}
@@ -22,8 +22,8 @@ use Rattle.vdb_value.specs.declared.Cell.{Cell}
 use Rattle.vdb_tree.specs.internal.Jumps.{ArePassed, IsJump, IsJumpAt, IsLast, IsNextEntryAt, IsNextPartAt}
 use Rattle.vdb_tree.specs.Layout.{Layout, background_cell, root_entry, upper_entry}
 use Rattle.vdb_tree.specs.Parts.{IsNextAbove, IsSkipped}
-use Rattle.vdb_tree.specs.declared.reading.parts.Skip.{Skip}
-use Rattle.vdb_tree.specs.declared.reading.parts.Skip.TheVariants.{Background, Inactive}
+use Rattle.vdb_tree.specs.declared.queries.parts.Skip.{Skip}
+use Rattle.vdb_tree.specs.declared.queries.parts.Skip.TheVariants.{Background, Inactive}
 use Rattle.vdb_tree.proofs.Descents.{lower_node_entry, upper_node_entry}
 use Rattle.vdb_tree.proofs.PartWalks.{background_skipped, inactive_skipped}
 
@@ -69,7 +69,7 @@ entries_of bits Leaf level above = none level above
 below_same_or_past : (m n : ℕ) → (m < n) ⊎ ((m ≡ n) ⊎ (n < m))
 below_same_or_past m n = grind arith
 
--- ---- the next place
+-- ---- the next start
 
 module _ {V : Type 0} (bits : Bits) (t : Layout V) (box : Box) (skip : Skip) (outer level : Level) (is : AreEntries bits outer level) (p : Coord) (here : IsTrue (is_inside box p)) where
   -- what lies in the node is up to the block around p, or in a later entry
@@ -122,7 +122,7 @@ module _ {V : Type 0} (bits : Bits) (t : Layout V) (box : Box) (skip : Skip) (ou
           | inr s ↦ again (sym e ∙ s)
         ]
 
-    jump_within : (found : Option Coord) → IsNextPlace bits level part p found → IsJump bits t skip box outer level p found
+    jump_within : (found : Option Coord) → IsNextCoord bits level part p found → IsJump bits t skip box outer level p found
     jump_within None none = record { passed = λ q i e. inl (none q (all q i e)) }
     jump_within (Some n) found = record {
       inside = (within n found.inside).0;
@@ -135,7 +135,7 @@ module _ {V : Type 0} (bits : Bits) (t : Layout V) (box : Box) (skip : Skip) (ou
 module _ {V : Type 0} (bits : Bits) (t : Layout V) (box : Box) (skip : Skip) (outer level : Level) (above : IsNextAbove outer level) (p : Coord) (here : IsTrue (is_inside box p)) where
   pub by_box : (part : Box) → ((q : Coord) → IsTrue (is_inside part q) → IsTrue (is_inside box q) × (block_number bits outer q ≡ block_number bits outer p))
       → ((q : Coord) → IsTrue (is_inside box q) → block_number bits outer q ≡ block_number bits outer p → IsTrue (is_inside part q))
-      → (found : Option Coord) → IsNextPlace bits level part p found → IsJump bits t skip box outer level p found
+      → (found : Option Coord) → IsNextCoord bits level part p found → IsJump bits t skip box outer level p found
   by_box part within all found next = jump_within bits t box skip outer level (entries_of bits outer level above) p here part within all found next
 
   pub none_left : ArePassed bits t skip outer p (entries bits outer) → IsLast bits t skip box outer level p

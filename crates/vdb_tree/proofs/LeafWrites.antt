@@ -8,7 +8,7 @@ use Rattle.vdb_coord.specs.declared.Bits.{Bits}
 use Rattle.vdb_coord.specs.declared.Coord.{Coord}
 use Rattle.vdb_coord.specs.declared.Level.TheVariants.{Leaf}
 use Rattle.vdb_coord.proofs.Nesting.{entry_number_leaf, voxel_from_leaf}
-use Rattle.vdb_coord.proofs.Places.{entries_is, offset_below}
+use Rattle.vdb_coord.proofs.Positions.{entries_is, offset_below}
 use Rattle.vdb_mask.specs.Mask.{is_on}
 use Rattle.vdb_node.specs.Leaf.{cell_in, Leaf as LeafOf, SetsVoxel}
 use Rattle.vdb_node.specs.Nodes.{entry_count}

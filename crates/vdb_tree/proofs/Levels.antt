@@ -169,7 +169,7 @@ module _ {V N : Type 0} (bits : Bits) (level : Level) where
     own = λ p q r e d. owned.own p q r (sym (same p) ∙ e) (sym (same q) ∙ d);
   }
 
-  -- a pool gets room
+  -- a pool gets capacity
   pub owned_nodes : (f : Coord → Entry V) (old new : Contents N) → new.nodes ≡ old.nodes → IsOwned bits level f old → IsOwned bits level f new
   owned_nodes f old new same owned = record {
     met = λ r h. owned.met r (rw (← same) h);

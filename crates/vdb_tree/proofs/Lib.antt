@@ -25,7 +25,7 @@ pub mod PieceCells
 pub mod Tiled
 pub mod Constants
 pub mod Passes
-pub mod Sweeps
+pub mod RootSweeps
 mod SweptTables
 pub mod KeysPast
 pub mod Covered

@@ -15,7 +15,7 @@ use Rattle.vdb_coord.proofs.Digits.{digit_is, first_of_entry, number_zero}
 use Rattle.vdb_coord.proofs.Division.{rest, rest_of}
 use Rattle.vdb_coord.proofs.Loops.{corner}
 use Rattle.vdb_coord.proofs.Nesting.{corner_of_entry, upper_from_lower}
-use Rattle.vdb_coord.proofs.Places.{entries_is, entry_box, index_places, joined, offset_below, offset_is, sub_block_is}
+use Rattle.vdb_coord.proofs.Positions.{entries_is, entry_box, index_positions, joined, offset_below, offset_is, sub_block_is}
 use Rattle.vdb_node.specs.Entries.{HasChild, IsNextChild, IsNextChildAt}
 use Rattle.vdb_node.specs.Nodes.{entry_count}
 use Rattle.vdb_node.specs.declared.Entry.{Entry}
@@ -46,7 +46,7 @@ corner_first bits p i small =
     let low = bits.leaf in
     let b = bits.lower in
     let n = 2 ^ b in
-    let ps = index_places bits Lower i small in
+    let ps = index_positions bits Lower i small in
     let start : (x : ℤ) (d : ℕ) → d < n → digit 0 low (first_of (low + b) (number_at (low + b) x) +ℤ pos (d * 2 ^ low)) ≡ 0
     = λ x d h. ap (digit 0 low) (first_of_entry low b (number_at (low + b) x) d h) ∙ first_digit low (number_at (low + b) x *ℤ pos (2 ^ b) +ℤ pos d) in
     let at : corner bits Lower p i ≡ (entry_box low b p (i / n / n) (i / n % n) (i % n)).min = ap (λ (t : Box). t.min) (sub_block_is bits Lower p i) in

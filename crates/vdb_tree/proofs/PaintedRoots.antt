@@ -25,9 +25,9 @@ use Rattle.vdb_tree.proofs.KeysPast.{past_on}
 use Rattle.vdb_tree.proofs.Levels.{bool_cases, coord_cases, same_tile, some_held}
 use Rattle.vdb_tree.proofs.Needed.{absent_entry, is_some_from, some_or_none}
 use Rattle.vdb_tree.proofs.Covered.{covered_inside}
-use Rattle.vdb_tree.proofs.Paints.{painted_moved, ready_after, tile_painted}
+use Rattle.vdb_tree.proofs.Paints.{painted_moved, split_after, tile_painted}
 use Rattle.vdb_tree.proofs.Passes.{descent_trans, head_same, head_trans}
-use Rattle.vdb_tree.proofs.Sweeps.{apart, equal_left, past_or_not, same_keys}
+use Rattle.vdb_tree.proofs.RootSweeps.{apart, equal_left, past_or_not, same_keys}
 
 module _ {V : Type 0} (bits : Bits) (box : Box) (cell : Cell V) where
   -- the box is painted up to this key, and the table past it stays
@@ -97,8 +97,8 @@ module _ {V : Type 0} (bits : Bits) (box : Box) (cell : Cell V) where
             ];
       }
 
-      pub roots_ready : AreSplit bits box cell mid → AreSplit bits box cell new
-      roots_ready = ready_after bits box cell Upper Upper mid new k outside painted
+      pub roots_split : AreSplit bits box cell mid → AreSplit bits box cell new
+      roots_split = split_after bits box cell Upper Upper mid new k outside painted
 
     -- ---- where no key is left
 

@@ -101,8 +101,8 @@ module _ {V : Type 0} (bits : Bits) (box : Box) where
         tile_no_child cell slot (sym (h.1.1 (lower_covered bits box q (covered_by_block bits box Upper p q same covered))) ∙ e)
 
     -- the tree stays split for the box while parts of it are painted
-    pub ready_after : (outer inner : Level) (old new : Layout V) (n : Coord) → KeepsOutside bits box outer old new n → ArePainted bits box cell outer inner new n → AreSplit bits box cell old → AreSplit bits box cell new
-    ready_after outer inner old new n keeps painted edges level q inside tile e = elim (coord_cases (block_number bits outer q) n) [
+    pub split_after : (outer inner : Level) (old new : Layout V) (n : Coord) → KeepsOutside bits box outer old new n → ArePainted bits box cell outer inner new n → AreSplit bits box cell old → AreSplit bits box cell new
+    split_after outer inner old new n keeps painted edges level q inside tile e = elim (coord_cases (block_number bits outer q) n) [
       | inl same ↦ inr (sym (tile_gives bits level new q tile e) ∙ (painted q inside same).0)
       | inr other ↦ edges level q inside tile (sym (keeps.entries q (λ _ same. other same) level) ∙ e)
     ]
@@ -143,7 +143,7 @@ module _ {V : Type 0} (bits : Bits) (box : Box) where
         pub paint_next : (next : Coord) → IsNextBlock bits inner part p (Some next) → PaintsTo outer inner part old new n next
         paint_next next h = record {
           outside = paint_outside;
-          edges = ready_after inner inner t new (block_number bits inner p) keeps painted so_far.edges;
+          edges = split_after inner inner t new (block_number bits inner p) keeps painted so_far.edges;
           inside = h.0;
           done = λ q inside before. up_to q inside (h.2 q inside before);
         }

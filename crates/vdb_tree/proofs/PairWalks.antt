@@ -1,4 +1,4 @@
--- Walks over the pairs of two trees: places, and what lies between them.
+-- Walks over the pairs of two trees: starts, and what lies between them.
 use Rattle.std.proofs.Common.{◌≡◌, ◌⊎◌, inl, inr, Bool, true, false, ap, refl, subst, sym, ◌∙◌}
 use Rattle.std.specs.Ordering.{is_lt, ordering_reverse}
 use Rattle.std.specs.declared.cmp.Ordering.{Ordering}
@@ -6,7 +6,7 @@ use Rattle.std.specs.declared.cmp.Ordering.TheVariants.{Less, Equal, Greater}
 use Rattle.std.specs.Prelude.{◌<◌, Option, Some, None, IfSome, IsTrue}
 use Rattle.vdb_coord.specs.Blocks.{block, block_around, block_cmp, block_number, key}
 use Rattle.vdb_coord.specs.Entries.{AreBits}
-use Rattle.vdb_coord.specs.Order.{ComesBefore, IsFirstPast, IsNextPlace, IsUpToBlock, coordinates_past}
+use Rattle.vdb_coord.specs.Order.{ComesBefore, IsFirstPast, IsNextCoord, IsUpToBlock, coordinates_past}
 use Rattle.vdb_coord.specs.Space.{Box, everywhere, is_inside}
 use Rattle.vdb_coord.specs.declared.Bits.{Bits}
 use Rattle.vdb_coord.specs.declared.Coord.{Coord}
@@ -19,12 +19,12 @@ use Rattle.vdb_node.specs.Leaf.{Leaf as LeafOf}
 use Rattle.vdb_value.specs.declared.Cell.{Cell}
 use Rattle.vdb_tree.specs.Layout.{Layout, background_cell, cell_at, field_of}
 use Rattle.vdb_tree.specs.internal.PairBlocks.{IsOver}
-use Rattle.vdb_tree.specs.Pairs.{IsBackgroundInBoth, IsPairPlace, IsPairWalk, PassesPairs, TreePairWalk, YieldsPair, lower_level, pair_level}
+use Rattle.vdb_tree.specs.Pairs.{IsBackgroundInBoth, IsPairStart, IsPairWalk, PassesPairs, TreePairWalk, YieldsPair, lower_level, pair_level}
 use Rattle.vdb_tree.specs.Leaves.{IsLeafAround}
-use Rattle.vdb_tree.specs.Parts.{IsEnd, IsPartOfLeaf, IsPlace, IsPlaceAfter, IsSkipped, end_level, is_left, left_count}
-use Rattle.vdb_tree.specs.declared.reading.ends.End.{End}
-use Rattle.vdb_tree.specs.declared.reading.ends.End.TheVariants.{Tile as EndTile}
-use Rattle.vdb_tree.specs.declared.reading.parts.Skip.TheVariants.{Background}
+use Rattle.vdb_tree.specs.Parts.{IsEnd, IsPartOfLeaf, IsStart, IsStartAfter, IsSkipped, end_level, is_left, left_count}
+use Rattle.vdb_tree.specs.declared.queries.ends.End.{End}
+use Rattle.vdb_tree.specs.declared.queries.ends.End.TheVariants.{Tile as EndTile}
+use Rattle.vdb_tree.specs.declared.queries.parts.Skip.TheVariants.{Background}
 use Rattle.vdb_tree.proofs.Fields.{cell_inside}
 use Rattle.vdb_tree.proofs.PartStarts.{in_upper, same_end}
 use Rattle.vdb_tree.proofs.PieceCells.{tile_block}
@@ -87,7 +87,7 @@ in_one_root bits level p box around q r first second = to_root q first ∙ sym (
     to_root : (s : Coord) → IsTrue (is_inside box s) → key bits s ≡ key bits p
     to_root s h = in_upper bits level s p (number_in_block bits level (block_number bits level p) s (subst (λ (b : Box). IsTrue (is_inside b s)) around h))
 
--- ---- the lesser of two places
+-- ---- the lesser of two starts
 
 module _ (bits same_bits : Bits) (is : same_bits ≡ bits) (p q : Coord) (o : Ordering) (compared : o ≡ block_cmp same_bits p q) where
   cmp : block_cmp bits p q ≡ o
@@ -134,7 +134,7 @@ leaf_cells bits t p ends box within leaf is =
     = λ q i. subst (λ (l : Level). block_number bits l q ≡ block_number bits l p) ends (within q i).1 in
     record { block = λ q r i j. in_leaf q i ∙ sym (in_leaf r j); cells = λ q i. is q (within q i).0 (in_leaf q i) }
 
--- ---- places
+-- ---- starts
 
 module _ {V : Type 0} (bits : Bits) (t u : Layout V) where
   -- pairs have one level all over the block of one
@@ -144,17 +144,17 @@ module _ {V : Type 0} (bits : Bits) (t u : Layout V) where
       let second = same_end bits u p n (in_second bits (end_level bits t p) (end_level bits u p) n p e) in
       ap (λ (l : Level). lower_level l (end_level bits u n)) first ∙ ap (lower_level (end_level bits t p)) second
 
-  -- a place of one of the trees is a place of a pair
-  first_place : (n : Coord) → IsPlace bits t everywhere n → IsPairPlace bits t u n
-  first_place n place = record {
-    inside = place.inside;
-    first = λ q i b e. place.first q i b (in_first bits (end_level bits t n) (end_level bits u n) q n e);
+  -- a start of one of the trees is a start of a pair
+  first_start : (n : Coord) → IsStart bits t everywhere n → IsPairStart bits t u n
+  first_start n start = record {
+    inside = start.inside;
+    first = λ q i b e. start.first q i b (in_first bits (end_level bits t n) (end_level bits u n) q n e);
   }
 
-  second_place : (n : Coord) → IsPlace bits u everywhere n → IsPairPlace bits t u n
-  second_place n place = record {
-    inside = place.inside;
-    first = λ q i b e. place.first q i b (in_second bits (end_level bits t n) (end_level bits u n) q n e);
+  second_start : (n : Coord) → IsStart bits u everywhere n → IsPairStart bits t u n
+  second_start n start = record {
+    inside = start.inside;
+    first = λ q i b e. start.first q i b (in_second bits (end_level bits t n) (end_level bits u n) q n e);
   }
 
   -- and so is the first coordinate past the block of a pair
@@ -177,27 +177,27 @@ module _ {V : Type 0} (bits : Bits) (t u : Layout V) where
       ]
     ]
 
-    past_place : IsPairPlace bits t u n
-    past_place = record { inside = found.inside; first = past_first }
+    past_start : IsPairStart bits t u n
+    past_start = record { inside = found.inside; first = past_first }
 
-  first_after : (level : Level) (p : Coord) (next : Option Coord) → IsPlaceAfter bits t everywhere Background level p next → IfSome next (IsPairPlace bits t u)
+  first_after : (level : Level) (p : Coord) (next : Option Coord) → IsStartAfter bits t everywhere Background level p next → IfSome next (IsPairStart bits t u)
   first_after level p None h = tt
-  first_after level p (Some n) h = first_place n h.place
+  first_after level p (Some n) h = first_start n h.start
 
-  second_after : (level : Level) (p : Coord) (next : Option Coord) → IsPlaceAfter bits u everywhere Background level p next → IfSome next (IsPairPlace bits t u)
+  second_after : (level : Level) (p : Coord) (next : Option Coord) → IsStartAfter bits u everywhere Background level p next → IfSome next (IsPairStart bits t u)
   second_after level p None h = tt
-  second_after level p (Some n) h = second_place n h.place
+  second_after level p (Some n) h = second_start n h.start
 
-  next_place : (p : Coord) → IsTrue (is_inside everywhere p) → (level : Level) → level ≡ pair_level bits t u p → (found : Option Coord) → IsNextPlace bits level everywhere p found
-      → IfSome found (IsPairPlace bits t u)
-  next_place p here level is None h = tt
-  next_place p here level is (Some n) h = past_place p n here (subst (λ (l : Level). IsFirstPast bits l everywhere p n) is h)
+  next_start : (p : Coord) → IsTrue (is_inside everywhere p) → (level : Level) → level ≡ pair_level bits t u p → (found : Option Coord) → IsNextCoord bits level everywhere p found
+      → IfSome found (IsPairStart bits t u)
+  next_start p here level is None h = tt
+  next_start p here level is (Some n) h = past_start p n here (subst (λ (l : Level). IsFirstPast bits l everywhere p n) is h)
 
   -- and the first coordinate of all
-  pub start_place : (n : Coord) (all : Box) → n ≡ all.min → all ≡ everywhere → IsPairPlace bits t u n
-  start_place n all corner is =
+  pub least_start : (n : Coord) (all : Box) → n ≡ all.min → all ≡ everywhere → IsPairStart bits t u n
+  least_start n all corner is =
       let at : n ≡ everywhere.min = corner ∙ ap (λ (b : Box). b.min) is in
-      subst (IsPairPlace bits t u) (sym at) (record { inside = refl; first = λ q i b e. not_before_min bits everywhere q i b })
+      subst (IsPairStart bits t u) (sym at) (record { inside = refl; first = λ q i b e. not_before_min bits everywhere q i b })
 
   -- the walk may pass over the tile around p
   abbrev IsBackgroundOver : Coord → Layout V → Type 0
@@ -223,7 +223,7 @@ module _ {V : Type 0} (bits : Bits) (t u : Layout V) where
   pub around_walk : (old : TreePairWalk V) (p : Coord) → old.at ≡ Some p → IsPairWalk bits t u old → AreBits bits → (level : Level) → level ≡ pair_level bits t u p
       → (box : Box) → box ≡ block_around bits level p → IsAround p level box
   around_walk old p at walk few level is box around =
-      record { few = few; here = (subst (λ (o : Option Coord). IfSome o (IsPairPlace bits t u)) at walk.place).inside; is = is; around = around }
+      record { few = few; here = (subst (λ (o : Option Coord). IfSome o (IsPairStart bits t u)) at walk.start).inside; is = is; around = around }
 
   -- it lies in one block of each tree
   module _ (p : Coord) (level : Level) (box : Box) (block_is : IsAround p level box) where
@@ -253,7 +253,7 @@ module _ {V : Type 0} (bits : Bits) (t u : Layout V) where
       leaf_block = λ e. leaf_around (inr e);
     }
 
-  module _ (old new : TreePairWalk V) (p : Coord) (at : old.at ≡ Some p) (place : IsPairPlace bits t u p) where
+  module _ (old new : TreePairWalk V) (p : Coord) (at : old.at ≡ Some p) (start : IsPairStart bits t u p) where
     was_left : (q : Coord) → IsTrue (is_left bits old.at q) → ComesBefore bits q p → ⊥
     was_left q l = left_not_before bits p q (subst (λ (o : Option Coord). IsTrue (is_left bits o q)) at l)
 
@@ -261,15 +261,15 @@ module _ {V : Type 0} (bits : Bits) (t u : Layout V) where
     still_left q h = subst (λ (o : Option Coord). IsTrue (is_left bits o q)) (sym at) (left_unless bits p q h)
 
     module _ (few : AreBits bits) (level : Level) (is : level ≡ pair_level bits t u p) where
-      next_later : (next : Option Coord) → IsNextPlace bits level everywhere p next → (q : Coord) → IsTrue (is_left bits next q) → IsTrue (is_left bits old.at q)
+      next_later : (next : Option Coord) → IsNextCoord bits level everywhere p next → (q : Coord) → IsTrue (is_left bits next q) → IsTrue (is_left bits old.at q)
       next_later None h q l = absurd (false_true l)
-      next_later (Some n) h q l = still_left q (λ b. left_not_before bits n q l (comes_on bits q p n b (h.past p place.inside refl)))
+      next_later (Some n) h q l = still_left q (λ b. left_not_before bits n q l (comes_on bits q p n b (h.past p start.inside refl)))
 
-      next_between : (next : Option Coord) → IsNextPlace bits level everywhere p next → (q : Coord) → IsTrue (is_inside everywhere q) → is_left bits next q ≡ false → IsUpToBlock bits level p q
+      next_between : (next : Option Coord) → IsNextCoord bits level everywhere p next → (q : Coord) → IsTrue (is_inside everywhere q) → is_left bits next q ≡ false → IsUpToBlock bits level p q
       next_between None h q i gone = h q i
       next_between (Some n) h q i gone = h.between q i (before_not_left bits n q gone)
 
-      next_gone : (next : Option Coord) → IsNextPlace bits level everywhere p next → (q : Coord) → IsTrue (is_inside everywhere q) → block_number bits level q ≡ block_number bits level p → is_left bits next q ≡ false
+      next_gone : (next : Option Coord) → IsNextCoord bits level everywhere p next → (q : Coord) → IsTrue (is_inside everywhere q) → block_number bits level q ≡ block_number bits level p → is_left bits next q ≡ false
       next_gone None h q i e = refl
       next_gone (Some n) h q i e = gone_if_before bits n q (h.past q i e)
 
@@ -278,42 +278,42 @@ module _ {V : Type 0} (bits : Bits) (t u : Layout V) where
         number q i = number_in_block bits level (block_number bits level p) q (subst (λ (b : Box). IsTrue (is_inside b q)) around i)
 
         in_range : (q : Coord) → IsTrue (is_inside box q) → IsTrue (is_inside everywhere q)
-        in_range q i = block_in_range bits level few p q place.inside (number q i)
+        in_range q i = block_in_range bits level few p q start.inside (number q i)
 
         outside : (q : Coord) → is_inside box q ≡ false → block_number bits level q ≡ block_number bits level p → ⊥
         outside q out e = false_true (sym (subst (λ (b : Box). is_inside b q ≡ false) around out) ∙ inside_numbered bits level (block_number bits level p) q e)
 
-        yields : IsNextPlace bits level everywhere p new.at → YieldsPair bits t u old new box
+        yields : IsNextCoord bits level everywhere p new.at → YieldsPair bits t u old new box
         yields next = record {
           passes = record {
             later = next_later new.at next;
             passed = λ q i l gone out. elim (next_between new.at next q i gone) [ inl b ↦ absurd (was_left q l b) | inr e ↦ absurd (outside q out e) ];
           };
           inside = in_range;
-          left = λ q i. still_left q (λ b. place.first q (in_range q i) b (subst (λ (l : Level). block_number bits l q ≡ block_number bits l p) is (number q i)));
+          left = λ q i. still_left q (λ b. start.first q (in_range q i) b (subst (λ (l : Level). block_number bits l q ≡ block_number bits l p) is (number q i)));
           gone = λ q i. next_gone new.at next q (in_range q i) (number q i);
         }
 
     -- ---- background in both
 
-    past_later : (v : Layout V) (level : Level) (next : Option Coord) → IsPlaceAfter bits v everywhere Background level p next → (q : Coord) → IsTrue (is_left bits next q) → IsTrue (is_left bits old.at q)
+    past_later : (v : Layout V) (level : Level) (next : Option Coord) → IsStartAfter bits v everywhere Background level p next → (q : Coord) → IsTrue (is_left bits next q) → IsTrue (is_left bits old.at q)
     past_later v level None h q l = absurd (false_true l)
-    past_later v level (Some n) h q l = still_left q (λ b. left_not_before bits n q l (comes_on bits q p n b (h.past p place.inside refl)))
+    past_later v level (Some n) h q l = still_left q (λ b. left_not_before bits n q l (comes_on bits q p n b (h.past p start.inside refl)))
 
-    past_between : (v : Layout V) (level : Level) (next : Option Coord) → IsPlaceAfter bits v everywhere Background level p next → (q : Coord) → IsTrue (is_inside everywhere q) → is_left bits next q ≡ false
+    past_between : (v : Layout V) (level : Level) (next : Option Coord) → IsStartAfter bits v everywhere Background level p next → (q : Coord) → IsTrue (is_inside everywhere q) → is_left bits next q ≡ false
         → IsUpToBlock bits level p q ⊎ IsSkipped bits Background v q
     past_between v level None h q i gone = h q i
     past_between v level (Some n) h q i gone = h.between q i (before_not_left bits n q gone)
 
-    -- a tree has the background over what was left and comes before its next place
-    past_skipped : (v : Layout V) → IsBackgroundOver p v → (next : Option Coord) → IsPlaceAfter bits v everywhere Background (end_level bits v p) p next
+    -- a tree has the background over what was left and comes before its next start
+    past_skipped : (v : Layout V) → IsBackgroundOver p v → (next : Option Coord) → IsStartAfter bits v everywhere Background (end_level bits v p) p next
         → (q : Coord) → IsTrue (is_inside everywhere q) → IsTrue (is_left bits old.at q) → is_left bits next q ≡ false → IsSkipped bits Background v q
     past_skipped v over next after q i l gone = elim (past_between v (end_level bits v p) next after q i gone) [
       | inl up ↦ elim up [ inl b ↦ absurd (was_left q l b) | inr e ↦ over q e ]
       | inr s ↦ s
     ]
 
-    module _ (a b : Option Coord) (after : IsPlaceAfter bits t everywhere Background (end_level bits t p) p a) (also : IsPlaceAfter bits u everywhere Background (end_level bits u p) p b)
+    module _ (a b : Option Coord) (after : IsStartAfter bits t everywhere Background (end_level bits t p) p a) (also : IsStartAfter bits u everywhere Background (end_level bits u p) p b)
         (one : (new.at ≡ a) ⊎ (new.at ≡ b)) where
       lesser_later : (q : Coord) → IsTrue (is_left bits new.at q) → IsTrue (is_left bits old.at q)
       lesser_later q l = elim one [
@@ -321,7 +321,7 @@ module _ {V : Type 0} (bits : Bits) (t u : Layout V) where
         | inr e ↦ past_later u (end_level bits u p) b also q (subst (λ (o : Option Coord). IsTrue (is_left bits o q)) e l)
       ]
 
-      -- the walk passes over what comes before both places
+      -- the walk passes over what comes before both starts
       passes : IsBackgroundOver p t → IsBackgroundOver p u → ((q : Coord) → is_left bits new.at q ≡ false → (is_left bits a q ≡ false) × (is_left bits b q ≡ false))
           → PassesPairs bits t u old new (λ q. false)
       passes over also_over least = record {
@@ -333,14 +333,14 @@ module _ {V : Type 0} (bits : Bits) (t u : Layout V) where
 
   -- the walk goes on from p
   module _ (old new : TreePairWalk V) (p : Coord) (next : Option Coord) (at : old.at ≡ Some p) (walk : IsPairWalk bits t u old) (went : new ≡ record old { at = next }) where
-    place_of_walk : IsPairPlace bits t u p
-    place_of_walk = subst (λ (o : Option Coord). IfSome o (IsPairPlace bits t u)) at walk.place
+    start_of_walk : IsPairStart bits t u p
+    start_of_walk = subst (λ (o : Option Coord). IfSome o (IsPairStart bits t u)) at walk.start
 
     there : new.at ≡ next
     there = ap (λ (w : TreePairWalk V). w.at) went
 
-    walk_goes : IfSome next (IsPairPlace bits t u) → IsPairWalk bits t u new
-    walk_goes place = rw went (record { place = place; first = walk.first; second = walk.second })
+    walk_goes : IfSome next (IsPairStart bits t u) → IsPairWalk bits t u new
+    walk_goes start = rw went (record { start = start; first = walk.first; second = walk.second })
 
     pub goes_nearer : IfSome next (λ n. coordinates_past bits n < coordinates_past bits p) → left_count bits new.at < left_count bits old.at
     goes_nearer h =
@@ -348,26 +348,26 @@ module _ {V : Type 0} (bits : Bits) (t u : Layout V) where
         (subst (λ (o : Option Coord). left_count bits next < left_count bits o) (sym at) (step_nearer bits t p next h))
 
     -- past a pair
-    module _ (level : Level) (box : Box) (block_is : IsAround p level box) (found : IsNextPlace bits level everywhere p next) where
+    module _ (level : Level) (box : Box) (block_is : IsAround p level box) (found : IsNextCoord bits level everywhere p next) where
       pub walk_past : IsPairWalk bits t u new
-      walk_past = walk_goes (next_place p place_of_walk.inside level block_is.is next found)
+      walk_past = walk_goes (next_start p start_of_walk.inside level block_is.is next found)
 
       pub step_yields : YieldsPair bits t u old new box
-      step_yields = yields old new p at place_of_walk block_is.few level block_is.is box block_is.around (subst (IsNextPlace bits level everywhere p) (sym there) found)
+      step_yields = yields old new p at start_of_walk block_is.few level block_is.is box block_is.around (subst (IsNextCoord bits level everywhere p) (sym there) found)
 
-    -- to the lesser of the next places of the trees, past the background
-    module _ (a b : Option Coord) (after : IsPlaceAfter bits t everywhere Background (end_level bits t p) p a) (also : IsPlaceAfter bits u everywhere Background (end_level bits u p) p b)
+    -- to the lesser of the next starts of the trees, past the background
+    module _ (a b : Option Coord) (after : IsStartAfter bits t everywhere Background (end_level bits t p) p a) (also : IsStartAfter bits u everywhere Background (end_level bits u p) p b)
         (one : (next ≡ a) ⊎ (next ≡ b)) where
       pub walk_on : IsPairWalk bits t u new
       walk_on = walk_goes (elim one [
-        | inl e ↦ subst (λ (o : Option Coord). IfSome o (IsPairPlace bits t u)) (sym e) (first_after (end_level bits t p) p a after)
-        | inr e ↦ subst (λ (o : Option Coord). IfSome o (IsPairPlace bits t u)) (sym e) (second_after (end_level bits u p) p b also)
+        | inl e ↦ subst (λ (o : Option Coord). IfSome o (IsPairStart bits t u)) (sym e) (first_after (end_level bits t p) p a after)
+        | inr e ↦ subst (λ (o : Option Coord). IfSome o (IsPairStart bits t u)) (sym e) (second_after (end_level bits u p) p b also)
       ])
 
       pub step_passes : IsBackgroundOver p t → IsBackgroundOver p u
           → ((q : Coord) → is_left bits next q ≡ false → (is_left bits a q ≡ false) × (is_left bits b q ≡ false)) → PassesPairs bits t u old new (λ q. false)
       step_passes over also_over least =
-          passes old new p at place_of_walk a b after also (elim one [ inl e ↦ inl (there ∙ e) | inr e ↦ inr (there ∙ e) ]) over also_over
+          passes old new p at start_of_walk a b after also (elim one [ inl e ↦ inl (there ∙ e) | inr e ↦ inr (there ∙ e) ]) over also_over
           (λ q gone. least q (subst (λ (o : Option Coord). is_left bits o q ≡ false) there gone))
 
   -- by where a walk is, and not by its paths

@@ -1,4 +1,4 @@
--- Walks over the parts of a tree that begin at a coordinate: the place around it.
+-- Walks over the parts of a tree that begin at a coordinate: the start around it.
 use Rattle.std.proofs.Common.{◌≡◌, inl, inr, Bool, true, false, ap, refl, subst, sym, ◌∙◌}
 use Rattle.std.specs.Prelude.{not, Some, IsTrue}
 use Rattle.std.specs.Ordering.{is_lt}
@@ -14,12 +14,12 @@ use Rattle.vdb_coord.proofs.Nesting.{lower_from_leaf, upper_from_lower}
 use Rattle.vdb_node.specs.declared.Entry.{Entry}
 use Rattle.vdb_node.specs.declared.Entry.TheVariants.{Child, Tile}
 use Rattle.vdb_tree.specs.Layout.{Layout, root_entry, upper_entry}
-use Rattle.vdb_tree.specs.Parts.{IsPlace, end_level, if_tile, is_left}
+use Rattle.vdb_tree.specs.Parts.{IsStart, end_level, if_tile, is_left}
 use Rattle.vdb_tree.proofs.Descents.{root_by_block, upper_by_block}
 
--- what isn't left comes before the place
-pub before_place : (bits : Bits) (p q : Coord) → is_left bits (Some p) q ≡ false → ComesBefore bits q p
-before_place bits p q h = by (is_lt (block_cmp bits q p)) h
+-- what isn't left comes before the start
+pub gone_before : (bits : Bits) (p q : Coord) → is_left bits (Some p) q ≡ false → ComesBefore bits q p
+gone_before bits p q h = by (is_lt (block_cmp bits q p)) h
   where
     by : (b : Bool) → not b ≡ false → b ≡ true
     by true h = refl
@@ -51,9 +51,9 @@ module _ {V : Type 0} (bits : Bits) (t : Layout V) where
       (within : (q : Coord) → IsTrue (is_inside part q) → IsTrue (is_inside box q) × (block_number bits level q ≡ block_number bits level p))
       (all : (q : Coord) → IsTrue (is_inside box q) → block_number bits level q ≡ block_number bits level p → IsTrue (is_inside part q))
       (corner : IsTrue (is_inside part part.min)) where
-    -- the least corner of the part around p is a place
-    pub place_of_part : IsPlace bits t box part.min
-    place_of_part =
+    -- the least corner of the part around p is a start
+    pub start_of_part : IsStart bits t box part.min
+    start_of_part =
         let at = within part.min corner in
         let same : end_level bits t part.min ≡ level = same_end p part.min (subst (λ (l : Level). block_number bits l part.min ≡ block_number bits l p) (sym ends) at.1) ∙ ends in
         record {

@@ -1,4 +1,4 @@
--- Walks over the parts of a tree: places, and what lies between them.
+-- Walks over the parts of a tree: starts, and what lies between them.
 use Rattle.std.proofs.Common.{◌≡◌, ◌⊎◌, inl, inr, ℕ, ◌<◌, Bool, true, false, arith, ap, refl, sym, subst, ◌∙◌}
 use Rattle.std.specs.Prelude.{not, ◌&&◌, if◌then◌else◌, Option, Some, None, IfNone, IfSome, IsSome, IsTrue, is_some}
 use Rattle.std.specs.Ordering.{is_gt, is_lt, ordering_reverse}
@@ -18,9 +18,9 @@ use Rattle.vdb_node.specs.declared.Entry.{Entry}
 use Rattle.vdb_node.specs.declared.Entry.TheVariants.{Child, Tile}
 use Rattle.vdb_tree.specs.internal.Jumps.{IsJumpAt, IsLast}
 use Rattle.vdb_tree.specs.Layout.{Layout, cell_at, entry_over, field_of, background_cell, root_at, root_entry, upper_entry}
-use Rattle.vdb_tree.specs.Parts.{IsPartAround, IsPlace, IsPlaceAfter, IsSkipped, IsWalk, Passes, TreeWalk, YieldsBox, end_level, if_tile, is_left, left_count}
-use Rattle.vdb_tree.specs.declared.reading.parts.Skip.{Skip}
-use Rattle.vdb_tree.specs.declared.reading.parts.Skip.TheVariants.{Absent, Background, Inactive}
+use Rattle.vdb_tree.specs.Parts.{IsPartAround, IsStart, IsStartAfter, IsSkipped, IsWalk, Passes, TreeWalk, YieldsBox, end_level, if_tile, is_left, left_count}
+use Rattle.vdb_tree.specs.declared.queries.parts.Skip.{Skip}
+use Rattle.vdb_tree.specs.declared.queries.parts.Skip.TheVariants.{Absent, Background, Inactive}
 use Rattle.vdb_value.specs.declared.Cell.{Cell}
 use Rattle.vdb_tree.specs.Table.{IsNextKey}
 use Rattle.vdb_tree.proofs.Descents.{root_by_block, tile_cell, tile_lower, tile_upper, upper_by_block}
@@ -58,7 +58,7 @@ key_ways k l = by (coord_cmp k l) refl
 -- ---- what is left
 
 module _ (bits : Bits) where
-  -- what comes before the place isn't left, and the other way round
+  -- what comes before the start isn't left, and the other way round
   pub left_not_before : (p q : Coord) → IsTrue (is_left bits (Some p) q) → ComesBefore bits q p → ⊥
   left_not_before p q h b = let e : is_lt (block_cmp bits q p) ≡ true = b in false_true (rw e at h)
 
@@ -79,7 +79,7 @@ module _ (bits : Bits) where
   pub gone_if_before : (p q : Coord) → ComesBefore bits q p → is_left bits (Some p) q ≡ false
   gone_if_before p q h = let e : is_lt (block_cmp bits q p) ≡ true = h in rw e refl
 
--- ---- places
+-- ---- starts
 
 up_to_upper : (bits : Bits) (level : Level) (q n : Coord) → block_number bits level q ≡ block_number bits level n → block_number bits Upper q ≡ block_number bits Upper n
 up_to_upper bits Upper q n e = e
@@ -133,20 +133,20 @@ module _ {V : Type 0} (bits : Bits) (t : Layout V) where
       subst (λ (l : Level). block_number bits l q ≡ block_number bits l n) level e
 
   module _ (box : Box) where
-    place_from : (level : Level) (n : Coord) → IsTrue (is_inside box n)
-        → ((q : Coord) → IsTrue (is_inside box q) → block_number bits level q ≡ block_number bits level n → ComesBefore bits q n → ⊥) → EndsWithin level n → IsPlace bits t box n
-    place_from level n i least ends = record { inside = i; first = λ q j b e. least q j (ends q e) b }
+    start_from : (level : Level) (n : Coord) → IsTrue (is_inside box n)
+        → ((q : Coord) → IsTrue (is_inside box q) → block_number bits level q ≡ block_number bits level n → ComesBefore bits q n → ⊥) → EndsWithin level n → IsStart bits t box n
+    start_from level n i least ends = record { inside = i; first = λ q j b e. least q j (ends q e) b }
 
-    -- the least corner of a box is a place
-    pub place_at_corner : IsTrue (is_inside box box.min) → IsPlace bits t box box.min
-    place_at_corner i = record { inside = i; first = λ q j b e. not_before_min bits box q j b }
+    -- the least corner of a box is a start
+    pub start_at_corner : IsTrue (is_inside box box.min) → IsStart bits t box box.min
+    start_at_corner i = record { inside = i; first = λ q j b e. not_before_min bits box q j b }
 
     -- ---- within a block of the outer level
 
     module _ (outer level : Level) (skip : Skip) (p : Coord) where
-      jump_found : (n : Coord) → IsJumpAt bits t skip box outer level p n → EndsWithin level n → IsPlaceAfter bits t box skip level p (Some n)
+      jump_found : (n : Coord) → IsJumpAt bits t skip box outer level p n → EndsWithin level n → IsStartAfter bits t box skip level p (Some n)
       jump_found n found ends = record {
-        place = place_from level n found.inside found.first ends;
+        start = start_from level n found.inside found.first ends;
         past = found.past;
         between = λ q i b. elim (which_first bits q p) [
           | inl c ↦ inl (inl c)
@@ -164,25 +164,25 @@ module _ {V : Type 0} (bits : Bits) (t : Layout V) where
       ]
 
       jump_outer : ((q n : Coord) → block_number bits level q ≡ block_number bits level n → block_number bits outer q ≡ block_number bits outer n)
-          → IsLast bits t skip box outer level p → (found : Option Coord) → IsPlaceAfter bits t box skip outer p found → IsPlaceAfter bits t box skip level p found
+          → IsLast bits t skip box outer level p → (found : Option Coord) → IsStartAfter bits t box skip outer p found → IsStartAfter bits t box skip level p found
       jump_outer up none None h = λ q i. jump_last none q i (h q i)
       jump_outer up none (Some n) h = record {
-        place = h.place;
+        start = h.start;
         past = λ q i e. h.past q i (up q p e);
         between = λ q i b. jump_last none q i (h.between q i b);
       }
 
   -- past a leaf block in a lower node, and past a lower block in an upper node
-  pub leaf_found : (box : Box) (skip : Skip) (p : Coord) → end_level bits t p ≡ Leaf → (n : Coord) → IsJumpAt bits t skip box Lower Leaf p n → IsPlaceAfter bits t box skip Leaf p (Some n)
+  pub leaf_found : (box : Box) (skip : Skip) (p : Coord) → end_level bits t p ≡ Leaf → (n : Coord) → IsJumpAt bits t skip box Lower Leaf p n → IsStartAfter bits t box skip Leaf p (Some n)
   leaf_found box skip p node n found = jump_found box Lower Leaf skip p n found (ends_in_leaf p n node found.outer_block)
 
-  pub lower_found : (box : Box) (skip : Skip) (p : Coord) → (end_level bits t p ≡ Upper → ⊥) → (n : Coord) → IsJumpAt bits t skip box Upper Lower p n → IsPlaceAfter bits t box skip Lower p (Some n)
+  pub lower_found : (box : Box) (skip : Skip) (p : Coord) → (end_level bits t p ≡ Upper → ⊥) → (n : Coord) → IsJumpAt bits t skip box Upper Lower p n → IsStartAfter bits t box skip Lower p (Some n)
   lower_found box skip p node n found = jump_found box Upper Lower skip p n found (ends_in_lower p n node found.outer_block)
 
-  pub leaf_none : (box : Box) (skip : Skip) (p : Coord) → IsLast bits t skip box Lower Leaf p → (found : Option Coord) → IsPlaceAfter bits t box skip Lower p found → IsPlaceAfter bits t box skip Leaf p found
+  pub leaf_none : (box : Box) (skip : Skip) (p : Coord) → IsLast bits t skip box Lower Leaf p → (found : Option Coord) → IsStartAfter bits t box skip Lower p found → IsStartAfter bits t box skip Leaf p found
   leaf_none box skip p = jump_outer box Lower Leaf skip p (lower_from_leaf bits)
 
-  pub lower_none : (box : Box) (skip : Skip) (p : Coord) → IsLast bits t skip box Upper Lower p → (found : Option Coord) → IsPlaceAfter bits t box skip Upper p found → IsPlaceAfter bits t box skip Lower p found
+  pub lower_none : (box : Box) (skip : Skip) (p : Coord) → IsLast bits t skip box Upper Lower p → (found : Option Coord) → IsStartAfter bits t box skip Upper p found → IsStartAfter bits t box skip Lower p found
   lower_none box skip p = jump_outer box Upper Lower skip p (upper_from_lower bits)
 
   -- a leaf isn't an upper tile
@@ -242,9 +242,9 @@ module _ {V : Type 0} (bits : Bits) (t : Layout V) where
     }
 
     keys_found : (skip : Skip) (n : Coord) → IsTrue (is_inside box n) → key bits n ≡ k → ((q : Coord) → IsTrue (is_inside box q) → key bits q ≡ k → ComesBefore bits q n → ⊥)
-        → IsPlaceAfter bits t box skip Upper p (Some n)
+        → IsStartAfter bits t box skip Upper p (Some n)
     keys_found skip n inside under first = record {
-      place = place_from box Upper n inside (λ q i e b. first q i (e ∙ under) b) (ends_in_upper n);
+      start = start_from box Upper n inside (λ q i e b. first q i (e ∙ under) b) (ends_in_upper n);
       past = λ q i e.
           let to : coord_cmp (key bits p) (key bits n) ≡ Less = subst (λ (b : Coord). coord_cmp (key bits p) b ≡ Less) (sym under) (done.start k next.1) in
           from_key bits q n (subst (λ (a : Coord). coord_cmp a (key bits n) ≡ Less) (sym e) to);
@@ -266,11 +266,11 @@ module _ {V : Type 0} (bits : Bits) (t : Layout V) where
   pub found_keys : (box : Box) (p passed : Coord) → IsKeysPassed box p passed → (k : Coord) → IsNextKey t.root (Some passed) (Some k) → (skip : Skip)
       → (found : Option Coord) → is_some found ≡ true
       → IfSome found (λ n. IsTrue (is_inside box n)) → IfSome found (λ n. key bits n ≡ k) → IfSome found (λ n. (q : Coord) → IsTrue (is_inside box q) → key bits q ≡ k → ComesBefore bits q n → ⊥)
-      → IsPlaceAfter bits t box skip Upper p found
+      → IsStartAfter bits t box skip Upper p found
   found_keys box p passed done k next skip (Some n) h inside under first = keys_found box p passed done k next skip n inside under first
   found_keys box p passed done k next skip None h inside under first = absurd (false_true h)
 
-  pub keys_end : (box : Box) (p passed : Coord) → IsKeysPassed box p passed → IsNextKey t.root (Some passed) None → (skip : Skip) → IsPlaceAfter bits t box skip Upper p None
+  pub keys_end : (box : Box) (p passed : Coord) → IsKeysPassed box p passed → IsNextKey t.root (Some passed) None → (skip : Skip) → IsStartAfter bits t box skip Upper p None
   keys_end box p passed done none skip q i = elim (key_ways (key bits q) (key bits p)) [
     | inl less ↦ inl (inl (from_key bits q p less))
     | inr r ↦ elim r [
@@ -285,7 +285,7 @@ module _ {V : Type 0} (bits : Bits) (t : Layout V) where
 
   -- the next key comes past them
   pub keys_stop : (box : Box) (p passed : Coord) → IsKeysPassed box p passed → (k : Coord) → IsNextKey t.root (Some passed) (Some k) → coord_cmp (key bits box.max) k ≡ Less
-      → (skip : Skip) → IsPlaceAfter bits t box skip Upper p None
+      → (skip : Skip) → IsStartAfter bits t box skip Upper p None
   keys_stop box p passed done k next past skip q i = elim (key_ways (key bits q) (key bits p)) [
     | inl less ↦ inl (inl (from_key bits q p less))
     | inr r ↦ elim r [
@@ -300,7 +300,7 @@ module _ {V : Type 0} (bits : Bits) (t : Layout V) where
     ]
   ]
 
-  -- ---- the part around a place
+  -- ---- the part around a start
 
   -- a tile of the background, inactive, may be passed over
   pub background_skipped : (level : Level) (p : Coord) (cell : Cell V) → entry_over bits level t p ≡ Tile cell → cell ≡ background_cell t
@@ -343,41 +343,41 @@ module _ {V : Type 0} (bits : Bits) (t : Layout V) where
 
   -- ---- a step of a walk
 
-  -- the walk went from the place p to the one past the part around it
+  -- the walk went from the start p to the one past the part around it
   pub record IsStep (old new : TreeWalk V) (p : Coord) : Type 0 where
     pub at : old.at ≡ Some p
     pub same_box : new.box ≡ old.box
     pub same_skip : new.skip ≡ old.skip
-    pub place : IsPlace bits t old.box p
-    pub after : IsPlaceAfter bits t old.box old.skip (end_level bits t p) p new.at
+    pub start : IsStart bits t old.box p
+    pub after : IsStartAfter bits t old.box old.skip (end_level bits t p) p new.at
 
   pub step_is : (old mid new : TreeWalk V) (p : Coord) (next : Option Coord) (box : Box) (skip : Skip) → old.at ≡ Some p → mid.box ≡ old.box → mid.skip ≡ old.skip
-      → new ≡ record mid { at = next } → box ≡ mid.box → skip ≡ mid.skip → IfSome old.at (IsPlace bits t old.box) → IsPlaceAfter bits t box skip (end_level bits t p) p next → IsStep old new p
-  step_is old mid new p next box skip at same_box same_skip went box_is skip_is place after = record {
+      → new ≡ record mid { at = next } → box ≡ mid.box → skip ≡ mid.skip → IfSome old.at (IsStart bits t old.box) → IsStartAfter bits t box skip (end_level bits t p) p next → IsStep old new p
+  step_is old mid new p next box skip at same_box same_skip went box_is skip_is start after = record {
     at = at;
     same_box = ap (λ (w : TreeWalk V). w.box) went ∙ same_box;
     same_skip = ap (λ (w : TreeWalk V). w.skip) went ∙ same_skip;
-    place = subst (λ (o : Option Coord). IfSome o (IsPlace bits t old.box)) at place;
+    start = subst (λ (o : Option Coord). IfSome o (IsStart bits t old.box)) at start;
     after =
         let there : new.at ≡ next = ap (λ (w : TreeWalk V). w.at) went in
         let boxes : box ≡ old.box = box_is ∙ same_box in
         let skips : skip ≡ old.skip = skip_is ∙ same_skip in
-        subst (λ (o : Option Coord). IsPlaceAfter bits t old.box old.skip (end_level bits t p) p o) (sym there)
-        (subst (λ (x : Skip). IsPlaceAfter bits t old.box x (end_level bits t p) p next) skips
-        (subst (λ (x : Box). IsPlaceAfter bits t x skip (end_level bits t p) p next) boxes after));
+        subst (λ (o : Option Coord). IsStartAfter bits t old.box old.skip (end_level bits t p) p o) (sym there)
+        (subst (λ (x : Skip). IsStartAfter bits t old.box x (end_level bits t p) p next) skips
+        (subst (λ (x : Box). IsStartAfter bits t x skip (end_level bits t p) p next) boxes after));
   }
 
-  -- it stands at a place of its box again
-  pub walk_goes : (mid new : TreeWalk V) (box : Box) (skip : Skip) (level : Level) (p : Coord) (next : Option Coord) → IsWalk bits t mid → box ≡ mid.box → IsPlaceAfter bits t box skip level p next
+  -- it stands at a start of its box again
+  pub walk_goes : (mid new : TreeWalk V) (box : Box) (skip : Skip) (level : Level) (p : Coord) (next : Option Coord) → IsWalk bits t mid → box ≡ mid.box → IsStartAfter bits t box skip level p next
       → new ≡ record mid { at = next } → IsWalk bits t new
   walk_goes mid new box skip level p next walk box_is after went = rw went (record {
-    place = next_place next (subst (λ (x : Box). IsPlaceAfter bits t x skip level p next) box_is after);
+    start = next_start next (subst (λ (x : Box). IsStartAfter bits t x skip level p next) box_is after);
     lives = walk.lives;
   })
     where
-      next_place : (o : Option Coord) → IsPlaceAfter bits t mid.box skip level p o → IfSome o (IsPlace bits t mid.box)
-      next_place None h = tt
-      next_place (Some n) h = h.place
+      next_start : (o : Option Coord) → IsStartAfter bits t mid.box skip level p o → IfSome o (IsStart bits t mid.box)
+      next_start None h = tt
+      next_start (Some n) h = h.start
 
   module _ (old new : TreeWalk V) (p : Coord) (is : IsStep old new p) where
     at : old.at ≡ Some p
@@ -389,10 +389,10 @@ module _ {V : Type 0} (bits : Bits) (t : Layout V) where
     same_skip : new.skip ≡ old.skip
     same_skip = is.same_skip
 
-    place : IsPlace bits t old.box p
-    place = is.place
+    start : IsStart bits t old.box p
+    start = is.start
 
-    after : IsPlaceAfter bits t old.box old.skip (end_level bits t p) p new.at
+    after : IsStartAfter bits t old.box old.skip (end_level bits t p) p new.at
     after = is.after
 
     abbrev Ends : Coord → Type 0
@@ -401,18 +401,18 @@ module _ {V : Type 0} (bits : Bits) (t : Layout V) where
     was_left : (q : Coord) → IsTrue (is_left bits old.at q) → ComesBefore bits q p → ⊥
     was_left q h = left_not_before bits p q (subst (λ (o : Option Coord). IsTrue (is_left bits o q)) at h)
 
-    step_later : (next : Option Coord) → IsPlaceAfter bits t old.box old.skip (end_level bits t p) p next → (q : Coord) → IsTrue (is_left bits next q) → IsTrue (is_left bits old.at q)
+    step_later : (next : Option Coord) → IsStartAfter bits t old.box old.skip (end_level bits t p) p next → (q : Coord) → IsTrue (is_left bits next q) → IsTrue (is_left bits old.at q)
     step_later None h q l = absurd (false_true l)
     step_later (Some n) h q l =
         subst (λ (o : Option Coord). IsTrue (is_left bits o q)) (sym at)
-        (left_unless bits p q (λ b. left_not_before bits n q l (comes_on bits q p n b (h.past p place.inside refl))))
+        (left_unless bits p q (λ b. left_not_before bits n q l (comes_on bits q p n b (h.past p start.inside refl))))
 
-    step_between : (next : Option Coord) → IsPlaceAfter bits t old.box old.skip (end_level bits t p) p next → (q : Coord) → IsTrue (is_inside old.box q) → is_left bits next q ≡ false
+    step_between : (next : Option Coord) → IsStartAfter bits t old.box old.skip (end_level bits t p) p next → (q : Coord) → IsTrue (is_inside old.box q) → is_left bits next q ≡ false
         → IsUpToBlock bits (end_level bits t p) p q ⊎ IsSkipped bits old.skip t q
     step_between None h q i gone = h q i
     step_between (Some n) h q i gone = h.between q i (before_not_left bits n q gone)
 
-    step_gone : (next : Option Coord) → IsPlaceAfter bits t old.box old.skip (end_level bits t p) p next → (q : Coord) → IsTrue (is_inside old.box q) → Ends q → is_left bits next q ≡ false
+    step_gone : (next : Option Coord) → IsStartAfter bits t old.box old.skip (end_level bits t p) p next → (q : Coord) → IsTrue (is_inside old.box q) → Ends q → is_left bits next q ≡ false
     step_gone None h q i e = refl
     step_gone (Some n) h q i e = gone_if_before bits n q (h.past q i e)
 
@@ -455,11 +455,11 @@ module _ {V : Type 0} (bits : Bits) (t : Layout V) where
         inside = λ q i. (in_part q i).0;
         left = λ q i.
             subst (λ (o : Option Coord). IsTrue (is_left bits o q)) (sym at)
-            (left_unless bits p q (λ b. place.first q (in_part q i).0 b (in_part q i).1));
+            (left_unless bits p q (λ b. start.first q (in_part q i).0 b (in_part q i).1));
         gone = λ q i. step_gone new.at after q (in_part q i).0 (in_part q i).1;
       }
 
-  -- by what was found around the place
+  -- by what was found around the start
   pub some_yields : {P : Type 0} (bounds_of : P → Box) (old new : TreeWalk V) (p : Coord) → IsStep old new p → (box : Box) → box ≡ old.box → (found : Option P)
       → IfSome found (λ part. IsPartAround bits t box p (bounds_of part)) → IfSome found (λ part. YieldsBox bits t old new (bounds_of part))
   some_yields bounds_of old new p step box same None h = tt
@@ -514,10 +514,10 @@ pub none_under : (bits : Bits) (box : Box) (k : Coord) (found : Option Coord) �
 none_under bits box k None h none = none
 none_under bits box k (Some n) h none = absurd (false_true (sym h))
 
--- fewer coordinates are left past a later place
-pub place_nearer : {V : Type 0} (bits : Bits) (t : Layout V) (box : Box) (skip : Skip) (level : Level) (p n : Coord) → IsTrue (is_inside box p) → IsTrue (is_inside everywhere n)
-    → IsPlaceAfter bits t box skip level p (Some n) → coordinates_past bits n < coordinates_past bits p
-place_nearer bits t box skip level p n here there after = fewer_past bits p n there (after.past p here refl)
+-- fewer coordinates are left past a later start
+pub start_nearer : {V : Type 0} (bits : Bits) (t : Layout V) (box : Box) (skip : Skip) (level : Level) (p n : Coord) → IsTrue (is_inside box p) → IsTrue (is_inside everywhere n)
+    → IsStartAfter bits t box skip level p (Some n) → coordinates_past bits n < coordinates_past bits p
+start_nearer bits t box skip level p n here there after = fewer_past bits p n there (after.past p here refl)
 
 -- what holds where none was found
 pub if_none : {P : Type 0} {Q : Type 0} (found : Option P) → is_some found ≡ false → IfNone found Q → Q

@@ -12,7 +12,7 @@ use Rattle.vdb_node.specs.declared.Entry.{Entry}
 use Rattle.vdb_node.specs.declared.Entry.TheVariants.{Child, Tile}
 use Rattle.vdb_value.specs.declared.Cell.{Cell}
 use Rattle.vdb_tree.specs.Changes.{AreNeeded, Fills, IsConstantBlock, IsNonConstantBlock, IsNeeded, IsNeededTo, Keeps, KeepsHead, KeepsUppers, PassesTo, SameDescent}
-use Rattle.vdb_tree.specs.internal.Corners.{IsChildless, IsNextCornerAt, IsTiled}
+use Rattle.vdb_tree.specs.internal.Children.{IsChildless, IsNextCornerAt, IsTiled}
 use Rattle.vdb_tree.specs.Layout.{Layout, cell_at, entry_over, lower_entry, root_entry, upper_entry}
 use Rattle.vdb_tree.proofs.Descents.{lower_by_block, root_by_block, tile_cell, tile_lower, tile_upper, upper_by_block}
 use Rattle.vdb_tree.proofs.Levels.{coord_cases, tile_no_child, tile_or_child}

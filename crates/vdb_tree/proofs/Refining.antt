@@ -9,12 +9,12 @@ use Rattle.vdb_coord.specs.declared.Coord.{Coord}
 use Rattle.vdb_coord.specs.declared.Level.{Level}
 use Rattle.vdb_coord.specs.declared.Level.TheVariants.{Leaf, Lower, Upper}
 use Rattle.vdb_coord.proofs.Nesting.{corner_of_entry, entry_from_offset}
-use Rattle.vdb_coord.proofs.Places.{offset_below}
+use Rattle.vdb_coord.proofs.Positions.{offset_below}
 use Rattle.vdb_node.specs.declared.Entry.TheVariants.{Child, Tile}
 use Rattle.vdb_value.specs.declared.Cell.{Cell}
 use Rattle.vdb_tree.specs.Changes.{AddsNodes}
-use Rattle.vdb_tree.specs.internal.Corners.{IsChildless, IsNextCorner, IsNextCornerAt}
-use Rattle.vdb_tree.specs.internal.Pairing.{IsIdleAt, IsReadyFor, made}
+use Rattle.vdb_tree.specs.internal.Children.{IsChildless, IsNextCorner, IsNextCornerAt}
+use Rattle.vdb_tree.specs.internal.Pairing.{IsIdleAt, IsRefinedFor, made}
 use Rattle.vdb_tree.specs.internal.Refining.{IsRefinable, IsRefinedAt, IsRefinedTo, MakesNode, Refines}
 use Rattle.vdb_tree.specs.Layout.{Layout, background_cell, entry_over, lower_entry, root_at, root_entry, upper_entry}
 use Rattle.vdb_tree.specs.Nodes.{MakesOnly}
@@ -29,7 +29,7 @@ use Rattle.vdb_tree.proofs.MadeNodes.{level_cases, makes_none, makes_twice}
 use Rattle.vdb_tree.proofs.Needed.{absent_entry, is_child_from, is_some_from, some_or_none}
 use Rattle.vdb_tree.proofs.Passes.{corner_block, entry_by_block}
 use Rattle.vdb_tree.proofs.Splits.{adds_itself, adds_twice, keeps_itself, keeps_twice}
-use Rattle.vdb_tree.proofs.Sweeps.{equal_left, past_or_not, same_keys}
+use Rattle.vdb_tree.proofs.RootSweeps.{equal_left, past_or_not, same_keys}
 
 no_offset : (j : ℕ) → j < 0 → ⊥
 no_offset j h = omega (arith, h)
@@ -243,5 +243,5 @@ module _ {V X : Type 0} (bits : Bits) (rule : StateRule) (u : Layout X) where
       ]
     ]
 
-    pub ready_from : IsReadyFor bits rule new u
-    ready_from = record { tiles = each; entered = λ q none. without q (no_entry q none) }
+    pub refined_from : IsRefinedFor bits rule new u
+    refined_from = record { tiles = each; entered = λ q none. without q (no_entry q none) }

@@ -161,8 +161,8 @@ module _ {V : Type 0} (eq : V → V → Bool) (exact : (x y : V) → eq x y ≡ 
 
       -- where p's root block has capacity, it keeps to the limit
       pub altered_within : IsSound bits t → HasCapacity t (key bits p) → roots eq bits changed ≤ t.limit
-      altered_within sound room =
-          elim room [
+      altered_within sound capacity =
+          elim capacity [
             | inl held ↦
                 let a = roots_at_most eq bits changed (keys_of t.root)
                 (λ k within h. elim (coord_cases k (key bits p)) [

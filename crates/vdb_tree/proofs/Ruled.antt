@@ -10,7 +10,7 @@ use Rattle.vdb_coord.specs.declared.Coord.{Coord}
 use Rattle.vdb_coord.specs.declared.Level.{Level}
 use Rattle.vdb_coord.specs.declared.Level.TheVariants.{Leaf, Lower, Upper}
 use Rattle.vdb_coord.proofs.Nesting.{block_from_entry, entry_from_offset, offset_from_entry}
-use Rattle.vdb_coord.proofs.Places.{entries_is, offset_below}
+use Rattle.vdb_coord.proofs.Positions.{entries_is, offset_below}
 use Rattle.vdb_node.specs.Entries.{IsFirstWithout, IsInactiveTile}
 use Rattle.vdb_node.specs.Nodes.{entry_count}
 use Rattle.vdb_node.specs.declared.Entry.{Entry}
@@ -20,7 +20,7 @@ use Rattle.vdb_tree.specs.Changes.{Fills, KeepsHead, Turns}
 use Rattle.vdb_tree.specs.Field.{ruled}
 use Rattle.vdb_tree.specs.Layout.{Layout, background_cell, cell_at, entry_over, field_of, lower_entry, root_at, root_entry, upper_entry}
 use Rattle.vdb_tree.specs.Table.{IsNextKey, IsPast}
-use Rattle.vdb_tree.specs.internal.Pairing.{IsReadyFor, SetsBlock, acts_at, made, state_of}
+use Rattle.vdb_tree.specs.internal.Pairing.{IsRefinedFor, SetsBlock, acts_at, made, state_of}
 use Rattle.vdb_tree.specs.internal.Ruled.{IsAmong, IsIdleTile, IsNextWithout, IsNextWithoutAt, IsSettled, SetsRoot, SetsWithin, made_tile}
 use Rattle.vdb_tree.specs.declared.pairs.StateRule.{StateRule}
 use Rattle.vdb_tree.specs.declared.pairs.StateRule.TheVariants.{Unite, Subtract, Intersect}
@@ -31,7 +31,7 @@ use Rattle.vdb_tree.proofs.Levels.{coord_cases, same_tile, tile_no_child}
 use Rattle.vdb_tree.proofs.Needed.{absent_entry, is_some_from, some_or_none}
 use Rattle.vdb_tree.proofs.Passes.{entry_by_block, head_same, head_trans, root_entry_same, tile_gives}
 use Rattle.vdb_tree.proofs.Splits.{root_turns}
-use Rattle.vdb_tree.proofs.Sweeps.{apart, equal_left, other_key, past_or_not, same_keys, that_key}
+use Rattle.vdb_tree.proofs.RootSweeps.{apart, equal_left, other_key, past_or_not, same_keys, that_key}
 
 -- ---- states
 
@@ -157,19 +157,19 @@ module _ {V X : Type 0} (bits : Bits) (rule : StateRule) (u : Layout X) where
       keys = λ k e. first.keys k (second.keys k e);
     }
 
-  -- the tree stays ready
-  pub ready_after : (In : Coord → Type 0) (old new : Layout V) → SetsWithin bits rule u In old new → IsReadyFor bits rule old u → IsReadyFor bits rule new u
-  ready_after In old new sets ready = record {
+  -- the tree stays refined
+  pub refined_after : (In : Coord → Type 0) (old new : Layout V) → SetsWithin bits rule u In old new → IsRefinedFor bits rule old u → IsRefinedFor bits rule new u
+  refined_after In old new sets refined = record {
     tiles = λ l q tile slot e child.
         let was = sets.tiles l q tile e in
         elim was.2 [
           | inr m ↦ inl m
-          | inl s ↦ elim (ready.tiles l q was.0 slot was.1 child) [
+          | inl s ↦ elim (refined.tiles l q was.0 slot was.1 child) [
             | inl m ↦ inl (ap (λ (c : Cell V). c.on) s ∙ m)
             | inr idle ↦ inr idle
           ]
         ];
-    entered = λ q none. ready.entered q (sets.keys (key bits q) none);
+    entered = λ q none. refined.entered q (sets.keys (key bits q) none);
   }
 
   -- ---- blocks
@@ -194,11 +194,11 @@ module _ {V X : Type 0} (bits : Bits) (rule : StateRule) (u : Layout X) where
       let cell = tile_gives bits level u q idle.0 (entry_by_block bits level u q p same ∙ e ∙ idle.1) in
       idle_stays rule (cell_at bits t q).on (cell_at bits u q).on (λ k. idle.2 (sym (ap (λ (c : Cell X). c.on) cell) ∙ k)))
 
-  -- it has a node, and this tree a tile that is ready
-  pub ready_block : (level : Level) (t : Layout V) (p : Coord) (tile : Cell V) (slot : ℕ) → IsReadyFor bits rule t u → entry_over bits level t p ≡ Tile tile → entry_over bits level u p ≡ Child slot → SetsBlock bits rule u level t t p
-  ready_block level t p tile slot ready e child = settled_block level t p (λ q same.
+  -- it has a node, and this tree a tile that is refined
+  pub refined_block : (level : Level) (t : Layout V) (p : Coord) (tile : Cell V) (slot : ℕ) → IsRefinedFor bits rule t u → entry_over bits level t p ≡ Tile tile → entry_over bits level u p ≡ Child slot → SetsBlock bits rule u level t t p
+  refined_block level t p tile slot refined e child = settled_block level t p (λ q same.
       let here = entry_by_block bits level t q p same ∙ e in
-      elim (ready.tiles level q tile slot here (entry_by_block bits level u q p same ∙ child)) [
+      elim (refined.tiles level q tile slot here (entry_by_block bits level u q p same ∙ child)) [
         | inl m ↦ made_stays rule (cell_at bits t q).on (cell_at bits u q).on (ap (λ (c : Cell V). c.on) (tile_gives bits level t q tile here) ∙ m)
         | inr idle ↦ idle_stays rule (cell_at bits t q).on (cell_at bits u q).on idle
       ])
@@ -359,16 +359,16 @@ module _ {V X : Type 0} (bits : Bits) (rule : StateRule) (u : Layout X) where
   -- each root block up to this key has the states of the rule, and the table past it stays
   pub record SetsTo (old new : Layout V) (passed : Option Coord) : Type 0 where
     pub sets : SetsWithin bits rule u (λ q. IsPast passed (key bits q) → ⊥) old new
-    pub ready : IsReadyFor bits rule new u
+    pub refined : IsRefinedFor bits rule new u
     pub ahead : (k : Coord) → IsPast passed k → root_at new.root k ≡ root_at old.root k
 
-  pub roots_none : (t : Layout V) → IsReadyFor bits rule t u → SetsTo t t None
-  roots_none t ready = record { sets = sets_nothing (λ q. IsPast None (key bits q) → ⊥) t (λ q h. absurd (h tt)); ready = ready; ahead = λ k h. refl }
+  pub roots_none : (t : Layout V) → IsRefinedFor bits rule t u → SetsTo t t None
+  roots_none t refined = record { sets = sets_nothing (λ q. IsPast None (key bits q) → ⊥) t (λ q h. absurd (h tt)); refined = refined; ahead = λ k h. refl }
 
   -- a root block without an entry stays
-  absent_settled : (t : Layout V) → IsReadyFor bits rule t u → (q : Coord) → root_at t.root (key bits q) ≡ None → IsSettled bits rule u t q
-  absent_settled t ready q none =
-      elim (ready.entered q none) [
+  absent_settled : (t : Layout V) → IsRefinedFor bits rule t u → (q : Coord) → root_at t.root (key bits q) ≡ None → IsSettled bits rule u t q
+  absent_settled t refined q none =
+      elim (refined.entered q none) [
         | inl m ↦ made_stays rule (cell_at bits t q).on (cell_at bits u q).on (ap (λ (c : Cell V). c.on) (tile_gives bits Upper t q (background_cell t) (absent_entry bits t q none)) ∙ sym m)
         | inr idle ↦ idle_stays rule (cell_at bits t q).on (cell_at bits u q).on idle
       ]
@@ -378,8 +378,8 @@ module _ {V X : Type 0} (bits : Bits) (rule : StateRule) (u : Layout X) where
   next_at_first old mid passed k so_far next =
       (rw (← so_far.ahead k next.1) next.0, next.1, λ j past some. next.2 j past (rw (so_far.ahead j past) some))
 
-  pub roots_next : (old mid new : Layout V) (passed : Option Coord) (k : Coord) → IsReadyFor bits rule old u → SetsTo old mid passed → IsNextKey mid.root passed (Some k) → SetsRoot bits rule u mid new k → SetsTo old new (Some k)
-  roots_next old mid new passed k ready so_far next turn = record {
+  pub roots_next : (old mid new : Layout V) (passed : Option Coord) (k : Coord) → IsRefinedFor bits rule old u → SetsTo old mid passed → IsNextKey mid.root passed (Some k) → SetsRoot bits rule u mid new k → SetsTo old new (Some k)
+  roots_next old mid new passed k refined so_far next turn = record {
     sets = sets_join (λ q. IsPast passed (key bits q) → ⊥) (λ q. key bits q ≡ k) (λ q. IsPast (Some k) (key bits q) → ⊥)
         (λ q before later. before (past_on passed k (key bits q) next.1 later))
         (λ q e later. apart k (key bits q) later e)
@@ -390,25 +390,25 @@ module _ {V X : Type 0} (bits : Bits) (rule : StateRule) (u : Layout X) where
             | inr before ↦ inl (before, d)
             | inl past ↦ elim (some_or_none (root_at mid.root (key bits q))) [
               | inl x ↦ absurd (d (sym (same_keys k (key bits q) (equal_left (coord_cmp k (key bits q)) (next.2 (key bits q) past (is_some_from _ x.0 x.1)) not_past))))
-              | inr none ↦ inr (inr (λ before. before past, d, absent_settled old ready q (sym (so_far.ahead (key bits q) past) ∙ none)))
+              | inr none ↦ inr (inr (λ before. before past, d, absent_settled old refined q (sym (so_far.ahead (key bits q) past) ∙ none)))
             ]
           ]
         ])
         so_far.sets turn.sets;
-    ready = ready_after (λ q. key bits q ≡ k) mid new turn.sets so_far.ready;
+    refined = refined_after (λ q. key bits q ≡ k) mid new turn.sets so_far.refined;
     ahead = λ j later. turn.table j (apart k j later) ∙ so_far.ahead j (past_on passed k j next.1 later);
   }
 
   -- where no key is left, all states are those of the rule
-  roots_all : (old new : Layout V) (passed : Option Coord) → IsReadyFor bits rule old u → SetsTo old new passed → IsNextKey new.root passed None
+  roots_all : (old new : Layout V) (passed : Option Coord) → IsRefinedFor bits rule old u → SetsTo old new passed → IsNextKey new.root passed None
       → (q : Coord) → cell_at bits new q ≡ record { value = (cell_at bits old q).value; on = state_of rule (cell_at bits old q).on (cell_at bits u q).on }
-  roots_all old new passed ready so_far none q = elim (past_or_not passed (key bits q)) [
+  roots_all old new passed refined so_far none q = elim (past_or_not passed (key bits q)) [
     | inr before ↦ so_far.sets.here q before
-    | inl past ↦ so_far.sets.there q (λ before. before past) ∙ stays old q (absent_settled old ready q (sym (so_far.ahead (key bits q) past) ∙ none (key bits q) past))
+    | inl past ↦ so_far.sets.there q (λ before. before past) ∙ stays old q (absent_settled old refined q (sym (so_far.ahead (key bits q) past) ∙ none (key bits q) past))
   ]
 
-  pub roots_end : (old new : Layout V) (passed : Option Coord) → IsReadyFor bits rule old u → SetsTo old new passed → IsNextKey new.root passed None → field_of bits new ≡ ruled rule (field_of bits old) (field_of bits u)
-  roots_end old new passed ready so_far none = ruled_field bits rule u old new so_far.sets.head.background (roots_all old new passed ready so_far none)
+  pub roots_end : (old new : Layout V) (passed : Option Coord) → IsRefinedFor bits rule old u → SetsTo old new passed → IsNextKey new.root passed None → field_of bits new ≡ ruled rule (field_of bits old) (field_of bits u)
+  roots_end old new passed refined so_far none = ruled_field bits rule u old new so_far.sets.head.background (roots_all old new passed refined so_far none)
 
 -- ---- the next entry that may change
 

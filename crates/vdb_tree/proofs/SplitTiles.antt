@@ -24,7 +24,7 @@ use Rattle.vdb_tree.proofs.Levels.{coord_cases, same_tile, some_held, tile_no_ch
 use Rattle.vdb_tree.proofs.MadeNodes.{keys_twice, makes_none, makes_twice}
 use Rattle.vdb_tree.proofs.Needed.{absent_entry, is_some_from, some_or_none}
 use Rattle.vdb_tree.proofs.Splits.{adds_itself, adds_twice, keeps_itself, keeps_twice}
-use Rattle.vdb_tree.proofs.Sweeps.{apart as later_apart, equal_left, past_or_not, same_keys}
+use Rattle.vdb_tree.proofs.RootSweeps.{apart as later_apart, equal_left, past_or_not, same_keys}
 
 -- what follows from a value where there is one
 pub on_ok : {A E : Type 0} {P Q : Type 0} (r : Result A E) → OnOk r P → (P → Q) → OnOk r Q
@@ -33,26 +33,26 @@ on_ok (Err e) h f = tt
 
 module _ {V : Type 0} (bits : Bits) (box : Box) (cell : Cell V) where
   -- what is covered need not be split, nor what lies in a tile of the cell
-  pub ready_within : (level : Level) (t : Layout V) (q : Coord) → IsCovered bits box level q → IsSplitTo bits box cell level t q
-  ready_within Leaf t q h = λ tile e. inl h
-  ready_within Lower t q h = (λ tile e. inl (leaf_covered bits box q h), λ tile e. inl h)
-  ready_within Upper t q h = let l = lower_covered bits box q h in (λ tile e. inl (leaf_covered bits box q l), λ tile e. inl l, λ tile e. inl h)
+  pub split_within : (level : Level) (t : Layout V) (q : Coord) → IsCovered bits box level q → IsSplitTo bits box cell level t q
+  split_within Leaf t q h = λ tile e. inl h
+  split_within Lower t q h = (λ tile e. inl (leaf_covered bits box q h), λ tile e. inl h)
+  split_within Upper t q h = let l = lower_covered bits box q h in (λ tile e. inl (leaf_covered bits box q l), λ tile e. inl l, λ tile e. inl h)
 
-  pub ready_tiled : (level : Level) (t : Layout V) (q : Coord) → entry_over bits level t q ≡ Tile cell → IsSplitTo bits box cell level t q
-  ready_tiled Leaf t q at = λ tile e. inr (same_tile tile cell (sym e ∙ at))
-  ready_tiled Lower t q at = (λ tile e. inr (same_tile tile cell (sym e ∙ tile_lower bits t cell q at)), λ tile e. inr (same_tile tile cell (sym e ∙ at)))
-  ready_tiled Upper t q at =
+  pub split_tiled : (level : Level) (t : Layout V) (q : Coord) → entry_over bits level t q ≡ Tile cell → IsSplitTo bits box cell level t q
+  split_tiled Leaf t q at = λ tile e. inr (same_tile tile cell (sym e ∙ at))
+  split_tiled Lower t q at = (λ tile e. inr (same_tile tile cell (sym e ∙ tile_lower bits t cell q at)), λ tile e. inr (same_tile tile cell (sym e ∙ at)))
+  split_tiled Upper t q at =
       let below = tile_upper bits t cell q at in
       (λ tile e. inr (same_tile tile cell (sym e ∙ tile_lower bits t cell q below)), λ tile e. inr (same_tile tile cell (sym e ∙ below)), λ tile e. inr (same_tile tile cell (sym e ∙ at)))
 
-  pub ready_child : (level : Level) (t : Layout V) (q : Coord) (slot : ℕ) → entry_over bits level t q ≡ Child slot → IsSplitAt bits box cell level t q
-  ready_child level t q slot child = λ tile e. absurd (tile_no_child tile slot (sym e ∙ child))
+  pub split_child : (level : Level) (t : Layout V) (q : Coord) (slot : ℕ) → entry_over bits level t q ≡ Child slot → IsSplitAt bits box cell level t q
+  split_child level t q slot child = λ tile e. absurd (tile_no_child tile slot (sym e ∙ child))
 
   -- while nodes come
-  pub ready_stays : (level : Level) (t n : Layout V) (q : Coord) → AddsNodes bits t n → IsSplitTo bits box cell level t q → IsSplitTo bits box cell level n q
-  ready_stays Leaf t n q adds h = λ tile e. h tile (adds.tiles Leaf q tile e)
-  ready_stays Lower t n q adds h = (λ tile e. h.0 tile (adds.tiles Leaf q tile e), λ tile e. h.1 tile (adds.tiles Lower q tile e))
-  ready_stays Upper t n q adds h = (λ tile e. h.0 tile (adds.tiles Leaf q tile e), λ tile e. h.1 tile (adds.tiles Lower q tile e), λ tile e. h.2 tile (adds.tiles Upper q tile e))
+  pub split_stays : (level : Level) (t n : Layout V) (q : Coord) → AddsNodes bits t n → IsSplitTo bits box cell level t q → IsSplitTo bits box cell level n q
+  split_stays Leaf t n q adds h = λ tile e. h tile (adds.tiles Leaf q tile e)
+  split_stays Lower t n q adds h = (λ tile e. h.0 tile (adds.tiles Leaf q tile e), λ tile e. h.1 tile (adds.tiles Lower q tile e))
+  split_stays Upper t n q adds h = (λ tile e. h.0 tile (adds.tiles Leaf q tile e), λ tile e. h.1 tile (adds.tiles Lower q tile e), λ tile e. h.2 tile (adds.tiles Upper q tile e))
 
   -- ---- a walk over the level's blocks that meet a part of the box
 
@@ -71,7 +71,7 @@ module _ {V : Type 0} (bits : Bits) (box : Box) (cell : Cell V) where
         (edges : (q : Coord) → IsTrue (is_inside part q) → block_number bits level q ≡ block_number bits level p → IsSplitTo bits box cell level n q) where
       up_to : (q : Coord) → IsTrue (is_inside part q) → IsBlockBefore bits level q p ⊎ (block_number bits level q ≡ block_number bits level p) → IsSplitTo bits box cell level n q
       up_to q inside h = elim h [
-        | inl before ↦ ready_stays level t n q adds (so_far.done q inside before)
+        | inl before ↦ split_stays level t n q adds (so_far.done q inside before)
         | inr same ↦ edges q inside same
       ]
 
@@ -115,7 +115,7 @@ module _ {V : Type 0} (bits : Bits) (box : Box) (cell : Cell V) where
               | inr d ↦
                   let was : IsSome (root_at t.root (key bits q)) = rw (← table (key bits q) d) some in
                   elim (past_or_not passed (key bits q)) [
-                    | inr before ↦ ready_stays Upper t n q adds (so_far.done q inside before was)
+                    | inr before ↦ split_stays Upper t n q adds (so_far.done q inside before was)
                     | inl past ↦ absurd (d (sym (same_keys k (key bits q) (equal_left (coord_cmp k (key bits q)) (next.2 (key bits q) past (q, inside, refl) was) not_past))))
                   ]
             ];
@@ -128,17 +128,17 @@ module _ {V : Type 0} (bits : Bits) (box : Box) (cell : Cell V) where
             | inl x ↦
                 let held = is_some_from (root_at n.root (key bits q)) x.0 x.1 in
                 let was : IsSome (root_at t.root (key bits q)) = rw (← same (key bits q)) held in
-                ready_stays Upper t n q adds (so_far.done q inside (λ past. some_held (root_at t.root (key bits q)) was (next (key bits q) past (q, inside, refl))) was)
+                split_stays Upper t n q adds (so_far.done q inside (λ past. some_held (root_at t.root (key bits q)) was (next (key bits q) past (q, inside, refl))) was)
             | inr none ↦ elim entered [
-              | inl e ↦ ready_tiled Upper n q (absent_entry bits n q none ∙ ap Tile (sym e))
+              | inl e ↦ split_tiled Upper n q (absent_entry bits n q none ∙ ap Tile (sym e))
               | inr some ↦ absurd (some_held (root_at n.root (key bits q)) some none)
             ]
           ]
 
   -- where the tree is split for each root block of the box that has an entry or needs none, it is split for the box
-  pub ready_all : (mid new : Layout V) → Keeps bits mid new → AddsNodes bits mid new → ((p : Coord) → IsTrue (is_inside box p) → (cell ≡ background_cell mid) ⊎ IsSome (root_at mid.root (key bits p)))
+  pub split_whole : (mid new : Layout V) → Keeps bits mid new → AddsNodes bits mid new → ((p : Coord) → IsTrue (is_inside box p) → (cell ≡ background_cell mid) ⊎ IsSome (root_at mid.root (key bits p)))
       → ((q : Coord) → IsTrue (is_inside box q) → (cell ≡ background_cell new) ⊎ IsSome (root_at new.root (key bits q)) → IsSplitTo bits box cell Upper new q) → IsSplit bits box cell new
-  ready_all mid new keeps adds entered edges = record { tiles = λ level p inside. each level p (edges p inside (still p inside)); entered = still }
+  split_whole mid new keeps adds entered edges = record { tiles = λ level p inside. each level p (edges p inside (still p inside)); entered = still }
     where
       still : (p : Coord) → IsTrue (is_inside box p) → (cell ≡ background_cell new) ⊎ IsSome (root_at new.root (key bits p))
       still p inside = elim (entered p inside) [

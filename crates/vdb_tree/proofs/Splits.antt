@@ -10,7 +10,7 @@ use Rattle.vdb_coord.specs.declared.Coord.{Coord}
 use Rattle.vdb_coord.specs.declared.Level.{Level}
 use Rattle.vdb_coord.specs.declared.Level.TheVariants.{Leaf, Lower, Upper}
 use Rattle.vdb_coord.proofs.Members.{coord_exact}
-use Rattle.vdb_coord.proofs.Places.{entries_is, offset_below}
+use Rattle.vdb_coord.proofs.Positions.{entries_is, offset_below}
 use Rattle.vdb_node.specs.Entries.{IsConstant, SetsEntry}
 use Rattle.vdb_node.specs.Leaf.{IsConstantLeaf, cell_in, Leaf as LeafOf}
 use Rattle.vdb_node.specs.Nodes.{entry_count}
@@ -278,8 +278,8 @@ module _ {V : Type 0} (bits : Bits) where
     with_entry_adds = adds t with_entry (same_tiles _ _ entries_stay) (same_tiles _ _ upper_too) (same_tiles _ _ lower_too) (put_keys t root (key bits p) (Tile c) changed)
 
     pub with_entry_sound : IsTrue (is_inside (block_numbers bits Upper) (key bits p)) → length root ≤ t.limit → IsDistinct coord_eq (keys_of root) → IsSound bits with_entry
-    with_entry_sound inside room apart = record {
-      limit = room;
+    with_entry_sound inside capacity apart = record {
+      limit = capacity;
       apart = apart;
       keys = root_keys bits t root (key bits p) (Tile c) sound inside changed;
       uppers = owned_as bits Upper _ _ _ entries_stay sound.uppers;
@@ -335,19 +335,19 @@ module _ {V : Type 0} (bits : Bits) where
     pub alike_tree : length n.root ≡ length t.root → IsSameTree bits t n
     alike_tree size = record { table = r; entries = alike_descent; counts = rw (size, u, l, f) refl }
 
-  -- pools with other room, and the same nodes
+  -- pools with other capacity, and the same nodes
   module _ (t n : Layout V) (b : n.background ≡ t.background) (r : n.root ≡ t.root) (u : n.uppers.nodes ≡ t.uppers.nodes) (l : n.lowers.nodes ≡ t.lowers.nodes) (f : n.leaves.nodes ≡ t.leaves.nodes) (m : n.limit ≡ t.limit) where
     same_entries : (k : Coord) → root_at n.root k ≡ root_at t.root k
     same_entries k = rw r refl
 
-    pub room_keeps : Keeps bits t n
-    room_keeps = alike_keeps t n b same_entries u l f m
+    pub capacity_keeps : Keeps bits t n
+    capacity_keeps = alike_keeps t n b same_entries u l f m
 
-    pub room_adds : AddsNodes bits t n
-    room_adds = alike_adds t n b same_entries u l f m
+    pub capacity_adds : AddsNodes bits t n
+    capacity_adds = alike_adds t n b same_entries u l f m
 
-    pub room_but : (level : Level) (p : Coord) → KeepsAllBut bits level t n p
-    room_but level p k q h = alike_descent t n b same_entries u l f m q k
+    pub capacity_but : (level : Level) (p : Coord) → KeepsAllBut bits level t n p
+    capacity_but level p k q h = alike_descent t n b same_entries u l f m q k
 
-    pub room_sound : IsSound bits t → IsSound bits n
-    room_sound sound = alike_sound t n b same_entries u l f m sound (rw r (omega arith)) (rw r sound.apart)
+    pub capacity_sound : IsSound bits t → IsSound bits n
+    capacity_sound sound = alike_sound t n b same_entries u l f m sound (rw r (omega arith)) (rw r sound.apart)

@@ -10,7 +10,7 @@ use Rattle.vdb_coord.specs.declared.Level.{Level}
 use Rattle.vdb_coord.specs.declared.Level.TheVariants.{Leaf, Lower, Upper}
 use Rattle.vdb_coord.proofs.InRange.{block_in_range}
 use Rattle.vdb_coord.proofs.Nesting.{corner_of_entry, entry_from_offset, lower_from_leaf, offset_from_entry}
-use Rattle.vdb_coord.proofs.Places.{entries_is, offset_below}
+use Rattle.vdb_coord.proofs.Positions.{entries_is, offset_below}
 use Rattle.vdb_mask.specs.Mask.{is_on}
 use Rattle.vdb_node.specs.Leaf.{Leaf as LeafOf}
 use Rattle.vdb_node.specs.Nodes.{entry_count}
@@ -22,7 +22,7 @@ use Rattle.vdb_tree.specs.Layout.{Layout, cell_at, entry_over, field_of, lower_e
 use Rattle.vdb_tree.specs.declared.pairs.StateRule.{StateRule}
 use Rattle.vdb_tree.specs.declared.pairs.StateRule.TheVariants.{Unite, Subtract, Intersect}
 use Rattle.vdb_tree.specs.internal.Active.{IsInactiveFrom, IsNextActive}
-use Rattle.vdb_tree.specs.internal.Pairing.{acts_at, IsReadyFor, made, SetsBlock, state_of}
+use Rattle.vdb_tree.specs.internal.Pairing.{acts_at, IsRefinedFor, made, SetsBlock, state_of}
 use Rattle.vdb_tree.specs.internal.StateRuns.{acts, AreSettled, AreStatesOf, FillsLeafStates, IsAmong, IsNextToSet, IsNextToSetAt, SetsLeaf, SetsRun}
 use Rattle.vdb_tree.proofs.Constants.{entries_few}
 use Rattle.vdb_tree.proofs.Descents.{leaf_cell, lower_by_block, tile_cell, tile_lower, upper_by_block}
@@ -107,9 +107,9 @@ pub index_small : (bits : Bits) (i : ℕ) → AreBits bits → i < entries bits 
 index_small bits i configured h = let k = entries_few bits Lower configured in omega (arith, h, k)
 
 -- a mask of one state fills a leaf
-pub leaf_fills : {V : Type 0} (bits : Bits) (old new : Layout V) (p : Coord) (mask : List Bool) (on : Bool) (room : ℕ) → SetsLeaf bits old new p mask
-    → entry_count bits.leaf ≤ room → ((i : ℕ) → i < room → is_on mask i ≡ on) → FillsLeafStates bits old new p on
-leaf_fills bits old new p mask on room sets few all = record {
+pub leaf_fills : {V : Type 0} (bits : Bits) (old new : Layout V) (p : Coord) (mask : List Bool) (on : Bool) (capacity : ℕ) → SetsLeaf bits old new p mask
+    → entry_count bits.leaf ≤ capacity → ((i : ℕ) → i < capacity → is_on mask i ≡ on) → FillsLeafStates bits old new p on
+leaf_fills bits old new p mask on capacity sets few all = record {
   here = λ q b. sets.here q b ∙ ap (λ (s : Bool). record { value = (cell_at bits old q).value; on = s }) (all (offset bits Leaf q) (inside (offset bits Leaf q) (offset_below bits Leaf q)));
   there = sets.there;
   lowers = sets.lowers;
@@ -118,8 +118,8 @@ leaf_fills bits old new p mask on room sets few all = record {
     below : (i n m : ℕ) → i < n → n ≤ m → i < m
     below i n m h k = omega (arith, h, k)
 
-    inside : (i : ℕ) → i < entries bits Leaf → i < room
-    inside i h = below i (entry_count bits.leaf) room (subst (λ (n : ℕ). i < n) (entries_is bits Leaf) h) few
+    inside : (i : ℕ) → i < entries bits Leaf → i < capacity
+    inside i h = below i (entry_count bits.leaf) capacity (subst (λ (n : ℕ). i < n) (entries_is bits Leaf) h) few
 
 module _ {V X : Type 0} (bits : Bits) (rule : StateRule) (u : Layout X) where
   -- a cell with the same state
@@ -147,10 +147,10 @@ module _ {V X : Type 0} (bits : Bits) (rule : StateRule) (u : Layout X) where
       rw at (idle_stays rule (cell_at bits t q).on tile.on idle))
 
   -- a tile where the other tree has a leaf
-  pub ready_settled : (t : Layout V) (p : Coord) (cell : Cell V) (slot : ℕ) → IsReadyFor bits rule t u → lower_entry bits t p ≡ Tile cell → lower_entry bits u p ≡ Child slot → SetsBlock bits rule u Leaf t t p
-  ready_settled t p cell slot ready tiled over = block_settled Leaf t p (λ q b.
+  pub refined_settled : (t : Layout V) (p : Coord) (cell : Cell V) (slot : ℕ) → IsRefinedFor bits rule t u → lower_entry bits t p ≡ Tile cell → lower_entry bits u p ≡ Child slot → SetsBlock bits rule u Leaf t t p
+  refined_settled t p cell slot refined tiled over = block_settled Leaf t p (λ q b.
       let at = lower_by_block bits t q p b ∙ tiled in
-      elim (ready.tiles Leaf q cell slot at (lower_by_block bits u q p b ∙ over)) [
+      elim (refined.tiles Leaf q cell slot at (lower_by_block bits u q p b ∙ over)) [
         | inl e ↦ made_stays rule (cell_at bits t q).on (cell_at bits u q).on (ap (λ (c : Cell V). c.on) (tile_cell bits t cell q at) ∙ e)
         | inr idle ↦ idle_stays rule (cell_at bits t q).on (cell_at bits u q).on idle
       ])
@@ -232,20 +232,20 @@ module _ {V X : Type 0} (bits : Bits) (rule : StateRule) (u : Layout X) where
         let a : is_on copy (offset bits Leaf q) ≡ (cell_at bits old q).on = ap (λ (m : List Bool). is_on m (offset bits Leaf q)) copied ∙ first q b in
         one (offset bits Leaf q) ∙ ap (λ (s : Bool). state_of rule s (is_on others (offset bits Leaf q))) a ∙ ap (λ (s : Bool). state_of rule (cell_at bits old q).on s) (second q b))
 
-  -- ---- ready trees
+  -- ---- refined trees
 
-  -- a tree stays ready
-  pub ready_kept : (old new : Layout V) → IsReadyFor bits rule old u
+  -- a tree stays refined
+  pub refined_kept : (old new : Layout V) → IsRefinedFor bits rule old u
       → ((l : Level) (q : Coord) (tile : Cell V) → entry_over bits l new q ≡ Tile tile → (was : Cell V) × (entry_over bits l old q ≡ Tile was) × ((tile ≡ was) ⊎ (tile.on ≡ made rule)))
-      → ((k : Coord) → root_at new.root k ≡ None → root_at old.root k ≡ None) → IsReadyFor bits rule new u
-  ready_kept old new ready tiles keys = record {
+      → ((k : Coord) → root_at new.root k ≡ None → root_at old.root k ≡ None) → IsRefinedFor bits rule new u
+  refined_kept old new refined tiles keys = record {
     tiles = λ level q tile slot e over.
         let was = tiles level q tile e in
         elim was.2 [
-          | inl same ↦ ready.tiles level q tile slot (was.1 ∙ ap Tile (sym same)) over
+          | inl same ↦ refined.tiles level q tile slot (was.1 ∙ ap Tile (sym same)) over
           | inr is ↦ inl is
         ];
-    entered = λ q e. ready.entered q (keys _ e);
+    entered = λ q e. refined.entered q (keys _ e);
   }
 
   -- ---- entries in which nothing changes

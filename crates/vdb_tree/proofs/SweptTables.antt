@@ -11,7 +11,7 @@ use Rattle.vdb_tree.specs.Changes.{Changes, IsSwept, Keeps}
 use Rattle.vdb_tree.specs.Layout.{Layout, background_cell, cell_at, root_at}
 use Rattle.vdb_tree.proofs.Blocks.{never}
 use Rattle.vdb_tree.proofs.Levels.{coord_cases}
-use Rattle.vdb_tree.proofs.Sweeps.{other_key, that_key}
+use Rattle.vdb_tree.proofs.RootSweeps.{other_key, that_key}
 
 -- where it isn't known that the table is swept
 pub not_known : {A : Type 0} → IsTrue false → A

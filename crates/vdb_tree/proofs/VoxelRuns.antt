@@ -12,7 +12,7 @@ use Rattle.vdb_coord.specs.declared.Level.TheVariants.{Leaf}
 use Rattle.vdb_coord.proofs.BlockOrder.{which_before}
 use Rattle.vdb_coord.proofs.Nesting.{corner_of_entry, entry_number_leaf, inside_around, inside_numbered, number_in_block}
 use Rattle.vdb_coord.proofs.Offsets.{offset_less}
-use Rattle.vdb_coord.proofs.Places.{offset_below}
+use Rattle.vdb_coord.proofs.Positions.{offset_below}
 use Rattle.vdb_coord.proofs.Walk.{few_after, inside_from, inside_parts, nearer_x, nearer_y, nearer_z}
 use Rattle.vdb_tree.specs.internal.Paints.{IsRun}
 

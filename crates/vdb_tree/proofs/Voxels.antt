@@ -2,7 +2,7 @@
 use Rattle.std.proofs.Common.{◌≡◌, ◌⊎◌, inl, inr, refl, sym, ap, subst, ◌∙◌, true, false, IsTrue, Some, None, Option, ℕ, ◌<◌, arith}
 use Rattle.std.specs.Prelude.{Bool, not, IfSome}
 use Rattle.vdb_coord.specs.Blocks.{block_number, key}
-use Rattle.vdb_coord.specs.Order.{ComesBefore, IsNextPlace, IsUpToBlock, coordinates_past}
+use Rattle.vdb_coord.specs.Order.{ComesBefore, IsNextCoord, IsUpToBlock, coordinates_past}
 use Rattle.vdb_coord.specs.Space.{Box, is_inside}
 use Rattle.vdb_coord.specs.declared.Bits.{Bits}
 use Rattle.vdb_coord.specs.declared.Coord.{Coord}
@@ -18,7 +18,7 @@ use Rattle.vdb_tree.specs.Parts.{IsEnd, end_level, left_count}
 use Rattle.vdb_tree.specs.Paths.{in_leaf}
 use Rattle.vdb_tree.specs.Table.{HasCapacity}
 use Rattle.vdb_tree.specs.internal.Voxelised.{IsVoxelisedAround, IsVoxelisedFrom, IsVoxelisedTo}
-use Rattle.vdb_tree.specs.declared.reading.ends.End.TheVariants.{Leaf as EndLeaf, Tile as EndTile}
+use Rattle.vdb_tree.specs.declared.queries.ends.End.TheVariants.{Leaf as EndLeaf, Tile as EndTile}
 use Rattle.vdb_tree.proofs.Blocks.{never}
 use Rattle.vdb_tree.proofs.Descents.{lower_by_block, tile_lower, tile_upper}
 use Rattle.vdb_tree.proofs.Equations.{keeps_field}
@@ -44,8 +44,8 @@ module _ {V : Type 0} (bits : Bits) where
   tile_below t p Leaf cell tiled = tiled
 
   -- an active tile lies under an entry of the table
-  pub active_has_room : (t : Layout V) (p : Coord) (level : Level) (cell : Cell V) → entry_over bits level t p ≡ Tile cell → cell.on ≡ true → HasCapacity t (key bits p)
-  active_has_room t p level cell tiled on = elim (some_or_none (root_at t.root (key bits p))) [
+  pub active_has_capacity : (t : Layout V) (p : Coord) (level : Level) (cell : Cell V) → entry_over bits level t p ≡ Tile cell → cell.on ≡ true → HasCapacity t (key bits p)
+  active_has_capacity t p level cell tiled on = elim (some_or_none (root_at t.root (key bits p))) [
     | inl e ↦ inl (is_some_from (root_at t.root (key bits p)) e.0 e.1)
     | inr none ↦
         let background = tile_lower bits t (background_cell t) p (tile_upper bits t (background_cell t) p (absent_entry bits t p none)) in
@@ -71,8 +71,8 @@ module _ {V : Type 0} (bits : Bits) where
     pub tile_inactive : (level : Level) (cell : Cell V) → IsEnd bits t p (EndTile level cell) → cell.on ≡ false → IsVoxelisedAround bits t (end_level bits t p) p
     tile_inactive level cell end off = subst (λ (l : Level). IsVoxelisedAround bits t l p) (sym end.0) (inactive_done level cell end.1 off)
 
-    pub active_room : (level : Level) (cell : Cell V) → IsEnd bits t p (EndTile level cell) → not cell.on ≡ false → HasCapacity t (key bits p)
-    active_room level cell end on = active_has_room t p level cell end.1 (not_off cell.on on)
+    pub active_capacity : (level : Level) (cell : Cell V) → IsEnd bits t p (EndTile level cell) → not cell.on ≡ false → HasCapacity t (key bits p)
+    active_capacity level cell end on = active_has_capacity t p level cell end.1 (not_off cell.on on)
 
     pub active_cell : (level : Level) (cell : Cell V) → IsEnd bits t p (EndTile level cell) → not cell.on ≡ false → (cell_at bits t p).on ≡ true
     active_cell level cell end on = ap (λ (c : Cell V). c.on) (tile_gives bits level t p cell end.1) ∙ not_off cell.on on
@@ -93,19 +93,19 @@ module _ {V : Type 0} (bits : Bits) where
       up_to : (level : Level) → IsVoxelisedAround bits t level p → (q : Coord) → ((field_of bits t).cell q).on ≡ true → IsUpToBlock bits level p q → ComesBefore bits q p ⊎ IsTrue (in_leaf bits t q)
       up_to level done q on h = elim h [ inl before ↦ inl before | inr same ↦ inr (done q same on) ]
 
-      -- a block whose active voxels lie in leaves, and the next place past it
-      pub past_done : (level : Level) → IsVoxelisedAround bits t level p → (next : Option Coord) → IsNextPlace bits level box p next → IsVoxelisedFrom bits t box p next
+      -- a block whose active voxels lie in leaves, and the next coordinate past it
+      pub past_done : (level : Level) → IsVoxelisedAround bits t level p → (next : Option Coord) → IsNextCoord bits level box p next → IsVoxelisedFrom bits t box p next
       past_done level done None h = λ q inside gone on. up_to level done q on (h q inside)
       past_done level done (Some n) h = λ q inside gone on. up_to level done q on (h.between q inside (before_not_left bits n q gone))
 
       -- a leaf around p is one
-      pub past_leaf : IsTrue (in_leaf bits t p) → (next : Option Coord) → IsNextPlace bits Leaf box p next → IsVoxelisedFrom bits t box p next
+      pub past_leaf : IsTrue (in_leaf bits t p) → (next : Option Coord) → IsNextCoord bits Leaf box p next → IsVoxelisedFrom bits t box p next
       past_leaf leaf = past_done Leaf (λ r same _. in_same_leaf t p r leaf same)
 
--- the next place lies in the box
-pub place_inside : (bits : Bits) (box : Box) (level : Level) (p : Coord) (next : Option Coord) → IsNextPlace bits level box p next → IfSome next (λ q. IsTrue (is_inside box q))
-place_inside bits box level p None h = tt
-place_inside bits box level p (Some n) h = h.inside
+-- the next coordinate lies in the box
+pub start_inside : (bits : Bits) (box : Box) (level : Level) (p : Coord) (next : Option Coord) → IsNextCoord bits level box p next → IfSome next (λ q. IsTrue (is_inside box q))
+start_inside bits box level p None h = tt
+start_inside bits box level p (Some n) h = h.inside
 
 -- fewer coordinates are left
 pub fewer_left : (bits : Bits) (p : Coord) (next : Option Coord) → IfSome next (λ n. coordinates_past bits n < coordinates_past bits p) → left_count bits next < left_count bits (Some p)

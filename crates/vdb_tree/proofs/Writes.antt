@@ -36,12 +36,12 @@ module _ {V : Type 0} (eq : V → V → Bool) (exact : (x y : V) → eq x y ≡ 
   -- a swept table without capacity is full of roots, and a field that differs in p's root block alone has one more
   pub exceeds : (t : Layout V) (p : Coord) → IsTrue (is_inside everywhere p) → IsSound bits t → (HasCapacity t (key bits p) → ⊥) → IsSwept bits t → (changed : Field V)
       → IsAlteredIn bits (key bits p) (field_of bits t) changed → (AreSameCells (field_of bits t) changed → ⊥) → t.limit < roots eq bits changed
-  exceeds t p inside sound no_room swept changed altered differs =
+  exceeds t p inside sound no_capacity swept changed altered differs =
       altered_exceeds eq exact itself bits configured t p changed altered inside sound swept absent
-      (not_less (length t.root) t.limit sound.limit (λ h. no_room (inr h))) differs
+      (not_less (length t.root) t.limit sound.limit (λ h. no_capacity (inr h))) differs
     where
       absent : root_at t.root (key bits p) ≡ None
-      absent = elim (some_or_none (root_at t.root (key bits p))) [ inl x ↦ absurd (no_room (inl (is_some_from _ x.0 x.1))) | inr n ↦ n ]
+      absent = elim (some_or_none (root_at t.root (key bits p))) [ inl x ↦ absurd (no_capacity (inl (is_some_from _ x.0 x.1))) | inr n ↦ n ]
 
 module _ {V : Type 0} (bits : Bits) where
   -- a write of the cell that is there changes nothing
@@ -79,22 +79,22 @@ module _ {V : Type 0} (bits : Bits) where
   tile_field_cell t p cell inside tile = cell_inside t.background (cell_at bits t) p inside ∙ tile_cell bits t cell p tile
 
   -- an upper node over p has an entry above it
-  pub upper_has_room : (t : Layout V) (p : Coord) (slot : ℕ) → root_entry bits t p ≡ Child slot → HasCapacity t (key bits p)
-  upper_has_room t p slot child = elim (some_or_none (root_at t.root (key bits p))) [
+  pub upper_has_capacity : (t : Layout V) (p : Coord) (slot : ℕ) → root_entry bits t p ≡ Child slot → HasCapacity t (key bits p)
+  upper_has_capacity t p slot child = elim (some_or_none (root_at t.root (key bits p))) [
     | inl x ↦ inl (is_some_from _ x.0 x.1)
     | inr n ↦ absurd (tile_no_child (background_cell t) slot (sym (absent_entry bits t p n) ∙ child))
   ]
 
   -- so has a lower node
-  pub lower_has_room : (t : Layout V) (p : Coord) (slot : ℕ) → upper_entry bits t p ≡ Child slot → HasCapacity t (key bits p)
-  lower_has_room t p slot child = elim (some_or_none (root_at t.root (key bits p))) [
+  pub lower_has_capacity : (t : Layout V) (p : Coord) (slot : ℕ) → upper_entry bits t p ≡ Child slot → HasCapacity t (key bits p)
+  lower_has_capacity t p slot child = elim (some_or_none (root_at t.root (key bits p))) [
     | inl x ↦ inl (is_some_from _ x.0 x.1)
     | inr n ↦ absurd (tile_no_child (background_cell t) slot (sym (tile_upper bits t (background_cell t) p (absent_entry bits t p n)) ∙ child))
   ]
 
   -- a child over p's leaf block has an entry above it
-  pub leaf_has_room : (t : Layout V) (p : Coord) (slot : ℕ) → lower_entry bits t p ≡ Child slot → HasCapacity t (key bits p)
-  leaf_has_room t p slot child = elim (some_or_none (root_at t.root (key bits p))) [
+  pub leaf_has_capacity : (t : Layout V) (p : Coord) (slot : ℕ) → lower_entry bits t p ≡ Child slot → HasCapacity t (key bits p)
+  leaf_has_capacity t p slot child = elim (some_or_none (root_at t.root (key bits p))) [
     | inl x ↦ inl (is_some_from _ x.0 x.1)
     | inr n ↦ absurd (tile_no_child (background_cell t) slot (sym (tile_lower bits t (background_cell t) p (tile_upper bits t (background_cell t) p (absent_entry bits t p n))) ∙ child))
   ]

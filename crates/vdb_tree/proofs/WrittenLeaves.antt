@@ -11,7 +11,7 @@ use Rattle.vdb_coord.specs.declared.Level.TheVariants.{Leaf, Lower, Upper}
 use Rattle.vdb_coord.proofs.Boxes.{not_true}
 use Rattle.vdb_coord.proofs.InRange.{block_in_range}
 use Rattle.vdb_coord.proofs.Nesting.{corner_of_entry, inside_numbered, lower_from_leaf, number_in_block, upper_from_lower}
-use Rattle.vdb_coord.proofs.Places.{entries_is, offset_below}
+use Rattle.vdb_coord.proofs.Positions.{entries_is, offset_below}
 use Rattle.vdb_mask.specs.Mask.{is_on}
 use Rattle.vdb_node.specs.Leaf.{cell_in, IsConstantLeaf, Leaf as LeafOf}
 use Rattle.vdb_node.specs.Nodes.{entry_count}

@@ -58,12 +58,12 @@ module _ {V : Type 0} (bits : Bits) (t u : Layout V) where
   pair_level p = lower_level (end_level bits t p) (end_level bits u p)
 
   -- p is the first coordinate, in block order, of the block of its pair
-  pub record IsPairPlace (p : Coord) : Type 0 where
+  pub record IsPairStart (p : Coord) : Type 0 where
     pub inside : IsTrue (is_inside everywhere p)
     pub first : (q : Coord) → IsTrue (is_inside everywhere q) → ComesBefore bits q p → block_number bits (pair_level p) q ≡ block_number bits (pair_level p) p → ⊥
 
   -- the walk is at the first coordinate of a pair, if any is left, and its paths live
   pub record IsPairWalk (w : TreePairWalk V) : Type 0 where
-    pub place : IfSome w.at IsPairPlace
+    pub start : IfSome w.at IsPairStart
     pub first : Lives bits t w.first w.near
     pub second : Lives bits u w.second w.near

@@ -16,12 +16,12 @@ use Rattle.vdb_tree.specs.Field.{Field, off}
 use Rattle.vdb_tree.specs.Layout.{Layout, entry_over, field_of, lower_entry, root_at, root_entry, upper_entry}
 use Rattle.vdb_tree.specs.Paths.{Lives}
 use Rattle.vdb_tree.specs.declared.path.PathOf.{PathOf}
-use Rattle.vdb_tree.specs.declared.reading.parts.Content.{Content}
-use Rattle.vdb_tree.specs.declared.reading.parts.Content.TheVariants.{Leaf, Tile}
-use Rattle.vdb_tree.specs.declared.reading.parts.Skip.{Skip}
-use Rattle.vdb_tree.specs.declared.reading.parts.Skip.TheVariants.{Absent, Background, Inactive}
-use Rattle.vdb_tree.specs.declared.reading.ends.End.{End}
-use Rattle.vdb_tree.specs.declared.reading.ends.End.TheVariants.{Leaf as EndLeaf, Tile as EndTile}
+use Rattle.vdb_tree.specs.declared.queries.parts.Content.{Content}
+use Rattle.vdb_tree.specs.declared.queries.parts.Content.TheVariants.{Leaf, Tile}
+use Rattle.vdb_tree.specs.declared.queries.parts.Skip.{Skip}
+use Rattle.vdb_tree.specs.declared.queries.parts.Skip.TheVariants.{Absent, Background, Inactive}
+use Rattle.vdb_tree.specs.declared.queries.ends.End.{End}
+use Rattle.vdb_tree.specs.declared.queries.ends.End.TheVariants.{Leaf as EndLeaf, Tile as EndTile}
 
 -- How far a walk over the parts of a tree has come.
 pub record WalkOf (A B C : Type 0) : Type 0 where
@@ -40,7 +40,7 @@ abbrev pub TreeWalk : Type 0 → Type 0
 TreeWalk V = WalkOf (List (Entry V)) (List (Entry V)) (LeafOf V)
 
 module _ (bits : Bits) where
-  -- whether q is left: it doesn't come before the place of the walk
+  -- whether q is left: it doesn't come before where the walk stands
   abbrev pub is_left : Option Coord → Coord → Bool
   is_left None q = false
   is_left (Some p) q = not (is_lt (block_cmp bits q p))
@@ -104,24 +104,24 @@ module _ {V : Type 0} (bits : Bits) (t : Layout V) where
   IsEnd p (EndLeaf slot) = (end_level p ≡ leaf_level) × (lower_entry bits t p ≡ Child slot)
 
   -- p is the first coordinate, in block order, of what the box has of its tile or its leaf
-  pub record IsPlace (box : Box) (p : Coord) : Type 0 where
+  pub record IsStart (box : Box) (p : Coord) : Type 0 where
     pub inside : IsTrue (is_inside box p)
     pub first : (q : Coord) → IsTrue (is_inside box q) → ComesBefore bits q p → block_number bits (end_level p) q ≡ block_number bits (end_level p) p → ⊥
 
-  -- the walk is at a place of its box, if any is left, and its path lives
+  -- the walk is at a start of its box, if any is left, and its path lives
   pub record IsWalk (w : TreeWalk V) : Type 0 where
-    pub place : IfSome w.at (IsPlace w.box)
+    pub start : IfSome w.at (IsStart w.box)
     pub lives : Lives bits t w.path w.near
 
-  -- the first place of the box past the level's block around p, where a walk may pass over what lies between
-  pub record IsPlaceAfterAt (box : Box) (skip : Skip) (level : Level) (p next : Coord) : Type 0 where
-    pub place : IsPlace box next
+  -- the first coordinate of the box past the level's block around p, where a walk may pass over what lies between
+  pub record IsStartAfterAt (box : Box) (skip : Skip) (level : Level) (p next : Coord) : Type 0 where
+    pub start : IsStart box next
     pub past : (q : Coord) → IsTrue (is_inside box q) → block_number bits level q ≡ block_number bits level p → ComesBefore bits q next
     pub between : (q : Coord) → IsTrue (is_inside box q) → ComesBefore bits q next → IsUpToBlock bits level p q ⊎ IsSkipped bits skip t q
 
-  abbrev pub IsPlaceAfter : Box → Skip → Level → Coord → Option Coord → Type 0
-  IsPlaceAfter box skip level p (Some next) = IsPlaceAfterAt box skip level p next
-  IsPlaceAfter box skip level p None = (q : Coord) → IsTrue (is_inside box q) → IsUpToBlock bits level p q ⊎ IsSkipped bits skip t q
+  abbrev pub IsStartAfter : Box → Skip → Level → Coord → Option Coord → Type 0
+  IsStartAfter box skip level p (Some next) = IsStartAfterAt box skip level p next
+  IsStartAfter box skip level p None = (q : Coord) → IsTrue (is_inside box q) → IsUpToBlock bits level p q ⊎ IsSkipped bits skip t q
 
   -- the part has what the box has of the block at which the descent to p ends
   abbrev pub IsPartAround : Box → Coord → Box → Type 0

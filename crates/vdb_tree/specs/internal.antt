@@ -2,7 +2,7 @@
 pub mod Holders
 pub mod Jumps
 pub mod Erase
-pub mod Corners
+pub mod Children
 pub mod Seeks
 pub mod Paints
 pub mod Voxelised

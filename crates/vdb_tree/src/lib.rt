@@ -6,36 +6,36 @@
 //! The modules, from below:
 //! - `refusal`, `path`, `node_counts`: what calls give back.
 //! - `root`, `tree`, `nodes`, `keys`, `whole_copy`: the root table, the type with its pools of nodes, and whole copies.
-//! - `reading`: descents, leaves, paths, the parts of a tree in turn, the one cell of a block.
-//! - `writing`: nodes in place of tiles, a voxel, a whole leaf, leaves in place of active tiles.
+//! - `queries`: descents, leaves, paths, the parts of a tree in turn, the one cell of a block.
+//! - `edits`: nodes in place of tiles, a voxel, a whole leaf, leaves in place of active tiles.
 //! - `boxes`: a tree split along the edge of a box, and the box painted with one cell.
 //! - `pairs`: two trees of one configuration, their states made one in place and their parts gone through together.
-//! - `pruning`: tiles in place of nodes whose blocks have one cell, and a table without the background's entries.
+//! - `sweeps`: tiles in place of nodes whose blocks have one cell, and a table without the background's entries.
 #![tactic(auto)]
 
 ghost use Rattle.std.specs.Prelude.{◌≡◌};
 ghost use Rattle.vdb_tree.specs.Field.{written};
 
 mod boxes;
+mod edits;
 mod keys;
 mod node_counts;
 mod nodes;
 mod pairs;
 mod path;
-mod pruning;
-mod reading;
+mod queries;
 mod refusal;
 mod root;
+mod sweeps;
 mod tree;
 mod whole_copy;
-mod writing;
 
 pub use node_counts::NodeCounts;
 pub use pairs::StateRule;
 pub use pairs::joint::{Pair, PairWalk};
 pub use path::{Path, PathOf};
-pub use reading::parts::{Content, Part, Skip, Walk};
-pub use reading::pieces::Piece;
+pub use queries::parts::{Content, Part, Skip, Walk};
+pub use queries::pieces::Piece;
 pub use refusal::TreeRefusal;
 pub use tree::{Tree, Tree433, TreeOf};
 use vdb_value::Cell;

@@ -60,7 +60,7 @@ impl<
     {
         self.enter_for(other, rule, steps)?;
         self.refine(other, rule, steps)?;
-        self.set_ready_states(other, rule, steps);
+        self.set_refined_states(other, rule, steps);
         Ok(())
     }
 

@@ -2,15 +2,15 @@
 //! hand.
 mod acts;
 mod boxes;
+mod capacity;
 mod constant;
 mod copies;
 mod leaves;
 mod limits;
 mod paths;
 mod pieces;
-mod pruning;
 mod random;
-mod room;
+mod sweeps;
 mod union;
 mod voxels;
 mod writes;

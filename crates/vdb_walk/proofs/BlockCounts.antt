@@ -5,7 +5,7 @@ use Rattle.std.specs.List.{filter}
 use Rattle.std.proofs.lemmas.List.Sums.{length-filter}
 use Rattle.vdb_coord.specs.Blocks.{block_around, block_number}
 use Rattle.vdb_coord.specs.Boxes.{is_bounds}
-use Rattle.vdb_coord.specs.Order.{ComesBefore, IsNextPlace, IsUpToBlock, coordinates_past}
+use Rattle.vdb_coord.specs.Order.{ComesBefore, IsNextCoord, IsUpToBlock, coordinates_past}
 use Rattle.vdb_coord.specs.Space.{Box, coord_eq, coordinates, everywhere, is_box, is_inside, is_within}
 use Rattle.vdb_coord.specs.declared.Bits.{Bits}
 use Rattle.vdb_coord.specs.declared.Coord.{Coord}
@@ -21,8 +21,8 @@ use Rattle.vdb_coord.proofs.Walk.{min_inside}
 use Rattle.vdb_tree.specs.Layout.{Layout, field_of}
 use Rattle.vdb_tree.specs.Parts.{is_left}
 use Rattle.vdb_tree.specs.ConstantBlocks.{count}
-use Rattle.vdb_tree.specs.declared.reading.parts.Skip.TheVariants.{Inactive}
-use Rattle.vdb_tree.proofs.PartStarts.{before_place}
+use Rattle.vdb_tree.specs.declared.queries.parts.Skip.TheVariants.{Inactive}
+use Rattle.vdb_tree.proofs.PartStarts.{gone_before}
 use Rattle.vdb_walk.specs.internal.BlocksFrom.{IsBoxStart, IsSkippedTo, active_around, active_from}
 use Rattle.vdb_walk.proofs.Counts.{count_few, none_on, nothing_apart, volume_few}
 use Rattle.vdb_walk.proofs.NonConstantBlocks.{false_true, from_on, left_from, past_both, true_or_false}
@@ -95,8 +95,8 @@ module _ {V : Type 0} (bits : Bits) (t : Layout V) (box : Box) where
 
   -- ---- the loop's start and its end
 
-  pub first_place : is_box box ≡ true → (level : Level) → IsBoxStart bits level box box.min
-  first_place h level = record { inside = min_inside box h; first = λ q inside before same. not_before_min bits box q inside before }
+  pub least_start : is_box box ≡ true → (level : Level) → IsBoxStart bits level box box.min
+  least_start h level = record { inside = min_inside box h; first = λ q inside before same. not_before_min bits box q inside before }
 
   pub from_first : active_from bits t box (Some box.min) ≡ count (field_of bits t) box
   from_first = left_first bits t box
@@ -105,7 +105,7 @@ module _ {V : Type 0} (bits : Bits) (t : Layout V) (box : Box) where
   from_none = count_listed box (λ p. on p && is_left bits None p) [] nothing_apart (λ p. none_on (is_inside box p) (on p && is_left bits None p) (λ i. never_and (on p)))
 
   module _ (p : Coord) where
-    -- where none is active from the place on
+    -- where none is active from the coordinate on
     pub inactive_end : IsSkippedTo bits t box Inactive p None → 0 + active_from bits t box None ≡ active_from bits t box (Some p)
     inactive_end inactive =
         let none = from_none in
@@ -118,7 +118,7 @@ module _ {V : Type 0} (bits : Bits) (t : Layout V) (box : Box) where
         step true false h = refl
         step false l h = refl
 
-    module _ (level : Level) (starts : IsBoxStart bits level box p) (q : Coord) (inactive : IsSkippedTo bits t box Inactive p (Some q)) (next : Option Coord) (place : IsNextPlace bits level box q next) where
+    module _ (level : Level) (starts : IsBoxStart bits level box p) (q : Coord) (inactive : IsSkippedTo bits t box Inactive p (Some q)) (next : Option Coord) (is_next : IsNextCoord bits level box q next) where
       q_from : ComesBefore bits q p → ⊥
       q_from = from_on bits p q inactive.1
 
@@ -133,25 +133,25 @@ module _ {V : Type 0} (bits : Bits) (t : Layout V) (box : Box) where
 
       -- and not any more
       block_gone : (r : Coord) → is_inside box r ≡ true → is_inside (block_around bits level q) r ≡ true → is_left bits next r ≡ false
-      block_gone r i c = by next place
+      block_gone r i c = by next is_next
         where
-          by : (o : Option Coord) → IsNextPlace bits level box q o → is_left bits o r ≡ false
+          by : (o : Option Coord) → IsNextCoord bits level box q o → is_left bits o r ≡ false
           by None h = refl
           by (Some m) h = ap not (h.past r i (numbered r c))
 
       left_before : (r : Coord) → is_left bits next r ≡ true → is_left bits (Some p) r ≡ true
-      left_before r left = by next place left
+      left_before r left = by next is_next left
         where
-          by : (o : Option Coord) → IsNextPlace bits level box q o → is_left bits o r ≡ true → is_left bits (Some p) r ≡ true
+          by : (o : Option Coord) → IsNextCoord bits level box q o → is_left bits o r ≡ true → is_left bits (Some p) r ≡ true
           by None h l = absurd (false_true refl l)
           by (Some m) h l = left_from bits p r (λ k. from_on bits m r l (comes_on bits r p m k (past_both bits p q m q_from (h.past q inactive.0 refl))))
 
       up_to : (r : Coord) → is_inside box r ≡ true → is_left bits next r ≡ false → IsUpToBlock bits level q r
-      up_to r i gone = by next place gone
+      up_to r i gone = by next is_next gone
         where
-          by : (o : Option Coord) → IsNextPlace bits level box q o → is_left bits o r ≡ false → IsUpToBlock bits level q r
+          by : (o : Option Coord) → IsNextCoord bits level box q o → is_left bits o r ≡ false → IsUpToBlock bits level q r
           by None h g = h r i
-          by (Some m) h g = h.between r i (before_place bits m r g)
+          by (Some m) h g = h.between r i (gone_before bits m r g)
 
       passed : (r : Coord) → is_inside box r ≡ true → is_left bits (Some p) r ≡ true → is_left bits next r ≡ false → is_inside (block_around bits level q) r ≡ false → on r ≡ false
       passed r i left gone out =
@@ -172,11 +172,11 @@ module _ {V : Type 0} (bits : Bits) (t : Layout V) (box : Box) where
           let few = length-filter (λ r. on r && is_inside (block_around bits level q) r) (coordinates box) in
           omega (arith, split, few)
 
-      -- the next place begins the box's part of a block
+      -- the next coordinate begins the box's part of a block
       pub starts_next : IfSome next (IsBoxStart bits level box)
-      starts_next = by next place
+      starts_next = by next is_next
         where
-          by : (o : Option Coord) → IsNextPlace bits level box q o → IfSome o (IsBoxStart bits level box)
+          by : (o : Option Coord) → IsNextCoord bits level box q o → IfSome o (IsBoxStart bits level box)
           by None h = tt
           by (Some m) h = record {
             inside = h.inside;
@@ -191,9 +191,9 @@ module _ {V : Type 0} (bits : Bits) (t : Layout V) (box : Box) where
           }
 
       pub nearer_from : is_bounds box ≡ true → IfSome next (λ m. coordinates_past bits m < coordinates_past bits p)
-      nearer_from bounds = by next place
+      nearer_from bounds = by next is_next
         where
-          by : (o : Option Coord) → IsNextPlace bits level box q o → IfSome o (λ m. coordinates_past bits m < coordinates_past bits p)
+          by : (o : Option Coord) → IsNextCoord bits level box q o → IfSome o (λ m. coordinates_past bits m < coordinates_past bits p)
           by None h = tt
           by (Some m) h = fewer_past bits p m (within_each box everywhere m (both (is_box box) (is_within box everywhere) bounds).1 h.inside) (past_both bits p q m q_from (h.past q inactive.0 refl))
 
@@ -204,7 +204,7 @@ module _ {V : Type 0} (bits : Bits) (t : Layout V) (box : Box) where
       let all = from_first in
       let sum : 0 + active_from bits t box (Some box.min) ≡ count (field_of bits t) box = omega (arith, all) in
       subst (λ (q : Coord). IsBoxStart bits level box q × (0 + active_from bits t box (Some q) ≡ count (field_of bits t) box)) (sym e)
-      (first_place (both (is_box box) (is_within box everywhere) bounds).0 level, sum)
+      (least_start (both (is_box box) (is_within box everywhere) bounds).0 level, sum)
 
   pub sum_more : (total more rest before all : ℕ) → more + rest ≡ before → total + before ≡ all → total + more + rest ≡ all
   sum_more total more rest before all h k = omega (arith, h, k)

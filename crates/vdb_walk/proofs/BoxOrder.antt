@@ -22,7 +22,7 @@ use Rattle.vdb_coord.proofs.Digits.{digit_below, number_mono, number_split}
 use Rattle.vdb_coord.proofs.Meeting.{begins_by, le_from_test, number_of_first}
 use Rattle.vdb_coord.proofs.Members.{coord_total}
 use Rattle.vdb_coord.proofs.Nesting.{lower_from_leaf, offset_from_entry, upper_from_lower}
-use Rattle.vdb_coord.proofs.Places.{block_bits_split, joined, offset_is}
+use Rattle.vdb_coord.proofs.Positions.{block_bits_split, joined, offset_is}
 use Rattle.vdb_coord.proofs.BlockOrder.{from_key, from_lower, from_upper}
 use Rattle.vdb_walk.specs.internal.Halves.{AreInBlockOrder, AreOrdered, IsHalved, numbers}
 use Rattle.vdb_walk.proofs.Cuts.{below_x, below_y, below_z, from_x, from_y, from_z}
@@ -189,9 +189,9 @@ joined_less n a b c d e f hc he hf hb h =
       ]
     ]
 
--- in one block, places are ordered as the numbers of entries
-place_less : (low bits : ℕ) (x y : ℤ) → number_at (low + bits) x ≡ number_at (low + bits) y → number_at low x <ℤ number_at low y → digit low bits x < digit low bits y
-place_less low bits x y same less =
+-- in one block, positions are ordered as the numbers of entries
+position_less : (low bits : ℕ) (x y : ℤ) → number_at (low + bits) x ≡ number_at (low + bits) y → number_at low x <ℤ number_at low y → digit low bits x < digit low bits y
+position_less low bits x y same less =
     let sx = number_split low bits x in
     let sy = number_split low bits y in
     let e = ap (λ t. t *ℤ pos (2 ^ bits)) same in
@@ -200,8 +200,8 @@ place_less low bits x y same less =
     smaller : (a b s t : ℤ) (d e : ℕ) → a ≡ s +ℤ pos d → b ≡ t +ℤ pos e → s ≡ t → a <ℤ b → d < e
     smaller a b s t d e h k same less = omega (arith, ints, h, k, same, less)
 
-place_same : (low bits : ℕ) (x y : ℤ) → number_at (low + bits) x ≡ number_at (low + bits) y → number_at low x ≡ number_at low y → digit low bits x ≡ digit low bits y
-place_same low bits x y same equal =
+position_same : (low bits : ℕ) (x y : ℤ) → number_at (low + bits) x ≡ number_at (low + bits) y → number_at low x ≡ number_at low y → digit low bits x ≡ digit low bits y
+position_same low bits x y same equal =
     let sx = number_split low bits x in
     let sy = number_split low bits y in
     let e = ap (λ t. t *ℤ pos (2 ^ bits)) same in
@@ -228,12 +228,12 @@ offset_less bits level p q same before =
     let less : joined n (d p.x) (d p.y) (d p.z) < joined n (d q.x) (d q.y) (d q.z) =
     joined_less n (d p.x) (d p.y) (d p.z) (d q.x) (d q.y) (d q.z) (digit_below low b p.z) (digit_below low b q.y) (digit_below low b q.z) (digit_below low b p.y)
     (elim before [
-      | inl x ↦ inl (place_less low b p.x q.x s.0 x)
+      | inl x ↦ inl (position_less low b p.x q.x s.0 x)
       | inr x ↦ inr (
-        place_same low b p.x q.x s.0 x.0,
+        position_same low b p.x q.x s.0 x.0,
         elim x.1 [
-          | inl y ↦ inl (place_less low b p.y q.y s.1 y)
-          | inr y ↦ inr (place_same low b p.y q.y s.1 y.0, place_less low b p.z q.z s.2 y.1)
+          | inl y ↦ inl (position_less low b p.y q.y s.1 y)
+          | inr y ↦ inr (position_same low b p.y q.y s.1 y.0, position_less low b p.z q.z s.2 y.1)
         ],
       )
     ]) in

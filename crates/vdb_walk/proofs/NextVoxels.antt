@@ -4,7 +4,7 @@ use Rattle.std.specs.Prelude.{Option, Some, None}
 use Rattle.std.specs.Ordering.{is_lt}
 use Rattle.std.proofs.lemmas.Int.{ints}
 use Rattle.vdb_coord.specs.Blocks.{block_around, block_cmp, block_number}
-use Rattle.vdb_coord.specs.Order.{ComesBefore, IsNextPlace, IsUpToBlock}
+use Rattle.vdb_coord.specs.Order.{ComesBefore, IsNextCoord, IsUpToBlock}
 use Rattle.vdb_coord.specs.Space.{Box, coord, is_inside}
 use Rattle.vdb_coord.specs.Walk.{IsBefore}
 use Rattle.vdb_coord.specs.declared.Bits.{Bits}
@@ -145,9 +145,9 @@ module _ (bits : Bits) (part near : Box) (p : Coord) (inside : is_inside part p 
     | inr e ↦ not_past q e (none q (in_near q i e)) past
   ]
 
-  pub place_is_first : IsNextVoxel near p None → (found : Option Coord) → IsNextPlace bits Leaf part p found → IsFirst bits (IsPastLast bits (Some p)) part found
-  place_is_first none None h = λ q i past. up_to_block none q i (h q i) past
-  place_is_first none (Some n) h = (
+  pub coord_is_first : IsNextVoxel near p None → (found : Option Coord) → IsNextCoord bits Leaf part p found → IsFirst bits (IsPastLast bits (Some p)) part found
+  coord_is_first none None h = λ q i past. up_to_block none q i (h q i) past
+  coord_is_first none (Some n) h = (
     h.inside,
     h.past p inside refl,
     λ q i past. elim (bool_cases (is_lt (block_cmp bits q n))) [

@@ -1,10 +1,10 @@
--- Blocks of a level whose cells differ, counted from a place on.
+-- Blocks of a level whose cells differ, counted from a coordinate on.
 use Rattle.std.proofs.Common.{◌≡◌, ◌⊎◌, inl, inr, sym, ap, ◌∙◌, refl, subst, ℕ, ◌+◌, ◌<◌, ◌≤◌, Bool, true, false, not, ◌&&◌, ◌||◌, cond, [], ◌∷◌, arith, IsTrue}
 use Rattle.std.specs.Prelude.{IfSome, Option, Some, None}
 use Rattle.std.specs.Ordering.{is_lt}
 use Rattle.vdb_coord.specs.Blocks.{block, block_around, block_cmp, block_number, block_numbers}
 use Rattle.vdb_coord.specs.Entries.{AreBits}
-use Rattle.vdb_coord.specs.Order.{ComesBefore, IsNextPlace, IsUpToBlock, coordinates_past}
+use Rattle.vdb_coord.specs.Order.{ComesBefore, IsNextCoord, IsUpToBlock, coordinates_past}
 use Rattle.vdb_coord.specs.Space.{Box, coord_eq, everywhere, is_inside, is_within}
 use Rattle.vdb_coord.specs.declared.Bits.{Bits}
 use Rattle.vdb_coord.specs.declared.Coord.{Coord}
@@ -20,8 +20,8 @@ use Rattle.vdb_tree.specs.Field.{Field, off}
 use Rattle.vdb_tree.specs.Layout.{Layout, field_of}
 use Rattle.vdb_tree.specs.Parts.{is_left}
 use Rattle.vdb_tree.specs.ConstantBlocks.{is_constant, non_constant}
-use Rattle.vdb_tree.specs.declared.reading.parts.Skip.TheVariants.{Background}
-use Rattle.vdb_tree.proofs.PartStarts.{before_place}
+use Rattle.vdb_tree.specs.declared.queries.parts.Skip.TheVariants.{Background}
+use Rattle.vdb_tree.proofs.PartStarts.{gone_before}
 use Rattle.vdb_tree.proofs.Rooted.{one_more}
 use Rattle.vdb_tree.proofs.Uniform.{uniform_cells, uniform_from}
 use Rattle.vdb_value.specs.declared.Cell.{Cell}
@@ -74,10 +74,10 @@ other_of false true true true n h k = k refl refl refl
 other_of false true true false n h k = k refl refl refl
 other_of false true false l n h k = refl
 
--- ---- coordinates from a place on
+-- ---- coordinates from a coordinate on
 
 module _ (bits : Bits) where
-  -- what is left doesn't come before the place
+  -- what is left doesn't come before the coordinate
   pub from_on : (p r : Coord) → is_left bits (Some p) r ≡ true → ComesBefore bits r p → ⊥
   from_on p r h = denied (is_lt (block_cmp bits r p)) h
 
@@ -116,7 +116,7 @@ module _ {V : Type 0} (eq : V → V → Bool) (bits : Bits) (configured : AreBit
       count_alike (block_numbers bits level) (λ n. is_non_constant n && is_left bits (Some everywhere.min) (start n)) is_non_constant
       (λ n i. also (is_non_constant n) (is_left bits (Some everywhere.min) (start n)) (left_from bits everywhere.min (start n) (not_before_min bits everywhere (start n) (start_inside n i))))
 
--- where no place is left none is
+-- where no coordinate is left none is
 pub non_constant_none : {V : Type 0} (eq : V → V → Bool) (bits : Bits) (level : Level) (f : Field V) → non_constant_from eq bits level f None ≡ 0
 non_constant_none eq bits level f =
     count_listed (block_numbers bits level) (λ n. not (is_constant eq f (block bits level n)) && is_left bits None (block bits level n).min) [] nothing_apart
@@ -211,27 +211,27 @@ module _ {V : Type 0} (eq : V → V → Bool) (exact : (x y : V) → eq x y ≡ 
         let same = contiguous bits level (begin here) p q (not_both bits (begin here) p h) q_from number in
         starts.first (begin here) (start_inside eq bits configured level f here (number_in_range bits level q background_cell.0)) h (sym same))
 
-    module _ (next : Option Coord) (place : IsNextPlace bits outer everywhere q next) where
+    module _ (next : Option Coord) (is_next : IsNextCoord bits outer everywhere q next) where
       -- what isn't left any more
       up_to : (c : Coord) → is_inside everywhere c ≡ true → is_left bits next c ≡ false → IsUpToBlock bits outer q c
-      up_to c i gone = by next place gone
+      up_to c i gone = by next is_next gone
         where
-          by : (o : Option Coord) → IsNextPlace bits outer everywhere q o → is_left bits o c ≡ false → IsUpToBlock bits outer q c
+          by : (o : Option Coord) → IsNextCoord bits outer everywhere q o → is_left bits o c ≡ false → IsUpToBlock bits outer q c
           by None h g = h c i
-          by (Some m) h g = h.between c i (before_place bits m c g)
+          by (Some m) h g = h.between c i (gone_before bits m c g)
 
       past_outer : (c : Coord) → is_inside everywhere c ≡ true → block_number bits outer c ≡ block_number bits outer q → is_left bits next c ≡ false
-      past_outer c i same = by next place
+      past_outer c i same = by next is_next
         where
-          by : (o : Option Coord) → IsNextPlace bits outer everywhere q o → is_left bits o c ≡ false
+          by : (o : Option Coord) → IsNextCoord bits outer everywhere q o → is_left bits o c ≡ false
           by None h = refl
           by (Some m) h = ap not (h.past c i same)
 
       -- what is left still
       left_before : (c : Coord) → is_left bits next c ≡ true → is_left bits (Some p) c ≡ true
-      left_before c left = by next place left
+      left_before c left = by next is_next left
         where
-          by : (o : Option Coord) → IsNextPlace bits outer everywhere q o → is_left bits o c ≡ true → is_left bits (Some p) c ≡ true
+          by : (o : Option Coord) → IsNextCoord bits outer everywhere q o → is_left bits o c ≡ true → is_left bits (Some p) c ≡ true
           by None h l = absurd (false_true refl l)
           by (Some m) h l = left_from bits p c (λ k. from_on bits m c l (comes_on bits c p m k (past_both bits p q m q_from (h.past q background_cell.0 refl))))
 
@@ -290,11 +290,11 @@ module _ {V : Type 0} (eq : V → V → Bool) (exact : (x y : V) → eq x y ≡ 
         | inr e ↦ subst (λ (b : Bool). cond b 1 0 + non_constant_from eq bits level f next ≡ non_constant_from eq bits level f (Some p)) (sym e) (no_more (none_here e))
       ]
 
-      -- the next place begins a block
+      -- the next coordinate begins a block
       pub start_next : IfSome next (IsBoxStart bits level everywhere)
-      start_next = by next place
+      start_next = by next is_next
         where
-          by : (o : Option Coord) → IsNextPlace bits outer everywhere q o → IfSome o (IsBoxStart bits level everywhere)
+          by : (o : Option Coord) → IsNextCoord bits outer everywhere q o → IfSome o (IsBoxStart bits level everywhere)
           by None h = tt
           by (Some m) h = record {
             inside = h.inside;
@@ -310,9 +310,9 @@ module _ {V : Type 0} (eq : V → V → Bool) (exact : (x y : V) → eq x y ≡ 
           }
 
       pub nearer_next : IfSome next (λ m. coordinates_past bits m < coordinates_past bits p)
-      nearer_next = by next place
+      nearer_next = by next is_next
         where
-          by : (o : Option Coord) → IsNextPlace bits outer everywhere q o → IfSome o (λ m. coordinates_past bits m < coordinates_past bits p)
+          by : (o : Option Coord) → IsNextCoord bits outer everywhere q o → IfSome o (λ m. coordinates_past bits m < coordinates_past bits p)
           by None h = tt
           by (Some m) h = fewer_past bits p m h.inside (past_both bits p q m q_from (h.past q background_cell.0 refl))
 

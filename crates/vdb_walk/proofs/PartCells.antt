@@ -13,7 +13,7 @@ use Rattle.vdb_coord.proofs.BlockOrder.{not_before_min}
 use Rattle.vdb_coord.proofs.Boxes.{not_true, same_truth}
 use Rattle.vdb_coord.proofs.Loops.{corner}
 use Rattle.vdb_coord.proofs.Nesting.{corner_of_entry, voxel_from_leaf}
-use Rattle.vdb_coord.proofs.Places.{entries_is, offset_below}
+use Rattle.vdb_coord.proofs.Positions.{entries_is, offset_below}
 use Rattle.vdb_coord.proofs.Walk.{min_inside, none_before}
 use Rattle.vdb_node.specs.Leaf.{IsConstantLeaf, cell_in, Leaf as LeafOf}
 use Rattle.vdb_node.specs.Nodes.{entry_count}
@@ -21,8 +21,8 @@ use Rattle.vdb_tree.specs.Field.{Field, off}
 use Rattle.vdb_tree.specs.Layout.{Layout, field_of, root_at}
 use Rattle.vdb_tree.specs.Parts.{IsPartOfLeaf, IsSkipped, Passes, TreeWalk, YieldsBox, is_left}
 use Rattle.vdb_tree.specs.ConstantBlocks.{cell_eq, is_uniform}
-use Rattle.vdb_tree.specs.declared.reading.parts.Skip.{Skip}
-use Rattle.vdb_tree.specs.declared.reading.parts.Skip.TheVariants.{Absent, Background}
+use Rattle.vdb_tree.specs.declared.queries.parts.Skip.{Skip}
+use Rattle.vdb_tree.specs.declared.queries.parts.Skip.TheVariants.{Absent, Background}
 use Rattle.vdb_tree.proofs.PartWalks.{absent_skipped}
 use Rattle.vdb_tree.proofs.Uniform.{cell_exact, cell_itself, uniform_cells, uniform_from}
 use Rattle.vdb_value.specs.declared.Cell.{Cell}

@@ -20,11 +20,11 @@ use Rattle.vdb_tree.specs.Field.{Field, off}
 use Rattle.vdb_tree.specs.Layout.{Layout, field_of}
 use Rattle.vdb_tree.specs.Parts.{OnLeaf, OnTile, IsPartOfLeaf, IsSkipped, IsWalk, Passes, TreeWalk, YieldsBox, is_left}
 use Rattle.vdb_tree.specs.Leaves.{IsLeafAround}
-use Rattle.vdb_tree.specs.declared.reading.parts.Content.{Content}
-use Rattle.vdb_tree.specs.declared.reading.parts.Content.TheVariants.{Leaf as LeafContent, Tile as TileContent}
-use Rattle.vdb_tree.specs.declared.reading.parts.Part.{Part}
-use Rattle.vdb_tree.specs.declared.reading.parts.Skip.{Skip}
-use Rattle.vdb_tree.specs.declared.reading.parts.Skip.TheVariants.{Inactive}
+use Rattle.vdb_tree.specs.declared.queries.parts.Content.{Content}
+use Rattle.vdb_tree.specs.declared.queries.parts.Content.TheVariants.{Leaf as LeafContent, Tile as TileContent}
+use Rattle.vdb_tree.specs.declared.queries.parts.Part.{Part}
+use Rattle.vdb_tree.specs.declared.queries.parts.Skip.{Skip}
+use Rattle.vdb_tree.specs.declared.queries.parts.Skip.TheVariants.{Inactive}
 use Rattle.vdb_value.specs.declared.Cell.{Cell}
 use Rattle.vdb_walk.specs.internal.Firsts.{IsActivePast, IsFirst, IsInLeafBlock, IsOnPast, IsPastLast}
 use Rattle.vdb_walk.specs.internal.Listings.{HasCells, IsHeld, IsListing, tile_of}

@@ -25,7 +25,7 @@ use Rattle.vdb_coord.proofs.BlockOrder.{from_key, from_lower, from_upper, key_eq
 use Rattle.vdb_tree.proofs.Descents.{lower_by_block, root_by_block, upper_by_block}
 use Rattle.vdb_tree.proofs.Levels.{bool_cases}
 use Rattle.vdb_tree.proofs.PieceCells.{only_self}
-use Rattle.vdb_tree.specs.declared.reading.pieces.Piece.{Piece}
+use Rattle.vdb_tree.specs.declared.queries.pieces.Piece.{Piece}
 use Rattle.vdb_walk.specs.internal.Firsts.{EndsPiece, IsEntered, IsEnteredPast, IsFirst, IsPastLast}
 use Rattle.vdb_walk.specs.Passing.{IsAhead, IsNextPiece, Passage}
 use Rattle.vdb_walk.proofs.BoxOrder.{between_x, between_y, between_z}

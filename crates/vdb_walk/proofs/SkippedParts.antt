@@ -1,4 +1,4 @@
--- The place from which on a walk may not pass over what comes: where its next part begins.
+-- The coordinate from which on a walk may not pass over what comes: where its next part begins.
 use Rattle.std.proofs.Common.{◌≡◌, inl, inr, sym, ap, ◌∙◌, refl, subst, true, false, not, IsTrue}
 use Rattle.std.specs.Prelude.{Option, Some, None}
 use Rattle.std.specs.Ordering.{is_lt}
@@ -13,8 +13,8 @@ use Rattle.vdb_coord.proofs.Boxes.{both, not_true}
 use Rattle.vdb_coord.proofs.Walk.{min_inside}
 use Rattle.vdb_tree.specs.Layout.{Layout}
 use Rattle.vdb_tree.specs.Parts.{IsSkipped, TreeWalk, YieldsBox, is_left}
-use Rattle.vdb_tree.specs.declared.reading.parts.Skip.{Skip}
-use Rattle.vdb_tree.proofs.PartStarts.{before_place}
+use Rattle.vdb_tree.specs.declared.queries.parts.Skip.{Skip}
+use Rattle.vdb_tree.proofs.PartStarts.{gone_before}
 use Rattle.vdb_walk.specs.internal.BlocksFrom.{IsPartStart, IsSkippedTo}
 use Rattle.vdb_walk.proofs.NonConstantBlocks.{from_on, left_from, true_or_false}
 
@@ -31,10 +31,10 @@ module _ {V : Type 0} (bits : Bits) (t : Layout V) where
 
       gone : (at : Option Coord) → is_left bits at part.min ≡ false → (r : Coord) → ComesBefore bits r part.min → is_left bits at r ≡ false
       gone None h r before = refl
-      gone (Some a) h r before = ap not (comes_on bits r part.min a before (before_place bits a part.min h))
+      gone (Some a) h r before = ap not (comes_on bits r part.min a before (gone_before bits a part.min h))
 
   module _ (box : Box) (skip : Skip) where
-    -- the place itself
+    -- the coordinate itself
     pub skipped_here : (p : Coord) → is_inside box p ≡ true → IsSkippedTo bits t box skip p (Some p)
     skipped_here p i = (i, left_from bits p p (not_itself bits p), λ r j left before. absurd (from_on bits p r left before))
 

@@ -15,8 +15,8 @@ use Rattle.vdb_coord.proofs.Boxes.{and_true, both, box_of_none, box_of_some, thr
 use Rattle.vdb_tree.specs.Field.{Field, off}
 use Rattle.vdb_tree.specs.Layout.{Layout, cell_at, field_of}
 use Rattle.vdb_tree.specs.Parts.{IsSkipped, Passes, TreeWalk, YieldsBox, is_left}
-use Rattle.vdb_tree.specs.declared.reading.parts.Skip.{Skip}
-use Rattle.vdb_tree.specs.declared.reading.parts.Skip.TheVariants.{Inactive}
+use Rattle.vdb_tree.specs.declared.queries.parts.Skip.{Skip}
+use Rattle.vdb_tree.specs.declared.queries.parts.Skip.TheVariants.{Inactive}
 use Rattle.vdb_tree.proofs.Levels.{bool_cases}
 use Rattle.vdb_tree.proofs.Rooted.{or_cases, or_first, or_second}
 use Rattle.vdb_value.specs.declared.Cell.{Cell}

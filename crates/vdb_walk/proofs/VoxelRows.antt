@@ -12,26 +12,26 @@ use Rattle.vdb_coord.specs.declared.Coord.{Coord}
 use Rattle.vdb_coord.specs.declared.Level.TheVariants.{Leaf}
 use Rattle.vdb_coord.proofs.Digits.{between_fits, digit_is, first_fits, last_fits, number_zero}
 use Rattle.vdb_coord.proofs.Division.{parts, rest, rest_of}
-use Rattle.vdb_coord.proofs.Places.{offset_is}
+use Rattle.vdb_coord.proofs.Positions.{offset_is}
 use Rattle.vdb_coord.proofs.Walk.{inside_from, inside_parts, own_end}
 use Rattle.vdb_walk.specs.internal.Voxels.{IsInFirstBlock}
 use Rattle.vdb_walk.proofs.VoxelSeeks.{same_entry}
 
 -- ---- the voxel of an entry
 
--- a place of a block fits as the block does
-pub place_fits : (bits : ℕ) (x : ℤ) (place : ℕ) → bits ≤ 5 → SFits w32 x → place < 2 ^ bits → SFits w32 (first_of bits (number_at bits x) +ℤ pos place)
-place_fits bits x place few f less =
+-- a position of a block fits as the block does
+pub position_fits : (bits : ℕ) (x : ℤ) (position : ℕ) → bits ≤ 5 → SFits w32 x → position < 2 ^ bits → SFits w32 (first_of bits (number_at bits x) +ℤ pos position)
+position_fits bits x position few f less =
     let whole : bits ≤ 31 = omega (arith, few) in
-    between_fits (first_of bits (number_at bits x)) (2 ^ bits - 1) place (first_fits bits x whole f) (last_fits bits x whole f) (omega (arith, less))
+    between_fits (first_of bits (number_at bits x)) (2 ^ bits - 1) position (first_fits bits x whole f) (last_fits bits x whole f) (omega (arith, less))
 
 one_each : (k : ℕ) → k * 2 ^ 0 ≡ k
 one_each k = omega arith
 
--- an entry's places along each axis are those of its voxel
-pub voxel_places : (bits : Bits) (p : Coord) (i : ℕ) → let n = 2 ^ bits.leaf in let first : ℤ → ℤ = λ x. first_of bits.leaf (number_at bits.leaf x) in
+-- an entry's positions along each axis are those of its voxel
+pub voxel_positions : (bits : Bits) (p : Coord) (i : ℕ) → let n = 2 ^ bits.leaf in let first : ℤ → ℤ = λ x. first_of bits.leaf (number_at bits.leaf x) in
     coord (first p.x +ℤ pos (i / n / n)) (first p.y +ℤ pos (i / n % n)) (first p.z +ℤ pos (i % n)) ≡ (sub_block bits Leaf (block_around bits Leaf p) i).min
-voxel_places bits p i =
+voxel_positions bits p i =
     let n = 2 ^ bits.leaf in
     let first : ℤ → ℤ = λ x. first_of bits.leaf (number_at bits.leaf x) in
     let x : i / n / n ≡ i / (n * n) * 2 ^ 0 = div-div-eq-div-mul i n n ∙ sym (one_each (i / (n * n))) in
@@ -47,9 +47,9 @@ still_below y x r k m some e h = omega (arith, ints, some, e, h)
 together : (y x : ℤ) (r k : ℕ) → y +ℤ pos r ≡ x → x +ℤ pos k ≡ y +ℤ pos (r + k)
 together y x r k e = omega (arith, ints, e)
 
--- k numbers further in the same block, the place is k further
-place_further : (b : ℕ) (x : ℤ) (k : ℕ) → (x +ℤ pos k) ≤ℤ last_of b (number_at b x) → digit 0 b (x +ℤ pos k) ≡ digit 0 b x + k
-place_further b x k h =
+-- k numbers further in the same block, the position is k further
+position_further : (b : ℕ) (x : ℤ) (k : ℕ) → (x +ℤ pos k) ≤ℤ last_of b (number_at b x) → digit 0 b (x +ℤ pos k) ≡ digit 0 b x + k
+position_further b x k h =
     let m = 2 ^ b in
     let r = rest m x in
     let e = parts m x (pow_pos b) in
@@ -66,7 +66,7 @@ entry_further bits p k h =
     let n = 2 ^ bits.leaf in
     let d : ℤ → ℕ = digit 0 bits.leaf in
     let before = (d p.x * n + d p.y) * n in
-    offset_is bits Leaf (coord p.x p.y (p.z +ℤ pos k)) ∙ ap (λ (t : ℕ). before + t) (place_further bits.leaf p.z k h) ∙ regrouped before (d p.z) k ∙ sym (ap (λ (t : ℕ). t + k) (offset_is bits Leaf p))
+    offset_is bits Leaf (coord p.x p.y (p.z +ℤ pos k)) ∙ ap (λ (t : ℕ). before + t) (position_further bits.leaf p.z k h) ∙ regrouped before (d p.z) k ∙ sym (ap (λ (t : ℕ). t + k) (offset_is bits Leaf p))
 
 -- ---- voxels of two boxes
 

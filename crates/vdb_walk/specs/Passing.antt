@@ -7,7 +7,7 @@ use Rattle.vdb_coord.specs.declared.Bits.{Bits}
 use Rattle.vdb_coord.specs.declared.Coord.{Coord}
 use Rattle.vdb_tree.specs.Layout.{Layout, field_of, root_at}
 use Rattle.vdb_tree.specs.Pieces.{piece_around}
-use Rattle.vdb_tree.specs.declared.reading.pieces.Piece.{Piece}
+use Rattle.vdb_tree.specs.declared.queries.pieces.Piece.{Piece}
 
 -- How far a passage through a tree's pieces has come.
 pub record Passage (V : Type 0) : Type 0 where

@@ -15,7 +15,7 @@ ghost use Rattle.vdb_tree.specs.ConstantBlocks.{count as active_count};
 ghost use Rattle.vdb_walk.specs.internal.BlocksFrom.{IsBoxStart, active_around, active_from};
 ghost use Rattle.vdb_walk.specs.internal.Voxels.{IsInFirstBlock, set_count};
 
-use crate::part_starts::place_from;
+use crate::part_starts::start_from;
 use crate::voxels::{block_corner, next_set_in, run_end};
 use vdb_coord::{Bits, Bounds, Coord, Level};
 use vdb_mask::Mask;
@@ -61,7 +61,7 @@ fn count_blocks<
 {
     let mut total = 0;
     let mut at = Some(bounds.min());
-    'places: while let Some(p) = at {
+    'starts: while let Some(p) = at {
         let (active, next) = count_next(tree, bounds, p, steps);
         total += active;
         at = next;
@@ -69,8 +69,8 @@ fn count_blocks<
     total
 }
 
-/// How many voxels are active that the box has of the first root block with an active one from a place on, and the place past
-/// it.
+/// How many voxels are active that the box has of the first root block with an active one from `p` on, and its first coordinate past
+/// that block.
 fn count_next<
     V: Stored<WU> + Stored<WL> + Stored<WF>,
     const U: u32,
@@ -91,10 +91,10 @@ fn count_next<
     ensures nearer { IfSome result.1 (λ next. coordinates_past (bits_of U L F) next < coordinates_past (bits_of U L F) p) }
 {
     let (bits, _) = (tree.bits(), bounds.min());
-    match place_from(tree, bounds, Skip::Inactive, p, steps) {
+    match start_from(tree, bounds, Skip::Inactive, p, steps) {
         Some(q) => {
             let active = count_around(tree, bounds, q, steps);
-            (active, bounds.next_place_in(bits, Level::Upper, q))
+            (active, bounds.next_coord_in(bits, Level::Upper, q))
         }
         None => (0, None),
     }

@@ -202,7 +202,7 @@ fn first_in_leaf<V: Stored<W>, const F: u32, const W: usize>(
     requires configured { AreBits bits }
     requires leaf { bits.leaf ≡ F }
     requires few_words { W ≤ 512 }
-    requires room { entries bits leaf_level ≤ 64 * W }
+    requires capacity { entries bits leaf_level ≤ 64 * W }
     requires block { IsInLeafBlock bits part }
     ensures first { IsFirst bits (IsOnPast bits after leaf.now.states) part (option_map (λ item. item.0) result) }
     ensures value { IfSome result (λ item. (d : Cell V) → item.1 ≡ (cell_in d leaf.now (offset bits leaf_level item.0)).value) }
@@ -228,7 +228,7 @@ fn near_in_leaf<V: Stored<W>, const F: u32, const W: usize>(
     requires configured { AreBits bits }
     requires leaf { bits.leaf ≡ F }
     requires few_words { W ≤ 512 }
-    requires room { entries bits leaf_level ≤ 64 * W }
+    requires capacity { entries bits leaf_level ≤ 64 * W }
     requires block { IsInLeafBlock bits part }
     ensures first { IfSome result (λ item. IsFirst bits (IsOnPast bits after leaf.now.states) part (Some item.0)) }
     ensures value { IfSome result (λ item. (d : Cell V) → item.1 ≡ (cell_in d leaf.now (offset bits leaf_level item.0)).value) }

@@ -12,7 +12,7 @@ ghost use Rattle.vdb_walk.specs.internal.BlocksFrom.{IsBlockAt, IsBoxStart, non_
 ghost use Rattle.vdb_walk.specs.Reports.{census as census_of};
 
 use crate::Census;
-use crate::part_starts::place_from;
+use crate::part_starts::start_from;
 use vdb_coord::{Bounds, Coord, Level};
 use vdb_node::Stored;
 use vdb_pool::Steps;
@@ -64,7 +64,7 @@ fn non_constant_blocks<
     let _ = tree.bits(); // the proof learns from it that blocks lie in the range
     let mut total = 0;
     let mut at = Some(Bounds::all().min());
-    'places: while let Some(p) = at {
+    'starts: while let Some(p) = at {
         let (differs, next) = next_block(tree, level, p, steps);
         if differs {
             total += 1;
@@ -94,9 +94,9 @@ fn node_count<
     }
 }
 
-/// Whether the cells differ of the first block from a place on that isn't passed over, and a place past it. Passed over are
-/// blocks of the background, inactive, and a tile of a level above counts as one block; past a leaf block the next place is that
-/// of the next leaf.
+/// Whether the cells differ of the first block from `p` on that isn't passed over, and a coordinate past it. Passed over are blocks
+/// of the background, inactive, and a tile of a level above counts as one block; past a leaf block the coordinate is that of the
+/// next leaf.
 fn next_block<
     V: Stored<WU> + Stored<WL> + Stored<WF>,
     const U: u32,
@@ -120,10 +120,10 @@ fn next_block<
     if let Level::Leaf = level {
         return leaf_at(tree, p, steps);
     }
-    match place_from(tree, Bounds::all(), Skip::Background, p, steps) {
+    match start_from(tree, Bounds::all(), Skip::Background, p, steps) {
         Some(q) => {
             let (outer, differs) = block_at(tree, level, q, steps);
-            (differs, Bounds::all().next_place_in(bits, outer, q))
+            (differs, Bounds::all().next_coord_in(bits, outer, q))
         }
         None => (false, None),
     }

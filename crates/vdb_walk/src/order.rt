@@ -46,7 +46,7 @@ fn next_in(bits: Bits, part: Bounds, p: Coord) -> Option<Coord>
     match part.intersect(p.block_in(bits, Level::Leaf)) {
         Some(near) => match next_voxel(near, p) {
             Some(next) => Some(next),
-            None => part.next_place_in(bits, Level::Leaf, p),
+            None => part.next_coord_in(bits, Level::Leaf, p),
         },
         None => unreachable!(),
     }

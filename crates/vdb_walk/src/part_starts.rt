@@ -11,9 +11,9 @@ use vdb_node::{Internal, Leaf, Stored};
 use vdb_pool::Steps;
 use vdb_tree::{Skip, TreeOf, Walk};
 
-/// The first coordinate, from a place of the box on, of what the box has of the tiles and leaves that aren't passed over; `None`
-/// where there is none.
-pub(crate) fn place_from<
+/// The first coordinate, from `p` on, of what the box has of the tiles and leaves that aren't passed over; `None` where there is
+/// none.
+pub(crate) fn start_from<
     V: Stored<WU> + Stored<WL> + Stored<WF>,
     const U: u32,
     const L: u32,

@@ -83,9 +83,9 @@ fn voxel_at(bits: Bits, p: Coord, corner: Coord, entry: u32) -> Coord
     let count = width(leaf);
     let row = entry / count;
     Coord {
-        x: in_place(corner.x, p.x, leaf, row / count),
-        y: in_place(corner.y, p.y, leaf, row % count),
-        z: in_place(corner.z, p.z, leaf, entry % count),
+        x: component_at(corner.x, p.x, leaf, row / count),
+        y: component_at(corner.y, p.y, leaf, row % count),
+        z: component_at(corner.z, p.z, leaf, entry % count),
     }
 }
 
@@ -98,15 +98,15 @@ fn width(leaf: u32) -> u32
     1 << leaf
 }
 
-/// The number in this place of the block of `2 ^ bits` numbers around a component, whose first number is given.
-fn in_place(first: i32, component: i32, bits: u32, place: u32) -> i32
+/// The number in this position of the block of `2 ^ bits` numbers around a component, whose first number is given.
+fn component_at(first: i32, component: i32, bits: u32, position: u32) -> i32
     requires few { bits ≤ 5 }
     requires first { first ≡ first_of bits (number_at bits component) }
-    requires within { place < 2 ^ bits }
-    ensures { result ≡ first_of bits (number_at bits component) +ℤ pos place }
+    requires within { position < 2 ^ bits }
+    ensures { result ≡ first_of bits (number_at bits component) +ℤ pos position }
 {
     let _ = component;
-    first + place as i32
+    first + position as i32
 }
 
 /// The entry past the voxels that follow `p` along z in both boxes, where `p` is at this entry; the limit where it comes first.

@@ -31,15 +31,15 @@ pub record IsLoaded {V : Type 0} (is_value : V → Type 0) (background : V) (f :
 
 module _ {V : Type 0} (eq : V → V → Bool) where
   -- whatever this box holds, the root blocks are within the limit
-  pub record HasRoomAt (bits : Bits) (limit : ℕ) (b : Box) (f : Field V) : Type 0 where
+  pub record HasCapacityAt (bits : Bits) (limit : ℕ) (b : Box) (f : Field V) : Type 0 where
     pub few : (g : Field V) → KeptOutside b f g → roots eq bits g ≤ limit
 
-  -- ready for a block around p: its values are a type's, the block holds nothing but the background, and its root block has room
+  -- ready for a block around p: its values are a type's, the block holds nothing but the background, and its root block has capacity
   pub record IsReady (is_value : V → Type 0) (bits : Bits) (limit : ℕ) (level : Level) (p : Coord) (f : Field V) : Type 0 where
     pub configured : AreBits bits
     pub values : HasValues is_value f.background f
     pub clear : is_background eq f (block_around bits level p) ≡ true
-    pub room : HasRoomAt bits limit (block_around bits Upper p) f
+    pub capacity : HasCapacityAt bits limit (block_around bits Upper p) f
 
   -- ready for each block whose number or key may come next
   pub record AreReady {K : Type 0} (is_value : V → Type 0) (bits : Bits) (limit : ℕ) (level : Level) (N : K → Type 0) (box : K → Box) (f : Field V) : Type 0 where

@@ -13,7 +13,7 @@ ghost use Rattle.vdb_file.specs.Faults.{is_read_fault};
 ghost use Rattle.vdb_file.specs.internal.FieldFaults.{IsInner};
 ghost use Rattle.vdb_file.specs.internal.Following.{Follows};
 ghost use Rattle.vdb_file.specs.internal.Loading.{IsHead, IsIndex, IsKey, IsSpelled, head_bytes};
-ghost use Rattle.vdb_file.specs.internal.Reading.{EndsWith, Reads, byte_total, place};
+ghost use Rattle.vdb_file.specs.internal.Reading.{EndsWith, Reads, byte_total, position};
 
 use crate::fault::LoadFault;
 use crate::loading::fields::{take_u8, take_u16, take_value};
@@ -43,9 +43,9 @@ fn take_state<V: Voxel, R: Read>(
     ensures ends { EndsWith input.new (R.remaining (source reader.new)) }
     ensures total { (n : ℕ) → byte_total input.old (R.remaining (source reader.old)) ≡ Some n → byte_total input.new (R.remaining (source reader.new)) ≡ Some n }
     ensures reads { Reads (λ c. c) (λ c. IsSpelled V.eq V.is_value background c × (c.on ≡ on)) (λ c. V.bytes_of c.value) result
-        (place input.old (R.remaining (source reader.old))) (place input.new (R.remaining (source reader.new))) }
+        (position input.old (R.remaining (source reader.old))) (position input.new (R.remaining (source reader.new))) }
     ensures inner { IfErr result IsInner }
-    ensures ended { result ≡ Err LoadFault.Truncated → IsAtEnd (place input.new (R.remaining (source reader.new))).known }
+    ensures ended { result ≡ Err LoadFault.Truncated → IsAtEnd (position input.new (R.remaining (source reader.new))).known }
     ensures failed { has_failed reader.new ≡ (has_failed reader.old || is_read_fault result) }
 {
     let value = take_value::<V, R>(input, reader)?;
@@ -65,9 +65,9 @@ pub(crate) fn take_cell<V: Voxel, R: Read>(
     ensures ends { EndsWith input.new (R.remaining (source reader.new)) }
     ensures total { (n : ℕ) → byte_total input.old (R.remaining (source reader.old)) ≡ Some n → byte_total input.new (R.remaining (source reader.new)) ≡ Some n }
     ensures reads { Reads (λ c. c) (IsSpelled V.eq V.is_value background) (cell_bytes V.eq V.bytes_of) result
-        (place input.old (R.remaining (source reader.old))) (place input.new (R.remaining (source reader.new))) }
+        (position input.old (R.remaining (source reader.old))) (position input.new (R.remaining (source reader.new))) }
     ensures inner { IfErr result IsInner }
-    ensures ended { result ≡ Err LoadFault.Truncated → IsAtEnd (place input.new (R.remaining (source reader.new))).known }
+    ensures ended { result ≡ Err LoadFault.Truncated → IsAtEnd (position input.new (R.remaining (source reader.new))).known }
     ensures failed { has_failed reader.new ≡ (has_failed reader.old || is_read_fault result) }
 {
     let tag = take_u8(input, reader)?;
@@ -88,9 +88,9 @@ fn take_count<R: Read>(
     ensures ends { EndsWith input.new (R.remaining (source reader.new)) }
     ensures total { (n : ℕ) → byte_total input.old (R.remaining (source reader.old)) ≡ Some n → byte_total input.new (R.remaining (source reader.new)) ≡ Some n }
     ensures reads { Reads (λ n. n) (λ n. (1 ≤ n) × (n ≤ most)) (to_be_bytes w16) result
-        (place input.old (R.remaining (source reader.old))) (place input.new (R.remaining (source reader.new))) }
+        (position input.old (R.remaining (source reader.old))) (position input.new (R.remaining (source reader.new))) }
     ensures inner { IfErr result IsInner }
-    ensures ended { result ≡ Err LoadFault.Truncated → IsAtEnd (place input.new (R.remaining (source reader.new))).known }
+    ensures ended { result ≡ Err LoadFault.Truncated → IsAtEnd (position input.new (R.remaining (source reader.new))).known }
     ensures failed { has_failed reader.new ≡ (has_failed reader.old || is_read_fault result) }
 {
     let count = take_u16(input, reader)?;
@@ -114,9 +114,9 @@ pub(crate) fn take_head<V: Voxel, R: Read>(
     ensures ends { EndsWith input.new (R.remaining (source reader.new)) }
     ensures total { (n : ℕ) → byte_total input.old (R.remaining (source reader.old)) ≡ Some n → byte_total input.new (R.remaining (source reader.new)) ≡ Some n }
     ensures reads { Reads (λ h. h) (IsHead V.eq V.is_value background most) (head_bytes V.eq V.bytes_of) result
-        (place input.old (R.remaining (source reader.old))) (place input.new (R.remaining (source reader.new))) }
+        (position input.old (R.remaining (source reader.old))) (position input.new (R.remaining (source reader.new))) }
     ensures inner { IfErr result IsInner }
-    ensures ended { result ≡ Err LoadFault.Truncated → IsAtEnd (place input.new (R.remaining (source reader.new))).known }
+    ensures ended { result ≡ Err LoadFault.Truncated → IsAtEnd (position input.new (R.remaining (source reader.new))).known }
     ensures failed { has_failed reader.new ≡ (has_failed reader.old || is_read_fault result) }
 {
     let tag = take_u8(input, reader)?;
@@ -139,9 +139,9 @@ pub(crate) fn take_index<R: Read>(
     ensures ends { EndsWith input.new (R.remaining (source reader.new)) }
     ensures total { (n : ℕ) → byte_total input.old (R.remaining (source reader.old)) ≡ Some n → byte_total input.new (R.remaining (source reader.new)) ≡ Some n }
     ensures reads { Reads (λ i. i) (IsIndex most before) (to_be_bytes w16) result
-        (place input.old (R.remaining (source reader.old))) (place input.new (R.remaining (source reader.new))) }
+        (position input.old (R.remaining (source reader.old))) (position input.new (R.remaining (source reader.new))) }
     ensures inner { IfErr result IsInner }
-    ensures ended { result ≡ Err LoadFault.Truncated → IsAtEnd (place input.new (R.remaining (source reader.new))).known }
+    ensures ended { result ≡ Err LoadFault.Truncated → IsAtEnd (position input.new (R.remaining (source reader.new))).known }
     ensures failed { has_failed reader.new ≡ (has_failed reader.old || is_read_fault result) }
 {
     let i = take_u16(input, reader)?;
@@ -167,9 +167,9 @@ pub(crate) fn take_entry_number<R: Read>(
     ensures ends { EndsWith input.new (R.remaining (source reader.new)) }
     ensures total { (n : ℕ) → byte_total input.old (R.remaining (source reader.old)) ≡ Some n → byte_total input.new (R.remaining (source reader.new)) ≡ Some n }
     ensures reads { Reads (λ i. i) (IsIndex (entries bits level) before) (to_be_bytes w16) result
-        (place input.old (R.remaining (source reader.old))) (place input.new (R.remaining (source reader.new))) }
+        (position input.old (R.remaining (source reader.old))) (position input.new (R.remaining (source reader.new))) }
     ensures inner { IfErr result IsInner }
-    ensures ended { result ≡ Err LoadFault.Truncated → IsAtEnd (place input.new (R.remaining (source reader.new))).known }
+    ensures ended { result ≡ Err LoadFault.Truncated → IsAtEnd (position input.new (R.remaining (source reader.new))).known }
     ensures failed { has_failed reader.new ≡ (has_failed reader.old || is_read_fault result) }
 {
     let most = bits.entries(level);
@@ -192,12 +192,12 @@ fn take_coord<R: Read>(input: &mut Input, reader: &mut Watched<R>) -> Result<Coo
     ensures ends { EndsWith input.new (R.remaining (source reader.new)) }
     ensures total { (n : ℕ) → byte_total input.old (R.remaining (source reader.old)) ≡ Some n → byte_total input.new (R.remaining (source reader.new)) ≡ Some n }
     ensures reads { Reads (λ k. k) (λ k. FitsSigned w32 k.x × FitsSigned w32 k.y × FitsSigned w32 k.z) key_bytes result
-        (place input.old (R.remaining (source reader.old))) (place input.new (R.remaining (source reader.new))) }
+        (position input.old (R.remaining (source reader.old))) (position input.new (R.remaining (source reader.new))) }
     ensures inner { IfErr result IsInner }
-    ensures ended { result ≡ Err LoadFault.Truncated → IsAtEnd (place input.new (R.remaining (source reader.new))).known }
+    ensures ended { result ≡ Err LoadFault.Truncated → IsAtEnd (position input.new (R.remaining (source reader.new))).known }
     ensures failed { has_failed reader.new ≡ (has_failed reader.old || is_read_fault result) }
 {
-    if input.room() < 12 {
+    if input.capacity() < 12 {
         return Err(LoadFault::TooLong);
     }
     let x = take_value::<i32, R>(input, reader)?;
@@ -218,9 +218,9 @@ pub(crate) fn take_key<R: Read>(
     ensures ends { EndsWith input.new (R.remaining (source reader.new)) }
     ensures total { (n : ℕ) → byte_total input.old (R.remaining (source reader.old)) ≡ Some n → byte_total input.new (R.remaining (source reader.new)) ≡ Some n }
     ensures reads { Reads (λ k. k) (IsKey bits before) key_bytes result
-        (place input.old (R.remaining (source reader.old))) (place input.new (R.remaining (source reader.new))) }
+        (position input.old (R.remaining (source reader.old))) (position input.new (R.remaining (source reader.new))) }
     ensures inner { IfErr result IsInner }
-    ensures ended { result ≡ Err LoadFault.Truncated → IsAtEnd (place input.new (R.remaining (source reader.new))).known }
+    ensures ended { result ≡ Err LoadFault.Truncated → IsAtEnd (position input.new (R.remaining (source reader.new))).known }
     ensures failed { has_failed reader.new ≡ (has_failed reader.old || is_read_fault result) }
 {
     let key = take_coord(input, reader)?;

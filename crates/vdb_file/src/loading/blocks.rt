@@ -14,7 +14,7 @@ ghost use Rattle.vdb_file.specs.Faults.{is_read_fault};
 ghost use Rattle.vdb_file.specs.internal.FieldFaults.{IsInner};
 ghost use Rattle.vdb_file.specs.internal.LoadedFields.{AreReady, IsNext, IsReady, KeptOutside, ShowsIn, ShowsInEach, entry_box, next_bytes};
 ghost use Rattle.vdb_file.specs.internal.Loading.{IsIndex};
-ghost use Rattle.vdb_file.specs.internal.Reading.{EndsWith, Reads, byte_total, place};
+ghost use Rattle.vdb_file.specs.internal.Reading.{EndsWith, Reads, byte_total, position};
 ghost use Rattle.vdb_file.specs.internal.Written.{numbered};
 
 use crate::fault::LoadFault;
@@ -61,11 +61,11 @@ fn take_leaf_block_at<
     ensures ends { EndsWith input.new (R.remaining (source reader.new)) }
     ensures total { (n : ℕ) → byte_total input.old (R.remaining (source reader.old)) ≡ Some n → byte_total input.new (R.remaining (source reader.new)) ≡ Some n }
     ensures reads { Reads (λ _. field_of (bits_of U L F) tree.new) (ShowsIn V.eq V.is_value tree.old.background (entry_box (bits_of U L F) Lower p i)) (λ f. leaf_body V.eq V.bytes_of (bits_of U L F) f (entry_box (bits_of U L F) Lower p i)) result
-        (place input.old (R.remaining (source reader.old))) (place input.new (R.remaining (source reader.new))) }
+        (position input.old (R.remaining (source reader.old))) (position input.new (R.remaining (source reader.new))) }
     ensures kept { OnOk result (KeptOutside (entry_box (bits_of U L F) Lower p i) (field_of (bits_of U L F) tree.old) (field_of (bits_of U L F) tree.new)) }
     ensures limit { OnOk result (tree.new.limit ≡ tree.old.limit) }
     ensures inner { IfErr result IsInner }
-    ensures ended { result ≡ Err LoadFault.Truncated → IsAtEnd (place input.new (R.remaining (source reader.new))).known }
+    ensures ended { result ≡ Err LoadFault.Truncated → IsAtEnd (position input.new (R.remaining (source reader.new))).known }
     ensures failed { has_failed reader.new ≡ (has_failed reader.old || is_read_fault result) }
 {
     let bits = tree.bits();
@@ -96,11 +96,11 @@ fn take_next_leaf_block<
     ensures ends { EndsWith input.new (R.remaining (source reader.new)) }
     ensures total { (n : ℕ) → byte_total input.old (R.remaining (source reader.old)) ≡ Some n → byte_total input.new (R.remaining (source reader.new)) ≡ Some n }
     ensures reads { Reads (λ i. (i, field_of (bits_of U L F) tree.new)) (IsNext V.eq V.is_value tree.old.background (IsIndex (entries (bits_of U L F) Lower) before) (entry_box (bits_of U L F) Lower p)) (next_bytes (to_be_bytes w16) (leaf_body V.eq V.bytes_of (bits_of U L F)) (entry_box (bits_of U L F) Lower p)) result
-        (place input.old (R.remaining (source reader.old))) (place input.new (R.remaining (source reader.new))) }
+        (position input.old (R.remaining (source reader.old))) (position input.new (R.remaining (source reader.new))) }
     ensures kept { IfOk result (λ i. KeptOutside (entry_box (bits_of U L F) Lower p i) (field_of (bits_of U L F) tree.old) (field_of (bits_of U L F) tree.new)) }
     ensures limit { OnOk result (tree.new.limit ≡ tree.old.limit) }
     ensures inner { IfErr result IsInner }
-    ensures ended { result ≡ Err LoadFault.Truncated → IsAtEnd (place input.new (R.remaining (source reader.new))).known }
+    ensures ended { result ≡ Err LoadFault.Truncated → IsAtEnd (position input.new (R.remaining (source reader.new))).known }
     ensures failed { has_failed reader.new ≡ (has_failed reader.old || is_read_fault result) }
 {
     let bits = tree.bits();
@@ -132,11 +132,11 @@ fn take_leaf_blocks<
     ensures ends { EndsWith input.new (R.remaining (source reader.new)) }
     ensures total { (n : ℕ) → byte_total input.old (R.remaining (source reader.old)) ≡ Some n → byte_total input.new (R.remaining (source reader.new)) ≡ Some n }
     ensures reads { Reads (λ _. field_of (bits_of U L F) tree.new) (ShowsInEach V.eq V.is_value tree.old.background (entry_box (bits_of U L F) Lower p) (entry_numbers (bits_of U L F) Lower) count) (λ f. numbered (λ i. leaf_body V.eq V.bytes_of (bits_of U L F) f (entry_box (bits_of U L F) Lower p i)) (listed V.eq V.bytes_of (bits_of U L F) f Lower (block_around (bits_of U L F) Lower p))) result
-        (place input.old (R.remaining (source reader.old))) (place input.new (R.remaining (source reader.new))) }
+        (position input.old (R.remaining (source reader.old))) (position input.new (R.remaining (source reader.new))) }
     ensures kept { OnOk result (KeptOutside (block_around (bits_of U L F) Lower p) (field_of (bits_of U L F) tree.old) (field_of (bits_of U L F) tree.new)) }
     ensures limit { OnOk result (tree.new.limit ≡ tree.old.limit) }
     ensures inner { IfErr result IsInner }
-    ensures ended { result ≡ Err LoadFault.Truncated → IsAtEnd (place input.new (R.remaining (source reader.new))).known }
+    ensures ended { result ≡ Err LoadFault.Truncated → IsAtEnd (position input.new (R.remaining (source reader.new))).known }
     ensures failed { has_failed reader.new ≡ (has_failed reader.old || is_read_fault result) }
 {
     let mut before = None;
@@ -170,11 +170,11 @@ fn take_lower_node<
     ensures ends { EndsWith input.new (R.remaining (source reader.new)) }
     ensures total { (n : ℕ) → byte_total input.old (R.remaining (source reader.old)) ≡ Some n → byte_total input.new (R.remaining (source reader.new)) ≡ Some n }
     ensures reads { Reads (λ _. field_of (bits_of U L F) tree.new) (λ f. ShowsInEach V.eq V.is_value tree.old.background (entry_box (bits_of U L F) Lower p) (entry_numbers (bits_of U L F) Lower) count f × (is_constant V.eq f (block_around (bits_of U L F) Lower p) ≡ false)) (λ f. numbered (λ i. leaf_body V.eq V.bytes_of (bits_of U L F) f (entry_box (bits_of U L F) Lower p i)) (listed V.eq V.bytes_of (bits_of U L F) f Lower (block_around (bits_of U L F) Lower p))) result
-        (place input.old (R.remaining (source reader.old))) (place input.new (R.remaining (source reader.new))) }
+        (position input.old (R.remaining (source reader.old))) (position input.new (R.remaining (source reader.new))) }
     ensures kept { OnOk result (KeptOutside (block_around (bits_of U L F) Lower p) (field_of (bits_of U L F) tree.old) (field_of (bits_of U L F) tree.new)) }
     ensures limit { OnOk result (tree.new.limit ≡ tree.old.limit) }
     ensures inner { IfErr result IsInner }
-    ensures ended { result ≡ Err LoadFault.Truncated → IsAtEnd (place input.new (R.remaining (source reader.new))).known }
+    ensures ended { result ≡ Err LoadFault.Truncated → IsAtEnd (position input.new (R.remaining (source reader.new))).known }
     ensures failed { has_failed reader.new ≡ (has_failed reader.old || is_read_fault result) }
 {
     take_leaf_blocks(p, count, tree, input, reader, steps)?;
@@ -206,11 +206,11 @@ fn take_lower_block<
     ensures ends { EndsWith input.new (R.remaining (source reader.new)) }
     ensures total { (n : ℕ) → byte_total input.old (R.remaining (source reader.old)) ≡ Some n → byte_total input.new (R.remaining (source reader.new)) ≡ Some n }
     ensures reads { Reads (λ _. field_of (bits_of U L F) tree.new) (ShowsIn V.eq V.is_value tree.old.background (block_around (bits_of U L F) Lower p)) (λ f. lower_body V.eq V.bytes_of (bits_of U L F) f (block_around (bits_of U L F) Lower p)) result
-        (place input.old (R.remaining (source reader.old))) (place input.new (R.remaining (source reader.new))) }
+        (position input.old (R.remaining (source reader.old))) (position input.new (R.remaining (source reader.new))) }
     ensures kept { OnOk result (KeptOutside (block_around (bits_of U L F) Lower p) (field_of (bits_of U L F) tree.old) (field_of (bits_of U L F) tree.new)) }
     ensures limit { OnOk result (tree.new.limit ≡ tree.old.limit) }
     ensures inner { IfErr result IsInner }
-    ensures ended { result ≡ Err LoadFault.Truncated → IsAtEnd (place input.new (R.remaining (source reader.new))).known }
+    ensures ended { result ≡ Err LoadFault.Truncated → IsAtEnd (position input.new (R.remaining (source reader.new))).known }
     ensures failed { has_failed reader.new ≡ (has_failed reader.old || is_read_fault result) }
 {
     let most = tree.bits().entries(Level::Lower);
@@ -244,11 +244,11 @@ fn take_lower_block_at<
     ensures ends { EndsWith input.new (R.remaining (source reader.new)) }
     ensures total { (n : ℕ) → byte_total input.old (R.remaining (source reader.old)) ≡ Some n → byte_total input.new (R.remaining (source reader.new)) ≡ Some n }
     ensures reads { Reads (λ _. field_of (bits_of U L F) tree.new) (ShowsIn V.eq V.is_value tree.old.background (entry_box (bits_of U L F) Upper p i)) (λ f. lower_body V.eq V.bytes_of (bits_of U L F) f (entry_box (bits_of U L F) Upper p i)) result
-        (place input.old (R.remaining (source reader.old))) (place input.new (R.remaining (source reader.new))) }
+        (position input.old (R.remaining (source reader.old))) (position input.new (R.remaining (source reader.new))) }
     ensures kept { OnOk result (KeptOutside (entry_box (bits_of U L F) Upper p i) (field_of (bits_of U L F) tree.old) (field_of (bits_of U L F) tree.new)) }
     ensures limit { OnOk result (tree.new.limit ≡ tree.old.limit) }
     ensures inner { IfErr result IsInner }
-    ensures ended { result ≡ Err LoadFault.Truncated → IsAtEnd (place input.new (R.remaining (source reader.new))).known }
+    ensures ended { result ≡ Err LoadFault.Truncated → IsAtEnd (position input.new (R.remaining (source reader.new))).known }
     ensures failed { has_failed reader.new ≡ (has_failed reader.old || is_read_fault result) }
 {
     let bits = tree.bits();
@@ -279,11 +279,11 @@ fn take_next_lower_block<
     ensures ends { EndsWith input.new (R.remaining (source reader.new)) }
     ensures total { (n : ℕ) → byte_total input.old (R.remaining (source reader.old)) ≡ Some n → byte_total input.new (R.remaining (source reader.new)) ≡ Some n }
     ensures reads { Reads (λ i. (i, field_of (bits_of U L F) tree.new)) (IsNext V.eq V.is_value tree.old.background (IsIndex (entries (bits_of U L F) Upper) before) (entry_box (bits_of U L F) Upper p)) (next_bytes (to_be_bytes w16) (lower_body V.eq V.bytes_of (bits_of U L F)) (entry_box (bits_of U L F) Upper p)) result
-        (place input.old (R.remaining (source reader.old))) (place input.new (R.remaining (source reader.new))) }
+        (position input.old (R.remaining (source reader.old))) (position input.new (R.remaining (source reader.new))) }
     ensures kept { IfOk result (λ i. KeptOutside (entry_box (bits_of U L F) Upper p i) (field_of (bits_of U L F) tree.old) (field_of (bits_of U L F) tree.new)) }
     ensures limit { OnOk result (tree.new.limit ≡ tree.old.limit) }
     ensures inner { IfErr result IsInner }
-    ensures ended { result ≡ Err LoadFault.Truncated → IsAtEnd (place input.new (R.remaining (source reader.new))).known }
+    ensures ended { result ≡ Err LoadFault.Truncated → IsAtEnd (position input.new (R.remaining (source reader.new))).known }
     ensures failed { has_failed reader.new ≡ (has_failed reader.old || is_read_fault result) }
 {
     let bits = tree.bits();
@@ -315,11 +315,11 @@ fn take_lower_blocks<
     ensures ends { EndsWith input.new (R.remaining (source reader.new)) }
     ensures total { (n : ℕ) → byte_total input.old (R.remaining (source reader.old)) ≡ Some n → byte_total input.new (R.remaining (source reader.new)) ≡ Some n }
     ensures reads { Reads (λ _. field_of (bits_of U L F) tree.new) (ShowsInEach V.eq V.is_value tree.old.background (entry_box (bits_of U L F) Upper p) (entry_numbers (bits_of U L F) Upper) count) (λ f. numbered (λ i. lower_body V.eq V.bytes_of (bits_of U L F) f (entry_box (bits_of U L F) Upper p i)) (listed V.eq V.bytes_of (bits_of U L F) f Upper (block_around (bits_of U L F) Upper p))) result
-        (place input.old (R.remaining (source reader.old))) (place input.new (R.remaining (source reader.new))) }
+        (position input.old (R.remaining (source reader.old))) (position input.new (R.remaining (source reader.new))) }
     ensures kept { OnOk result (KeptOutside (block_around (bits_of U L F) Upper p) (field_of (bits_of U L F) tree.old) (field_of (bits_of U L F) tree.new)) }
     ensures limit { OnOk result (tree.new.limit ≡ tree.old.limit) }
     ensures inner { IfErr result IsInner }
-    ensures ended { result ≡ Err LoadFault.Truncated → IsAtEnd (place input.new (R.remaining (source reader.new))).known }
+    ensures ended { result ≡ Err LoadFault.Truncated → IsAtEnd (position input.new (R.remaining (source reader.new))).known }
     ensures failed { has_failed reader.new ≡ (has_failed reader.old || is_read_fault result) }
 {
     let mut before = None;
@@ -353,11 +353,11 @@ fn take_upper_node<
     ensures ends { EndsWith input.new (R.remaining (source reader.new)) }
     ensures total { (n : ℕ) → byte_total input.old (R.remaining (source reader.old)) ≡ Some n → byte_total input.new (R.remaining (source reader.new)) ≡ Some n }
     ensures reads { Reads (λ _. field_of (bits_of U L F) tree.new) (λ f. ShowsInEach V.eq V.is_value tree.old.background (entry_box (bits_of U L F) Upper p) (entry_numbers (bits_of U L F) Upper) count f × (is_constant V.eq f (block_around (bits_of U L F) Upper p) ≡ false)) (λ f. numbered (λ i. lower_body V.eq V.bytes_of (bits_of U L F) f (entry_box (bits_of U L F) Upper p i)) (listed V.eq V.bytes_of (bits_of U L F) f Upper (block_around (bits_of U L F) Upper p))) result
-        (place input.old (R.remaining (source reader.old))) (place input.new (R.remaining (source reader.new))) }
+        (position input.old (R.remaining (source reader.old))) (position input.new (R.remaining (source reader.new))) }
     ensures kept { OnOk result (KeptOutside (block_around (bits_of U L F) Upper p) (field_of (bits_of U L F) tree.old) (field_of (bits_of U L F) tree.new)) }
     ensures limit { OnOk result (tree.new.limit ≡ tree.old.limit) }
     ensures inner { IfErr result IsInner }
-    ensures ended { result ≡ Err LoadFault.Truncated → IsAtEnd (place input.new (R.remaining (source reader.new))).known }
+    ensures ended { result ≡ Err LoadFault.Truncated → IsAtEnd (position input.new (R.remaining (source reader.new))).known }
     ensures failed { has_failed reader.new ≡ (has_failed reader.old || is_read_fault result) }
 {
     take_lower_blocks(p, count, tree, input, reader, steps)?;
@@ -389,11 +389,11 @@ pub(crate) fn take_root_block<
     ensures ends { EndsWith input.new (R.remaining (source reader.new)) }
     ensures total { (n : ℕ) → byte_total input.old (R.remaining (source reader.old)) ≡ Some n → byte_total input.new (R.remaining (source reader.new)) ≡ Some n }
     ensures reads { Reads (λ _. field_of (bits_of U L F) tree.new) (ShowsIn V.eq V.is_value tree.old.background (block_around (bits_of U L F) Upper p)) (λ f. root_body V.eq V.bytes_of (bits_of U L F) f (block_around (bits_of U L F) Upper p)) result
-        (place input.old (R.remaining (source reader.old))) (place input.new (R.remaining (source reader.new))) }
+        (position input.old (R.remaining (source reader.old))) (position input.new (R.remaining (source reader.new))) }
     ensures kept { OnOk result (KeptOutside (block_around (bits_of U L F) Upper p) (field_of (bits_of U L F) tree.old) (field_of (bits_of U L F) tree.new)) }
     ensures limit { OnOk result (tree.new.limit ≡ tree.old.limit) }
     ensures inner { IfErr result IsInner }
-    ensures ended { result ≡ Err LoadFault.Truncated → IsAtEnd (place input.new (R.remaining (source reader.new))).known }
+    ensures ended { result ≡ Err LoadFault.Truncated → IsAtEnd (position input.new (R.remaining (source reader.new))).known }
     ensures failed { has_failed reader.new ≡ (has_failed reader.old || is_read_fault result) }
 {
     let most = tree.bits().entries(Level::Upper);

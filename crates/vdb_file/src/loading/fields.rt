@@ -6,7 +6,7 @@ ghost use Rattle.std.specs.Io.KnownBytes.{IsAtEnd};
 ghost use Rattle.vdb_scene.specs.Watched.{has_failed, source};
 ghost use Rattle.vdb_file.specs.Faults.{is_read_fault};
 ghost use Rattle.vdb_file.specs.internal.FieldFaults.{IsInner};
-ghost use Rattle.vdb_file.specs.internal.Reading.{EndsWith, Reads, byte_total, place};
+ghost use Rattle.vdb_file.specs.internal.Reading.{EndsWith, Reads, byte_total, position};
 
 use crate::fault::LoadFault;
 use crate::loading::input::Input;
@@ -14,7 +14,7 @@ use std::io::Read;
 use vdb_scene::Watched;
 use vdb_value::{Kind, Voxel};
 
-/// Reads a field of as many bytes as there is place for.
+/// Reads a field of as many bytes as the array has.
 pub(crate) fn take_field<R: Read>(
     input: &mut Input,
     reader: &mut Watched<R>,
@@ -25,12 +25,12 @@ pub(crate) fn take_field<R: Read>(
     ensures total { (n : ℕ) → byte_total input.old (R.remaining (source reader.old)) ≡ Some n → byte_total input.new (R.remaining (source reader.new)) ≡ Some n }
     ensures length { length field.new ≡ length field.old }
     ensures reads { Reads (λ _. field.new) (λ bytes. length bytes ≡ length field.old) (λ bytes. bytes) result
-        (place input.old (R.remaining (source reader.old))) (place input.new (R.remaining (source reader.new))) }
+        (position input.old (R.remaining (source reader.old))) (position input.new (R.remaining (source reader.new))) }
     ensures inner { IfErr result IsInner }
-    ensures ended { result ≡ Err LoadFault.Truncated → IsAtEnd (place input.new (R.remaining (source reader.new))).known }
+    ensures ended { result ≡ Err LoadFault.Truncated → IsAtEnd (position input.new (R.remaining (source reader.new))).known }
     ensures failed { has_failed reader.new ≡ (has_failed reader.old || is_read_fault result) }
 {
-    if field.len() > input.room() {
+    if field.len() > input.capacity() {
         return Err(LoadFault::TooLong);
     }
     let mut at = 0;
@@ -53,9 +53,9 @@ pub(crate) fn take_bytes<R: Read, const N: usize>(
     ensures ends { EndsWith input.new (R.remaining (source reader.new)) }
     ensures total { (n : ℕ) → byte_total input.old (R.remaining (source reader.old)) ≡ Some n → byte_total input.new (R.remaining (source reader.new)) ≡ Some n }
     ensures reads { Reads (λ bytes. bytes) (λ bytes. length bytes ≡ N) (λ bytes. bytes) result
-        (place input.old (R.remaining (source reader.old))) (place input.new (R.remaining (source reader.new))) }
+        (position input.old (R.remaining (source reader.old))) (position input.new (R.remaining (source reader.new))) }
     ensures inner { IfErr result IsInner }
-    ensures ended { result ≡ Err LoadFault.Truncated → IsAtEnd (place input.new (R.remaining (source reader.new))).known }
+    ensures ended { result ≡ Err LoadFault.Truncated → IsAtEnd (position input.new (R.remaining (source reader.new))).known }
     ensures failed { has_failed reader.new ≡ (has_failed reader.old || is_read_fault result) }
 {
     if let Some(bytes) = input.take_array::<N>() {
@@ -72,9 +72,9 @@ pub(crate) fn take_u8<R: Read>(input: &mut Input, reader: &mut Watched<R>) -> Re
     ensures ends { EndsWith input.new (R.remaining (source reader.new)) }
     ensures total { (n : ℕ) → byte_total input.old (R.remaining (source reader.old)) ≡ Some n → byte_total input.new (R.remaining (source reader.new)) ≡ Some n }
     ensures reads { Reads (λ n. n) (λ n. ⊤) (λ n. n ∷ []) result
-        (place input.old (R.remaining (source reader.old))) (place input.new (R.remaining (source reader.new))) }
+        (position input.old (R.remaining (source reader.old))) (position input.new (R.remaining (source reader.new))) }
     ensures inner { IfErr result IsInner }
-    ensures ended { result ≡ Err LoadFault.Truncated → IsAtEnd (place input.new (R.remaining (source reader.new))).known }
+    ensures ended { result ≡ Err LoadFault.Truncated → IsAtEnd (position input.new (R.remaining (source reader.new))).known }
     ensures failed { has_failed reader.new ≡ (has_failed reader.old || is_read_fault result) }
 {
     let [byte] = take_bytes::<R, 1>(input, reader)?;
@@ -90,9 +90,9 @@ pub(crate) fn take_u16<R: Read>(
     ensures ends { EndsWith input.new (R.remaining (source reader.new)) }
     ensures total { (n : ℕ) → byte_total input.old (R.remaining (source reader.old)) ≡ Some n → byte_total input.new (R.remaining (source reader.new)) ≡ Some n }
     ensures reads { Reads (λ n. n) (λ n. n < 2 ^ 16) (to_be_bytes w16) result
-        (place input.old (R.remaining (source reader.old))) (place input.new (R.remaining (source reader.new))) }
+        (position input.old (R.remaining (source reader.old))) (position input.new (R.remaining (source reader.new))) }
     ensures inner { IfErr result IsInner }
-    ensures ended { result ≡ Err LoadFault.Truncated → IsAtEnd (place input.new (R.remaining (source reader.new))).known }
+    ensures ended { result ≡ Err LoadFault.Truncated → IsAtEnd (position input.new (R.remaining (source reader.new))).known }
     ensures failed { has_failed reader.new ≡ (has_failed reader.old || is_read_fault result) }
 {
     let bytes = take_bytes::<R, 2>(input, reader)?;
@@ -108,9 +108,9 @@ pub(crate) fn take_u32<R: Read>(
     ensures ends { EndsWith input.new (R.remaining (source reader.new)) }
     ensures total { (n : ℕ) → byte_total input.old (R.remaining (source reader.old)) ≡ Some n → byte_total input.new (R.remaining (source reader.new)) ≡ Some n }
     ensures reads { Reads (λ n. n) (λ n. n < 2 ^ 32) (to_be_bytes w32) result
-        (place input.old (R.remaining (source reader.old))) (place input.new (R.remaining (source reader.new))) }
+        (position input.old (R.remaining (source reader.old))) (position input.new (R.remaining (source reader.new))) }
     ensures inner { IfErr result IsInner }
-    ensures ended { result ≡ Err LoadFault.Truncated → IsAtEnd (place input.new (R.remaining (source reader.new))).known }
+    ensures ended { result ≡ Err LoadFault.Truncated → IsAtEnd (position input.new (R.remaining (source reader.new))).known }
     ensures failed { has_failed reader.new ≡ (has_failed reader.old || is_read_fault result) }
 {
     let bytes = take_bytes::<R, 4>(input, reader)?;
@@ -126,9 +126,9 @@ pub(crate) fn take_value<V: Voxel, R: Read>(
     ensures ends { EndsWith input.new (R.remaining (source reader.new)) }
     ensures total { (n : ℕ) → byte_total input.old (R.remaining (source reader.old)) ≡ Some n → byte_total input.new (R.remaining (source reader.new)) ≡ Some n }
     ensures reads { Reads (λ x. x) V.is_value V.bytes_of result
-        (place input.old (R.remaining (source reader.old))) (place input.new (R.remaining (source reader.new))) }
+        (position input.old (R.remaining (source reader.old))) (position input.new (R.remaining (source reader.new))) }
     ensures inner { IfErr result IsInner }
-    ensures ended { result ≡ Err LoadFault.Truncated → IsAtEnd (place input.new (R.remaining (source reader.new))).known }
+    ensures ended { result ≡ Err LoadFault.Truncated → IsAtEnd (position input.new (R.remaining (source reader.new))).known }
     ensures failed { has_failed reader.new ≡ (has_failed reader.old || is_read_fault result) }
 {
     let read = match V::KIND {

@@ -24,7 +24,7 @@ pub(crate) struct Input {
     page: [u8; PAGE],
     start: usize,
     end: usize,
-    room: usize,
+    capacity: usize,
     ended: bool,
 }
 
@@ -34,30 +34,30 @@ impl Model for Input {
 
     ghost Value = { Stock };
 
-    ghost view = { λ s. record { unread = slice_range s.page s.start s.end; room = s.room; ended = s.ended } };
+    ghost view = { λ s. record { unread = slice_range s.page s.start s.end; capacity = s.capacity; ended = s.ended } };
 
-    ghost invariant = { λ s. (s.start ≤ s.end) × (s.end ≤ 65536) × (s.room ≤ 268435456) × (s.end ≤ s.start + s.room + 1) };
+    ghost invariant = { λ s. (s.start ≤ s.end) × (s.end ≤ 65536) × (s.capacity ≤ 268435456) × (s.end ≤ s.start + s.capacity + 1) };
 }
 
 impl Input {
-    /// No bytes, with room for all of a file.
+    /// No bytes, with capacity for all of a file.
     pub(crate) fn new() -> Self
-        ensures { result ≡ record { unread = []; room = MOST_BYTES; ended = false } }
+        ensures { result ≡ record { unread = []; capacity = MOST_BYTES; ended = false } }
     {
         Input {
             page: [0; PAGE],
             start: 0,
             end: 0,
-            room: MOST_BYTES,
+            capacity: MOST_BYTES,
             ended: false,
         }
     }
 
     /// How many bytes the fields that are still to come may have.
-    pub(crate) fn room(&self) -> usize
-        ensures { result ≡ self.now.room }
+    pub(crate) fn capacity(&self) -> usize
+        ensures { result ≡ self.now.capacity }
     {
-        self.room
+        self.capacity
     }
 
     /// Whether there is an unread byte. Where there is none the reader is asked for more, unless it has said that it has none.
@@ -70,7 +70,7 @@ impl Input {
         ensures end { result ≡ Ok false → IsAtEnd (R.remaining (source reader.new)) }
         ensures kept { OnOk result (Keeps (prepend_known self.old.unread (R.remaining (source reader.old)))
             (prepend_known self.new.unread (R.remaining (source reader.new)))) }
-        ensures room { self.new.room ≡ self.old.room }
+        ensures capacity { self.new.capacity ≡ self.old.capacity }
         ensures read { IfErr result (λ fault. fault ≡ LoadFault.Read) }
         ensures failed { has_failed reader.new ≡ (has_failed reader.old || is_read_fault result) }
     {
@@ -90,14 +90,14 @@ impl Input {
         ensures marks { OnOk result (self.new.unread ≡ [] → self.new.ended ≡ true) }
         ensures kept { OnOk result (Keeps (prepend_known self.old.unread (R.remaining (source reader.old)))
             (prepend_known self.new.unread (R.remaining (source reader.new)))) }
-        ensures room { self.new.room ≡ self.old.room }
+        ensures capacity { self.new.capacity ≡ self.old.capacity }
         ensures read { IfErr result (λ fault. fault ≡ LoadFault.Read) }
         ensures failed { has_failed reader.new ≡ (has_failed reader.old || is_err result) }
     {
         if self.ended {
             return Ok(());
         }
-        let wanted = (self.room + 1).min(PAGE); // a byte beyond the room tells a file that is too long
+        let wanted = (self.capacity + 1).min(PAGE); // a byte beyond the capacity tells a file that is too long
         let came = match reader.read(&mut self.page[..wanted]) {
             Ok(came) => came,
             Err(_) => return Err(LoadFault::Read),
@@ -111,29 +111,29 @@ impl Input {
     /// Takes the next unread bytes, as many as an array has: `None` where fewer are unread or the fields may not have so many.
     pub(crate) fn take_array<const N: usize>(&mut self) -> Option<[u8; N]>
         ensures some { IfSome result (λ bytes. self.old.unread ≡ bytes ++ self.new.unread) }
-        ensures room { IfSome result (λ bytes. N + self.new.room ≡ self.old.room) }
+        ensures capacity { IfSome result (λ bytes. N + self.new.capacity ≡ self.old.capacity) }
         ensures none { IfNone result (self.new ≡ self.old) }
         ensures ended { self.new.ended ≡ self.old.ended }
         ensures total { (known : Option (List ℕ)) → byte_total self.new known ≡ byte_total self.old known }
     {
-        if N > self.end - self.start || N > self.room {
+        if N > self.end - self.start || N > self.capacity {
             return None;
         }
         let mut bytes = [0; N];
         bytes.copy_from_slice(&self.page[self.start..self.start + N]);
         self.start += N;
-        self.room -= N;
+        self.capacity -= N;
         Some(bytes)
     }
 
-    /// Takes as many unread bytes as there are and as a field, from one place on, still wants, and answers how many.
+    /// Takes as many unread bytes as there are and as a field, from one position on, still wants, and answers how many.
     pub(crate) fn run(&mut self, field: &mut [u8], at: usize) -> usize
         requires within { at ≤ length field.old }
-        requires fits { length field.old ≤ at + self.old.room }
+        requires fits { length field.old ≤ at + self.old.capacity }
         ensures count { result ≡ min (length field.old - at) (length self.old.unread) }
         ensures field { take (at + result) field.new ≡ take at field.old ++ take result self.old.unread }
         ensures unread { self.new.unread ≡ drop result self.old.unread }
-        ensures room { self.new.room ≡ self.old.room - result }
+        ensures capacity { self.new.capacity ≡ self.old.capacity - result }
         ensures ended { self.new.ended ≡ self.old.ended }
         ensures total { (known : Option (List ℕ)) → byte_total self.new known ≡ byte_total self.old known }
     {
@@ -141,7 +141,7 @@ impl Input {
         let next = self.start + count;
         field[at..at + count].copy_from_slice(&self.page[self.start..next]);
         self.start = next;
-        self.room -= count;
+        self.capacity -= count;
         count
     }
 }

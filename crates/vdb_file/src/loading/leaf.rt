@@ -9,7 +9,7 @@ ghost use Rattle.vdb_scene.specs.Watched.{has_failed, source};
 ghost use Rattle.vdb_file.specs.Faults.{is_read_fault};
 ghost use Rattle.vdb_file.specs.internal.FieldFaults.{IsInner};
 ghost use Rattle.vdb_file.specs.internal.LeafVoxels.{IsMixed, IsVoxel, leaf_field, voxel_bytes, voxel_count, voxels_bytes};
-ghost use Rattle.vdb_file.specs.internal.Reading.{EndsWith, Reads, byte_total, place};
+ghost use Rattle.vdb_file.specs.internal.Reading.{EndsWith, Reads, byte_total, position};
 
 use crate::fault::LoadFault;
 use crate::loading::block_head::{take_cell, take_index};
@@ -32,7 +32,7 @@ pub(crate) fn take_listed_voxels<V: Stored<WF>, R: Read, const F: u32, const WF:
 ) -> Result<Leaf<V, F, WF>, LoadFault>
     requires configured { AreBits bits }
     requires leaf { bits.leaf ≡ F }
-    requires room { entry_count F ≤ 64 * WF }
+    requires capacity { entry_count F ≤ 64 * WF }
     requires few_words { WF ≤ 512 }
     requires value { V.is_value background }
     requires ends { EndsWith input.old (R.remaining (source reader.old)) }
@@ -40,9 +40,9 @@ pub(crate) fn take_listed_voxels<V: Stored<WF>, R: Read, const F: u32, const WF:
     ensures total { (n : ℕ) → byte_total input.old (R.remaining (source reader.old)) ≡ Some n → byte_total input.new (R.remaining (source reader.new)) ≡ Some n }
     ensures reads { (p : Coord) → Reads (leaf_field bits p background) (λ f. IsMixed V.eq V.is_value background bits p f × (voxel_count V.eq V.bytes_of bits p f ≡ count))
         (voxels_bytes V.eq V.bytes_of bits p) result
-        (place input.old (R.remaining (source reader.old))) (place input.new (R.remaining (source reader.new))) }
+        (position input.old (R.remaining (source reader.old))) (position input.new (R.remaining (source reader.new))) }
     ensures inner { IfErr result IsInner }
-    ensures ended { result ≡ Err LoadFault.Truncated → IsAtEnd (place input.new (R.remaining (source reader.new))).known }
+    ensures ended { result ≡ Err LoadFault.Truncated → IsAtEnd (position input.new (R.remaining (source reader.new))).known }
     ensures failed { has_failed reader.new ≡ (has_failed reader.old || is_read_fault result) }
 {
     let most = bits.entries(Level::Leaf);
@@ -79,9 +79,9 @@ fn take_voxel<V: Voxel, R: Read>(
     ensures ends { EndsWith input.new (R.remaining (source reader.new)) }
     ensures total { (n : ℕ) → byte_total input.old (R.remaining (source reader.old)) ≡ Some n → byte_total input.new (R.remaining (source reader.new)) ≡ Some n }
     ensures reads { Reads (λ e. e) (IsVoxel V.eq V.is_value background most before) (voxel_bytes V.eq V.bytes_of) result
-        (place input.old (R.remaining (source reader.old))) (place input.new (R.remaining (source reader.new))) }
+        (position input.old (R.remaining (source reader.old))) (position input.new (R.remaining (source reader.new))) }
     ensures inner { IfErr result IsInner }
-    ensures ended { result ≡ Err LoadFault.Truncated → IsAtEnd (place input.new (R.remaining (source reader.new))).known }
+    ensures ended { result ≡ Err LoadFault.Truncated → IsAtEnd (position input.new (R.remaining (source reader.new))).known }
     ensures failed { has_failed reader.new ≡ (has_failed reader.old || is_read_fault result) }
 {
     let i = take_index(most, before, input, reader)?;

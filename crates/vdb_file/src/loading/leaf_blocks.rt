@@ -12,8 +12,8 @@ ghost use Rattle.vdb_file.specs.Bodies.{leaf_body};
 ghost use Rattle.vdb_file.specs.Faults.{is_read_fault};
 ghost use Rattle.vdb_file.specs.internal.FieldFaults.{IsInner};
 ghost use Rattle.vdb_file.specs.internal.LeafVoxels.{IsMixed, voxel_count, voxels_bytes};
-ghost use Rattle.vdb_file.specs.internal.LoadedFields.{HasRoomAt, IsReady, KeptOutside, ShowsIn};
-ghost use Rattle.vdb_file.specs.internal.Reading.{EndsWith, Reads, byte_total, place};
+ghost use Rattle.vdb_file.specs.internal.LoadedFields.{HasCapacityAt, IsReady, KeptOutside, ShowsIn};
+ghost use Rattle.vdb_file.specs.internal.Reading.{EndsWith, Reads, byte_total, position};
 
 use crate::fault::LoadFault;
 use crate::loading::block_head::{Head, take_head};
@@ -28,7 +28,7 @@ use vdb_scene::Watched;
 use vdb_tree::{TreeOf, TreeRefusal};
 use vdb_value::Cell;
 
-/// Gives the level's block around a coordinate one cell. A fault says that memory was refused: its root block has room.
+/// Gives the level's block around a coordinate one cell. A fault says that memory was refused: its root block has capacity.
 pub(crate) fn fill_block<
     V: Stored<WU> + Stored<WL> + Stored<WF>,
     const U: u32,
@@ -44,7 +44,7 @@ pub(crate) fn fill_block<
     tree: &mut TreeOf<V, U, L, F, WU, WL, WF>,
     steps: &mut Steps,
 ) -> Result<(), LoadFault>
-    requires { HasRoomAt V.eq (bits_of U L F) tree.old.limit (block_around (bits_of U L F) Upper p) (field_of (bits_of U L F) tree.old) }
+    requires { HasCapacityAt V.eq (bits_of U L F) tree.old.limit (block_around (bits_of U L F) Upper p) (field_of (bits_of U L F) tree.old) }
     ensures memory { IfErr result (λ fault. fault ≡ LoadFault.Memory) }
     ensures field { OnOk result (field_of (bits_of U L F) tree.new ≡ filled (block_around (bits_of U L F) level p) cell (field_of (bits_of U L F) tree.old)) }
     ensures limit { OnOk result (tree.new.limit ≡ tree.old.limit) }
@@ -53,11 +53,11 @@ pub(crate) fn fill_block<
     match fill(tree, bounds, cell, steps) {
         Ok(()) => Ok(()),
         Err(TreeRefusal::Memory) => Err(LoadFault::Memory),
-        Err(TreeRefusal::RootLimit) => unreachable!(), // the root block has room
+        Err(TreeRefusal::RootLimit) => unreachable!(), // the root block has capacity
     }
 }
 
-/// Gives the leaf block around a coordinate the cells of a leaf. A fault says that memory was refused: its root block has room.
+/// Gives the leaf block around a coordinate the cells of a leaf. A fault says that memory was refused: its root block has capacity.
 fn write_leaf_block<
     V: Stored<WU> + Stored<WL> + Stored<WF>,
     const U: u32,
@@ -72,7 +72,7 @@ fn write_leaf_block<
     tree: &mut TreeOf<V, U, L, F, WU, WL, WF>,
     steps: &mut Steps,
 ) -> Result<(), LoadFault>
-    requires { HasRoomAt V.eq (bits_of U L F) tree.old.limit (block_around (bits_of U L F) Upper p) (field_of (bits_of U L F) tree.old) }
+    requires { HasCapacityAt V.eq (bits_of U L F) tree.old.limit (block_around (bits_of U L F) Upper p) (field_of (bits_of U L F) tree.old) }
     ensures memory { IfErr result (λ fault. fault ≡ LoadFault.Memory) }
     ensures field { OnOk result (field_of (bits_of U L F) tree.new ≡ with_leaf (bits_of U L F) p leaf.now (field_of (bits_of U L F) tree.old)) }
     ensures limit { OnOk result (tree.new.limit ≡ tree.old.limit) }
@@ -81,7 +81,7 @@ fn write_leaf_block<
     match tree.write_leaf(p, leaf, steps) {
         Ok(()) => Ok(()),
         Err(TreeRefusal::Memory) => Err(LoadFault::Memory),
-        Err(TreeRefusal::RootLimit) => unreachable!(), // the root block has room
+        Err(TreeRefusal::RootLimit) => unreachable!(), // the root block has capacity
     }
 }
 
@@ -108,11 +108,11 @@ fn take_leaf<
     ensures ends { EndsWith input.new (R.remaining (source reader.new)) }
     ensures total { (n : ℕ) → byte_total input.old (R.remaining (source reader.old)) ≡ Some n → byte_total input.new (R.remaining (source reader.new)) ≡ Some n }
     ensures reads { Reads (λ _. field_of (bits_of U L F) tree.new) (λ f. IsMixed V.eq V.is_value tree.old.background (bits_of U L F) p f × (voxel_count V.eq V.bytes_of (bits_of U L F) p f ≡ count)) (voxels_bytes V.eq V.bytes_of (bits_of U L F) p) result
-        (place input.old (R.remaining (source reader.old))) (place input.new (R.remaining (source reader.new))) }
+        (position input.old (R.remaining (source reader.old))) (position input.new (R.remaining (source reader.new))) }
     ensures kept { OnOk result (KeptOutside (block_around (bits_of U L F) leaf_level p) (field_of (bits_of U L F) tree.old) (field_of (bits_of U L F) tree.new)) }
     ensures limit { OnOk result (tree.new.limit ≡ tree.old.limit) }
     ensures inner { IfErr result IsInner }
-    ensures ended { result ≡ Err LoadFault.Truncated → IsAtEnd (place input.new (R.remaining (source reader.new))).known }
+    ensures ended { result ≡ Err LoadFault.Truncated → IsAtEnd (position input.new (R.remaining (source reader.new))).known }
     ensures failed { has_failed reader.new ≡ (has_failed reader.old || is_read_fault result) }
 {
     tree.has_leaf_words();
@@ -151,11 +151,11 @@ pub(crate) fn take_leaf_block<
     ensures ends { EndsWith input.new (R.remaining (source reader.new)) }
     ensures total { (n : ℕ) → byte_total input.old (R.remaining (source reader.old)) ≡ Some n → byte_total input.new (R.remaining (source reader.new)) ≡ Some n }
     ensures reads { Reads (λ _. field_of (bits_of U L F) tree.new) (ShowsIn V.eq V.is_value tree.old.background (block_around (bits_of U L F) leaf_level p)) (λ f. leaf_body V.eq V.bytes_of (bits_of U L F) f (block_around (bits_of U L F) leaf_level p)) result
-        (place input.old (R.remaining (source reader.old))) (place input.new (R.remaining (source reader.new))) }
+        (position input.old (R.remaining (source reader.old))) (position input.new (R.remaining (source reader.new))) }
     ensures kept { OnOk result (KeptOutside (block_around (bits_of U L F) leaf_level p) (field_of (bits_of U L F) tree.old) (field_of (bits_of U L F) tree.new)) }
     ensures limit { OnOk result (tree.new.limit ≡ tree.old.limit) }
     ensures inner { IfErr result IsInner }
-    ensures ended { result ≡ Err LoadFault.Truncated → IsAtEnd (place input.new (R.remaining (source reader.new))).known }
+    ensures ended { result ≡ Err LoadFault.Truncated → IsAtEnd (position input.new (R.remaining (source reader.new))).known }
     ensures failed { has_failed reader.new ≡ (has_failed reader.old || is_read_fault result) }
 {
     let most = tree.bits().entries(Level::Leaf);

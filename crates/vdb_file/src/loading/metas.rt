@@ -10,7 +10,7 @@ ghost use Rattle.vdb_file.specs.internal.FieldFaults.{IsInner};
 ghost use Rattle.vdb_file.specs.Scenes.{ArePairs, IsPair};
 ghost use Rattle.vdb_file.specs.Spelling.{counted, pairs_bytes};
 ghost use Rattle.vdb_file.specs.internal.Parts.{AreItems, IsItem, name_of, pair_bytes};
-ghost use Rattle.vdb_file.specs.internal.Reading.{EndsWith, Reads, byte_total, place};
+ghost use Rattle.vdb_file.specs.internal.Reading.{EndsWith, Reads, byte_total, position};
 
 use crate::fault::LoadFault;
 use crate::loading::fields::{take_field, take_u8};
@@ -26,9 +26,9 @@ fn take_text<R: Read>(input: &mut Input, reader: &mut Watched<R>) -> Result<Meta
     ensures ends { EndsWith input.new (R.remaining (source reader.new)) }
     ensures total { (n : ℕ) → byte_total input.old (R.remaining (source reader.old)) ≡ Some n → byte_total input.new (R.remaining (source reader.new)) ≡ Some n }
     ensures reads { Reads (λ text. text) (λ text. is_text text ≡ true) counted result
-        (place input.old (R.remaining (source reader.old))) (place input.new (R.remaining (source reader.new))) }
+        (position input.old (R.remaining (source reader.old))) (position input.new (R.remaining (source reader.new))) }
     ensures inner { IfErr result IsInner }
-    ensures ended { result ≡ Err LoadFault.Truncated → IsAtEnd (place input.new (R.remaining (source reader.new))).known }
+    ensures ended { result ≡ Err LoadFault.Truncated → IsAtEnd (position input.new (R.remaining (source reader.new))).known }
     ensures failed { has_failed reader.new ≡ (has_failed reader.old || is_read_fault result) }
 {
     let len = take_u8(input, reader)?;
@@ -55,9 +55,9 @@ fn take_pair<R: Read>(
     ensures ends { EndsWith input.new (R.remaining (source reader.new)) }
     ensures total { (n : ℕ) → byte_total input.old (R.remaining (source reader.old)) ≡ Some n → byte_total input.new (R.remaining (source reader.new)) ≡ Some n }
     ensures reads { Reads (λ pair. pair) (IsItem IsPair name_of before) pair_bytes result
-        (place input.old (R.remaining (source reader.old))) (place input.new (R.remaining (source reader.new))) }
+        (position input.old (R.remaining (source reader.old))) (position input.new (R.remaining (source reader.new))) }
     ensures inner { IfErr result IsInner }
-    ensures ended { result ≡ Err LoadFault.Truncated → IsAtEnd (place input.new (R.remaining (source reader.new))).known }
+    ensures ended { result ≡ Err LoadFault.Truncated → IsAtEnd (position input.new (R.remaining (source reader.new))).known }
     ensures failed { has_failed reader.new ≡ (has_failed reader.old || is_read_fault result) }
 {
     let key = take_name(input, reader, before, LoadFault::Meta)?;
@@ -76,9 +76,9 @@ fn take_each_pair<R: Read>(
     ensures ends { EndsWith input.new (R.remaining (source reader.new)) }
     ensures total { (n : ℕ) → byte_total input.old (R.remaining (source reader.old)) ≡ Some n → byte_total input.new (R.remaining (source reader.new)) ≡ Some n }
     ensures reads { Reads (λ metas. metas) (AreItems IsPair name_of count) (flat_map pair_bytes) result
-        (place input.old (R.remaining (source reader.old))) (place input.new (R.remaining (source reader.new))) }
+        (position input.old (R.remaining (source reader.old))) (position input.new (R.remaining (source reader.new))) }
     ensures inner { IfErr result IsInner }
-    ensures ended { result ≡ Err LoadFault.Truncated → IsAtEnd (place input.new (R.remaining (source reader.new))).known }
+    ensures ended { result ≡ Err LoadFault.Truncated → IsAtEnd (position input.new (R.remaining (source reader.new))).known }
     ensures failed { has_failed reader.new ≡ (has_failed reader.old || is_read_fault result) }
 {
     let mut metas = Metas::new(alloc);
@@ -112,9 +112,9 @@ pub(crate) fn take_pairs<R: Read>(
     ensures ends { EndsWith input.new (R.remaining (source reader.new)) }
     ensures total { (n : ℕ) → byte_total input.old (R.remaining (source reader.old)) ≡ Some n → byte_total input.new (R.remaining (source reader.new)) ≡ Some n }
     ensures reads { Reads (λ metas. metas) ArePairs pairs_bytes result
-        (place input.old (R.remaining (source reader.old))) (place input.new (R.remaining (source reader.new))) }
+        (position input.old (R.remaining (source reader.old))) (position input.new (R.remaining (source reader.new))) }
     ensures inner { IfErr result IsInner }
-    ensures ended { result ≡ Err LoadFault.Truncated → IsAtEnd (place input.new (R.remaining (source reader.new))).known }
+    ensures ended { result ≡ Err LoadFault.Truncated → IsAtEnd (position input.new (R.remaining (source reader.new))).known }
     ensures failed { has_failed reader.new ≡ (has_failed reader.old || is_read_fault result) }
 {
     let count = take_u8(input, reader)?;

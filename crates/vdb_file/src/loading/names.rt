@@ -10,7 +10,7 @@ ghost use Rattle.vdb_file.specs.internal.FieldFaults.{IsInner, IsOfForm};
 ghost use Rattle.vdb_file.specs.Spelling.{counted};
 ghost use Rattle.vdb_file.specs.internal.Following.{Follows};
 ghost use Rattle.vdb_file.specs.internal.Parts.{IsNext};
-ghost use Rattle.vdb_file.specs.internal.Reading.{EndsWith, Reads, byte_total, place};
+ghost use Rattle.vdb_file.specs.internal.Reading.{EndsWith, Reads, byte_total, position};
 
 use crate::fault::LoadFault;
 use crate::loading::fields::{take_field, take_u8};
@@ -30,9 +30,9 @@ pub(crate) fn take_name<R: Read>(
     ensures ends { EndsWith input.new (R.remaining (source reader.new)) }
     ensures total { (n : ℕ) → byte_total input.old (R.remaining (source reader.old)) ≡ Some n → byte_total input.new (R.remaining (source reader.new)) ≡ Some n }
     ensures reads { Reads (λ name. name) (IsNext before) counted result
-        (place input.old (R.remaining (source reader.old))) (place input.new (R.remaining (source reader.new))) }
+        (position input.old (R.remaining (source reader.old))) (position input.new (R.remaining (source reader.new))) }
     ensures inner { IfErr result IsInner }
-    ensures ended { result ≡ Err LoadFault.Truncated → IsAtEnd (place input.new (R.remaining (source reader.new))).known }
+    ensures ended { result ≡ Err LoadFault.Truncated → IsAtEnd (position input.new (R.remaining (source reader.new))).known }
     ensures failed { has_failed reader.new ≡ (has_failed reader.old || is_read_fault result) }
 {
     let len = take_u8(input, reader)?;

@@ -16,7 +16,7 @@ ghost use Rattle.vdb_file.specs.Faults.{is_read_fault};
 ghost use Rattle.vdb_file.specs.internal.FieldFaults.{IsInner};
 ghost use Rattle.vdb_file.specs.internal.LoadedFields.{AreReady, IsNext, IsReady, IsWithin, KeptOutside, ShowsIn, ShowsInEach, next_bytes};
 ghost use Rattle.vdb_file.specs.internal.Loading.{IsKey};
-ghost use Rattle.vdb_file.specs.internal.Reading.{EndsWith, Reads, byte_total, place};
+ghost use Rattle.vdb_file.specs.internal.Reading.{EndsWith, Reads, byte_total, position};
 
 use crate::fault::LoadFault;
 use crate::loading::block_head::take_key;
@@ -53,10 +53,10 @@ pub(crate) fn take_roots<
     ensures ends { EndsWith input.new (R.remaining (source reader.new)) }
     ensures total { (n : ℕ) → byte_total input.old (R.remaining (source reader.old)) ≡ Some n → byte_total input.new (R.remaining (source reader.new)) ≡ Some n }
     ensures reads { Reads (λ _. field_of (bits_of U L F) tree.new) (IsWithin V.eq V.is_value tree.old.background (bits_of U L F) tree.old.limit) (roots_bytes V.eq V.bytes_of (bits_of U L F)) result
-        (place input.old (R.remaining (source reader.old))) (place input.new (R.remaining (source reader.new))) }
+        (position input.old (R.remaining (source reader.old))) (position input.new (R.remaining (source reader.new))) }
     ensures limit { OnOk result (tree.new.limit ≡ tree.old.limit) }
     ensures inner { IfErr result IsInner }
-    ensures ended { result ≡ Err LoadFault.Truncated → IsAtEnd (place input.new (R.remaining (source reader.new))).known }
+    ensures ended { result ≡ Err LoadFault.Truncated → IsAtEnd (position input.new (R.remaining (source reader.new))).known }
     ensures failed { has_failed reader.new ≡ (has_failed reader.old || is_read_fault result) }
 {
     let limit = tree.limit();
@@ -92,10 +92,10 @@ fn take_keyed_roots<
     ensures total { (n : ℕ) → byte_total input.old (R.remaining (source reader.old)) ≡ Some n → byte_total input.new (R.remaining (source reader.new)) ≡ Some n }
     ensures reads { Reads (λ _. field_of (bits_of U L F) tree.new) (ShowsInEach V.eq V.is_value tree.old.background (block (bits_of U L F) Upper) (coordinates (block_numbers (bits_of U L F) Upper)) count)
         (λ f. flat_map (λ k. key_bytes k ++ root_body V.eq V.bytes_of (bits_of U L F) f (block (bits_of U L F) Upper k)) (root_keys V.eq (bits_of U L F) f)) result
-        (place input.old (R.remaining (source reader.old))) (place input.new (R.remaining (source reader.new))) }
+        (position input.old (R.remaining (source reader.old))) (position input.new (R.remaining (source reader.new))) }
     ensures limit { OnOk result (tree.new.limit ≡ tree.old.limit) }
     ensures inner { IfErr result IsInner }
-    ensures ended { result ≡ Err LoadFault.Truncated → IsAtEnd (place input.new (R.remaining (source reader.new))).known }
+    ensures ended { result ≡ Err LoadFault.Truncated → IsAtEnd (position input.new (R.remaining (source reader.new))).known }
     ensures failed { has_failed reader.new ≡ (has_failed reader.old || is_read_fault result) }
 {
     let _ = tree.bits(); // the proof learns from it how many bits there are
@@ -129,11 +129,11 @@ fn take_next_root<
     ensures ends { EndsWith input.new (R.remaining (source reader.new)) }
     ensures total { (n : ℕ) → byte_total input.old (R.remaining (source reader.old)) ≡ Some n → byte_total input.new (R.remaining (source reader.new)) ≡ Some n }
     ensures reads { Reads (λ k. (k, field_of (bits_of U L F) tree.new)) (IsNext V.eq V.is_value tree.old.background (IsKey (bits_of U L F) before) (block (bits_of U L F) Upper)) (next_bytes key_bytes (root_body V.eq V.bytes_of (bits_of U L F)) (block (bits_of U L F) Upper)) result
-        (place input.old (R.remaining (source reader.old))) (place input.new (R.remaining (source reader.new))) }
+        (position input.old (R.remaining (source reader.old))) (position input.new (R.remaining (source reader.new))) }
     ensures kept { IfOk result (λ k. KeptOutside (block (bits_of U L F) Upper k) (field_of (bits_of U L F) tree.old) (field_of (bits_of U L F) tree.new)) }
     ensures limit { OnOk result (tree.new.limit ≡ tree.old.limit) }
     ensures inner { IfErr result IsInner }
-    ensures ended { result ≡ Err LoadFault.Truncated → IsAtEnd (place input.new (R.remaining (source reader.new))).known }
+    ensures ended { result ≡ Err LoadFault.Truncated → IsAtEnd (position input.new (R.remaining (source reader.new))).known }
     ensures failed { has_failed reader.new ≡ (has_failed reader.old || is_read_fault result) }
 {
     let bits = tree.bits();
@@ -165,11 +165,11 @@ fn take_root_at<
     ensures ends { EndsWith input.new (R.remaining (source reader.new)) }
     ensures total { (n : ℕ) → byte_total input.old (R.remaining (source reader.old)) ≡ Some n → byte_total input.new (R.remaining (source reader.new)) ≡ Some n }
     ensures reads { Reads (λ _. field_of (bits_of U L F) tree.new) (ShowsIn V.eq V.is_value tree.old.background (block (bits_of U L F) Upper key)) (λ f. root_body V.eq V.bytes_of (bits_of U L F) f (block (bits_of U L F) Upper key)) result
-        (place input.old (R.remaining (source reader.old))) (place input.new (R.remaining (source reader.new))) }
+        (position input.old (R.remaining (source reader.old))) (position input.new (R.remaining (source reader.new))) }
     ensures kept { OnOk result (KeptOutside (block (bits_of U L F) Upper key) (field_of (bits_of U L F) tree.old) (field_of (bits_of U L F) tree.new)) }
     ensures limit { OnOk result (tree.new.limit ≡ tree.old.limit) }
     ensures inner { IfErr result IsInner }
-    ensures ended { result ≡ Err LoadFault.Truncated → IsAtEnd (place input.new (R.remaining (source reader.new))).known }
+    ensures ended { result ≡ Err LoadFault.Truncated → IsAtEnd (position input.new (R.remaining (source reader.new))).known }
     ensures failed { has_failed reader.new ≡ (has_failed reader.old || is_read_fault result) }
 {
     let bits = tree.bits();

@@ -7,7 +7,7 @@ ghost use Rattle.vdb_scene.specs.Watched.{has_failed, source};
 ghost use Rattle.vdb_file.specs.Faults.{HasOtherMagic, StartsWithOther, is_read_fault};
 ghost use Rattle.vdb_file.specs.internal.FieldFaults.{IsMagicFault, IsVersionFault};
 ghost use Rattle.vdb_file.specs.internal.Parts.{version_number};
-ghost use Rattle.vdb_file.specs.internal.Reading.{EndsWith, Reads, byte_total, place};
+ghost use Rattle.vdb_file.specs.internal.Reading.{EndsWith, Reads, byte_total, position};
 
 use crate::fault::LoadFault;
 use crate::loading::fields::{take_field, take_u16};
@@ -33,10 +33,10 @@ pub(crate) fn take_magic<R: Read>(
     ensures ends { EndsWith input.new (R.remaining (source reader.new)) }
     ensures total { (n : ℕ) → byte_total input.old (R.remaining (source reader.old)) ≡ Some n → byte_total input.new (R.remaining (source reader.new)) ≡ Some n }
     ensures reads { Reads (λ u. u) (λ u. ⊤) (λ u. codes "VDBS") result
-        (place input.old (R.remaining (source reader.old))) (place input.new (R.remaining (source reader.new))) }
+        (position input.old (R.remaining (source reader.old))) (position input.new (R.remaining (source reader.new))) }
     ensures fault { IfErr result IsMagicFault }
-    ensures magic { result ≡ Err LoadFault.Magic → IfSome (place input.old (R.remaining (source reader.old))).known HasOtherMagic }
-    ensures ended { result ≡ Err LoadFault.Truncated → IsAtEnd (place input.new (R.remaining (source reader.new))).known }
+    ensures magic { result ≡ Err LoadFault.Magic → IfSome (position input.old (R.remaining (source reader.old))).known HasOtherMagic }
+    ensures ended { result ≡ Err LoadFault.Truncated → IsAtEnd (position input.new (R.remaining (source reader.new))).known }
     ensures failed { has_failed reader.new ≡ (has_failed reader.old || is_read_fault result) }
 {
     let mut field = [0; 4];
@@ -56,10 +56,10 @@ pub(crate) fn take_version<R: Read>(
     ensures ends { EndsWith input.new (R.remaining (source reader.new)) }
     ensures total { (n : ℕ) → byte_total input.old (R.remaining (source reader.old)) ≡ Some n → byte_total input.new (R.remaining (source reader.new)) ≡ Some n }
     ensures reads { Reads (λ version. version) (λ version. ⊤) (λ version. to_be_bytes w16 (version_number version)) result
-        (place input.old (R.remaining (source reader.old))) (place input.new (R.remaining (source reader.new))) }
+        (position input.old (R.remaining (source reader.old))) (position input.new (R.remaining (source reader.new))) }
     ensures fault { IfErr result IsVersionFault }
-    ensures version { result ≡ Err LoadFault.Version → IfSome (place input.old (R.remaining (source reader.old))).known StartsWithOther }
-    ensures ended { result ≡ Err LoadFault.Truncated → IsAtEnd (place input.new (R.remaining (source reader.new))).known }
+    ensures version { result ≡ Err LoadFault.Version → IfSome (position input.old (R.remaining (source reader.old))).known StartsWithOther }
+    ensures ended { result ≡ Err LoadFault.Truncated → IsAtEnd (position input.new (R.remaining (source reader.new))).known }
     ensures failed { has_failed reader.new ≡ (has_failed reader.old || is_read_fault result) }
 {
     let number = take_u16(input, reader)?;

@@ -54,7 +54,7 @@ impl<const COUNTS: u32> Output<COUNTS> {
         self.total
     }
 
-    /// Puts a few bytes behind the others. Where there is no room for them, the others are written first.
+    /// Puts a few bytes behind the others. Where there is no capacity for them, the others are written first.
     pub(crate) fn put<W: Write>(
         &mut self,
         writer: &mut Watched<W>,

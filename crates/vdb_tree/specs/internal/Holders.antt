@@ -5,8 +5,8 @@ use Rattle.vdb_coord.specs.declared.Coord.{Coord}
 use Rattle.vdb_node.specs.declared.Entry.{Entry}
 use Rattle.vdb_node.specs.declared.Entry.TheVariants.{Child}
 use Rattle.vdb_tree.specs.Layout.{Layout, lower_entry, root_entry, upper_entry}
-use Rattle.vdb_tree.specs.declared.reading.ends.Holder.{Holder}
-use Rattle.vdb_tree.specs.declared.reading.ends.Holder.TheVariants.{Lower, Root, Upper}
+use Rattle.vdb_tree.specs.declared.queries.ends.Holder.{Holder}
+use Rattle.vdb_tree.specs.declared.queries.ends.Holder.TheVariants.{Lower, Root, Upper}
 
 -- how many nodes the way from the root to a holder has, with the holder
 abbrev pub nodes_to : Holder → ℕ

@@ -1,4 +1,4 @@
--- The next place in a node, where a walk may pass over entries.
+-- The next start in a node, where a walk may pass over entries.
 use Rattle.std.specs.Prelude.{◌≡◌, ◌⊎◌, ℕ, ◌<◌, Option, Some, None, IsTrue}
 use Rattle.vdb_coord.specs.Blocks.{block_around, block_number, entries, offset, sub_block}
 use Rattle.vdb_coord.specs.Order.{ComesBefore, IsUpToBlock}
@@ -8,7 +8,7 @@ use Rattle.vdb_coord.specs.declared.Coord.{Coord}
 use Rattle.vdb_coord.specs.declared.Level.{Level}
 use Rattle.vdb_tree.specs.Layout.{Layout}
 use Rattle.vdb_tree.specs.Parts.{IsSkipped}
-use Rattle.vdb_tree.specs.declared.reading.parts.Skip.{Skip}
+use Rattle.vdb_tree.specs.declared.queries.parts.Skip.{Skip}
 
 module _ {V : Type 0} (bits : Bits) (t : Layout V) (skip : Skip) where
   -- a walk may pass over what lies past p's entry of the outer level's node around p, up to the entry of this index
@@ -33,7 +33,7 @@ module _ {V : Type 0} (bits : Bits) (t : Layout V) (skip : Skip) where
   IsNextPart outer p (Some part) = IsNextPartAt outer p part
 
   module _ (box : Box) where
-    -- a place of the outer block around p, past the inner block around p: the first of the box in its own inner block, where a walk may pass over what lies between
+    -- a coordinate of the outer block around p, past the inner block around p: the first of the box in its own inner block, where a walk may pass over what lies between
     pub record IsJumpAt (outer level : Level) (p next : Coord) : Type 0 where
       pub inside : IsTrue (is_inside box next)
       pub outer_block : block_number bits outer next ≡ block_number bits outer p
@@ -45,7 +45,7 @@ module _ {V : Type 0} (bits : Bits) (t : Layout V) (skip : Skip) where
     pub record IsLast (outer level : Level) (p : Coord) : Type 0 where
       pub passed : (q : Coord) → IsTrue (is_inside box q) → block_number bits outer q ≡ block_number bits outer p → IsUpToBlock bits level p q ⊎ IsSkipped bits skip t q
 
-    -- the next place of a node, if there is one
+    -- the next start of a node, if there is one
     abbrev pub IsJump : Level → Level → Coord → Option Coord → Type 0
     IsJump outer level p None = IsLast outer level p
     IsJump outer level p (Some next) = IsJumpAt outer level p next

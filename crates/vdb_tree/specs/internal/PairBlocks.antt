@@ -7,7 +7,7 @@ use Rattle.vdb_coord.specs.declared.Coord.{Coord}
 use Rattle.vdb_coord.specs.declared.Level.TheVariants.{Leaf}
 use Rattle.vdb_tree.specs.Layout.{Layout}
 use Rattle.vdb_tree.specs.Parts.{IsEnd, end_level}
-use Rattle.vdb_tree.specs.declared.reading.ends.End.{End}
+use Rattle.vdb_tree.specs.declared.queries.ends.End.{End}
 
 -- the descent to p ends so, in a tile or a leaf over the box; with a leaf the box is its block
 pub record IsOver {V : Type 0} (bits : Bits) (t : Layout V) (p : Coord) (end : End V) (box : Box) : Type 0 where

@@ -49,6 +49,6 @@ module _ {V X : Type 0} (bits : Bits) (rule : StateRule) (t : Layout V) (u : Lay
 
   -- The states can be set without memory: where a tile's state is to change, the other tree has a tile as well, and where
   -- there is no entry nothing becomes active.
-  pub record IsReadyFor : Type 0 where
+  pub record IsRefinedFor : Type 0 where
     pub tiles : (level : Level) (q : Coord) (tile : Cell V) (slot : ℕ) → entry_over bits level t q ≡ Tile tile → entry_over bits level u q ≡ Child slot → (tile.on ≡ made rule) ⊎ IsIdleAt q
     pub entered : (q : Coord) → root_at t.root (key bits q) ≡ None → (made rule ≡ false) ⊎ IsIdleAt q

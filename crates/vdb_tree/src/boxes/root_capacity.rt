@@ -73,7 +73,7 @@ impl<
         ensures adds { AddsBackgroundTiles (bits_of U L F) self.old self.new }
         ensures keys { MakesNoKey self.old self.new }
         ensures stays { HasCapacityFor (bits_of U L F) self.old bounds → self.new ≡ self.old }
-        ensures room { OnOk result (HasCapacityFor (bits_of U L F) self.new bounds) }
+        ensures capacity { OnOk result (HasCapacityFor (bits_of U L F) self.new bounds) }
         ensures within { OnOk result ((cell : Cell V) → roots V.eq (bits_of U L F) (fill bounds cell (field_of (bits_of U L F) self.old)) ≤ self.old.limit) }
         ensures full { IfErr result (λ refusal. (refusal ≡ RootLimit) × ((cell : Cell V) → cell ≢ background_cell self.old
             → self.old.limit < roots V.eq (bits_of U L F) (fill bounds cell (field_of (bits_of U L F) self.old)))) }
@@ -111,17 +111,17 @@ impl<
 
     /// Whether the table has capacity for each root block that meets the box.
     fn has_capacity_for(&self, bounds: Bounds) -> bool
-        ensures room { IsTrue result → HasCapacityFor (bits_of U L F) self.now bounds }
+        ensures capacity { IsTrue result → HasCapacityFor (bits_of U L F) self.now bounds }
         ensures full { result ≡ false → LacksCapacityFor (bits_of U L F) self.now bounds }
     {
-        let mut room = self.limit as usize - self.root.len();
+        let mut capacity = self.limit as usize - self.root.len();
         let mut p = bounds.min();
         loop {
             if self.root.get(self.key(p)).is_none() {
-                if room == 0 {
+                if capacity == 0 {
                     return false;
                 }
-                room -= 1;
+                capacity -= 1;
             }
             match self.next_block(bounds, Level::Upper, p) {
                 Some(next) => p = next,
@@ -153,12 +153,12 @@ impl<
     /// Gives the root block around p, a coordinate of the box, an entry.
     fn enter_block(&mut self, bounds: Bounds, p: Coord) -> Result<(), TreeRefusal>
         requires inside { IsTrue (is_inside bounds p) }
-        requires room { HasCapacityFor (bits_of U L F) self.old bounds }
+        requires capacity { HasCapacityFor (bits_of U L F) self.old bounds }
         ensures keeps { Keeps (bits_of U L F) self.old self.new }
         ensures adds { AddsNodes (bits_of U L F) self.old self.new }
         ensures same { (q : Coord) → SameDescent (bits_of U L F) self.old self.new q }
         ensures keys { MakesKeysIn (bits_of U L F) bounds self.old self.new }
-        ensures room { HasCapacityFor (bits_of U L F) self.new bounds }
+        ensures capacity { HasCapacityFor (bits_of U L F) self.new bounds }
         ensures entered { OnOk result (IsSome (root_at self.new.root (key (bits_of U L F) p))) }
         ensures memory { IfErr result (λ refusal. refusal ≡ Memory) }
     {
@@ -192,7 +192,7 @@ impl<
     /// block of the box.
     fn has_capacity_at(&self, bounds: Bounds, p: Coord)
         requires inside { IsTrue (is_inside bounds p) }
-        requires room { HasCapacityFor (bits_of U L F) self.now bounds }
+        requires capacity { HasCapacityFor (bits_of U L F) self.now bounds }
         ensures { HasCapacity self.now (key (bits_of U L F) p) }
     {
         let _ = &self.root;

@@ -9,7 +9,7 @@ ghost use Rattle.vdb_coord.specs.declared.Level.TheVariants.{Leaf, Lower, Upper}
 ghost use Rattle.vdb_node.specs.Nodes.{entry_count};
 ghost use Rattle.vdb_node.specs.declared.Entry.TheVariants.{Child, Tile};
 ghost use Rattle.vdb_tree.specs.Changes.{Fills, KeepsBeyond, KeepsUppers, Turns};
-ghost use Rattle.vdb_tree.specs.internal.Corners.{ClearsFrom};
+ghost use Rattle.vdb_tree.specs.internal.Children.{ClearsFrom};
 ghost use Rattle.vdb_tree.specs.Layout.{bits_of, lower_entry, root_at, root_entry, upper_entry};
 
 use crate::TreeOf;

@@ -56,7 +56,7 @@ impl<
     ) -> Result<(), TreeRefusal>
         ensures keeps { Keeps (bits_of U L F) self.old self.new }
         ensures nodes { MakesNoNode (bits_of U L F) self.old self.new }
-        ensures room { OnOk result (HasCapacityForActive (bits_of U L F) other.now self.new) }
+        ensures capacity { OnOk result (HasCapacityForActive (bits_of U L F) other.now self.new) }
         ensures within { OnOk result (roots V.eq (bits_of U L F) (unite (field_of (bits_of U L F) self.old) (field_of (bits_of U L F) other.now)) ≤ self.old.limit) }
         ensures full { IfErr result (λ refusal. (refusal ≡ RootLimit)
             × (self.old.limit < roots V.eq (bits_of U L F) (unite (field_of (bits_of U L F) self.old) (field_of (bits_of U L F) other.now)))) }
@@ -94,17 +94,17 @@ impl<
         other: &TreeOf<X, U, L, F, WU, WL, WF>,
         steps: &mut Steps,
     ) -> bool
-        ensures room { IsTrue result → HasCapacityForActive (bits_of U L F) other.now self.now }
+        ensures capacity { IsTrue result → HasCapacityForActive (bits_of U L F) other.now self.now }
         ensures full { result ≡ false → LacksCapacityForActive (bits_of U L F) other.now self.now }
     {
-        let mut room = self.limit as usize - self.root.len();
+        let mut capacity = self.limit as usize - self.root.len();
         let mut passed = None;
         'keys: while let Some(key) = other.next_key(passed) {
             if self.lacks_entry_for(other, other.key_corner(key), steps) {
-                if room == 0 {
+                if capacity == 0 {
                     return false;
                 }
-                room -= 1;
+                capacity -= 1;
             }
             passed = Some(key);
         }
@@ -168,7 +168,7 @@ impl<
         ensures keeps { Keeps (bits_of U L F) self.old self.new }
         ensures nodes { MakesNoNode (bits_of U L F) self.old self.new }
         ensures keys { (k : Coord) → IsSome (root_at self.old.root k) → IsSome (root_at self.new.root k) }
-        ensures room { HasCapacityForActive (bits_of U L F) other.now self.new }
+        ensures capacity { HasCapacityForActive (bits_of U L F) other.now self.new }
         ensures entered { OnOk result (IsActiveKey (bits_of U L F) other.now (key (bits_of U L F) p) → IsSome (root_at self.new.root (key (bits_of U L F) p))) }
         ensures memory { IfErr result (λ refusal. refusal ≡ Memory) }
     {
@@ -187,7 +187,7 @@ impl<
         p: Coord,
     )
         requires active { IsActiveKey (bits_of U L F) other.now (key (bits_of U L F) p) }
-        requires room { HasCapacityForActive (bits_of U L F) other.now self.now }
+        requires capacity { HasCapacityForActive (bits_of U L F) other.now self.now }
         ensures { HasCapacity self.now (key (bits_of U L F) p) }
     {
         let _ = &self.root;

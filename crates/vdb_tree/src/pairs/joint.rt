@@ -2,19 +2,19 @@
 
 ghost use Rattle.std.specs.Prelude.{◌≡◌, ◌⊎◌, ◌<◌, IfNone, IfSome, IsTrue, Some, None, false};
 ghost use Rattle.vdb_coord.specs.Blocks.{block_around, block_number, key};
-ghost use Rattle.vdb_coord.specs.Order.{ComesBefore, IsNextPlace, coordinates_past};
+ghost use Rattle.vdb_coord.specs.Order.{ComesBefore, IsNextCoord, coordinates_past};
 ghost use Rattle.vdb_coord.specs.Space.{everywhere, is_inside};
 ghost use Rattle.vdb_coord.specs.declared.Coord.{Coord};
 ghost use Rattle.vdb_coord.specs.declared.Level.TheVariants.{Leaf as leaf_level};
 ghost use Rattle.vdb_tree.specs.Layout.{bits_of, field_of};
 ghost use Rattle.vdb_tree.specs.Pairs.{IsPairWalk, PassesPairs, YieldsPair, lower_level, pair_level};
-ghost use Rattle.vdb_tree.specs.Parts.{IsEnd, IsPartOfLeaf, IsPlaceAfter, IsSkipped, OnLeaf, OnTile, end_level, is_left, left_count};
+ghost use Rattle.vdb_tree.specs.Parts.{IsEnd, IsPartOfLeaf, IsStartAfter, IsSkipped, OnLeaf, OnTile, end_level, is_left, left_count};
 ghost use Rattle.vdb_tree.specs.Paths.{Lives};
 ghost use Rattle.vdb_tree.specs.internal.PairBlocks.{IsOver};
-ghost use Rattle.vdb_tree.specs.declared.reading.parts.Skip.TheVariants.{Background};
+ghost use Rattle.vdb_tree.specs.declared.queries.parts.Skip.TheVariants.{Background};
 
-use crate::reading::ends::End;
-use crate::reading::parts::{Content, Skip};
+use crate::queries::ends::End;
+use crate::queries::parts::{Content, Skip};
 use crate::{PathOf, TreeOf};
 use std::cmp::Ordering;
 use std::marker::Model;
@@ -148,7 +148,7 @@ impl<
         ensures end { IfNone result (PassesPairs (bits_of U L F) self.now other.now walk.old walk.new (λ q. false)) }
         ensures none_left { IfNone result (walk.new.at ≡ None) }
     {
-        'places: while let Some(p) = walk.at() {
+        'starts: while let Some(p) = walk.at() {
             let pair = self.pair_step(other, walk, p, steps);
             if pair.is_some() {
                 return pair;
@@ -157,7 +157,7 @@ impl<
         None
     }
 
-    /// Goes on from a place: yields the pair around it, unless both trees have the background there.
+    /// Goes on from a start: yields the pair around it, unless both trees have the background there.
     fn pair_step<'a>(
         &'a self,
         other: &'a Self,
@@ -241,7 +241,7 @@ impl<
     const WL: usize,
     const WF: usize,
 > TreeOf<V, U, L, F, WU, WL, WF> {
-    /// Goes on past what both trees have as background from `p` on: to the lesser of the two places after.
+    /// Goes on past what both trees have as background from `p` on: to the lesser of the two starts after.
     fn pass_background(
         &self,
         other: &Self,
@@ -263,14 +263,14 @@ impl<
         ensures passed { PassesPairs (bits_of U L F) self.now other.now walk.old walk.new (λ q. false) }
         ensures nearer { left_count (bits_of U L F) walk.new.at < left_count (bits_of U L F) walk.old.at }
     {
-        let after_first = self.place_past_background(p, first, walk.first(), steps);
-        let after_second = other.place_past_background(p, second, walk.second(), steps);
-        let next = self.lesser_place(after_first, after_second);
+        let after_first = self.start_past_background(p, first, walk.first(), steps);
+        let after_second = other.start_past_background(p, second, walk.second(), steps);
+        let next = self.lesser_start(after_first, after_second);
         walk.go_to(next);
     }
 
-    /// The first place past the background around `p`.
-    fn place_past_background(
+    /// The first coordinate past the background around `p`.
+    fn start_past_background(
         &self,
         p: Coord,
         end: End<V>,
@@ -279,14 +279,14 @@ impl<
     ) -> Option<Coord>
         requires end { IsEnd (bits_of U L F) self.now p end }
         requires lives { Lives (bits_of U L F) self.now path p }
-        ensures next { IsPlaceAfter (bits_of U L F) self.now everywhere Background (end_level (bits_of U L F) self.now p) p result }
+        ensures next { IsStartAfter (bits_of U L F) self.now everywhere Background (end_level (bits_of U L F) self.now p) p result }
         ensures nearer { IfSome result (λ next. coordinates_past (bits_of U L F) next < coordinates_past (bits_of U L F) p) }
     {
-        self.place_after(Bounds::all(), Skip::Background, p, end, path, steps)
+        self.start_after(Bounds::all(), Skip::Background, p, end, path, steps)
     }
 
-    /// The one of two places that comes first; none comes last.
-    fn lesser_place(&self, a: Option<Coord>, b: Option<Coord>) -> Option<Coord>
+    /// The one of two starts that comes first; none comes last.
+    fn lesser_start(&self, a: Option<Coord>, b: Option<Coord>) -> Option<Coord>
         ensures one { (result ≡ a) ⊎ (result ≡ b) }
         ensures least { (q : Coord) → is_left (bits_of U L F) result q ≡ false → (is_left (bits_of U L F) a q ≡ false) × (is_left (bits_of U L F) b q ≡ false) }
     {
@@ -372,7 +372,7 @@ impl<
         let _ = &self.root;
         let _ = &other.root;
         let _ = bounds;
-        let next = self.place_past_block(level, p);
+        let next = self.start_past_block(level, p);
         walk.go_to(next);
     }
 
@@ -404,11 +404,11 @@ impl<
     }
 
     /// The first coordinate, in block order, past the level's block around `p`.
-    fn place_past_block(&self, level: Level, p: Coord) -> Option<Coord>
-        ensures next { IsNextPlace (bits_of U L F) level everywhere p result }
+    fn start_past_block(&self, level: Level, p: Coord) -> Option<Coord>
+        ensures next { IsNextCoord (bits_of U L F) level everywhere p result }
         ensures nearer { IfSome result (λ next. coordinates_past (bits_of U L F) next < coordinates_past (bits_of U L F) p) }
     {
-        Bounds::all().next_place_in(self.bits(), level, p)
+        Bounds::all().next_coord_in(self.bits(), level, p)
     }
 
     /// What the tree has over a box in the tile or the leaf around `p`, where the descent ends so.

@@ -7,13 +7,13 @@ ghost use Rattle.vdb_mask.specs.Mask.{is_on};
 ghost use Rattle.vdb_node.specs.declared.Entry.TheVariants.{Child, Tile};
 ghost use Rattle.vdb_tree.specs.Changes.{Fills, KeepsUppers, Turns};
 ghost use Rattle.vdb_tree.specs.Layout.{bits_of, lower_entry, upper_entry};
-ghost use Rattle.vdb_tree.specs.internal.Pairing.{IsReadyFor, made, SetsBlock, state_of};
+ghost use Rattle.vdb_tree.specs.internal.Pairing.{IsRefinedFor, made, SetsBlock, state_of};
 ghost use Rattle.vdb_tree.specs.internal.StateRuns.{acts, AreSettled, AreStatesOf, FillsLeafStates, IsNextToSet, IsNextToSetAt, SetsFrom};
 
 use crate::TreeOf;
 use crate::nodes::held_place;
 use crate::pairs::StateRule;
-use crate::pruning::prune::entry_corner;
+use crate::sweeps::prune::entry_corner;
 use vdb_coord::{Coord, Level};
 use vdb_mask::Mask;
 use vdb_node::{Entry, Stored};
@@ -42,7 +42,7 @@ impl<
     )
         requires node { upper_entry (bits_of U L F) self.old p ≡ Child lower }
         requires over { upper_entry (bits_of U L F) other.now p ≡ over }
-        requires ready { IsReadyFor (bits_of U L F) rule self.old other.now }
+        requires refined { IsRefinedFor (bits_of U L F) rule self.old other.now }
         ensures sets { SetsBlock (bits_of U L F) rule other.now Lower self.old self.new p }
         ensures above { KeepsUppers self.old self.new }
     {
@@ -66,7 +66,7 @@ impl<
     ) -> Option<u32>
         requires node { upper_entry (bits_of U L F) self.old p ≡ Child lower }
         requires over { upper_entry (bits_of U L F) other.now p ≡ over }
-        requires ready { IsReadyFor (bits_of U L F) rule self.old other.now }
+        requires refined { IsRefinedFor (bits_of U L F) rule self.old other.now }
         requires within { from ≤ entries (bits_of U L F) Lower }
         ensures above { KeepsUppers self.old self.new }
         ensures sets { SetsFrom (bits_of U L F) rule other.now Lower self.old self.new p from result }
@@ -218,7 +218,7 @@ impl<
     )
         requires node { upper_entry (bits_of U L F) self.old p ≡ Child lower }
         requires over { upper_entry (bits_of U L F) other.now p ≡ over }
-        requires ready { IsReadyFor (bits_of U L F) rule self.old other.now }
+        requires refined { IsRefinedFor (bits_of U L F) rule self.old other.now }
         ensures sets { SetsBlock (bits_of U L F) rule other.now leaf_level self.old self.new p }
         ensures above { KeepsUppers self.old self.new }
     {
@@ -243,7 +243,7 @@ impl<
         requires node { upper_entry (bits_of U L F) self.old p ≡ Child lower }
         requires tile { lower_entry (bits_of U L F) self.old p ≡ Tile cell }
         requires over { lower_entry (bits_of U L F) other.now p ≡ over }
-        requires ready { IsReadyFor (bits_of U L F) rule self.old other.now }
+        requires refined { IsRefinedFor (bits_of U L F) rule self.old other.now }
         ensures sets { SetsBlock (bits_of U L F) rule other.now leaf_level self.old self.new p }
         ensures above { KeepsUppers self.old self.new }
     {

@@ -10,8 +10,8 @@ ghost use Rattle.vdb_value.specs.declared.Cell.{Cell};
 ghost use Rattle.vdb_tree.specs.Changes.{AddsNodes, Keeps, KeepsUppers};
 ghost use Rattle.vdb_tree.specs.Layout.{bits_of, lower_entry, root_at, root_entry, upper_entry};
 ghost use Rattle.vdb_tree.specs.Nodes.{MakesOnly};
-ghost use Rattle.vdb_tree.specs.internal.Corners.{IsNextCorner};
-ghost use Rattle.vdb_tree.specs.internal.Pairing.{IsReadyFor, IsIdleAt, made};
+ghost use Rattle.vdb_tree.specs.internal.Children.{IsNextCorner};
+ghost use Rattle.vdb_tree.specs.internal.Pairing.{IsRefinedFor, IsIdleAt, made};
 ghost use Rattle.vdb_tree.specs.internal.Refining.{IsNodeOrMade, IsRefinable, IsRefinedTo, MakesNode, Refines};
 ghost use Rattle.vdb_tree.specs.declared.pairs.StateRule.TheVariants.{Unite as unites};
 ghost use Rattle.vdb_tree.specs.declared.refusal.TreeRefusal.TheVariants.{Memory};
@@ -43,7 +43,7 @@ impl<
         ensures keeps { Keeps (bits_of U L F) self.old self.new }
         ensures adds { AddsNodes (bits_of U L F) self.old self.new }
         ensures made { MakesOnly (bits_of U L F) (IsRefinable (bits_of U L F) rule other.now) self.old self.new }
-        ensures ready { OnOk result (IsReadyFor (bits_of U L F) rule self.new other.now) }
+        ensures refined { OnOk result (IsRefinedFor (bits_of U L F) rule self.new other.now) }
         ensures memory { IfErr result (λ refusal. refusal ≡ Memory) }
     {
         let mut passed = None;
@@ -63,7 +63,7 @@ impl<
         steps: &mut Steps,
     ) -> Result<(), TreeRefusal>
         ensures refines { Refines (bits_of U L F) rule other.now self.old self.new }
-        ensures ready { OnOk result (IsSome (root_at self.old.root (key (bits_of U L F) p))
+        ensures refined { OnOk result (IsSome (root_at self.old.root (key (bits_of U L F) p))
             → (q : Coord) → block_number (bits_of U L F) Upper q ≡ block_number (bits_of U L F) Upper p → IsRefinedTo (bits_of U L F) rule other.now Upper self.new q) }
         ensures memory { IfErr result (λ refusal. refusal ≡ Memory) }
     {
@@ -83,7 +83,7 @@ impl<
     fn upper_to_change(&mut self, rule: StateRule, p: Coord) -> Result<Option<u32>, TreeRefusal>
         requires entered { IsSome (root_at self.old.root (key (bits_of U L F) p)) }
         ensures makes { MakesNode (bits_of U L F) rule Upper self.old self.new p }
-        ensures ready { IfOk result (λ node. IsNodeOrMade (bits_of U L F) rule Upper self.new p node) }
+        ensures refined { IfOk result (λ node. IsNodeOrMade (bits_of U L F) rule Upper self.new p node) }
         ensures memory { IfErr result (λ refusal. refusal ≡ Memory) }
     {
         match self.root_entry(p) {
@@ -112,7 +112,7 @@ impl<
         requires over { root_entry (bits_of U L F) other.now p ≡ Child over }
         ensures refines { Refines (bits_of U L F) rule other.now self.old self.new }
         ensures root { self.new.root ≡ self.old.root }
-        ensures ready { OnOk result ((q : Coord) → block_number (bits_of U L F) Upper q ≡ block_number (bits_of U L F) Upper p → IsRefinedTo (bits_of U L F) rule other.now Lower self.new q) }
+        ensures refined { OnOk result ((q : Coord) → block_number (bits_of U L F) Upper q ≡ block_number (bits_of U L F) Upper p → IsRefinedTo (bits_of U L F) rule other.now Lower self.new q) }
         ensures memory { IfErr result (λ refusal. refusal ≡ Memory) }
     {
         let mut from = 0;
@@ -159,7 +159,7 @@ impl<
         requires over { root_entry (bits_of U L F) other.now p ≡ Child over }
         ensures refines { Refines (bits_of U L F) rule other.now self.old self.new }
         ensures root { self.new.root ≡ self.old.root }
-        ensures ready { OnOk result ((q : Coord) → block_number (bits_of U L F) Lower q ≡ block_number (bits_of U L F) Lower p → IsRefinedTo (bits_of U L F) rule other.now Lower self.new q) }
+        ensures refined { OnOk result ((q : Coord) → block_number (bits_of U L F) Lower q ≡ block_number (bits_of U L F) Lower p → IsRefinedTo (bits_of U L F) rule other.now Lower self.new q) }
         ensures memory { IfErr result (λ refusal. refusal ≡ Memory) }
     {
         let Entry::Child(within) = other.upper_entry(over, p, steps) else {
@@ -182,7 +182,7 @@ impl<
         requires node { root_entry (bits_of U L F) self.old p ≡ Child upper }
         ensures makes { MakesNode (bits_of U L F) rule Lower self.old self.new p }
         ensures root { self.new.root ≡ self.old.root }
-        ensures ready { IfOk result (λ node. IsNodeOrMade (bits_of U L F) rule Lower self.new p node) }
+        ensures refined { IfOk result (λ node. IsNodeOrMade (bits_of U L F) rule Lower self.new p node) }
         ensures memory { IfErr result (λ refusal. refusal ≡ Memory) }
     {
         match self.upper_entry(upper, p, steps) {
@@ -211,7 +211,7 @@ impl<
         requires over { upper_entry (bits_of U L F) other.now p ≡ Child within }
         ensures refines { Refines (bits_of U L F) rule other.now self.old self.new }
         ensures above { KeepsUppers self.old self.new }
-        ensures ready { OnOk result ((q : Coord) → block_number (bits_of U L F) Lower q ≡ block_number (bits_of U L F) Lower p → IsRefinedTo (bits_of U L F) rule other.now Leaf self.new q) }
+        ensures refined { OnOk result ((q : Coord) → block_number (bits_of U L F) Lower q ≡ block_number (bits_of U L F) Lower p → IsRefinedTo (bits_of U L F) rule other.now Leaf self.new q) }
         ensures memory { IfErr result (λ refusal. refusal ≡ Memory) }
     {
         let mut from = 0;
@@ -254,7 +254,7 @@ impl<
         requires node { upper_entry (bits_of U L F) self.old p ≡ Child lower }
         ensures makes { MakesNode (bits_of U L F) rule Leaf self.old self.new p }
         ensures above { KeepsUppers self.old self.new }
-        ensures ready { OnOk result ((tile : Cell V) → lower_entry (bits_of U L F) self.new p ≡ Tile tile → tile.on ≡ made rule) }
+        ensures refined { OnOk result ((tile : Cell V) → lower_entry (bits_of U L F) self.new p ≡ Tile tile → tile.on ≡ made rule) }
         ensures memory { IfErr result (λ refusal. refusal ≡ Memory) }
     {
         match self.lower_entry(lower, p, steps) {

@@ -10,7 +10,7 @@ ghost use Rattle.vdb_tree.specs.Changes.{Fills, Turns};
 ghost use Rattle.vdb_tree.specs.Field.{ruled};
 ghost use Rattle.vdb_tree.specs.Layout.{bits_of, field_of, lower_entry, root_at, root_entry, upper_entry};
 ghost use Rattle.vdb_tree.specs.Table.{IsNextKey};
-ghost use Rattle.vdb_tree.specs.internal.Pairing.{IsReadyFor, SetsBlock};
+ghost use Rattle.vdb_tree.specs.internal.Pairing.{IsRefinedFor, SetsBlock};
 ghost use Rattle.vdb_tree.specs.internal.Ruled.{SetsRoot};
 
 use crate::TreeOf;
@@ -31,13 +31,13 @@ impl<
     const WF: usize,
 > TreeOf<V, U, L, F, WU, WL, WF> {
     /// Makes the states of this tree and of another one by a rule. The values stay, and no node comes or goes.
-    pub(crate) fn set_ready_states<X: Stored<WU> + Stored<WL> + Stored<WF>>(
+    pub(crate) fn set_refined_states<X: Stored<WU> + Stored<WL> + Stored<WF>>(
         &mut self,
         other: &TreeOf<X, U, L, F, WU, WL, WF>,
         rule: StateRule,
         steps: &mut Steps,
     )
-        requires { IsReadyFor (bits_of U L F) rule self.old other.now }
+        requires { IsRefinedFor (bits_of U L F) rule self.old other.now }
         ensures field { field_of (bits_of U L F) self.new ≡ ruled rule (field_of (bits_of U L F) self.old) (field_of (bits_of U L F) other.now) }
         ensures limit { self.new.limit ≡ self.old.limit }
     {
@@ -55,7 +55,7 @@ impl<
         rule: StateRule,
         steps: &mut Steps,
     ) -> Option<Coord>
-        requires { IsReadyFor (bits_of U L F) rule self.old other.now }
+        requires { IsRefinedFor (bits_of U L F) rule self.old other.now }
         ensures next { IsNextKey self.old.root after result }
         ensures none { IsNone result → self.new ≡ self.old }
         ensures sets { IfSome result (λ k. SetsRoot (bits_of U L F) rule other.now self.old self.new k) }
@@ -78,7 +78,7 @@ impl<
     )
         requires entered { IsSome (root_at self.old.root (key (bits_of U L F) p)) }
         requires over { root_entry (bits_of U L F) other.now p ≡ over }
-        requires ready { IsReadyFor (bits_of U L F) rule self.old other.now }
+        requires refined { IsRefinedFor (bits_of U L F) rule self.old other.now }
         ensures sets { SetsBlock (bits_of U L F) rule other.now Upper self.old self.new p }
         ensures table { (k : Coord) → k ≢ key (bits_of U L F) p → root_at self.new.root k ≡ root_at self.old.root k }
     {

@@ -8,7 +8,7 @@ ghost use Rattle.vdb_node.specs.declared.Entry.TheVariants.{Child, Tile};
 ghost use Rattle.vdb_value.specs.declared.Cell.{Cell};
 ghost use Rattle.vdb_tree.specs.Changes.{Fills, Turns};
 ghost use Rattle.vdb_tree.specs.Layout.{bits_of, cell_at, lower_entry, root_entry, upper_entry};
-ghost use Rattle.vdb_tree.specs.internal.Pairing.{IsReadyFor, SetsBlock, acts_at, made};
+ghost use Rattle.vdb_tree.specs.internal.Pairing.{IsRefinedFor, SetsBlock, acts_at, made};
 ghost use Rattle.vdb_tree.specs.internal.Ruled.{IsIdleTile, IsNextWithout, IsSettled, SetsFrom, made_tile};
 
 use crate::TreeOf;
@@ -41,7 +41,7 @@ impl<
     )
         requires node { root_entry (bits_of U L F) self.old p ≡ Child upper }
         requires over { root_entry (bits_of U L F) other.now p ≡ over }
-        requires ready { IsReadyFor (bits_of U L F) rule self.old other.now }
+        requires refined { IsRefinedFor (bits_of U L F) rule self.old other.now }
         ensures sets { SetsBlock (bits_of U L F) rule other.now Upper self.old self.new p }
         ensures root { self.new.root ≡ self.old.root }
     {
@@ -65,7 +65,7 @@ impl<
     ) -> Option<u32>
         requires node { root_entry (bits_of U L F) self.old p ≡ Child upper }
         requires over { root_entry (bits_of U L F) other.now p ≡ over }
-        requires ready { IsReadyFor (bits_of U L F) rule self.old other.now }
+        requires refined { IsRefinedFor (bits_of U L F) rule self.old other.now }
         requires within { from ≤ entry_count U }
         ensures root { self.new.root ≡ self.old.root }
         ensures sets { SetsFrom (bits_of U L F) rule other.now Upper self.old self.new p from result }
@@ -93,7 +93,7 @@ impl<
     )
         requires node { root_entry (bits_of U L F) self.old p ≡ Child upper }
         requires over { upper_entry (bits_of U L F) other.now p ≡ over }
-        requires ready { IsReadyFor (bits_of U L F) rule self.old other.now }
+        requires refined { IsRefinedFor (bits_of U L F) rule self.old other.now }
         ensures sets { SetsBlock (bits_of U L F) rule other.now Lower self.old self.new p }
         ensures root { self.new.root ≡ self.old.root }
     {

@@ -1,4 +1,4 @@
--- The blocks of a level from a place on. Only proofs and private functions speak of these.
+-- The blocks of a level from a coordinate on. Only proofs and private functions speak of these.
 use Rattle.std.specs.Prelude.{◌≡◌, ℕ, Bool, true, not, ◌&&◌, Option, Some, None, IsTrue, count_by}
 use Rattle.vdb_coord.specs.Blocks.{block, block_around, block_number, block_numbers}
 use Rattle.vdb_coord.specs.Order.{ComesBefore}
@@ -9,7 +9,7 @@ use Rattle.vdb_coord.specs.declared.Level.{Level}
 use Rattle.vdb_tree.specs.Field.{Field}
 use Rattle.vdb_tree.specs.Layout.{Layout, field_of}
 use Rattle.vdb_tree.specs.Parts.{IsSkipped, TreeWalk, is_left}
-use Rattle.vdb_tree.specs.declared.reading.parts.Skip.{Skip}
+use Rattle.vdb_tree.specs.declared.queries.parts.Skip.{Skip}
 use Rattle.vdb_tree.specs.ConstantBlocks.{is_constant}
 
 -- p is the first coordinate, in block order, that the box has of the level's block around it
@@ -34,7 +34,7 @@ IsPartStart bits t walk (Some q) =
     × ((r : Coord) → IsTrue (is_inside walk.box r) → IsTrue (is_left bits walk.at r) → ComesBefore bits r q → IsSkipped bits walk.skip t r)
 
 module _ {V : Type 0} (eq : V → V → Bool) (bits : Bits) (level : Level) (f : Field V) where
-  -- how many of the level's blocks that begin at the place or past it aren't constant; none where there is no place
+  -- how many of the level's blocks that begin at the coordinate or past it aren't constant; none where there is no coordinate
   abbrev pub non_constant_from : Option Coord → ℕ
   non_constant_from at = count_by (λ n. not (is_constant eq f (block bits level n)) && is_left bits at (block bits level n).min) (coordinates (block_numbers bits level))
 
@@ -44,10 +44,10 @@ module _ {V : Type 0} (eq : V → V → Bool) (bits : Bits) (level : Level) (f :
     pub test : differs ≡ not (is_constant eq f (block_around bits outer q))
     pub own : differs ≡ true → outer ≡ level
 
--- ---- the active voxels of a box from a place on
+-- ---- the active voxels of a box from a coordinate on
 
 module _ {V : Type 0} (bits : Bits) (t : Layout V) (box : Box) where
-  -- how many voxels of the box are active at the place or past it; none where there is no place
+  -- how many voxels of the box are active at the coordinate or past it; none where there is no coordinate
   abbrev pub active_from : Option Coord → ℕ
   active_from at = count_by (λ p. ((field_of bits t).cell p).on && is_left bits at p) (coordinates box)
 

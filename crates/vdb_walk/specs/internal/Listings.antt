@@ -7,10 +7,10 @@ use Rattle.vdb_coord.specs.declared.Coord.{Coord}
 use Rattle.vdb_node.specs.Leaf.{Leaf as LeafOf}
 use Rattle.vdb_tree.specs.Layout.{Layout, field_of}
 use Rattle.vdb_tree.specs.Parts.{IsPartOfLeaf, IsWalk, OnLeaf, OnTile, TreeWalk, is_left}
-use Rattle.vdb_tree.specs.declared.reading.parts.Content.{Content}
-use Rattle.vdb_tree.specs.declared.reading.parts.Content.TheVariants.{Leaf, Tile}
-use Rattle.vdb_tree.specs.declared.reading.parts.Part.{Part}
-use Rattle.vdb_tree.specs.declared.reading.parts.Skip.TheVariants.{Inactive}
+use Rattle.vdb_tree.specs.declared.queries.parts.Content.{Content}
+use Rattle.vdb_tree.specs.declared.queries.parts.Content.TheVariants.{Leaf, Tile}
+use Rattle.vdb_tree.specs.declared.queries.parts.Part.{Part}
+use Rattle.vdb_tree.specs.declared.queries.parts.Skip.TheVariants.{Inactive}
 use Rattle.vdb_value.specs.declared.Cell.{Cell}
 use Rattle.vdb_walk.specs.internal.Firsts.{IsActivePast, IsInLeafBlock}
 use Rattle.vdb_walk.specs.declared.held.Held.{Held}

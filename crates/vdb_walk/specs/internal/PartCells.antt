@@ -9,7 +9,7 @@ use Rattle.vdb_value.specs.declared.Cell.{Cell}
 use Rattle.vdb_tree.specs.Field.{Field}
 use Rattle.vdb_tree.specs.Layout.{Layout, field_of}
 use Rattle.vdb_tree.specs.Parts.{IsSkipped}
-use Rattle.vdb_tree.specs.declared.reading.parts.Skip.{Skip}
+use Rattle.vdb_tree.specs.declared.queries.parts.Skip.{Skip}
 
 module _ {V : Type 0} (bits : Bits) (t : Layout V) (box : Box) (cell : Cell V) where
   -- each coordinate of the box has the cell, or a walk may pass over it

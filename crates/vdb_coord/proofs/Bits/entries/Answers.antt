@@ -1,5 +1,5 @@
 -- Three times the bits of a node give its entries.
-use Rattle.vdb_coord.proofs.Places.{entries_power}
+use Rattle.vdb_coord.proofs.Positions.{entries_power}
 use Rattle.vdb_coord.proofs.Bits.entries.Goals as goal
 
 pub returns : goal.returns

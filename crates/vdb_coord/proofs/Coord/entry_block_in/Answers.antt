@@ -1,16 +1,16 @@
--- The places of an index make the corners of its entry.
+-- The positions of an index make the corners of its entry.
 use Rattle.std.proofs.Common.{SFits, w32, rules, sym, ◌∙◌}
 use Rattle.std.proofs.lemmas.Int.{to_z-of_z}
-use Rattle.vdb_coord.proofs.Places.{index_places, sub_block_is}
+use Rattle.vdb_coord.proofs.Positions.{index_positions, sub_block_is}
 use Rattle.vdb_coord.proofs.Coord.entry_block_in.Goals as goal
 
 pub entry_first-requires-clause-within : goal.entry_first-requires-clause-within
 entry_first-requires-clause-within c =
-    rw (c.from.ensures, c.width-count.ensures.value, c.node_bits-node.ensures) (index_places c.args.bits c.args.level c.args.index c.requires.within).0
+    rw (c.from.ensures, c.width-count.ensures.value, c.node_bits-node.ensures) (index_positions c.args.bits c.args.level c.args.index c.requires.within).0
 
 pub entry_last-requires-clause-within : goal.entry_last-requires-clause-within
 entry_last-requires-clause-within c =
-    rw (c.from.ensures, c.width-count.ensures.value, c.node_bits-node.ensures) (index_places c.args.bits c.args.level c.args.index c.requires.within).0
+    rw (c.from.ensures, c.width-count.ensures.value, c.node_bits-node.ensures) (index_positions c.args.bits c.args.level c.args.index c.requires.within).0
 
 pub returns : goal.returns
 returns c =

@@ -1,4 +1,4 @@
--- The entry's number, without the number of its block times the entries of one, is its place.
+-- The entry's number, without the number of its block times the entries of one, is its position.
 use Rattle.std.proofs.Common.{◌≡◌, ◌≤◌, ◌<◌, ◌+◌, ◌^◌, ◌+ℤ◌, ◌*ℤ◌, ◌-ℤ◌, ℕ, ℤ, pos, SFits, w32, rules, arith, ap, refl, sym, subst, ◌∙◌}
 use Rattle.std.proofs.Math.Pow.{pow_mono}
 use Rattle.std.proofs.lemmas.Int.{ints, to_z-of_z}
@@ -15,9 +15,9 @@ block_fits low bits x few fits = subst (λ n. SFits w32 (n *ℤ pos (2 ^ bits)))
 small_fits : (bits d : ℕ) → bits ≤ 5 → d < 2 ^ bits → SFits w32 (pos d)
 small_fits bits d few h = let most : 2 ^ bits ≤ 2 ^ 5 = pow_mono few in record { sfits = omega (arith, h, most) }
 
--- the place, and the block's number times the entries of one
-abbrev place : goal.After-power → ℕ
-place c = digit c.args.low c.args.bits c.args.component
+-- the position, and the block's number times the entries of one
+abbrev position : goal.After-power → ℕ
+position c = digit c.args.low c.args.bits c.args.component
 
 abbrev product : goal.After-power → ℤ
 product c = number_at (c.args.low + c.args.bits) c.args.component *ℤ pos (2 ^ c.args.bits)
@@ -34,8 +34,8 @@ product_fits c =
     let few : c.args.bits ≤ 31 = let h = c.requires.bits_fit in omega (arith, h) in
     block_fits c.args.low c.args.bits c.args.component few (subst (λ x. SFits w32 x) (entry_is c) fe)
 
-place_fits : (c : goal.After-power) → SFits w32 (pos (place c))
-place_fits c = small_fits c.args.bits (place c) c.requires.bits_fit (digit_below c.args.low c.args.bits c.args.component)
+position_fits : (c : goal.After-power) → SFits w32 (pos (position c))
+position_fits c = small_fits c.args.bits (position c) c.requires.bits_fit (digit_below c.args.low c.args.bits c.args.component)
 
 -- the product, and what is left of the entry's number without it
 product_is : (c : goal.After-power) → c.number_at-block.result *ℤ c.power.result ≡ product c
@@ -44,13 +44,13 @@ product_is c = rw (block_is c, c.power.ensures) refl
 made_fits : (c : goal.After-power) → SFits w32 (c.number_at-block.result *ℤ c.power.result)
 made_fits c = subst (λ x. SFits w32 x) (sym (product_is c)) (product_fits c)
 
-difference : (c : goal.After-power) → c.number_at-entry.result -ℤ c.number_at-block.result *ℤ c.power.result ≡ pos (place c)
+difference : (c : goal.After-power) → c.number_at-entry.result -ℤ c.number_at-block.result *ℤ c.power.result ≡ pos (position c)
 difference c =
-    less c.number_at-entry.result (c.number_at-block.result *ℤ c.power.result) (place c)
-    (entry_is c ∙ number_split c.args.low c.args.bits c.args.component ∙ ap (λ y. y +ℤ pos (place c)) (sym (product_is c)))
+    less c.number_at-entry.result (c.number_at-block.result *ℤ c.power.result) (position c)
+    (entry_is c ∙ number_split c.args.low c.args.bits c.args.component ∙ ap (λ y. y +ℤ pos (position c)) (sym (product_is c)))
 
 left_fits : (c : goal.After-power) → SFits w32 (c.number_at-entry.result -ℤ c.number_at-block.result *ℤ c.power.result)
-left_fits c = subst (λ x. SFits w32 x) (sym (difference c)) (place_fits c)
+left_fits c = subst (λ x. SFits w32 x) (sym (difference c)) (position_fits c)
 
 pub overflow_mul-result : goal.overflow_mul-result
 overflow_mul-result c =

@@ -10,7 +10,7 @@ use Rattle.vdb_file.specs.internal.FieldFaults.{IsFieldFault}
 use Rattle.vdb_file.specs.declared.fault.LoadFault.TheVariants as faults
 use Rattle.vdb_file.specs.declared.loading.versions.Version.{Version}
 use Rattle.vdb_file.specs.internal.Parts.{IsFile, bytes_of_file}
-use Rattle.vdb_file.specs.internal.Reading.{Fails, Stock, Took, byte_total, place}
+use Rattle.vdb_file.specs.internal.Reading.{Fails, Stock, Took, byte_total, position}
 use Rattle.vdb_file.proofs.FieldBytes.{gave_few}
 use Rattle.vdb_file.proofs.WholeFiles.{begins_only, file_and_more, no_file, nothing_before, reader_at_end, scene_is, whole_file}
 use Rattle.vdb_file.proofs.loading.load.Goals as goal
@@ -22,7 +22,7 @@ pub returns-in_err-file-clause-none : goal.returns-in_err-file-clause-none
 returns-in_err-file-clause-none g c =
     let known = g.R.Read.remaining (source c.args.reader.now) in
     let p = err_from_is_err_and c.from_residual.result c.from_residual.ensures.1 in
-    rw (p.1, p.2) (no_file c.in_err-file.field-0.0 known (subst (λ (s : Stock). Fails IsFile bytes_of_file c.in_err-file.field-0.0 (place s known)) c.new-input.ensures c.in_err-file.ensures.reads))
+    rw (p.1, p.2) (no_file c.in_err-file.field-0.0 known (subst (λ (s : Stock). Fails IsFile bytes_of_file c.in_err-file.field-0.0 (position s known)) c.new-input.ensures c.in_err-file.ensures.reads))
 
 pub returns-in_err-file-clause-magic : goal.returns-in_err-file-clause-magic
 returns-in_err-file-clause-magic g c =
@@ -30,7 +30,7 @@ returns-in_err-file-clause-magic g c =
     let p = err_from_is_err_and c.from_residual.result c.from_residual.ensures.1 in
     rw (p.1, p.2) (λ e.
     let k : c.in_err-file.field-0.0 ≡ faults.Magic = cc in
-    nothing_before known HasOtherMagic (subst (λ (s : Stock). IfSome (place s known).known HasOtherMagic) c.new-input.ensures (c.in_err-file.ensures.magic (ap Err k))))
+    nothing_before known HasOtherMagic (subst (λ (s : Stock). IfSome (position s known).known HasOtherMagic) c.new-input.ensures (c.in_err-file.ensures.magic (ap Err k))))
 
 pub returns-in_err-file-clause-version : goal.returns-in_err-file-clause-version
 returns-in_err-file-clause-version g c =
@@ -38,7 +38,7 @@ returns-in_err-file-clause-version g c =
     let p = err_from_is_err_and c.from_residual.result c.from_residual.ensures.1 in
     rw (p.1, p.2) (λ e.
     let k : c.in_err-file.field-0.0 ≡ faults.Version = cc in
-    nothing_before known HasOtherVersion (subst (λ (s : Stock). IfSome (place s known).known HasOtherVersion) c.new-input.ensures (c.in_err-file.ensures.version (ap Err k))))
+    nothing_before known HasOtherVersion (subst (λ (s : Stock). IfSome (position s known).known HasOtherVersion) c.new-input.ensures (c.in_err-file.ensures.version (ap Err k))))
 
 pub returns-in_err-file-clause-truncated : goal.returns-in_err-file-clause-truncated
 returns-in_err-file-clause-truncated g c =
@@ -81,16 +81,16 @@ pub returns-then-more-clause-none : goal.returns-then-more-clause-none
 returns-then-more-clause-none g c claims =
     let known = g.R.Read.remaining (source c.args.reader.now) in
     let file : Version × Scene = (c.in_ok-file.file.0, scene_of c.in_ok-file.file.1) in
-    let mid = place c.take_file.new.input (g.R.Read.remaining (source c.take_file.new.reader)) in
-    let took = subst (λ (s : Stock). Took (place s known) mid (bytes_of_file file)) c.new-input.ensures c.in_ok-file.ensures.reads.1 in
+    let mid = position c.take_file.new.input (g.R.Read.remaining (source c.take_file.new.reader)) in
+    let took = subst (λ (s : Stock). Took (position s known) mid (bytes_of_file file)) c.new-input.ensures c.in_ok-file.ensures.reads.1 in
     begins_only known (file_and_more file known (g.R.Read.remaining (source c.fill.new.reader)) mid c.fill.new.self.unread c.in_ok-file.ensures.reads.0 took c.in_ok-more.ensures.kept (c.in_ok-more.ensures.some (ap Ok c.if-more.true)))
 
 pub returns-then-more-clause-trailing : goal.returns-then-more-clause-trailing
 returns-then-more-clause-trailing g c e =
     let known = g.R.Read.remaining (source c.args.reader.now) in
     let file : Version × Scene = (c.in_ok-file.file.0, scene_of c.in_ok-file.file.1) in
-    let mid = place c.take_file.new.input (g.R.Read.remaining (source c.take_file.new.reader)) in
-    let took = subst (λ (s : Stock). Took (place s known) mid (bytes_of_file file)) c.new-input.ensures c.in_ok-file.ensures.reads.1 in
+    let mid = position c.take_file.new.input (g.R.Read.remaining (source c.take_file.new.reader)) in
+    let took = subst (λ (s : Stock). Took (position s known) mid (bytes_of_file file)) c.new-input.ensures c.in_ok-file.ensures.reads.1 in
     file_and_more file known (g.R.Read.remaining (source c.fill.new.reader)) mid c.fill.new.self.unread c.in_ok-file.ensures.reads.0 took c.in_ok-more.ensures.kept (c.in_ok-more.ensures.some (ap Ok c.if-more.true))
 
 pub returns-clause-scene : goal.returns-clause-scene
@@ -100,8 +100,8 @@ pub returns-clause-loaded : goal.returns-clause-loaded
 returns-clause-loaded g c =
     let known = g.R.Read.remaining (source c.args.reader.now) in
     let file : Version × Scene = (c.in_ok-file.file.0, scene_of c.in_ok-file.file.1) in
-    let mid = place c.take_file.new.input (g.R.Read.remaining (source c.take_file.new.reader)) in
-    let took = subst (λ (s : Stock). Took (place s known) mid (bytes_of_file file)) c.new-input.ensures c.in_ok-file.ensures.reads.1 in
+    let mid = position c.take_file.new.input (g.R.Read.remaining (source c.take_file.new.reader)) in
+    let took = subst (λ (s : Stock). Took (position s known) mid (bytes_of_file file)) c.new-input.ensures c.in_ok-file.ensures.reads.1 in
     whole_file file known mid c.in_ok-file.ensures.reads.0 took
     (prepend_known-end _ _ _ c.in_ok-more.ensures.kept (c.in_ok-more.ensures.none (ap Ok c.if-more.false)) (c.in_ok-more.ensures.end (ap Ok c.if-more.false)))
 

@@ -4,7 +4,7 @@ use Rattle.std.proofs.lemmas.Result.{err_from_is_err_and}
 use Rattle.vdb_scene.specs.Grids.{scene_of}
 use Rattle.vdb_scene.specs.Watched.{source}
 use Rattle.vdb_file.specs.internal.Parts.{IsItem, IsNamed, name_of, named_bytes, named_view}
-use Rattle.vdb_file.specs.internal.Reading.{Fails, place}
+use Rattle.vdb_file.specs.internal.Reading.{Fails, position}
 use Rattle.vdb_file.proofs.GridParts.{named_code}
 use Rattle.vdb_file.proofs.Items.{are_items, chain_more, fails_within, last_more, more_read, put_last}
 use Rattle.vdb_file.proofs.SceneParts.{any_named}
@@ -13,9 +13,9 @@ use Rattle.vdb_file.proofs.loading.take_grids.Goals as goal
 pub returns-in_err-named-clause-reads : goal.returns-in_err-named-clause-reads
 returns-in_err-named-clause-reads g c =
     let p = err_from_is_err_and c.from_residual.result c.from_residual.ensures.1 in
-    let mid = place c.loop.input (g.R.Read.remaining (source c.loop.reader)) in
+    let mid = position c.loop.input (g.R.Read.remaining (source c.loop.reader)) in
     rw (p.1, p.2) (fails_within (IsNamed c.args.version) name_of (named_bytes c.args.version) (named_code c.args.version) any_named c.in_err-named.field-0.0 c.args.count (scene_of c.loop.scene)
-    (place c.args.input.now (g.R.Read.remaining (source c.args.reader.now))) mid (omega (arith, c.loop.invariant.count, c.loop-test.true)) c.loop.invariant.chain c.loop.invariant.took
+    (position c.args.input.now (g.R.Read.remaining (source c.args.reader.now))) mid (omega (arith, c.loop.invariant.count, c.loop-test.true)) c.loop.invariant.chain c.loop.invariant.took
     (subst (λ before. Fails (IsItem (IsNamed c.args.version) name_of before) (named_bytes c.args.version) c.in_err-named.field-0.0 mid) c.loop.invariant.before c.in_err-named.ensures.reads))
 
 pub loop-preserved : goal.loop-preserved
@@ -25,7 +25,7 @@ loop-preserved g c =
     let item = subst (λ before. IsItem (IsNamed c.args.version) name_of before e) c.loop.invariant.before c.in_ok-named.ensures.reads.0 in
     let grown : scene_of c.add.new.scene ≡ done ++ e ∷ [] = c.in_ok-add.ensures.ok ∙ put_last (IsNamed c.args.version) done e c.loop.invariant.chain item in
     rw grown (record {
-      took = more_read (IsNamed c.args.version) name_of (named_bytes c.args.version) (place c.args.input.now (g.R.Read.remaining (source c.args.reader.now))) (place c.loop.input (g.R.Read.remaining (source c.loop.reader))) _ done e c.loop.invariant.took c.in_ok-named.ensures.reads.1;
+      took = more_read (IsNamed c.args.version) name_of (named_bytes c.args.version) (position c.args.input.now (g.R.Read.remaining (source c.args.reader.now))) (position c.loop.input (g.R.Read.remaining (source c.loop.reader))) _ done e c.loop.invariant.took c.in_ok-named.ensures.reads.1;
       ends = c.in_ok-named.ensures.ends;
       total = λ n h. c.in_ok-named.ensures.total n (c.loop.invariant.total n h);
       count = omega (arith, length-append done (e ∷ []), c.loop.invariant.count);

@@ -4,14 +4,14 @@ use Rattle.std.specs.List.{flat_map}
 use Rattle.vdb_scene.specs.Grids.{scene_of}
 use Rattle.vdb_scene.specs.Watched.{has_failed, source}
 use Rattle.vdb_file.specs.internal.Parts.{IsNamed, name_of, named_bytes}
-use Rattle.vdb_file.specs.internal.Reading.{EndsWith, Took, byte_total, place}
+use Rattle.vdb_file.specs.internal.Reading.{EndsWith, Took, byte_total, position}
 use Rattle.vdb_file.proofs.Items.{IsChain, last_of}
 use Rattle.vdb_file.proofs.loading.take_grids.Given as goal
 
 -- the grids so far were read, and the next is to follow the last of them
 abbrev pub invariant-loop : goal.invariant-loop
 invariant-loop g l = record {
-  took : Took (place l.fn.input (g.R.Read.remaining (source l.fn.reader))) (place l.input (g.R.Read.remaining (source l.reader))) (flat_map (named_bytes l.fn.version) (scene_of l.scene));
+  took : Took (position l.fn.input (g.R.Read.remaining (source l.fn.reader))) (position l.input (g.R.Read.remaining (source l.reader))) (flat_map (named_bytes l.fn.version) (scene_of l.scene));
   ends : EndsWith l.input (g.R.Read.remaining (source l.reader));
   total : (n : ℕ) → byte_total l.fn.input (g.R.Read.remaining (source l.fn.reader)) ≡ Some n → byte_total l.input (g.R.Read.remaining (source l.reader)) ≡ Some n;
   count : length (scene_of l.scene) ≡ l.counter;

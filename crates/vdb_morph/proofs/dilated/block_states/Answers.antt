@@ -1,7 +1,7 @@
 use Rattle.std.proofs.Common.{◌∙◌, ap, arith, refl, sym, Bool, List}
 use Rattle.vdb_coord.specs.Blocks.{offset}
 use Rattle.vdb_coord.specs.declared.Level.TheVariants.{Leaf}
-use Rattle.vdb_coord.proofs.Places.{offset_below}
+use Rattle.vdb_coord.proofs.Positions.{offset_below}
 use Rattle.vdb_mask.specs.Mask.{is_on}
 use Rattle.vdb_tree.specs.Layout.{bits_of}
 use Rattle.vdb_value.specs.declared.Cell.{Cell}
@@ -17,5 +17,5 @@ returns-in-Some g c = λ q inside h.
 pub returns-in-None : goal.returns-in-None
 returns-in-None g c = λ q inside h.
     let bits = bits_of g.row.U g.row.L g.row.F in
-    c.filled.ensures.within (offset bits Leaf q) (let below = offset_below bits Leaf q in let room = c.has_leaf_words.ensures.room in omega (arith, below, room))
+    c.filled.ensures.within (offset bits Leaf q) (let below = offset_below bits Leaf q in let capacity = c.has_leaf_words.ensures.capacity in omega (arith, below, capacity))
     ∙ ap (λ (d : Cell g.row.V.Denot). d.on) (c.get.ensures.cell ∙ sym (c.in-None.ensures.tile refl q inside (from_around bits c.args.p q h)))

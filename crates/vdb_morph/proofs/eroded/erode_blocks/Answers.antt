@@ -1,6 +1,6 @@
 use Rattle.std.proofs.Common.{◌<◌, refl, subst, true}
 use Rattle.std.specs.Prelude.{Option}
-use Rattle.vdb_coord.specs.Order.{IsNextPlace}
+use Rattle.vdb_coord.specs.Order.{IsNextCoord}
 use Rattle.vdb_coord.specs.declared.Bits.{Bits}
 use Rattle.vdb_coord.specs.declared.Coord.{Coord}
 use Rattle.vdb_coord.specs.declared.Level.TheVariants.{Leaf}
@@ -11,8 +11,8 @@ use Rattle.vdb_morph.specs.internal.Turning.{is_around}
 use Rattle.vdb_morph.proofs.Eroding.{IsDoneTo, done_more, done_none, erodes_none, erodes_taken, erodes_then, nearer_left, taken_eroded}
 use Rattle.vdb_morph.proofs.eroded.erode_blocks.Goals as goal
 
-pub places-init : goal.places-init
-places-init g c =
+pub coords-init : goal.coords-init
+coords-init g c =
     let bits = bits_of g.row.U g.row.L g.row.F in
     let f : Field g.row.V.Denot = field_of bits c.args.tree.now in
     record {
@@ -20,25 +20,25 @@ places-init g c =
       erodes = erodes_none f (field_of bits c.args.states.now);
     }
 
-pub places-smaller : goal.places-smaller
-places-smaller g c =
-    subst (λ (b : Bits). left_count b c.next_place_in-at.result < left_count b c.places.at) c.bits-bits.ensures.value
-    (nearer_left c.bits-bits.result c.in-Some.p c.places.at c.next_place_in-at.result c.in-Some.is c.next_place_in-at.ensures.nearer)
+pub coords-smaller : goal.coords-smaller
+coords-smaller g c =
+    subst (λ (b : Bits). left_count b c.next_coord_in-at.result < left_count b c.coords.at) c.bits-bits.ensures.value
+    (nearer_left c.bits-bits.result c.in-Some.p c.coords.at c.next_coord_in-at.result c.in-Some.is c.next_coord_in-at.ensures.nearer)
 
-pub places-preserved : goal.places-preserved
-places-preserved g c =
+pub coords-preserved : goal.coords-preserved
+coords-preserved g c =
     let bits = bits_of g.row.U g.row.L g.row.F in
     let f : Field g.row.V.Denot = field_of bits c.args.tree.now in
-    let old = c.places.states in
+    let old = c.coords.states in
     let s = field_of bits old in
     let u = field_of bits c.erode_block.new.states in
     let p = c.in-Some.p in
     let is = c.in_ok-erode_block.ensures (refl {a = true}) in
     let erodes = erodes_taken f (is_around bits p) old.background (cell_at bits old) u is in
-    let done = subst (λ (o : Option Coord). IsDoneTo f bits c.args.bounds s o) c.in-Some.is c.places.invariant.done in
+    let done = subst (λ (o : Option Coord). IsDoneTo f bits c.args.bounds s o) c.in-Some.is c.coords.invariant.done in
     record {
       done =
-          done_more f bits c.args.bounds s u c.min.ensures.bounds p done erodes (taken_eroded f (is_around bits p) old.background (cell_at bits old) u is) c.next_place_in-at.result
-          (subst (λ (b : Bits). IsNextPlace b Leaf c.args.bounds p c.next_place_in-at.result) c.bits-bits.ensures.value c.next_place_in-at.ensures.next);
-      erodes = erodes_then f (field_of bits c.args.states.now) s u c.places.invariant.erodes erodes;
+          done_more f bits c.args.bounds s u c.min.ensures.bounds p done erodes (taken_eroded f (is_around bits p) old.background (cell_at bits old) u is) c.next_coord_in-at.result
+          (subst (λ (b : Bits). IsNextCoord b Leaf c.args.bounds p c.next_coord_in-at.result) c.bits-bits.ensures.value c.next_coord_in-at.ensures.next);
+      erodes = erodes_then f (field_of bits c.args.states.now) s u c.coords.invariant.erodes erodes;
     }

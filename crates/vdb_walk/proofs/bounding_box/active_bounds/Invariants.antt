@@ -3,7 +3,7 @@ use Rattle.std.specs.Prelude.{IfSome}
 use Rattle.vdb_coord.specs.Space.{everywhere, is_box}
 use Rattle.vdb_tree.specs.Layout.{bits_of}
 use Rattle.vdb_tree.specs.Parts.{IsWalk, left_count}
-use Rattle.vdb_tree.specs.declared.reading.parts.Skip.TheVariants.{Inactive}
+use Rattle.vdb_tree.specs.declared.queries.parts.Skip.TheVariants.{Inactive}
 use Rattle.vdb_walk.specs.internal.Surround.{Surrounds}
 use Rattle.vdb_walk.proofs.Surrounds.{is_found}
 use Rattle.vdb_walk.proofs.bounding_box.active_bounds.Given as goal

@@ -26,9 +26,9 @@ first_in_leaf-requires g c =
     let small = g.met.V.Stored-3.row_small in
     let few = c.has_leaf_words.ensures.few in
     let is = rw c.in-Leaf.is at c.requires.leaf in
-    let room = subst (λ (b : Bits). entries b Leaf ≤ 64 * g.row.WF) (sym c.bits-bits.ensures.value) c.has_leaf_words.ensures.room in
+    let capacity = subst (λ (b : Bits). entries b Leaf ≤ 64 * g.row.WF) (sym c.bits-bits.ensures.value) c.has_leaf_words.ensures.capacity in
     let block = subst (λ (b : Bits). IsInLeafBlock b c.args.part.bounds) (sym c.bits-bits.ensures.value) is.block in
-    (leaf_small _ _ g.row.WF _ few small.1 small.1 small.0, (c.bits-bits.ensures.configured, (ap (λ (b : Bits). b.leaf) c.bits-bits.ensures.value, (few, (room, block)))))
+    (leaf_small _ _ g.row.WF _ few small.1 small.1 small.0, (c.bits-bits.ensures.configured, (ap (λ (b : Bits). b.leaf) c.bits-bits.ensures.value, (few, (capacity, block)))))
 
 pub returns-in-Leaf-clause-first : goal.returns-in-Leaf-clause-first
 returns-in-Leaf-clause-first g c =

@@ -1,7 +1,7 @@
 use Rattle.std.proofs.Common.{◌∙◌, ℕ, ap, arith, rules, subst, sym}
 use Rattle.std.specs.Prelude.{None, Some}
 use Rattle.vdb_coord.specs.declared.Level.TheVariants.{Leaf}
-use Rattle.vdb_coord.proofs.Places.{entries_is, offset_below}
+use Rattle.vdb_coord.proofs.Positions.{entries_is, offset_below}
 use Rattle.vdb_node.specs.Leaf.{cell_in}
 use Rattle.vdb_node.specs.Nodes.{entry_count, IsOffFrom}
 use Rattle.vdb_tree.proofs.Sizes.{leaf_small}
@@ -11,12 +11,12 @@ use Rattle.vdb_walk.proofs.first_active.first_in_leaf.Goals as goal
 pub next_set-requires : goal.next_set-requires
 next_set-requires g c =
     let past = subst (λ (n : ℕ). IsOffFrom c.states.result.now n) (sym (entries_is c.args.bits Leaf ∙ ap entry_count c.requires.leaf)) c.states.ensures.past_end in
-    let room = c.requires.room in
+    let capacity = c.requires.capacity in
     let within = c.in-Some.ensures.within in (
       search rules,
       (
         c.requires.configured,
-        (c.requires.few_words, (past, (λ i h. past i (omega (arith, h, room)), (in_first_block c.args.bits c.args.part c.requires.block (search rules), omega (arith, within, room))))),
+        (c.requires.few_words, (past, (λ i h. past i (omega (arith, h, capacity)), (in_first_block c.args.bits c.args.part c.requires.block (search rules), omega (arith, within, capacity))))),
       ),
     )
 

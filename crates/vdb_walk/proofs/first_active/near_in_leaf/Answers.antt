@@ -2,7 +2,7 @@ use Rattle.std.proofs.Common.{◌+◌, ◌∙◌, ℕ, ap, subst, sym}
 use Rattle.std.specs.Prelude.{Some}
 use Rattle.vdb_coord.specs.Space.{Box}
 use Rattle.vdb_coord.specs.declared.Level.TheVariants.{Leaf}
-use Rattle.vdb_coord.proofs.Places.{entries_is}
+use Rattle.vdb_coord.proofs.Positions.{entries_is}
 use Rattle.vdb_node.specs.Leaf.{cell_in}
 use Rattle.vdb_node.specs.Nodes.{entry_count, IsOffFrom}
 use Rattle.vdb_walk.specs.internal.Voxels.{IsNextSetAt}

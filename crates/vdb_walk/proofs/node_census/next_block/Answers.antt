@@ -1,4 +1,4 @@
-use Rattle.vdb_coord.specs.Order.{IsNextPlace}
+use Rattle.vdb_coord.specs.Order.{IsNextCoord}
 use Rattle.vdb_coord.specs.Space.{everywhere}
 use Rattle.vdb_tree.specs.Layout.{bits_of}
 use Rattle.vdb_tree.proofs.Uniform.{exact_by}
@@ -10,22 +10,22 @@ pub returns-in-Some-clause-counted : goal.returns-in-Some-clause-counted
 returns-in-Some-clause-counted g c =
     let exact = exact_by g.V.PartialEq.eq g.V.Ord.cmp g.met.V.Ord.matches_eq g.met.V.Voxel.exact in
     let bits = bits_of g.row.U g.row.L g.row.F in
-    let place : IsNextPlace bits c.block_at-outer.result.0 everywhere c.in-Some.q c.next_place_in.result = rw (c.all-in-Some.ensures, c.bits-bits.ensures.value) at c.next_place_in.ensures.next in
-    non_constant_next g.V.PartialEq.eq exact g.met.V.Eq.laws.refl bits (rw c.bits-bits.ensures.value at c.bits-bits.ensures.configured) c.args.level c.args.tree.now c.args.p c.requires c.in-Some.q (rw c.all.ensures at c.in-Some.ensures) c.block_at-outer.result.0 c.block_at-outer.result.1 c.block_at-outer.ensures c.next_place_in.result place
+    let is_next : IsNextCoord bits c.block_at-outer.result.0 everywhere c.in-Some.q c.next_coord_in.result = rw (c.all-in-Some.ensures, c.bits-bits.ensures.value) at c.next_coord_in.ensures.next in
+    non_constant_next g.V.PartialEq.eq exact g.met.V.Eq.laws.refl bits (rw c.bits-bits.ensures.value at c.bits-bits.ensures.configured) c.args.level c.args.tree.now c.args.p c.requires c.in-Some.q (rw c.all.ensures at c.in-Some.ensures) c.block_at-outer.result.0 c.block_at-outer.result.1 c.block_at-outer.ensures c.next_coord_in.result is_next
 
 pub returns-in-Some-clause-start : goal.returns-in-Some-clause-start
 returns-in-Some-clause-start g c =
     let exact = exact_by g.V.PartialEq.eq g.V.Ord.cmp g.met.V.Ord.matches_eq g.met.V.Voxel.exact in
     let bits = bits_of g.row.U g.row.L g.row.F in
-    let place : IsNextPlace bits c.block_at-outer.result.0 everywhere c.in-Some.q c.next_place_in.result = rw (c.all-in-Some.ensures, c.bits-bits.ensures.value) at c.next_place_in.ensures.next in
-    start_next g.V.PartialEq.eq exact g.met.V.Eq.laws.refl bits (rw c.bits-bits.ensures.value at c.bits-bits.ensures.configured) c.args.level c.args.tree.now c.args.p c.requires c.in-Some.q (rw c.all.ensures at c.in-Some.ensures) c.block_at-outer.result.0 c.block_at-outer.result.1 c.block_at-outer.ensures c.next_place_in.result place
+    let is_next : IsNextCoord bits c.block_at-outer.result.0 everywhere c.in-Some.q c.next_coord_in.result = rw (c.all-in-Some.ensures, c.bits-bits.ensures.value) at c.next_coord_in.ensures.next in
+    start_next g.V.PartialEq.eq exact g.met.V.Eq.laws.refl bits (rw c.bits-bits.ensures.value at c.bits-bits.ensures.configured) c.args.level c.args.tree.now c.args.p c.requires c.in-Some.q (rw c.all.ensures at c.in-Some.ensures) c.block_at-outer.result.0 c.block_at-outer.result.1 c.block_at-outer.ensures c.next_coord_in.result is_next
 
 pub returns-in-Some-clause-nearer : goal.returns-in-Some-clause-nearer
 returns-in-Some-clause-nearer g c =
     let exact = exact_by g.V.PartialEq.eq g.V.Ord.cmp g.met.V.Ord.matches_eq g.met.V.Voxel.exact in
     let bits = bits_of g.row.U g.row.L g.row.F in
-    let place : IsNextPlace bits c.block_at-outer.result.0 everywhere c.in-Some.q c.next_place_in.result = rw (c.all-in-Some.ensures, c.bits-bits.ensures.value) at c.next_place_in.ensures.next in
-    nearer_next g.V.PartialEq.eq exact g.met.V.Eq.laws.refl bits (rw c.bits-bits.ensures.value at c.bits-bits.ensures.configured) c.args.level c.args.tree.now c.args.p c.requires c.in-Some.q (rw c.all.ensures at c.in-Some.ensures) c.block_at-outer.result.0 c.block_at-outer.result.1 c.block_at-outer.ensures c.next_place_in.result place
+    let is_next : IsNextCoord bits c.block_at-outer.result.0 everywhere c.in-Some.q c.next_coord_in.result = rw (c.all-in-Some.ensures, c.bits-bits.ensures.value) at c.next_coord_in.ensures.next in
+    nearer_next g.V.PartialEq.eq exact g.met.V.Eq.laws.refl bits (rw c.bits-bits.ensures.value at c.bits-bits.ensures.configured) c.args.level c.args.tree.now c.args.p c.requires c.in-Some.q (rw c.all.ensures at c.in-Some.ensures) c.block_at-outer.result.0 c.block_at-outer.result.1 c.block_at-outer.ensures c.next_coord_in.result is_next
 
 pub returns-in-None-clause-counted : goal.returns-in-None-clause-counted
 returns-in-None-clause-counted g c =

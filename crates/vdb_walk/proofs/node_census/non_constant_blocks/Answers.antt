@@ -9,8 +9,8 @@ use Rattle.vdb_walk.specs.internal.BlocksFrom.{non_constant_from}
 use Rattle.vdb_walk.proofs.NonConstantBlocks.{all_counted, first_counted, sum_few, sum_on, sum_same}
 use Rattle.vdb_walk.proofs.node_census.non_constant_blocks.Goals as goal
 
-pub places-init : goal.places-init
-places-init g c =
+pub starts-init : goal.starts-init
+starts-init g c =
     let bits = bits_of g.row.U g.row.L g.row.F in
     let first = first_counted g.V.PartialEq.eq bits (rw c.bits.ensures.value at c.bits.ensures.configured) c.args.level (field_of bits c.args.tree.now) c.min.result (c.min.ensures.corner ∙ ap (λ (b : Box). b.min) c.all.ensures) in
     record { start = first.0; counted = first.1 }
@@ -19,33 +19,33 @@ pub overflow_add-total : goal.overflow_add-total
 overflow_add-total g c =
     let bits = bits_of g.row.U g.row.L g.row.F in
     let f : Field g.row.V.Denot = field_of bits c.args.tree.now in
-    let before = subst (λ (o : Option Coord). c.places.total + non_constant_from g.V.PartialEq.eq bits c.args.level f o ≡ non_constant g.V.PartialEq.eq bits c.args.level f) c.in-Some.is c.places.invariant.counted in
-    let more = sum_on c.places.total c.next_block-differs.result.0 _ _ _ c.next_block-differs.ensures.counted before c.if-differs.true in
-    let few = sum_few c.places.total _ _ c.node_count.result more c.node_count.ensures in
+    let before = subst (λ (o : Option Coord). c.starts.total + non_constant_from g.V.PartialEq.eq bits c.args.level f o ≡ non_constant g.V.PartialEq.eq bits c.args.level f) c.in-Some.is c.starts.invariant.counted in
+    let more = sum_on c.starts.total c.next_block-differs.result.0 _ _ _ c.next_block-differs.ensures.counted before c.if-differs.true in
+    let few = sum_few c.starts.total _ _ c.node_count.result more c.node_count.ensures in
     search (rules, few)
 
-pub places-preserved-then-differs : goal.places-preserved-then-differs
-places-preserved-then-differs g c =
+pub starts-preserved-then-differs : goal.starts-preserved-then-differs
+starts-preserved-then-differs g c =
     let bits = bits_of g.row.U g.row.L g.row.F in
     let f : Field g.row.V.Denot = field_of bits c.args.tree.now in
-    let before = subst (λ (o : Option Coord). c.places.total + non_constant_from g.V.PartialEq.eq bits c.args.level f o ≡ non_constant g.V.PartialEq.eq bits c.args.level f) c.in-Some.is c.places.invariant.counted in
+    let before = subst (λ (o : Option Coord). c.starts.total + non_constant_from g.V.PartialEq.eq bits c.args.level f o ≡ non_constant g.V.PartialEq.eq bits c.args.level f) c.in-Some.is c.starts.invariant.counted in
     record {
       start = c.next_block-differs.ensures.start;
-      counted = sum_on c.places.total c.next_block-differs.result.0 _ _ _ c.next_block-differs.ensures.counted before c.if-differs.true;
+      counted = sum_on c.starts.total c.next_block-differs.result.0 _ _ _ c.next_block-differs.ensures.counted before c.if-differs.true;
     }
 
-pub places-preserved : goal.places-preserved
-places-preserved g c =
+pub starts-preserved : goal.starts-preserved
+starts-preserved g c =
     let bits = bits_of g.row.U g.row.L g.row.F in
     let f : Field g.row.V.Denot = field_of bits c.args.tree.now in
-    let before = subst (λ (o : Option Coord). c.places.total + non_constant_from g.V.PartialEq.eq bits c.args.level f o ≡ non_constant g.V.PartialEq.eq bits c.args.level f) c.in-Some.is c.places.invariant.counted in
+    let before = subst (λ (o : Option Coord). c.starts.total + non_constant_from g.V.PartialEq.eq bits c.args.level f o ≡ non_constant g.V.PartialEq.eq bits c.args.level f) c.in-Some.is c.starts.invariant.counted in
     record {
       start = c.next_block-differs.ensures.start;
-      counted = sum_same c.places.total c.next_block-differs.result.0 _ _ _ c.next_block-differs.ensures.counted before c.if-differs.false;
+      counted = sum_same c.starts.total c.next_block-differs.result.0 _ _ _ c.next_block-differs.ensures.counted before c.if-differs.false;
     }
 
 pub returns : goal.returns
 returns g c =
     let bits = bits_of g.row.U g.row.L g.row.F in
     let f : Field g.row.V.Denot = field_of bits c.args.tree.now in
-    all_counted g.V.PartialEq.eq bits c.args.level f c.places.total c.places.at c.in_default.not-Some c.places.invariant.counted
+    all_counted g.V.PartialEq.eq bits c.args.level f c.starts.total c.starts.at c.in_default.not-Some c.starts.invariant.counted

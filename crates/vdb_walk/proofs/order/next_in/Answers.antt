@@ -3,7 +3,7 @@ use Rattle.vdb_coord.specs.Blocks.{block_number}
 use Rattle.vdb_coord.specs.declared.Level.TheVariants.{Leaf}
 use Rattle.vdb_coord.proofs.Boxes.{and_true}
 use Rattle.vdb_coord.proofs.Nesting.{inside_numbered}
-use Rattle.vdb_walk.proofs.NextVoxels.{near_itself, next_is_first, place_is_first}
+use Rattle.vdb_walk.proofs.NextVoxels.{near_itself, next_is_first, coord_is_first}
 use Rattle.vdb_walk.proofs.order.next_in.Goals as goal
 
 pub next_voxel-requires : goal.next_voxel-requires
@@ -22,4 +22,4 @@ returns-in-Some-next_voxel c =
 
 pub returns-in-None-next_voxel : goal.returns-in-None-next_voxel
 returns-in-None-next_voxel c =
-    place_is_first c.args.bits c.args.part c.in-Some.near c.args.p c.requires.inside (rw c.block_in.ensures at c.in-Some.ensures.both) c.in-None-next_voxel.ensures c.next_place_in.result c.next_place_in.ensures.next
+    coord_is_first c.args.bits c.args.part c.in-Some.near c.args.p c.requires.inside (rw c.block_in.ensures at c.in-Some.ensures.both) c.in-None-next_voxel.ensures c.next_coord_in.result c.next_coord_in.ensures.next

@@ -1,11 +1,11 @@
--- The places of the corners that the box and the node have in common.
+-- The positions of the corners that the box and the node have in common.
 use Rattle.std.proofs.Common.{◌≡◌, true, ap, sym, ◌∙◌}
 use Rattle.vdb_coord.specs.Blocks.{block_around}
 use Rattle.vdb_coord.specs.Boxes.{box_of}
-use Rattle.vdb_coord.specs.Entries.{place, place_of}
+use Rattle.vdb_coord.specs.Entries.{position, position_of}
 use Rattle.vdb_coord.specs.Space.{Box, is_box, is_inside}
 use Rattle.vdb_coord.proofs.Boxes.{box_of_none, box_of_some}
-use Rattle.vdb_coord.proofs.Ranges.{high_corner, high_of_same, low_corner, low_of_same, none_meets, places_are_box, places_meet, same_answer, same_box}
+use Rattle.vdb_coord.proofs.Ranges.{high_corner, high_of_same, low_corner, low_of_same, none_meets, positions_are_box, positions_meet, same_answer, same_box}
 use Rattle.vdb_coord.proofs.bounds.Bounds.entries_meeting_in.Goals as goal
 
 pub between-requires : goal.between-requires
@@ -21,10 +21,10 @@ between-requires c =
     let high = high_of_same inner b around block c.lesser-max.result c.lesser-max.ensures c.self.view_is blocked in
     let answer : c.new.result ≡ box_of (low_corner b block) (high_corner b block) = c.new.ensures ∙ same_answer c.greater-min.result c.lesser-max.result (low_corner b block) (high_corner b block) low high in
     let made = box_of_some (low_corner b block) (high_corner b block) c.in-Some.field-0 (sym answer ∙ c.in-Some.is) in
-    let first : c.place_in.result ≡ place bits level (low_corner b block) = c.place_in.ensures ∙ ap (place bits level) low in
-    let last : c.place_in-in-Some.result ≡ place bits level (high_corner b block) = c.place_in-in-Some.ensures ∙ ap (place bits level) high in
-    let places = same_box c.place_in.result c.place_in-in-Some.result (place bits level (low_corner b block)) (place bits level (high_corner b block)) first last in
-    ap is_box places ∙ places_are_box bits level c.args.p b made.0
+    let first : c.position_in.result ≡ position bits level (low_corner b block) = c.position_in.ensures ∙ ap (position bits level) low in
+    let last : c.position_in-in-Some.result ≡ position bits level (high_corner b block) = c.position_in-in-Some.ensures ∙ ap (position bits level) high in
+    let positions = same_box c.position_in.result c.position_in-in-Some.result (position bits level (low_corner b block)) (position bits level (high_corner b block)) first last in
+    ap is_box positions ∙ positions_are_box bits level c.args.p b made.0
 
 pub returns-in-Some-clause-some : goal.returns-in-Some-clause-some
 returns-in-Some-clause-some c =
@@ -39,10 +39,10 @@ returns-in-Some-clause-some c =
     let high = high_of_same inner b around block c.lesser-max.result c.lesser-max.ensures c.self.view_is blocked in
     let answer : c.new.result ≡ box_of (low_corner b block) (high_corner b block) = c.new.ensures ∙ same_answer c.greater-min.result c.lesser-max.result (low_corner b block) (high_corner b block) low high in
     let made = box_of_some (low_corner b block) (high_corner b block) c.in-Some.field-0 (sym answer ∙ c.in-Some.is) in
-    let first : c.place_in.result ≡ place bits level (low_corner b block) = c.place_in.ensures ∙ ap (place bits level) low in
-    let last : c.place_in-in-Some.result ≡ place bits level (high_corner b block) = c.place_in-in-Some.ensures ∙ ap (place bits level) high in
-    let places = same_box c.place_in.result c.place_in-in-Some.result (place bits level (low_corner b block)) (place bits level (high_corner b block)) first last in
-    λ i h. ap (λ (t : Box). is_inside t (place_of bits level i)) (c.between.ensures ∙ places) ∙ places_meet bits level c.args.p b i h made.0
+    let first : c.position_in.result ≡ position bits level (low_corner b block) = c.position_in.ensures ∙ ap (position bits level) low in
+    let last : c.position_in-in-Some.result ≡ position bits level (high_corner b block) = c.position_in-in-Some.ensures ∙ ap (position bits level) high in
+    let positions = same_box c.position_in.result c.position_in-in-Some.result (position bits level (low_corner b block)) (position bits level (high_corner b block)) first last in
+    λ i h. ap (λ (t : Box). is_inside t (position_of bits level i)) (c.between.ensures ∙ positions) ∙ positions_meet bits level c.args.p b i h made.0
 
 pub returns-in-None-clause-none : goal.returns-in-None-clause-none
 returns-in-None-clause-none c =

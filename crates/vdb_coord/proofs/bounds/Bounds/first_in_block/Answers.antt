@@ -5,7 +5,7 @@ use Rattle.vdb_coord.specs.Order.{IsFirstInBlock}
 use Rattle.vdb_coord.specs.Space.{Box}
 use Rattle.vdb_coord.specs.declared.Coord.{Coord}
 use Rattle.vdb_coord.proofs.Meeting.{fits_everywhere}
-use Rattle.vdb_coord.proofs.NextPlace.{corner, first_at_corner}
+use Rattle.vdb_coord.proofs.NextCoord.{corner, first_at_corner}
 use Rattle.vdb_coord.proofs.bounds.Bounds.first_in_block.Goals as goal
 
 pub returns-clause-first : goal.returns-clause-first

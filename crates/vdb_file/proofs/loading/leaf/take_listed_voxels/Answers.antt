@@ -8,7 +8,7 @@ use Rattle.vdb_tree.proofs.Sizes.{leaf_small}
 use Rattle.vdb_tree.proofs.Uniform.{exact_by}
 use Rattle.vdb_scene.specs.Watched.{source}
 use Rattle.vdb_file.specs.declared.fault.LoadFault.TheVariants.{ConstantNode}
-use Rattle.vdb_file.specs.internal.Reading.{place}
+use Rattle.vdb_file.specs.internal.Reading.{position}
 use Rattle.vdb_file.proofs.HeadCodes.{voxel_values}
 use Rattle.vdb_file.proofs.LeafReads.{entries_are, first_cells, more_cells, none_read, shown_values, voxel_read, voxels_alike, voxels_differ, voxels_fail}
 use Rattle.vdb_file.proofs.loading.leaf.take_listed_voxels.Goals as goal
@@ -22,7 +22,7 @@ loop-init g c =
       total = λ n h. h;
       failed = refl;
       cells = first_cells values c.args.bits c.requires.configured c.args.background c.in-Ok.leaf c.requires.value (entry_count g.row.F) all c.in-Ok.ensures.cells;
-      each = λ p. none_read values c.args.bits c.requires.configured c.args.background p c.in-Ok.leaf (place c.args.input.now (g.R.Read.remaining (source c.args.reader.now))) (entry_count g.row.F) all c.in-Ok.ensures.cells;
+      each = λ p. none_read values c.args.bits c.requires.configured c.args.background p c.in-Ok.leaf (position c.args.input.now (g.R.Read.remaining (source c.args.reader.now))) (entry_count g.row.F) all c.in-Ok.ensures.cells;
     }
 
 pub returns-in_err-voxel-clause-reads : goal.returns-in_err-voxel-clause-reads
@@ -30,7 +30,7 @@ returns-in_err-voxel-clause-reads g c p =
     let values = voxel_values g.V.PartialEq.eq g.V.Voxel.bytes_of g.V.Voxel.is_value g.V.Voxel.KIND (exact_by g.V.PartialEq.eq g.V.Ord.cmp g.met.V.Ord.matches_eq g.met.V.Voxel.exact) g.met.V.Eq.laws.refl g.met.V.Voxel.bytes_known g.met.V.Voxel.bytes_exact in
     let e = err_from_is_err_and c.from_residual.result c.from_residual.ensures.1 in
     rw (e.1, e.2) (voxels_fail values c.args.bits c.requires.configured c.args.background p c.loop.leaf c.requires.value c.loop.invariant.cells c.in_err-voxel.field-0.0
-    (place c.args.input.now (g.R.Read.remaining (source c.args.reader.now))) (place c.loop.input (g.R.Read.remaining (source c.loop.reader))) c.loop.counter c.args.count c.loop.before (c.loop.invariant.each p)
+    (position c.args.input.now (g.R.Read.remaining (source c.args.reader.now))) (position c.loop.input (g.R.Read.remaining (source c.loop.reader))) c.loop.counter c.args.count c.loop.before (c.loop.invariant.each p)
     c.loop-test.true c.entries-most.result c.entries-most.ensures c.in_err-voxel.ensures.reads)
 
 pub set-requires : goal.set-requires
@@ -58,7 +58,7 @@ loop-preserved g c =
       failed = search rules;
       cells = more_cells values c.args.bits c.requires.configured c.args.background c.loop.leaf c.set.new.self i cell sets is.cell.value c.loop.invariant.cells;
       each = λ p. voxel_read values c.args.bits c.requires.configured c.args.background p c.loop.leaf c.set.new.self i cell sets less is.cell.other
-          (place c.args.input.now (g.R.Read.remaining (source c.args.reader.now))) (place c.loop.input (g.R.Read.remaining (source c.loop.reader))) (place c.take_voxel.new.input (g.R.Read.remaining (source c.take_voxel.new.reader)))
+          (position c.args.input.now (g.R.Read.remaining (source c.args.reader.now))) (position c.loop.input (g.R.Read.remaining (source c.loop.reader))) (position c.take_voxel.new.input (g.R.Read.remaining (source c.take_voxel.new.reader)))
           c.loop.counter c.loop.before (c.loop.invariant.each p) is.index.later c.in_ok-voxel.ensures.reads.1;
     }
 
@@ -69,7 +69,7 @@ returns-in-Some-clause-reads g c p =
     let past = c.loop-test.false in
     let done : c.loop.counter ≡ c.args.count = omega (arith, last, past) in
     voxels_alike values c.args.bits c.requires.configured c.args.background p c.loop.leaf c.requires.value c.loop.invariant.cells ConstantNode
-    (place c.args.input.now (g.R.Read.remaining (source c.args.reader.now))) (place c.loop.input (g.R.Read.remaining (source c.loop.reader))) c.loop.counter c.args.count c.loop.before (c.loop.invariant.each p) done
+    (position c.args.input.now (g.R.Read.remaining (source c.args.reader.now))) (position c.loop.input (g.R.Read.remaining (source c.loop.reader))) c.loop.counter c.args.count c.loop.before (c.loop.invariant.each p) done
     c.in-Some.field-0 (entry_count g.row.F) (entries_are c.args.bits g.row.F c.requires.leaf) ((c.in-Some.ensures c.in-Some.field-0).0 refl)
 
 pub returns-in-None-clause-reads : goal.returns-in-None-clause-reads

@@ -1,7 +1,7 @@
 use Rattle.std.proofs.Common.{◌≡◌, ℕ, Some}
 use Rattle.vdb_coord.specs.declared.Coord.{Coord}
 use Rattle.vdb_scene.specs.Watched.{has_failed, source}
-use Rattle.vdb_file.specs.internal.Reading.{EndsWith, byte_total, place}
+use Rattle.vdb_file.specs.internal.Reading.{EndsWith, byte_total, position}
 use Rattle.vdb_file.proofs.LeafReads.{AreCells, HasRead}
 use Rattle.vdb_file.proofs.loading.leaf.take_listed_voxels.Given as goal
 
@@ -13,5 +13,5 @@ invariant-loop g l = record {
   failed : has_failed l.reader ≡ has_failed l.fn.reader;
   cells : AreCells g.V.Voxel.is_value l.fn.bits l.background l.leaf;
   each : (p : Coord) → HasRead g.V.PartialEq.eq g.V.Voxel.bytes_of l.fn.bits l.background p l.leaf
-      (place l.fn.input (g.R.Read.remaining (source l.fn.reader))) (place l.input (g.R.Read.remaining (source l.reader))) l.counter l.before;
+      (position l.fn.input (g.R.Read.remaining (source l.fn.reader))) (position l.input (g.R.Read.remaining (source l.reader))) l.counter l.before;
 }

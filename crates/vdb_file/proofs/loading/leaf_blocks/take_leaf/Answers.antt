@@ -4,7 +4,7 @@ use Rattle.vdb_coord.specs.Blocks.{block_around}
 use Rattle.vdb_coord.specs.declared.Bits.{Bits}
 use Rattle.vdb_coord.specs.declared.Level.TheVariants.{Leaf}
 use Rattle.vdb_coord.proofs.Meeting.{fits_everywhere}
-use Rattle.vdb_coord.proofs.Places.{entries_is}
+use Rattle.vdb_coord.proofs.Positions.{entries_is}
 use Rattle.vdb_tree.specs.Layout.{bits_of, cell_at, field_of}
 use Rattle.vdb_tree.proofs.Uniform.{exact_by}
 use Rattle.vdb_file.specs.internal.LoadedFields.{KeptOutside}
@@ -20,8 +20,8 @@ take_listed_voxels-requires g c =
     let fits = leaf_small _ _ g.row.WF _ c.has_leaf_words.ensures.few small.1 small.1 small.0 in
     let value : g.V.Voxel.is_value c.background-background.result = rw c.background-background.ensures (background_value g.V.Voxel.is_value c.args.tree.now.background (bits_of g.row.U g.row.L g.row.F) c.args.tree.now c.requires.ready.values) in
     let leaf = ap (λ (b : Bits). b.leaf) c.bits-bits.ensures.value in
-    let room = subst (λ (n : ℕ). n ≤ 64 * g.row.WF) (entries_is (bits_of g.row.U g.row.L g.row.F) Leaf) c.has_leaf_words.ensures.room in
-    (fits, (c.bits-bits.ensures.configured, (leaf, (room, (c.has_leaf_words.ensures.few, (value, c.requires.ends))))))
+    let capacity = subst (λ (n : ℕ). n ≤ 64 * g.row.WF) (entries_is (bits_of g.row.U g.row.L g.row.F) Leaf) c.has_leaf_words.ensures.capacity in
+    (fits, (c.bits-bits.ensures.configured, (leaf, (capacity, (c.has_leaf_words.ensures.few, (value, c.requires.ends))))))
 
 pub returns-in_err-leaf-clause-reads : goal.returns-in_err-leaf-clause-reads
 returns-in_err-leaf-clause-reads g c =

@@ -4,14 +4,14 @@ use Rattle.std.specs.List.{flat_map}
 use Rattle.vdb_scene.specs.Watched.{has_failed, source}
 use Rattle.vdb_file.specs.Scenes.{IsPair}
 use Rattle.vdb_file.specs.internal.Parts.{name_of, pair_bytes}
-use Rattle.vdb_file.specs.internal.Reading.{EndsWith, Took, byte_total, place}
+use Rattle.vdb_file.specs.internal.Reading.{EndsWith, Took, byte_total, position}
 use Rattle.vdb_file.proofs.Items.{IsChain, last_of}
 use Rattle.vdb_file.proofs.loading.metas.take_each_pair.Given as goal
 
 -- the pairs so far were read, and the next is to follow the last of them
 abbrev pub invariant-loop : goal.invariant-loop
 invariant-loop g l = record {
-  took : Took (place l.fn.input (g.R.Read.remaining (source l.fn.reader))) (place l.input (g.R.Read.remaining (source l.reader))) (flat_map pair_bytes l.metas);
+  took : Took (position l.fn.input (g.R.Read.remaining (source l.fn.reader))) (position l.input (g.R.Read.remaining (source l.reader))) (flat_map pair_bytes l.metas);
   ends : EndsWith l.input (g.R.Read.remaining (source l.reader));
   total : (n : ℕ) → byte_total l.fn.input (g.R.Read.remaining (source l.fn.reader)) ≡ Some n → byte_total l.input (g.R.Read.remaining (source l.reader)) ≡ Some n;
   count : length l.metas ≡ l.counter;

@@ -5,7 +5,7 @@ use Rattle.vdb_coord.specs.Space.{everywhere}
 use Rattle.vdb_tree.specs.Layout.{bits_of, field_of}
 use Rattle.vdb_tree.proofs.Uniform.{exact_by}
 use Rattle.vdb_scene.specs.Watched.{source}
-use Rattle.vdb_file.specs.internal.Reading.{place}
+use Rattle.vdb_file.specs.internal.Reading.{position}
 use Rattle.vdb_file.proofs.HeadCodes.{voxel_values}
 use Rattle.vdb_file.proofs.RootReads.{more_roots, no_next_root, no_roots, roots_ready}
 use Rattle.vdb_file.proofs.RowInstances.{is_root_row}
@@ -19,7 +19,7 @@ loop-init g c =
     let bits = bits_of g.row.U g.row.L g.row.F in
     let t = c.args.tree.now in
     let f = field_of bits t in
-    let old = place c.args.input.now (g.R.Read.remaining (source c.args.reader.now)) in
+    let old = position c.args.input.now (g.R.Read.remaining (source c.args.reader.now)) in
     let configured = rw c.bits.ensures.value at c.bits.ensures.configured in
     let under = no_roots values bits configured t.background f old c.requires.fresh c.requires.value in
     record {
@@ -38,10 +38,10 @@ returns-in_err-key-clause-reads g c =
     let bits = bits_of g.row.U g.row.L g.row.F in
     let t = c.args.tree.now in
     let f = field_of bits t in
-    let old = place c.args.input.now (g.R.Read.remaining (source c.args.reader.now)) in
+    let old = position c.args.input.now (g.R.Read.remaining (source c.args.reader.now)) in
     let configured = rw c.bits.ensures.value at c.bits.ensures.configured in
     let s = field_of bits c.loop.tree in
-    let now = place c.loop.input (g.R.Read.remaining (source c.loop.reader)) in
+    let now = position c.loop.input (g.R.Read.remaining (source c.loop.reader)) in
     let e = err_from_is_err_and c.from_residual.result c.from_residual.ensures.1 in
     rw (e.1, e.2) (no_next_root values bits configured t.background f old c.loop.counter c.loop.before s now c.loop.invariant.underway c.args.count c.loop-test.true c.in_err-key.field-0.0 c.in_err-key.ensures.reads)
 
@@ -52,13 +52,13 @@ loop-preserved g c =
     let bits = bits_of g.row.U g.row.L g.row.F in
     let t = c.args.tree.now in
     let f = field_of bits t in
-    let old = place c.args.input.now (g.R.Read.remaining (source c.args.reader.now)) in
+    let old = position c.args.input.now (g.R.Read.remaining (source c.args.reader.now)) in
     let configured = rw c.bits.ensures.value at c.bits.ensures.configured in
     let s = field_of bits c.loop.tree in
-    let now = place c.loop.input (g.R.Read.remaining (source c.loop.reader)) in
+    let now = position c.loop.input (g.R.Read.remaining (source c.loop.reader)) in
     let read = c.in_ok-key.ensures.reads in
     let after = field_of bits c.take_next_root.new.tree in
-    let next = place c.take_next_root.new.input (g.R.Read.remaining (source c.take_next_root.new.reader)) in
+    let next = position c.take_next_root.new.input (g.R.Read.remaining (source c.take_next_root.new.reader)) in
     let under = more_roots values bits configured t.background f old c.loop.counter c.loop.before s now c.loop.invariant.underway c.args.count c.loop-test.true c.in_ok-key.key next after read.0 read.1 c.in_ok-key.ensures.kept in
     let limit = c.in_ok-key.ensures.limit ∙ c.loop.invariant.limit in
     let few = subst (λ (n : ℕ). c.args.count ≤ n) (sym limit) c.requires.few in
@@ -78,8 +78,8 @@ returns-clause-reads g c =
     let bits = bits_of g.row.U g.row.L g.row.F in
     let t = c.args.tree.now in
     let f = field_of bits t in
-    let old = place c.args.input.now (g.R.Read.remaining (source c.args.reader.now)) in
+    let old = position c.args.input.now (g.R.Read.remaining (source c.args.reader.now)) in
     let configured = rw c.bits.ensures.value at c.bits.ensures.configured in
     let s = field_of bits c.loop.tree in
-    let now = place c.loop.input (g.R.Read.remaining (source c.loop.reader)) in
+    let now = position c.loop.input (g.R.Read.remaining (source c.loop.reader)) in
     all_underway values (is_root_row values bits configured) t.background everywhere f old c.loop.counter c.loop.before s now c.loop.invariant.underway c.args.count (search rules)

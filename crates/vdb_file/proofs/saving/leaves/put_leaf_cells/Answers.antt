@@ -3,7 +3,7 @@ use Rattle.std.proofs.lemmas.Result.{on_ok_weaker}
 use Rattle.vdb_coord.specs.Blocks.{block_around, entries}
 use Rattle.vdb_coord.specs.declared.Level.TheVariants.{Leaf}
 use Rattle.vdb_coord.proofs.Meeting.{fits_everywhere}
-use Rattle.vdb_coord.proofs.Places.{entries_is}
+use Rattle.vdb_coord.proofs.Positions.{entries_is}
 use Rattle.vdb_tree.specs.Field.{off}
 use Rattle.vdb_tree.specs.Layout.{bits_of, field_of}
 use Rattle.vdb_tree.proofs.Constants.{entries_few}

@@ -22,8 +22,8 @@ deallocate-requires g c =
     let long = after.ok.0 in let len_is = c.len.ensures in
     let at : length (rows_of after.items) ≡ c.len.result * 255 = length-rows after.items ∙ omega arith in
     let whole = whole_last after.items chunk (subst AreWhole c.in-Some.ensures.items c.loop-chunk.invariant.whole) in (
-      c.split_off-room.ensures.tail.0 ∙ ap (drop (c.len.result * 255)) parts ∙ drop_at (rows_of after.items) row (c.len.result * 255) at,
-      c.split_off-room.ensures.tail.1,
+      c.split_off-freed.ensures.tail.0 ∙ ap (drop (c.len.result * 255)) parts ∙ drop_at (rows_of after.items) row (c.len.result * 255) at,
+      c.split_off-freed.ensures.tail.1,
       whole.1.0,
       whole.1.1,
       refl,
@@ -37,8 +37,8 @@ loop-chunk-preserved g c =
     let long = after.ok.0 in let len_is = c.len.ensures in
     let at : length (rows_of after.items) ≡ c.len.result * 255 = length-rows after.items ∙ omega arith in
     let whole = whole_last after.items chunk (subst AreWhole c.in-Some.ensures.items c.loop-chunk.invariant.whole) in
-    let left : c.split_off-room.new.self.places ≡ rows_of after.items = c.split_off-room.ensures.rest.0 ∙ ap (take (c.len.result * 255)) parts ∙ take_at (rows_of after.items) row (c.len.result * 255) at in
-    let short : length c.split_off-room.new.self.places ≡ length (rows_of after.items) = ap length left in
+    let left : c.split_off-freed.new.self.places ≡ rows_of after.items = c.split_off-freed.ensures.rest.0 ∙ ap (take (c.len.result * 255)) parts ∙ take_at (rows_of after.items) row (c.len.result * 255) at in
+    let short : length c.split_off-freed.new.self.places ≡ length (rows_of after.items) = ap length left in
     let long_before : length c.loop-chunk.storage.places ≡ length (rows_of after.items) + length row = ap length parts ∙ length-append (rows_of after.items) row in
     let fits = c.loop-chunk.invariant.fits in
-    record { items = c.split_off-room.ensures.rest.1; places = left; whole = whole.0; fits = omega arith }
+    record { items = c.split_off-freed.ensures.rest.1; places = left; whole = whole.0; fits = omega arith }

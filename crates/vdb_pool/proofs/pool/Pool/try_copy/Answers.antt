@@ -26,12 +26,12 @@ loop-slot-preserved g c =
     elim c.match-branch-3.branch [
       | in-Some w ↦ rw w.copy-is record {
         copied = w.append_held.ensures.nodes ∙ ap (λ l. l ++ Some w.in-Some.node ∷ []) so_far.copied ∙ ap (λ o. take slot nodes ++ o ∷ []) (sym w.in-Some.is ∙ c.in_ok-node.ensures) ∙ sym next;
-        room = rw w.append_held.ensures.places so_far.room;
+        capacity = rw w.append_held.ensures.places so_far.capacity;
         order = rw w.append_held.ensures.vacant (falling_held slot c.loop-slot.copy.vacant so_far.order);
       }
       | in-None w ↦ rw w.copy-is record {
         copied = w.append_vacant.ensures.nodes ∙ ap (λ l. l ++ None ∷ []) so_far.copied ∙ ap (λ o. take slot nodes ++ o ∷ []) (sym w.in-None.is ∙ c.in_ok-node.ensures) ∙ sym next;
-        room = rw w.append_vacant.ensures.places so_far.room;
+        capacity = rw w.append_vacant.ensures.places so_far.capacity;
         order = rw (w.append_vacant.ensures.vacant, long) (falling_vacant slot c.loop-slot.copy.vacant so_far.order);
       }
     ]

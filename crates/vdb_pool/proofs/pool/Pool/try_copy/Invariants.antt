@@ -2,10 +2,10 @@ use Rattle.std.proofs.Common.{◌≡◌, ◌∷◌, ◌≤◌, length, take}
 use Rattle.vdb_pool.specs.Contents.{IsFalling}
 use Rattle.vdb_pool.proofs.pool.Pool.try_copy.Given as goal
 
--- the slots so far, and room for all of them
+-- the slots so far, and capacity for all of them
 abbrev pub invariant-loop-slot : goal.invariant-loop-slot
 invariant-loop-slot g l = record {
   copied : l.copy.nodes ≡ take l.slot l.self.nodes;
-  room : length l.self.nodes ≤ length l.copy.places;
+  capacity : length l.self.nodes ≤ length l.copy.places;
   order : IsFalling (l.slot ∷ l.copy.vacant);
 }

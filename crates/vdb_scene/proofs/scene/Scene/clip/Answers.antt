@@ -6,7 +6,7 @@ use Rattle.vdb_scene.specs.Refusals.{of_tree}
 use Rattle.vdb_scene.specs.Step.{changed}
 use Rattle.vdb_scene.proofs.Borrowed.{changed_field, found, kept, missing, same_scene, unchanged}
 use Rattle.vdb_scene.proofs.Steps.{corners_first, refused}
-use Rattle.vdb_scene.specs.Grids.{grid_field, grid_limit, scene_of}
+use Rattle.vdb_scene.specs.Grids.{grid_field, grid_root_limit, scene_of}
 use Rattle.vdb_scene.specs.declared.command.Command.TheVariants as commands
 use Rattle.vdb_scene.proofs.Trees.{refused_leaves, tree_refused_leaves}
 use Rattle.vdb_scene.proofs.scene.Scene.clip.Goals as goal
@@ -32,9 +32,9 @@ returns-in_err-clip-clause-step c =
     let entry = c.in-Some.entry.now in
     let there = sym c.in-Some.ensures.value in
     let exit = err_from_is_err_and c.from_residual-in_err-clip.result c.from_residual-in_err-clip.ensures.1 in
-    let same = kept c.in_err-clip.field-0.0 (grid_limit entry.grid) (grid_field entry.grid) (clip c.in_ok-bounds.bounds (grid_field entry.grid)) (grid_field c.clip.new.self) c.in_err-clip.ensures.outcome in
+    let same = kept c.in_err-clip.field-0.0 (grid_root_limit entry.grid) (grid_field entry.grid) (clip c.in_ok-bounds.bounds (grid_field entry.grid)) (grid_field c.clip.new.self) c.in_err-clip.ensures.outcome in
     rw (exit.1, exit.2 ∙ ap of_tree c.in_err-clip.ensures.memory) (
-      rw (found grids c.args.name.now entry there, c.in_ok-bounds.ensures.places, c.in_ok-bounds.ensures.ordered) refl,
+      rw (found grids c.args.name.now entry there, c.in_ok-bounds.ensures.coords, c.in_ok-bounds.ensures.ordered) refl,
       refl,
       unchanged grids c.args.name.now _ entry there c.clip.new.self (c.get_mut.follows.holds (record entry { grid = c.clip.new.self })).0 same c.in_err-clip.ensures.limit,
     )
@@ -44,7 +44,7 @@ returns-clause-step c =
     let grids = c.args.self.now.grids.entries in
     let entry = c.in-Some.entry.now in
     let there = sym c.in-Some.ensures.value in (
-      rw (found grids c.args.name.now entry there, c.in_ok-bounds.ensures.places, c.in_ok-bounds.ensures.ordered) refl,
+      rw (found grids c.args.name.now entry there, c.in_ok-bounds.ensures.coords, c.in_ok-bounds.ensures.ordered) refl,
       (replies.Done, refl, refl),
       changed_field grids c.args.name.now _ entry there c.clip.new.self (c.get_mut.follows.holds (record entry { grid = c.clip.new.self })).0 (clip c.in_ok-bounds.bounds) c.in_ok-clip.ensures.outcome.0 c.in_ok-clip.ensures.limit
           ∙ ap (λ box. changed (scene_of c.args.self.now) c.args.name.now (clip box)) c.in_ok-bounds.ensures.bounds,

@@ -2,7 +2,7 @@ use Rattle.std.proofs.Common.{◌∙◌, sym, ap, refl}
 use Rattle.std.proofs.lemmas.Result.{err_from_is_err_and}
 use Rattle.std.specs.Prelude.{Some}
 use Rattle.vdb_tree.specs.Field.{fill}
-use Rattle.vdb_scene.specs.Grids.{grid_field, grid_limit}
+use Rattle.vdb_scene.specs.Grids.{grid_field, grid_root_limit}
 use Rattle.vdb_scene.proofs.Borrowed.{changed_field, kept, same_scene, unchanged}
 use Rattle.vdb_scene.proofs.Filling.{fill_corners_refused, fill_done, fill_missing, fill_refused, fill_value_refused}
 use Rattle.vdb_scene.proofs.Trees.{refused_leaves, tree_refused_leaves}
@@ -37,10 +37,10 @@ returns-in_err-fill-clause-step c =
     let entry = c.in-Some.entry.now in
     let there = sym c.in-Some.ensures.value in
     let exit = err_from_is_err_and c.from_residual-in_err-fill.result c.from_residual-in_err-fill.ensures.1 in
-    let same = kept c.in_err-fill.field-0.0 (grid_limit entry.grid) (grid_field entry.grid) (fill c.in_ok-bounds.bounds (record { value = c.in_ok-value.value; on = c.args.on }) (grid_field entry.grid)) (grid_field c.fill.new.self)
+    let same = kept c.in_err-fill.field-0.0 (grid_root_limit entry.grid) (grid_field entry.grid) (fill c.in_ok-bounds.bounds (record { value = c.in_ok-value.value; on = c.args.on }) (grid_field entry.grid)) (grid_field c.fill.new.self)
     c.in_err-fill.ensures.outcome in
     rw (exit.1, exit.2) (fill_refused grids c.args.name.now c.args.corners.now c.args.value c.args.on _ entry there c.kind.result c.kind.ensures c.in_ok-value.ensures.form c.in_ok-value.ensures.range
-    c.in_ok-bounds.ensures.places c.in_ok-bounds.ensures.ordered c.in_ok-bounds.bounds c.in_ok-bounds.ensures.bounds c.in_ok-value.value c.in_ok-value.ensures.value
+    c.in_ok-bounds.ensures.coords c.in_ok-bounds.ensures.ordered c.in_ok-bounds.bounds c.in_ok-bounds.ensures.bounds c.in_ok-value.value c.in_ok-value.ensures.value
     c.in_err-fill.field-0.0 (grid_field c.fill.new.self) c.in_err-fill.ensures.outcome
     (unchanged grids c.args.name.now _ entry there c.fill.new.self (c.get_mut.follows.holds (record entry { grid = c.fill.new.self })).0 same c.in_err-fill.ensures.limit))
 
@@ -50,7 +50,7 @@ returns-clause-step c =
     let entry = c.in-Some.entry.now in
     let there = sym c.in-Some.ensures.value in
     fill_done grids c.args.name.now c.args.corners.now c.args.value c.args.on _ entry there c.kind.result c.kind.ensures c.in_ok-value.ensures.form c.in_ok-value.ensures.range
-    c.in_ok-bounds.ensures.places c.in_ok-bounds.ensures.ordered c.in_ok-bounds.bounds c.in_ok-bounds.ensures.bounds c.in_ok-value.value c.in_ok-value.ensures.value c.in_ok-fill.ensures.outcome.1
+    c.in_ok-bounds.ensures.coords c.in_ok-bounds.ensures.ordered c.in_ok-bounds.bounds c.in_ok-bounds.ensures.bounds c.in_ok-value.value c.in_ok-value.ensures.value c.in_ok-fill.ensures.outcome.1
     (changed_field grids c.args.name.now _ entry there c.fill.new.self (c.get_mut.follows.holds (record entry { grid = c.fill.new.self })).0 (fill c.in_ok-bounds.bounds (record { value = c.in_ok-value.value; on = c.args.on }))
     c.in_ok-fill.ensures.outcome.0 c.in_ok-fill.ensures.limit)
 

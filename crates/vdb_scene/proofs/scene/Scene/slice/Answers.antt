@@ -2,7 +2,7 @@ use Rattle.std.proofs.Common.{◌≡◌, ◌∙◌, ap, refl, subst, sym, Some, 
 use Rattle.std.proofs.lemmas.Result.{err_from_is_err_and}
 use Rattle.vdb_scene.proofs.Steps.{corners_first, refused}
 use Rattle.vdb_scene.specs.Grids.{scene_of}
-use Rattle.vdb_scene.specs.Places.{are_coords}
+use Rattle.vdb_scene.specs.Arguments.{are_coords}
 use Rattle.vdb_scene.specs.Refusals.{first_of_all, no_box, out_of_range}
 use Rattle.vdb_scene.specs.declared.command.Corners.{Corners}
 use Rattle.vdb_scene.specs.declared.command.Command.TheVariants as commands

@@ -3,7 +3,7 @@ use Rattle.std.proofs.lemmas.Bool.{le-ltb, lt-ltb}
 use Rattle.std.proofs.lemmas.Result.{err_from_is_err_and}
 use Rattle.vdb_coord.specs.Space.{volume}
 use Rattle.vdb_scene.specs.Replies as replies
-use Rattle.vdb_scene.specs.Places.{box_between}
+use Rattle.vdb_scene.specs.Arguments.{box_between}
 use Rattle.vdb_scene.specs.Refusals.{of_tree}
 use Rattle.vdb_scene.proofs.Borrowed.{found, missing, same_scene, unchanged}
 use Rattle.vdb_scene.proofs.Steps.{corners_first, refused}
@@ -33,7 +33,7 @@ returns-then-volume-gt-VOXELISE_LIMIT-clause-step c =
     let entry = c.in-Some.entry.now in
     let there = sym c.in-Some.ensures.value in
     let many : 2097152 < volume (box_between c.args.corners.now) = rw (c.volume.ensures.value ∙ ap volume c.in_ok-bounds.ensures.bounds) at c.if-volume-gt-VOXELISE_LIMIT.true in (
-      rw (found grids c.args.name.now entry there, c.in_ok-bounds.ensures.places, c.in_ok-bounds.ensures.ordered, lt-ltb 2097152 (volume (box_between c.args.corners.now)) many) refl,
+      rw (found grids c.args.name.now entry there, c.in_ok-bounds.ensures.coords, c.in_ok-bounds.ensures.ordered, lt-ltb 2097152 (volume (box_between c.args.corners.now)) many) refl,
       same_scene grids c.args.name.now _ entry there (c.get_mut.follows.holds entry).0,
     )
 
@@ -45,7 +45,7 @@ returns-in_err-voxelise-clause-step c =
     let exit = err_from_is_err_and c.from_residual-in_err-voxelise.result c.from_residual-in_err-voxelise.ensures.1 in
     let few : volume (box_between c.args.corners.now) ≤ 2097152 = rw (c.volume.ensures.value ∙ ap volume c.in_ok-bounds.ensures.bounds) at c.if-volume-gt-VOXELISE_LIMIT.false in
     rw (exit.1, exit.2 ∙ ap of_tree c.in_err-voxelise.ensures.memory) (
-      rw (found grids c.args.name.now entry there, c.in_ok-bounds.ensures.places, c.in_ok-bounds.ensures.ordered, le-ltb 2097152 (volume (box_between c.args.corners.now)) few) refl,
+      rw (found grids c.args.name.now entry there, c.in_ok-bounds.ensures.coords, c.in_ok-bounds.ensures.ordered, le-ltb 2097152 (volume (box_between c.args.corners.now)) few) refl,
       refl,
       unchanged grids c.args.name.now _ entry there c.voxelise.new.self (c.get_mut.follows.holds (record entry { grid = c.voxelise.new.self })).0 c.in_err-voxelise.ensures.field c.in_err-voxelise.ensures.limit,
     )
@@ -56,7 +56,7 @@ returns-clause-step c =
     let entry = c.in-Some.entry.now in
     let there = sym c.in-Some.ensures.value in
     let few : volume (box_between c.args.corners.now) ≤ 2097152 = rw (c.volume.ensures.value ∙ ap volume c.in_ok-bounds.ensures.bounds) at c.if-volume-gt-VOXELISE_LIMIT.false in (
-      rw (found grids c.args.name.now entry there, c.in_ok-bounds.ensures.places, c.in_ok-bounds.ensures.ordered, le-ltb 2097152 (volume (box_between c.args.corners.now)) few) refl,
+      rw (found grids c.args.name.now entry there, c.in_ok-bounds.ensures.coords, c.in_ok-bounds.ensures.ordered, le-ltb 2097152 (volume (box_between c.args.corners.now)) few) refl,
       (replies.Done, refl, refl),
       unchanged grids c.args.name.now _ entry there c.voxelise.new.self (c.get_mut.follows.holds (record entry { grid = c.voxelise.new.self })).0 c.in_ok-voxelise.ensures.field c.in_ok-voxelise.ensures.limit,
     )

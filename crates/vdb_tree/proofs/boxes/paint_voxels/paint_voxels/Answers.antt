@@ -1,7 +1,7 @@
 use Rattle.std.proofs.Common.{◌≡◌, ◌∙◌, ◌<◌, ◌≤◌, ◌+◌, ℕ, SFits, ap, arith, rules, w32}
 use Rattle.vdb_coord.specs.Blocks.{entries}
 use Rattle.vdb_coord.specs.declared.Level.TheVariants.{Leaf}
-use Rattle.vdb_coord.proofs.Places.{entries_is}
+use Rattle.vdb_coord.proofs.Positions.{entries_is}
 use Rattle.vdb_node.specs.Nodes.{entry_count}
 use Rattle.vdb_tree.proofs.PaintedVoxels.{voxels_all, voxels_next}
 use Rattle.vdb_tree.proofs.Sizes.{leaf_small}

@@ -3,7 +3,7 @@ use Rattle.vdb_coord.specs.declared.Level.TheVariants.{Upper}
 use Rattle.vdb_node.specs.Nodes.{entry_count}
 use Rattle.vdb_node.specs.declared.Entry.TheVariants.{Child}
 use Rattle.vdb_tree.specs.Changes.{KeepsBeyond}
-use Rattle.vdb_tree.specs.internal.Corners.{IsChildless}
+use Rattle.vdb_tree.specs.internal.Children.{IsChildless}
 use Rattle.vdb_tree.specs.Layout.{bits_of, upper_entry, root_entry}
 use Rattle.vdb_tree.proofs.tree.TreeOf.drop_lowers.Given as goal
 

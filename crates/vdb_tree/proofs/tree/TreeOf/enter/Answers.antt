@@ -1,6 +1,6 @@
 use Rattle.std.proofs.Common.{ℕ, ◌+◌, ◌<◌, ◌≤◌, arith}
 use Rattle.vdb_tree.proofs.Splits.{with_entry_keeps, with_entry_adds, with_entry_same, with_entry_sound}
-use Rattle.vdb_tree.proofs.Sweeps.{other_key}
+use Rattle.vdb_tree.proofs.RootSweeps.{other_key}
 use Rattle.vdb_tree.proofs.SweptTables.{not_known}
 use Rattle.vdb_tree.proofs.tree.TreeOf.enter.Goals as goal
 
@@ -11,7 +11,7 @@ pub invariant_of-self-2 : goal.invariant_of-self-2
 invariant_of-self-2 g c = (
   c.self.invariant.0,
   with_entry_sound _ _ c.self.invariant.1 c.args.p _ _ (rw (← c.self.view_is) at c.requires.tiled) (rw c.key-key.ensures.value at c.in_ok-put.ensures.ok) c.key-key.ensures.within
-      (one_more _ _ _ c.in_ok-put.ensures.size (rw (← c.self.view_is) at c.requires.room)) c.in_ok-put.ensures.apart,
+      (one_more _ _ _ c.in_ok-put.ensures.size (rw (← c.self.view_is) at c.requires.capacity)) c.in_ok-put.ensures.apart,
   not_known,
 )
 

@@ -10,7 +10,7 @@ use Rattle.vdb_tree.proofs.Splits.{keeps_twice}
 use Rattle.vdb_tree.proofs.tree.TreeOf.enter_active_blocks.Goals as goal
 
 pub keys-init : goal.keys-init
-keys-init g c = record { enters = enters_none (bits_of g.row.U g.row.L g.row.F) c.args.other.now c.args.self.now; room = c.requires }
+keys-init g c = record { enters = enters_none (bits_of g.row.U g.row.L g.row.F) c.args.other.now c.args.self.now; capacity = c.requires }
 
 pub keys-smaller : goal.keys-smaller
 keys-smaller g c = fewer_past c.args.other.now.root c.keys.passed c.in-Some.key c.in-Some.ensures.least
@@ -24,7 +24,7 @@ keys-preserved g c =
     let entered = subst (λ (k : Coord). IsActiveKey bits u k → IsSome (root_at new.root k)) c.key_corner.ensures.number call.entered in
     record {
       enters = enters_next bits u c.args.self.now c.keys.self c.keys.passed c.keys.invariant.enters new call.keeps call.nodes call.keys c.in-Some.key entered c.in-Some.ensures.least;
-      room = call.room;
+      capacity = call.capacity;
     }
 
 pub returns-in_err-enter_if_active-clause-keeps : goal.returns-in_err-enter_if_active-clause-keeps

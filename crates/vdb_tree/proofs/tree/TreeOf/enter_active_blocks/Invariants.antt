@@ -9,7 +9,7 @@ invariant-keys g l =
     let bits = bits_of g.row.U g.row.L g.row.F in
     record {
       enters : EntersActive bits l.other l.fn.self l.self l.passed;
-      room : HasCapacityForActive bits l.other l.self;
+      capacity : HasCapacityForActive bits l.other l.self;
     }
 
 abbrev pub decreases-keys : goal.decreases-keys

@@ -21,7 +21,7 @@ loop-self-preserved g c =
     let call = c.in_ok-enter_block.ensures in (
       enters_next (bits_of g.row.U g.row.L g.row.F) c.args.bounds c.args.self.now c.loop-self.self c.enter_block.new.self c.loop-self.p c.loop-self.invariant.0
           call.keeps call.adds call.same call.keys call.entered c.in-Some.next c.in-Some.ensures.next,
-      call.room,
+      call.capacity,
     )
 
 pub returns-in-None-clause-adds : goal.returns-in-None-clause-adds

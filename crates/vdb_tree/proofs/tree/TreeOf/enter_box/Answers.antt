@@ -8,7 +8,7 @@ use Rattle.vdb_tree.specs.ConstantBlocks.{roots}
 use Rattle.vdb_tree.specs.declared.refusal.TreeRefusal.TheVariants.{RootLimit}
 use Rattle.vdb_value.specs.declared.Cell.{Cell}
 use Rattle.vdb_tree.proofs.Blocks.{never}
-use Rattle.vdb_tree.proofs.Erasing.{adds_background_none, adds_background_twice, ready_background}
+use Rattle.vdb_tree.proofs.Erasing.{adds_background_none, adds_background_twice, split_background}
 use Rattle.vdb_tree.specs.Changes.{AddsNodes}
 use Rattle.vdb_tree.proofs.MadeNodes.{keys_in_none, keys_in_twice, no_node_twice, same_no_node}
 use Rattle.vdb_tree.proofs.Capacities.{obeys_full, obeys_within, or_entered}
@@ -57,7 +57,7 @@ returns-in_err-make_capacity_for-clause-background_cell g c =
     absurd (never c.if-eq.false (c.eq.ensures ∙ cell_same g.V.PartialEq.eq exact g.met.V.Eq.laws.refl c.args.cell _ (subst (λ (s : Layout g.row.V.Denot). c.args.cell ≡ background_cell s) (sym c.self.view_is) same)))
 
 pub returns-in_err-make_capacity_for-clause-edges : goal.returns-in_err-make_capacity_for-clause-edges
-returns-in_err-make_capacity_for-clause-edges g c = ready_background (bits_of g.row.U g.row.L g.row.F) c.args.self.now c.make_capacity_for.new.self c.in_err-make_capacity_for.ensures.adds
+returns-in_err-make_capacity_for-clause-edges g c = split_background (bits_of g.row.U g.row.L g.row.F) c.args.self.now c.make_capacity_for.new.self c.in_err-make_capacity_for.ensures.adds
 
 pub returns-clause-keeps : goal.returns-clause-keeps
 returns-clause-keeps g c = keeps_twice (bits_of g.row.U g.row.L g.row.F) c.args.self.now c.make_capacity_for.new.self c.enter_blocks.new.self c.in_ok-make_capacity_for.ensures.adds.keeps c.enter_blocks.ensures.keeps
@@ -79,7 +79,7 @@ returns-clause-background_cell g c =
 pub returns-clause-edges : goal.returns-clause-edges
 returns-clause-edges g c =
     let bits = bits_of g.row.U g.row.L g.row.F in
-    ready_background bits c.args.self.now c.enter_blocks.new.self
+    split_background bits c.args.self.now c.enter_blocks.new.self
     (adds_background_twice bits c.args.self.now c.make_capacity_for.new.self c.enter_blocks.new.self c.in_ok-make_capacity_for.ensures.adds
     (adds_background_none bits c.make_capacity_for.new.self c.enter_blocks.new.self c.enter_blocks.ensures.keeps c.enter_blocks.ensures.same))
 
@@ -101,7 +101,7 @@ returns-in_err-make_capacity_for-clause-adds g c =
     let exact = exact_by g.V.PartialEq.eq g.V.Ord.cmp g.met.V.Ord.matches_eq g.met.V.Voxel.exact in
     λ h. elim h [
       | inl same ↦ absurd (never c.if-eq.false (c.eq.ensures ∙ cell_same g.V.PartialEq.eq exact g.met.V.Eq.laws.refl c.args.cell _ (subst (λ (s : Layout g.row.V.Denot). c.args.cell ≡ background_cell s) (sym c.self.view_is) same)))
-      | inr room ↦ subst (λ (t : Layout g.row.V.Denot). AddsNodes bits c.args.self.now t) (sym (c.in_err-make_capacity_for.ensures.stays room)) (adds_itself bits c.args.self.now)
+      | inr capacity ↦ subst (λ (t : Layout g.row.V.Denot). AddsNodes bits c.args.self.now t) (sym (c.in_err-make_capacity_for.ensures.stays capacity)) (adds_itself bits c.args.self.now)
     ]
 
 pub returns-clause-nodes : goal.returns-clause-nodes
@@ -128,5 +128,5 @@ returns-clause-adds g c =
     let exact = exact_by g.V.PartialEq.eq g.V.Ord.cmp g.met.V.Ord.matches_eq g.met.V.Voxel.exact in
     λ h. elim h [
       | inl same ↦ absurd (never c.if-eq.false (c.eq.ensures ∙ cell_same g.V.PartialEq.eq exact g.met.V.Eq.laws.refl c.args.cell _ (subst (λ (s : Layout g.row.V.Denot). c.args.cell ≡ background_cell s) (sym c.self.view_is) same)))
-      | inr room ↦ subst (λ (t : Layout g.row.V.Denot). AddsNodes bits t c.enter_blocks.new.self) (c.in_ok-make_capacity_for.ensures.stays room) c.enter_blocks.ensures.adds
+      | inr capacity ↦ subst (λ (t : Layout g.row.V.Denot). AddsNodes bits t c.enter_blocks.new.self) (c.in_ok-make_capacity_for.ensures.stays capacity) c.enter_blocks.ensures.adds
     ]

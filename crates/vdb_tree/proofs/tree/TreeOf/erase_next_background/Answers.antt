@@ -6,7 +6,7 @@ use Rattle.vdb_tree.specs.Changes.{IsConstantBlock, PrunesRoot}
 use Rattle.vdb_tree.specs.Layout.{Layout, bits_of, background_cell}
 use Rattle.vdb_tree.proofs.Blocks.{never}
 use Rattle.vdb_tree.proofs.Erasing.{erases_none, erases_pruned}
-use Rattle.vdb_tree.proofs.Sweeps.{prunes_root}
+use Rattle.vdb_tree.proofs.RootSweeps.{prunes_root}
 use Rattle.vdb_tree.proofs.tree.TreeOf.erase_next_background.Goals as goal
 
 pub returns-then-root_block_is-clause-erased : goal.returns-then-root_block_is-clause-erased

@@ -4,11 +4,11 @@ use Rattle.std.specs.Map.{keys_of}
 use Rattle.vdb_coord.specs.Blocks.{key}
 use Rattle.vdb_coord.specs.Space.{coord_eq}
 use Rattle.vdb_tree.specs.Layout.{Layout, bits_of}
-use Rattle.vdb_tree.proofs.ActiveCapacities.{active_room}
+use Rattle.vdb_tree.proofs.ActiveCapacities.{active_capacity}
 use Rattle.vdb_tree.proofs.tree.TreeOf.has_capacity_around.Goals as goal
 
 pub returns : goal.returns
 returns g c =
     let bits = bits_of g.row.U g.row.L g.row.F in
-    active_room bits c.args.other.now c.args.self.now c.requires.room (key bits c.args.p) c.requires.active
+    active_capacity bits c.args.other.now c.args.self.now c.requires.capacity (key bits c.args.p) c.requires.active
     (subst (λ (t : Layout g.row.V.Denot). IsDistinct coord_eq (keys_of t.root)) c.self.view_is c.self.invariant.1.apart)

@@ -14,17 +14,17 @@ keys-init g c = rw (c.len.ensures, ← c.self.view_is) (counts_none (bits_of g.r
 pub keys-smaller : goal.keys-smaller
 keys-smaller g c = fewer_past c.args.other.now.root c.keys.passed c.in-Some.key c.in-Some.ensures.least
 
-pub keys-smaller-else-room-eq0 : goal.keys-smaller-else-room-eq0
-keys-smaller-else-room-eq0 g c = fewer_past c.args.other.now.root c.keys.passed c.in-Some.key c.in-Some.ensures.least
+pub keys-smaller-else-capacity-eq0 : goal.keys-smaller-else-capacity-eq0
+keys-smaller-else-capacity-eq0 g c = fewer_past c.args.other.now.root c.keys.passed c.in-Some.key c.in-Some.ensures.least
 
-pub keys-preserved-else-room-eq0 : goal.keys-preserved-else-room-eq0
-keys-preserved-else-room-eq0 g c =
+pub keys-preserved-else-capacity-eq0 : goal.keys-preserved-else-capacity-eq0
+keys-preserved-else-capacity-eq0 g c =
     let bits = bits_of g.row.U g.row.L g.row.F in
     let t = c.args.self.now in
     let u = c.args.other.now in
     let lacks = subst (λ (k : Coord). (root_at t.root k ≡ None) × IsActiveKey bits u k) c.key_corner.ensures.number (c.lacks_entry_for.ensures.lacks c.if-lacks_entry_for.true) in
-    let some : 0 < c.keys.room = search rules in
-    counts_more bits u t c.keys.passed c.keys.room c.keys.invariant c.in-Some.key c.in-Some.ensures.least lacks.0 lacks.1 some
+    let some : 0 < c.keys.capacity = search rules in
+    counts_more bits u t c.keys.passed c.keys.capacity c.keys.invariant c.in-Some.key c.in-Some.ensures.least lacks.0 lacks.1 some
 
 pub keys-preserved : goal.keys-preserved
 keys-preserved g c =
@@ -33,18 +33,18 @@ keys-preserved g c =
     let u = c.args.other.now in
     let held = subst (λ (k : Coord). IsSome (root_at t.root k) ⊎ ((q : Coord) → key bits q ≡ k → (cell_at bits u q).on ≡ false)) c.key_corner.ensures.number (c.lacks_entry_for.ensures.held c.if-lacks_entry_for.false) in
     elim held [
-      | inl entry ↦ counts_held bits u t c.keys.passed c.keys.room c.keys.invariant c.in-Some.key c.in-Some.ensures.least entry
-      | inr idle ↦ counts_idle bits u t c.keys.passed c.keys.room c.keys.invariant c.in-Some.key c.in-Some.ensures.least idle
+      | inl entry ↦ counts_held bits u t c.keys.passed c.keys.capacity c.keys.invariant c.in-Some.key c.in-Some.ensures.least entry
+      | inr idle ↦ counts_idle bits u t c.keys.passed c.keys.capacity c.keys.invariant c.in-Some.key c.in-Some.ensures.least idle
     ]
 
-pub returns-then-room-eq0-clause-full : goal.returns-then-room-eq0-clause-full
-returns-then-room-eq0-clause-full g c = λ _.
+pub returns-then-capacity-eq0-clause-full : goal.returns-then-capacity-eq0-clause-full
+returns-then-capacity-eq0-clause-full g c = λ _.
     let bits = bits_of g.row.U g.row.L g.row.F in
     let t = c.args.self.now in
     let u = c.args.other.now in
     let lacks = subst (λ (k : Coord). (root_at t.root k ≡ None) × IsActiveKey bits u k) c.key_corner.ensures.number (c.lacks_entry_for.ensures.lacks c.if-lacks_entry_for.true) in
-    counts_full bits u t c.keys.passed c.keys.room c.keys.invariant c.in-Some.key c.in-Some.ensures.least lacks.0 lacks.1 (search rules)
+    counts_full bits u t c.keys.passed c.keys.capacity c.keys.invariant c.in-Some.key c.in-Some.ensures.least lacks.0 lacks.1 (search rules)
 
-pub returns-clause-room : goal.returns-clause-room
-returns-clause-room g c = λ _.
-    counts_all (bits_of g.row.U g.row.L g.row.F) c.args.other.now c.args.self.now c.keys.passed c.keys.room c.keys.invariant c.in_default.ensures.least
+pub returns-clause-capacity : goal.returns-clause-capacity
+returns-clause-capacity g c = λ _.
+    counts_all (bits_of g.row.U g.row.L g.row.F) c.args.other.now c.args.self.now c.keys.passed c.keys.capacity c.keys.invariant c.in_default.ensures.least

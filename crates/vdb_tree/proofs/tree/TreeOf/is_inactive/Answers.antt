@@ -1,8 +1,8 @@
 use Rattle.std.proofs.Common.{subst}
 use Rattle.vdb_tree.specs.Layout.{bits_of}
 use Rattle.vdb_tree.specs.Parts.{IsEnd}
-use Rattle.vdb_tree.specs.declared.reading.ends.End.{End}
-use Rattle.vdb_tree.proofs.Voxels.{active_cell, active_room, leaf_inactive, not_on, tile_inactive}
+use Rattle.vdb_tree.specs.declared.queries.ends.End.{End}
+use Rattle.vdb_tree.proofs.Voxels.{active_cell, active_capacity, leaf_inactive, not_on, tile_inactive}
 use Rattle.vdb_tree.proofs.tree.TreeOf.is_inactive.Goals as goal
 
 pub returns-in-Leaf-clause-inactive : goal.returns-in-Leaf-clause-inactive
@@ -16,10 +16,10 @@ returns-in-Tile-clause-inactive g c = λ off.
     tile_inactive bits c.args.self.now c.args.p c.in-Tile.field-0 c.in-Tile.cell
     (subst (λ (e : End g.row.V.Denot). IsEnd bits c.args.self.now c.args.p e) c.in-Tile.is c.requires) (not_on c.in-Tile.cell.on off)
 
-pub returns-in-Tile-clause-room : goal.returns-in-Tile-clause-room
-returns-in-Tile-clause-room g c =
+pub returns-in-Tile-clause-capacity : goal.returns-in-Tile-clause-capacity
+returns-in-Tile-clause-capacity g c =
     let bits = bits_of g.row.U g.row.L g.row.F in
-    active_room bits c.args.self.now c.args.p c.in-Tile.field-0 c.in-Tile.cell
+    active_capacity bits c.args.self.now c.args.p c.in-Tile.field-0 c.in-Tile.cell
     (subst (λ (e : End g.row.V.Denot). IsEnd bits c.args.self.now c.args.p e) c.in-Tile.is c.requires)
 
 pub returns-in-Tile-clause-active : goal.returns-in-Tile-clause-active

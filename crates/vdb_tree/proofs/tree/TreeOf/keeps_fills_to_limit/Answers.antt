@@ -12,7 +12,7 @@ returns-clause-background_cell g c =
 pub returns-clause-within : goal.returns-clause-within
 returns-clause-within g c =
     let exact = exact_by g.V.PartialEq.eq g.V.Ord.cmp g.met.V.Ord.matches_eq g.met.V.Voxel.exact in
-    rw (← c.self.view_is) (λ room cell. fill_within g.V.PartialEq.eq exact g.met.V.Eq.laws.refl _ c.self.invariant.0.bits _ c.args.bounds cell room)
+    rw (← c.self.view_is) (λ capacity cell. fill_within g.V.PartialEq.eq exact g.met.V.Eq.laws.refl _ c.self.invariant.0.bits _ c.args.bounds cell capacity)
 
 pub returns-clause-full : goal.returns-clause-full
 returns-clause-full g c =

@@ -27,7 +27,7 @@ returns-clause-full g c =
     let same : swept ≡ field_of bits c.args.self.now = keeps_field bits c.args.self.now c.erase_background.new.self c.erase_background.ensures.keeps in (
       refl,
       λ changed altered differs.
-          let h = c.keeps_to_limit-2.ensures.full (λ room. never c.if-has_capacity-2.false (c.has_capacity-2.ensures.1 room)) c.erase_background.ensures.swept changed
+          let h = c.keeps_to_limit-2.ensures.full (λ capacity. never c.if-has_capacity-2.false (c.has_capacity-2.ensures.1 capacity)) c.erase_background.ensures.swept changed
           (subst (λ (f : Field g.row.V.Denot). IsAlteredIn bits (key bits c.args.p) f changed) (sym same) altered)
           (λ cells. differs (subst (λ (f : Field g.row.V.Denot). AreSameCells f changed) same cells)) in
           subst (λ n. n < roots g.V.PartialEq.eq bits changed) c.erase_background.ensures.keeps.head.limit h,

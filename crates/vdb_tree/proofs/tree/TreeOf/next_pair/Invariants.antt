@@ -4,8 +4,8 @@ use Rattle.vdb_tree.specs.Pairs.{IsPairWalk, PassesPairs}
 use Rattle.vdb_tree.specs.Parts.{left_count}
 use Rattle.vdb_tree.proofs.tree.TreeOf.next_pair.Given as goal
 
-abbrev pub invariant-places : goal.invariant-places
-invariant-places g l =
+abbrev pub invariant-starts : goal.invariant-starts
+invariant-starts g l =
     let bits = bits_of g.row.U g.row.L g.row.F in
     record {
       walk : IsPairWalk bits l.self l.other l.walk;
@@ -13,5 +13,5 @@ invariant-places g l =
       few : left_count bits l.walk.at ≤ left_count bits l.initial.walk.at;
     }
 
-abbrev pub decreases-places : goal.decreases-places
-decreases-places g l = left_count (bits_of g.row.U g.row.L g.row.F) l.walk.at
+abbrev pub decreases-starts : goal.decreases-starts
+decreases-starts g l = left_count (bits_of g.row.U g.row.L g.row.F) l.walk.at

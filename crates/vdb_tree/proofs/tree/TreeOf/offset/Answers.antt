@@ -1,4 +1,4 @@
-use Rattle.vdb_coord.proofs.Places.{entries_is}
+use Rattle.vdb_coord.proofs.Positions.{entries_is}
 use Rattle.vdb_tree.proofs.tree.TreeOf.offset.Goals as goal
 
 pub returns-clause-within : goal.returns-clause-within

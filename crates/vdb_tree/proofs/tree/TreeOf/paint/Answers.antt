@@ -9,7 +9,7 @@ use Rattle.vdb_tree.specs.Field.{fill}
 use Rattle.vdb_tree.specs.Layout.{Layout, bits_of, entry_over, field_of}
 use Rattle.vdb_tree.specs.SplitBox.{IsCovered, IsSplit}
 use Rattle.vdb_tree.proofs.KeysPast.{fewer_beyond}
-use Rattle.vdb_tree.proofs.PaintedRoots.{next_at_first, painted_again, painted_apart, painted_field, painted_tiles, roots_next, roots_none, roots_ready}
+use Rattle.vdb_tree.proofs.PaintedRoots.{next_at_first, painted_again, painted_apart, painted_field, painted_tiles, roots_next, roots_none, roots_split}
 use Rattle.vdb_tree.proofs.tree.TreeOf.paint.Goals as goal
 
 pub loop-key-init : goal.loop-key-init
@@ -26,7 +26,7 @@ loop-key-preserved g c =
     let new = c.paint_next_root.new.self in
     let made = c.in-Some.ensures in (
       roots_next bits c.args.bounds c.args.cell c.args.self.now c.requires.edges.entered c.loop-key.self new c.loop-key.passed c.in-Some.key c.loop-key.invariant.0 made.next made.outside made.painted made.table made.entered,
-      roots_ready bits c.args.bounds c.args.cell c.args.self.now c.requires.edges.entered c.loop-key.self new c.loop-key.passed c.in-Some.key c.loop-key.invariant.0 made.next made.outside made.painted made.table made.entered c.loop-key.invariant.1,
+      roots_split bits c.args.bounds c.args.cell c.args.self.now c.requires.edges.entered c.loop-key.self new c.loop-key.passed c.in-Some.key c.loop-key.invariant.0 made.next made.outside made.painted made.table made.entered c.loop-key.invariant.1,
     )
 
 pub returns-clause-field : goal.returns-clause-field

@@ -10,7 +10,7 @@ use Rattle.vdb_tree.proofs.Needed.{is_some_from}
 use Rattle.vdb_tree.proofs.Paints.{filled_outside, outside_twice, tiles_painted, uncovered_tile, uncovered_upper}
 use Rattle.vdb_tree.proofs.Passes.{descent_by}
 use Rattle.vdb_tree.proofs.Splits.{root_turns}
-use Rattle.vdb_tree.proofs.Sweeps.{other_key, that_key}
+use Rattle.vdb_tree.proofs.RootSweeps.{other_key, that_key}
 use Rattle.vdb_tree.proofs.tree.TreeOf.paint_root_block.Goals as goal
 
 pub returns-then-covered-clause-outside : goal.returns-then-covered-clause-outside

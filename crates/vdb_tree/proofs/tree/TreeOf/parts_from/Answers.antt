@@ -4,16 +4,16 @@ use Rattle.vdb_coord.specs.declared.Coord.{Coord}
 use Rattle.vdb_coord.proofs.BlockOrder.{not_before_min}
 use Rattle.vdb_tree.specs.Layout.{bits_of}
 use Rattle.vdb_tree.specs.Parts.{TreeWalk, is_left}
-use Rattle.vdb_tree.proofs.PartStarts.{before_place}
+use Rattle.vdb_tree.proofs.PartStarts.{gone_before}
 use Rattle.vdb_tree.proofs.tree.TreeOf.parts_from.Goals as goal
 
 pub returns-then-contains-clause-earlier : goal.returns-then-contains-clause-earlier
 returns-then-contains-clause-earlier g c = λ q i gone.
     let bits = bits_of g.row.U g.row.L g.row.F in
-    let at : c.go_to.new.self.at ≡ Some c.place_around-place.result = ap (λ (w : TreeWalk g.row.V.Denot). w.at) c.go_to.ensures in
-    c.place_around-place.ensures.earlier q (before_place bits c.place_around-place.result q (subst (λ (o : Option Coord). is_left bits o q ≡ false) at gone))
+    let at : c.go_to.new.self.at ≡ Some c.start_around-first.result = ap (λ (w : TreeWalk g.row.V.Denot). w.at) c.go_to.ensures in
+    c.start_around-first.ensures.earlier q (gone_before bits c.start_around-first.result q (subst (λ (o : Option Coord). is_left bits o q ≡ false) at gone))
 
 pub returns-else-contains-clause-earlier : goal.returns-else-contains-clause-earlier
 returns-else-contains-clause-earlier g c = λ q i gone.
     let bits = bits_of g.row.U g.row.L g.row.F in
-    absurd (not_before_min bits c.args.bounds q i (before_place bits c.args.bounds.min q (subst (λ (o : Option Coord). is_left bits o q ≡ false) c.parts-walk.ensures.at gone)))
+    absurd (not_before_min bits c.args.bounds q i (gone_before bits c.args.bounds.min q (subst (λ (o : Option Coord). is_left bits o q ≡ false) c.parts-walk.ensures.at gone)))

@@ -1,5 +1,5 @@
 use Rattle.vdb_coord.specs.declared.Level.TheVariants.{Lower, Upper}
-use Rattle.vdb_coord.proofs.Places.{entries_is}
+use Rattle.vdb_coord.proofs.Positions.{entries_is}
 use Rattle.vdb_tree.specs.Layout.{bits_of}
 use Rattle.vdb_tree.proofs.Clears.{after}
 use Rattle.vdb_tree.proofs.Passes.{passes_end, passes_step}

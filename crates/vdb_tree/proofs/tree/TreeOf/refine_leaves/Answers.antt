@@ -1,6 +1,6 @@
 use Rattle.std.proofs.Common.{◌≤◌, ◌∙◌, ℕ, arith, sym}
 use Rattle.vdb_coord.specs.declared.Level.TheVariants.{Leaf, Lower}
-use Rattle.vdb_coord.proofs.Places.{entries_is}
+use Rattle.vdb_coord.proofs.Positions.{entries_is}
 use Rattle.vdb_tree.specs.Layout.{bits_of}
 use Rattle.vdb_tree.proofs.Clears.{after}
 use Rattle.vdb_tree.proofs.Descents.{lower_by_block}
@@ -32,7 +32,7 @@ loop-offset-preserved g c =
       above = uppers_trans c.args.self.now mid new c.loop-offset.invariant.above call.above;
       node = upper_entry_same bits mid new call.above c.args.p ∙ c.loop-offset.invariant.node;
       so_far = to_next bits c.args.rule c.args.other.now Lower Leaf c.args.p c.args.self.now mid new c.loop-offset.from c.in-Some.offset c.in-Some.corner c.loop-offset.invariant.so_far next
-          (refines_node bits c.args.rule c.args.other.now Leaf mid new c.in-Some.corner next.child.0 call.makes next.child.1) (λ q e tile slot at _. call.ready tile (lower_by_block bits new c.in-Some.corner q (sym e) ∙ at));
+          (refines_node bits c.args.rule c.args.other.now Leaf mid new c.in-Some.corner next.child.0 call.makes next.child.1) (λ q e tile slot at _. call.refined tile (lower_by_block bits new c.in-Some.corner q (sym e) ∙ at));
     }
 
 pub returns-in_err-refine_leaf_block-clause-refines : goal.returns-in_err-refine_leaf_block-clause-refines
@@ -46,6 +46,6 @@ pub returns-in_err-refine_leaf_block-clause-above : goal.returns-in_err-refine_l
 returns-in_err-refine_leaf_block-clause-above g c =
     uppers_trans c.args.self.now c.loop-offset.self c.refine_leaf_block.new.self c.loop-offset.invariant.above c.in_err-refine_leaf_block.ensures.above
 
-pub returns-clause-ready : goal.returns-clause-ready
-returns-clause-ready g c =
+pub returns-clause-refined : goal.returns-clause-refined
+returns-clause-refined g c =
     to_end (bits_of g.row.U g.row.L g.row.F) c.args.rule c.args.other.now Lower Leaf c.args.p c.args.self.now c.loop-offset.self c.loop-offset.from c.loop-offset.invariant.so_far c.in_default.ensures.corner

@@ -1,6 +1,6 @@
 use Rattle.std.proofs.Common.{◌≤◌, ◌∙◌, ℕ, arith, refl}
 use Rattle.vdb_coord.specs.declared.Level.TheVariants.{Lower, Upper}
-use Rattle.vdb_coord.proofs.Places.{entries_is}
+use Rattle.vdb_coord.proofs.Positions.{entries_is}
 use Rattle.vdb_tree.specs.Layout.{bits_of}
 use Rattle.vdb_tree.proofs.Clears.{after}
 use Rattle.vdb_tree.proofs.Passes.{root_entry_same}
@@ -30,7 +30,7 @@ loop-offset-preserved g c =
       within = (after c.loop-offset.from c.in-Some.offset _ next.from_on (rw (entries_is bits Upper) at next.within)).1;
       above = call.root ∙ c.loop-offset.invariant.above;
       node = root_entry_same bits mid new call.refines.keeps.head call.root c.args.p ∙ c.loop-offset.invariant.node;
-      so_far = to_next bits c.args.rule c.args.other.now Upper Lower c.args.p c.args.self.now mid new c.loop-offset.from c.in-Some.offset c.in-Some.corner c.loop-offset.invariant.so_far next call.refines call.ready;
+      so_far = to_next bits c.args.rule c.args.other.now Upper Lower c.args.p c.args.self.now mid new c.loop-offset.from c.in-Some.offset c.in-Some.corner c.loop-offset.invariant.so_far next call.refines call.refined;
     }
 
 pub returns-in_err-refine_lower_block-clause-refines : goal.returns-in_err-refine_lower_block-clause-refines
@@ -40,6 +40,6 @@ returns-in_err-refine_lower_block-clause-refines g c =
 pub returns-in_err-refine_lower_block-clause-root : goal.returns-in_err-refine_lower_block-clause-root
 returns-in_err-refine_lower_block-clause-root g c = c.in_err-refine_lower_block.ensures.root ∙ c.loop-offset.invariant.above
 
-pub returns-clause-ready : goal.returns-clause-ready
-returns-clause-ready g c =
+pub returns-clause-refined : goal.returns-clause-refined
+returns-clause-refined g c =
     to_end (bits_of g.row.U g.row.L g.row.F) c.args.rule c.args.other.now Upper Lower c.args.p c.args.self.now c.loop-offset.self c.loop-offset.from c.loop-offset.invariant.so_far c.in_default.ensures.corner

@@ -8,8 +8,8 @@ use Rattle.vdb_tree.proofs.Refining.{refined_child, refined_made, refined_under,
 use Rattle.vdb_tree.proofs.SplitTiles.{on_ok}
 use Rattle.vdb_tree.proofs.tree.TreeOf.refine_root_block.Goals as goal
 
-pub returns-in_default-clause-ready : goal.returns-in_default-clause-ready
-returns-in_default-clause-ready g c = λ _ q same.
+pub returns-in_default-clause-refined : goal.returns-in_default-clause-refined
+returns-in_default-clause-refined g c = λ _ q same.
     let bits = bits_of g.row.U g.row.L g.row.F in
     refined_under bits c.args.rule c.args.other.now Upper c.args.self.now q _ (root_by_block bits c.args.other.now q c.args.p same ∙ c.root_entry.ensures ∙ c.in_default.is)
 
@@ -24,14 +24,14 @@ returns-in-Some-clause-refines g c =
     (refines_node bits c.args.rule c.args.other.now Upper c.args.self.now c.upper_to_change.new.self c.args.p c.in-Child.over c.in_ok-upper.ensures.makes (c.root_entry.ensures ∙ c.in-Child.is))
     c.refine_lowers.ensures.refines
 
-pub returns-in-Some-clause-ready : goal.returns-in-Some-clause-ready
-returns-in-Some-clause-ready g c =
+pub returns-in-Some-clause-refined : goal.returns-in-Some-clause-refined
+returns-in-Some-clause-refined g c =
     let bits = bits_of g.row.U g.row.L g.row.F in
     let mid = c.upper_to_change.new.self in
     let new = c.refine_lowers.new.self in
-    let node = subst (λ (node : Option ℕ). IsNodeOrMade bits c.args.rule Upper mid c.args.p node) c.in-Some.is c.in_ok-upper.ensures.ready in
-    on_ok c.refine_lowers.result c.refine_lowers.ensures.ready (λ ready _ q same.
-    let below = ready q same in (
+    let node = subst (λ (node : Option ℕ). IsNodeOrMade bits c.args.rule Upper mid c.args.p node) c.in-Some.is c.in_ok-upper.ensures.refined in
+    on_ok c.refine_lowers.result c.refine_lowers.ensures.refined (λ refined _ q same.
+    let below = refined q same in (
       below.0,
       below.1,
       refined_child bits c.args.rule c.args.other.now Upper new q c.in-Some.upper
@@ -42,9 +42,9 @@ pub returns-in-None-clause-refines : goal.returns-in-None-clause-refines
 returns-in-None-clause-refines g c =
     refines_node (bits_of g.row.U g.row.L g.row.F) c.args.rule c.args.other.now Upper c.args.self.now c.upper_to_change.new.self c.args.p c.in-Child.over c.in_ok-upper.ensures.makes (c.root_entry.ensures ∙ c.in-Child.is)
 
-pub returns-in-None-clause-ready : goal.returns-in-None-clause-ready
-returns-in-None-clause-ready g c = λ _ q same.
+pub returns-in-None-clause-refined : goal.returns-in-None-clause-refined
+returns-in-None-clause-refined g c = λ _ q same.
     let bits = bits_of g.row.U g.row.L g.row.F in
     let mid = c.upper_to_change.new.self in
-    let tile = subst (λ (node : Option ℕ). IsNodeOrMade bits c.args.rule Upper mid c.args.p node) c.in-None.is c.in_ok-upper.ensures.ready in
+    let tile = subst (λ (node : Option ℕ). IsNodeOrMade bits c.args.rule Upper mid c.args.p node) c.in-None.is c.in_ok-upper.ensures.refined in
     refined_made bits c.args.rule c.args.other.now Upper mid q tile.0 tile.2 (root_by_block bits mid q c.args.p same ∙ tile.1)

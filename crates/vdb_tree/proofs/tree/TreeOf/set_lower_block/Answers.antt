@@ -1,7 +1,7 @@
 use Rattle.std.proofs.Common.{◌∙◌}
 use Rattle.vdb_coord.specs.declared.Level.TheVariants.{Lower}
 use Rattle.vdb_tree.specs.Layout.{bits_of}
-use Rattle.vdb_tree.proofs.Ruled.{idle_block, lower_tile_block, ready_block}
+use Rattle.vdb_tree.proofs.Ruled.{idle_block, lower_tile_block, refined_block}
 use Rattle.vdb_tree.proofs.tree.TreeOf.set_lower_block.Goals as goal
 
 pub returns-then-is_idle_tile-clause-sets : goal.returns-then-is_idle_tile-clause-sets
@@ -17,4 +17,4 @@ returns-in-Tile-over-clause-sets g c =
 
 pub returns-in_default-clause-sets : goal.returns-in_default-clause-sets
 returns-in_default-clause-sets g c =
-    ready_block (bits_of g.row.U g.row.L g.row.F) c.args.rule c.args.other.now Lower c.args.self.now c.args.p c.in-Tile.tile c.in_default.field-0 c.requires.ready c.in-Tile.ensures.value (c.requires.over ∙ c.in_default.is)
+    refined_block (bits_of g.row.U g.row.L g.row.F) c.args.rule c.args.other.now Lower c.args.self.now c.args.p c.in-Tile.tile c.in_default.field-0 c.requires.refined c.in-Tile.ensures.value (c.requires.over ∙ c.in_default.is)

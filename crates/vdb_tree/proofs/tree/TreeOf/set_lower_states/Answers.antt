@@ -1,7 +1,7 @@
 use Rattle.std.proofs.Common.{◌<◌, ◌≤◌, ◌∙◌, ℕ, arith}
 use Rattle.vdb_tree.specs.Layout.{bits_of}
 use Rattle.vdb_tree.proofs.Passes.{upper_entry_same, uppers_same, uppers_trans}
-use Rattle.vdb_tree.proofs.StateRuns.{ready_kept, run_all, run_join, run_none}
+use Rattle.vdb_tree.proofs.StateRuns.{refined_kept, run_all, run_join, run_none}
 use Rattle.vdb_tree.proofs.tree.TreeOf.set_lower_states.Goals as goal
 
 least : (n : ℕ) → 0 ≤ n
@@ -12,7 +12,7 @@ loop-next-init g c = record {
   within = least _;
   above = uppers_same c.args.self.now;
   node = c.requires.node;
-  ready = c.requires.ready;
+  refined = c.requires.refined;
   run = run_none (bits_of g.row.U g.row.L g.row.F) c.args.rule c.args.other.now c.args.p c.args.self.now 0;
 }
 
@@ -27,7 +27,7 @@ loop-next-preserved g c =
       within = made.further.1;
       above = uppers_trans c.args.self.now mid new done.above made.above;
       node = upper_entry_same bits mid new made.above c.args.p ∙ done.node;
-      ready = ready_kept bits c.args.rule c.args.other.now mid new done.ready made.sets.tiles made.sets.keys;
+      refined = refined_kept bits c.args.rule c.args.other.now mid new done.refined made.sets.tiles made.sets.keys;
       run = run_join bits c.args.rule c.args.other.now c.args.p c.args.self.now mid new 0 c.loop-next.from c.in-Some.next (least c.loop-next.from) (lt_le made.further.0) done.run made.sets;
     }
   where

@@ -4,7 +4,7 @@ use Rattle.vdb_coord.specs.declared.Level.TheVariants.{Lower}
 use Rattle.vdb_node.specs.declared.Entry.TheVariants.{Child}
 use Rattle.vdb_tree.specs.Changes.{KeepsUppers}
 use Rattle.vdb_tree.specs.Layout.{bits_of, upper_entry}
-use Rattle.vdb_tree.specs.internal.Pairing.{IsReadyFor}
+use Rattle.vdb_tree.specs.internal.Pairing.{IsRefinedFor}
 use Rattle.vdb_tree.specs.internal.StateRuns.{SetsRun}
 use Rattle.vdb_tree.proofs.tree.TreeOf.set_lower_states.Given as goal
 
@@ -15,7 +15,7 @@ invariant-loop-next g l =
       within : l.from ≤ entries bits Lower;
       above : KeepsUppers l.fn.self l.self;
       node : upper_entry bits l.self l.p ≡ Child l.lower;
-      ready : IsReadyFor bits l.rule l.self l.other;
+      refined : IsRefinedFor bits l.rule l.self l.other;
       run : SetsRun bits l.rule l.other Lower l.fn.self l.self l.p 0 l.from;
     }
 

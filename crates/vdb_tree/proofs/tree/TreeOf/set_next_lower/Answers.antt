@@ -1,7 +1,7 @@
 use Rattle.std.proofs.Common.{◌<◌, ◌≤◌, ℕ, arith}
 use Rattle.vdb_coord.specs.Blocks.{entries}
 use Rattle.vdb_coord.specs.declared.Level.TheVariants.{Lower, Upper}
-use Rattle.vdb_coord.proofs.Places.{entries_is}
+use Rattle.vdb_coord.proofs.Positions.{entries_is}
 use Rattle.vdb_tree.specs.Layout.{bits_of}
 use Rattle.vdb_tree.proofs.Clears.{after, fits}
 use Rattle.vdb_tree.proofs.Constants.{entries_few}

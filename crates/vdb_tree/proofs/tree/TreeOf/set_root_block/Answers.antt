@@ -1,8 +1,8 @@
 use Rattle.std.proofs.Common.{◌∙◌}
 use Rattle.vdb_coord.specs.declared.Level.TheVariants.{Upper}
 use Rattle.vdb_tree.specs.Layout.{bits_of}
-use Rattle.vdb_tree.proofs.Ruled.{idle_block, ready_block, upper_tile_block}
-use Rattle.vdb_tree.proofs.Sweeps.{other_key}
+use Rattle.vdb_tree.proofs.Ruled.{idle_block, refined_block, upper_tile_block}
+use Rattle.vdb_tree.proofs.RootSweeps.{other_key}
 use Rattle.vdb_tree.proofs.tree.TreeOf.set_root_block.Goals as goal
 
 pub returns-then-is_idle_tile-clause-sets : goal.returns-then-is_idle_tile-clause-sets
@@ -21,4 +21,4 @@ returns-in-Tile-over-clause-table g c = λ k d. other_key c.args.self.now.root c
 
 pub returns-in_default-clause-sets : goal.returns-in_default-clause-sets
 returns-in_default-clause-sets g c =
-    ready_block (bits_of g.row.U g.row.L g.row.F) c.args.rule c.args.other.now Upper c.args.self.now c.args.p c.in-Tile.tile c.in_default.field-0 c.requires.ready c.in-Tile.ensures (c.requires.over ∙ c.in_default.is)
+    refined_block (bits_of g.row.U g.row.L g.row.F) c.args.rule c.args.other.now Upper c.args.self.now c.args.p c.in-Tile.tile c.in_default.field-0 c.requires.refined c.in-Tile.ensures (c.requires.over ∙ c.in_default.is)

@@ -1,6 +1,6 @@
 use Rattle.std.proofs.Common.{ap, sym, ◌∙◌, Bool}
 use Rattle.vdb_tree.specs.Layout.{bits_of}
-use Rattle.vdb_tree.proofs.StateRuns.{acting_at, idle_at, idle_settled, ready_settled, tile_set}
+use Rattle.vdb_tree.proofs.StateRuns.{acting_at, idle_at, idle_settled, refined_settled, tile_set}
 use Rattle.vdb_tree.proofs.tree.TreeOf.set_tile_state.Goals as goal
 
 pub returns-then-is_acting-clause-sets : goal.returns-then-is_acting-clause-sets
@@ -16,4 +16,4 @@ returns-else-is_acting-clause-sets g c =
 
 pub returns-in-Child-clause-sets : goal.returns-in-Child-clause-sets
 returns-in-Child-clause-sets g c =
-    ready_settled (bits_of g.row.U g.row.L g.row.F) c.args.rule c.args.other.now c.args.self.now c.args.p c.args.cell c.in-Child.field-0 c.requires.ready c.requires.tile (c.requires.over ∙ c.in-Child.is)
+    refined_settled (bits_of g.row.U g.row.L g.row.F) c.args.rule c.args.other.now c.args.self.now c.args.p c.args.cell c.in-Child.field-0 c.requires.refined c.requires.tile (c.requires.over ∙ c.in-Child.is)

@@ -1,10 +1,10 @@
 use Rattle.std.proofs.Common.{◌≤◌, ◌∙◌, ◌<◌, ℕ, arith, refl}
 use Rattle.vdb_coord.specs.declared.Level.TheVariants.{Upper}
-use Rattle.vdb_coord.proofs.Places.{entries_is}
+use Rattle.vdb_coord.proofs.Positions.{entries_is}
 use Rattle.vdb_tree.specs.Layout.{bits_of}
 use Rattle.vdb_tree.specs.internal.Ruled.{IsAmong}
 use Rattle.vdb_tree.proofs.Passes.{root_entry_same}
-use Rattle.vdb_tree.proofs.Ruled.{ready_after, sets_last, sets_none, sets_on}
+use Rattle.vdb_tree.proofs.Ruled.{refined_after, sets_last, sets_none, sets_on}
 use Rattle.vdb_tree.proofs.tree.TreeOf.set_upper_states.Goals as goal
 
 least : (n : ℕ) → 0 ≤ n
@@ -15,7 +15,7 @@ at_most a b h = omega (arith, h)
 
 pub loop-next-init : goal.loop-next-init
 loop-next-init g c =
-    record { within = least _; above = refl; node = c.requires.node; ready = c.requires.ready; sets = sets_none (bits_of g.row.U g.row.L g.row.F) c.args.rule c.args.other.now Upper c.args.p c.args.self.now }
+    record { within = least _; above = refl; node = c.requires.node; refined = c.requires.refined; sets = sets_none (bits_of g.row.U g.row.L g.row.F) c.args.rule c.args.other.now Upper c.args.p c.args.self.now }
 
 pub loop-next-preserved : goal.loop-next-preserved
 loop-next-preserved g c =
@@ -27,7 +27,7 @@ loop-next-preserved g c =
       within = made.further.1;
       above = made.root ∙ c.loop-next.invariant.above;
       node = root_entry_same bits mid new made.sets.head made.root c.args.p ∙ c.loop-next.invariant.node;
-      ready = ready_after bits c.args.rule c.args.other.now (IsAmong bits Upper c.args.p c.loop-next.from c.in-Some.next) mid new made.sets c.loop-next.invariant.ready;
+      refined = refined_after bits c.args.rule c.args.other.now (IsAmong bits Upper c.args.p c.loop-next.from c.in-Some.next) mid new made.sets c.loop-next.invariant.refined;
       sets = sets_on bits c.args.rule c.args.other.now Upper c.args.p c.args.self.now mid new c.loop-next.from c.in-Some.next (at_most _ _ made.further.0) c.loop-next.invariant.sets made.sets;
     }
 

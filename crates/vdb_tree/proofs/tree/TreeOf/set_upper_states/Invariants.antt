@@ -3,7 +3,7 @@ use Rattle.vdb_coord.specs.declared.Level.TheVariants.{Upper}
 use Rattle.vdb_node.specs.Nodes.{entry_count}
 use Rattle.vdb_node.specs.declared.Entry.TheVariants.{Child}
 use Rattle.vdb_tree.specs.Layout.{bits_of, root_entry}
-use Rattle.vdb_tree.specs.internal.Pairing.{IsReadyFor}
+use Rattle.vdb_tree.specs.internal.Pairing.{IsRefinedFor}
 use Rattle.vdb_tree.specs.internal.Ruled.{IsAmong, SetsWithin}
 use Rattle.vdb_tree.proofs.tree.TreeOf.set_upper_states.Given as goal
 
@@ -14,7 +14,7 @@ invariant-loop-next g l =
       within : l.from ≤ entry_count g.row.U;
       above : l.self.root ≡ l.fn.self.root;
       node : root_entry bits l.self l.p ≡ Child l.upper;
-      ready : IsReadyFor bits l.rule l.self l.other;
+      refined : IsRefinedFor bits l.rule l.self l.other;
       sets : SetsWithin bits l.rule l.other (IsAmong bits Upper l.p 0 l.from) l.fn.self l.self;
     }
 

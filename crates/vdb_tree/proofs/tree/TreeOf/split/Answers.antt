@@ -4,7 +4,7 @@ use Rattle.vdb_tree.proofs.Equations.{keeps_field}
 use Rattle.vdb_tree.specs.Nodes.{IsCut}
 use Rattle.vdb_tree.proofs.MadeNodes.{keys_in_none, keys_in_twice, keys_twice, makes_twice, no_node_makes}
 use Rattle.vdb_tree.proofs.Splits.{adds_twice}
-use Rattle.vdb_tree.proofs.SplitTiles.{box_stays, on_ok, ready_all}
+use Rattle.vdb_tree.proofs.SplitTiles.{box_stays, on_ok, split_whole}
 use Rattle.vdb_tree.proofs.Capacities.{obeys_within}
 use Rattle.vdb_tree.proofs.tree.TreeOf.split.Goals as goal
 
@@ -63,4 +63,4 @@ returns-clause-adds g c = λ h. adds_twice (bits_of g.row.U g.row.L g.row.F) c.a
 pub returns-clause-done : goal.returns-clause-done
 returns-clause-done g c =
     on_ok c.split_root_blocks.result c.split_root_blocks.ensures.edges (λ edges.
-    ready_all (bits_of g.row.U g.row.L g.row.F) c.args.bounds c.args.cell c.enter_box.new.self c.split_root_blocks.new.self c.split_root_blocks.ensures.keeps c.split_root_blocks.ensures.adds c.in_ok-enter_box.ensures.entered edges)
+    split_whole (bits_of g.row.U g.row.L g.row.F) c.args.bounds c.args.cell c.enter_box.new.self c.split_root_blocks.new.self c.split_root_blocks.ensures.keeps c.split_root_blocks.ensures.adds c.in_ok-enter_box.ensures.entered edges)

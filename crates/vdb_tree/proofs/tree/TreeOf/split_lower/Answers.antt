@@ -2,17 +2,17 @@ use Rattle.std.proofs.Common.{refl, sym, ap, ◌∙◌}
 use Rattle.vdb_coord.specs.declared.Level.TheVariants.{Leaf}
 use Rattle.vdb_node.specs.declared.Entry.TheVariants.{Child}
 use Rattle.vdb_tree.proofs.Pools.{node_puts}
-use Rattle.vdb_tree.proofs.Splits.{room_adds, room_but, room_keeps, room_sound, with_leaf_at, with_leaf_but, with_leaf_keeps, with_leaf_adds, with_leaf_sound}
+use Rattle.vdb_tree.proofs.Splits.{capacity_adds, capacity_but, capacity_keeps, capacity_sound, with_leaf_at, with_leaf_but, with_leaf_keeps, with_leaf_adds, with_leaf_sound}
 use Rattle.vdb_tree.proofs.SweptTables.{kept_swept}
 use Rattle.vdb_tree.proofs.tree.TreeOf.split_lower.Goals as goal
 
 pub invariant_of-self : goal.invariant_of-self
 invariant_of-self g c =
-    (c.self.invariant.0, room_sound _ _ _ refl refl refl refl c.in_err-slot.ensures.err refl c.self.invariant.1, λ known. kept_swept _ _ _ (λ k h. h) (room_keeps _ _ _ refl refl refl refl c.in_err-slot.ensures.err refl) (c.self.invariant.2 known))
+    (c.self.invariant.0, capacity_sound _ _ _ refl refl refl refl c.in_err-slot.ensures.err refl c.self.invariant.1, λ known. kept_swept _ _ _ (λ k h. h) (capacity_keeps _ _ _ refl refl refl refl c.in_err-slot.ensures.err refl) (c.self.invariant.2 known))
 
 pub returns-in_err-slot-clause-keeps : goal.returns-in_err-slot-clause-keeps
 returns-in_err-slot-clause-keeps g c =
-    rw (← c.self.view_is) (room_keeps _ _ _ refl refl refl refl c.in_err-slot.ensures.err refl)
+    rw (← c.self.view_is) (capacity_keeps _ _ _ refl refl refl refl c.in_err-slot.ensures.err refl)
 
 pub invariant_of-self-2 : goal.invariant_of-self-2
 invariant_of-self-2 g c = (
@@ -49,7 +49,7 @@ held_place-place-requires g c = c.self.invariant.1.lowers.held c.args.p c.args.l
 
 pub returns-in_err-slot-clause-adds : goal.returns-in_err-slot-clause-adds
 returns-in_err-slot-clause-adds g c =
-    rw (← c.self.view_is) (room_adds _ _ _ refl refl refl refl c.in_err-slot.ensures.err refl)
+    rw (← c.self.view_is) (capacity_adds _ _ _ refl refl refl refl c.in_err-slot.ensures.err refl)
 
 pub returns-clause-adds : goal.returns-clause-adds
 returns-clause-adds g c =
@@ -61,7 +61,7 @@ returns-clause-adds g c =
 
 pub returns-in_err-slot-clause-but : goal.returns-in_err-slot-clause-but
 returns-in_err-slot-clause-but g c =
-    rw (← c.self.view_is) (room_but _ _ _ refl refl refl refl c.in_err-slot.ensures.err refl Leaf c.args.p)
+    rw (← c.self.view_is) (capacity_but _ _ _ refl refl refl refl c.in_err-slot.ensures.err refl Leaf c.args.p)
 
 pub returns-clause-but : goal.returns-clause-but
 returns-clause-but g c =

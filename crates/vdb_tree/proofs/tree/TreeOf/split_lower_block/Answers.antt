@@ -8,7 +8,7 @@ use Rattle.vdb_tree.proofs.Covered.{covered_by_block}
 use Rattle.vdb_tree.proofs.Descents.{upper_by_block}
 use Rattle.vdb_tree.proofs.MadeNodes.{cut_made, makes_none, makes_twice}
 use Rattle.vdb_tree.proofs.Passes.{upper_entry_same}
-use Rattle.vdb_tree.proofs.SplitTiles.{on_ok, ready_child, ready_tiled, ready_within}
+use Rattle.vdb_tree.proofs.SplitTiles.{on_ok, split_child, split_tiled, split_within}
 use Rattle.vdb_tree.proofs.Splits.{adds_twice, keeps_twice}
 use Rattle.vdb_tree.proofs.Uniform.{cell_exact, cell_same, exact_by}
 use Rattle.vdb_tree.proofs.tree.TreeOf.split_lower_block.Goals as goal
@@ -17,14 +17,14 @@ use Rattle.vdb_tree.proofs.tree.TreeOf.split_lower_block.Goals.{in-Tile+else-eq,
 pub returns-then-is_covered-clause-edges : goal.returns-then-is_covered-clause-edges
 returns-then-is_covered-clause-edges g c = λ q _ same.
     let bits = bits_of g.row.U g.row.L g.row.F in
-    ready_within bits c.args.bounds c.args.cell Lower c.args.self.now q (covered_by_block bits c.args.bounds Lower c.args.p q same (c.is_covered.ensures.0 c.if-is_covered.true))
+    split_within bits c.args.bounds c.args.cell Lower c.args.self.now q (covered_by_block bits c.args.bounds Lower c.args.p q same (c.is_covered.ensures.0 c.if-is_covered.true))
 
 pub returns-then-eq-clause-edges : goal.returns-then-eq-clause-edges
 returns-then-eq-clause-edges g c = λ q _ same.
     let bits = bits_of g.row.U g.row.L g.row.F in
     let exact = exact_by g.V.PartialEq.eq g.V.Ord.cmp g.met.V.Ord.matches_eq g.met.V.Voxel.exact in
     let is = cell_exact g.V.PartialEq.eq exact g.met.V.Eq.laws.refl c.in-Tile.tile c.args.cell (sym c.eq.ensures ∙ c.if-eq.true) in
-    ready_tiled bits c.args.bounds c.args.cell Lower c.args.self.now q (upper_by_block bits c.args.self.now q c.args.p same ∙ c.upper_entry.ensures.value ∙ c.in-Tile.is ∙ ap Tile is)
+    split_tiled bits c.args.bounds c.args.cell Lower c.args.self.now q (upper_by_block bits c.args.self.now q c.args.p same ∙ c.upper_entry.ensures.value ∙ c.in-Tile.is ∙ ap Tile is)
 
 pub returns-clause-keeps : goal.returns-clause-keeps
 returns-clause-keeps g c =
@@ -40,7 +40,7 @@ returns-clause-edges g c =
     let new = c.split_leaf_blocks.new.self in
     on_ok c.split_leaf_blocks.result c.split_leaf_blocks.ensures.edges (λ edges q inside same.
     let child = upper_by_block bits new q c.args.p same ∙ upper_entry_same bits c.lower_in.new.self new c.split_leaf_blocks.ensures.above c.args.p ∙ c.in_ok-lower.ensures.ok in
-    (edges q (c.part-part.ensures.all q inside same), ready_child bits c.args.bounds c.args.cell Lower new q _ child))
+    (edges q (c.part-part.ensures.all q inside same), split_child bits c.args.bounds c.args.cell Lower new q _ child))
 
 pub returns-in_err-lower-clause-made : goal.returns-in_err-lower-clause-made
 returns-in_err-lower-clause-made g c =

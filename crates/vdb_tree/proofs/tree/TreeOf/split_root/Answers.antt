@@ -4,18 +4,18 @@ use Rattle.vdb_coord.specs.Blocks.{key}
 use Rattle.vdb_coord.specs.declared.Level.TheVariants.{Upper}
 use Rattle.vdb_node.specs.declared.Entry.TheVariants.{Child}
 use Rattle.vdb_tree.specs.Layout.{bits_of}
-use Rattle.vdb_tree.proofs.Splits.{room_adds, room_but, room_keeps, room_sound, with_upper_at, with_upper_but, with_upper_keeps, with_upper_adds, with_upper_sound}
-use Rattle.vdb_tree.proofs.Sweeps.{other_key}
+use Rattle.vdb_tree.proofs.Splits.{capacity_adds, capacity_but, capacity_keeps, capacity_sound, with_upper_at, with_upper_but, with_upper_keeps, with_upper_adds, with_upper_sound}
+use Rattle.vdb_tree.proofs.RootSweeps.{other_key}
 use Rattle.vdb_tree.proofs.SweptTables.{kept_swept, updated_held}
 use Rattle.vdb_tree.proofs.tree.TreeOf.split_root.Goals as goal
 
 pub invariant_of-self : goal.invariant_of-self
 invariant_of-self g c =
-    (c.self.invariant.0, room_sound _ _ _ refl refl c.in_err-slot.ensures.err refl refl refl c.self.invariant.1, λ known. kept_swept _ _ _ (λ k h. h) (room_keeps _ _ _ refl refl c.in_err-slot.ensures.err refl refl refl) (c.self.invariant.2 known))
+    (c.self.invariant.0, capacity_sound _ _ _ refl refl c.in_err-slot.ensures.err refl refl refl c.self.invariant.1, λ known. kept_swept _ _ _ (λ k h. h) (capacity_keeps _ _ _ refl refl c.in_err-slot.ensures.err refl refl refl) (c.self.invariant.2 known))
 
 pub returns-in_err-slot-clause-keeps : goal.returns-in_err-slot-clause-keeps
 returns-in_err-slot-clause-keeps g c =
-    rw (← c.self.view_is) (room_keeps _ _ _ refl refl c.in_err-slot.ensures.err refl refl refl)
+    rw (← c.self.view_is) (capacity_keeps _ _ _ refl refl c.in_err-slot.ensures.err refl refl refl)
 
 pub invariant_of-self-2 : goal.invariant_of-self-2
 invariant_of-self-2 g c = (
@@ -46,7 +46,7 @@ returns-clause-ok g c =
 
 pub returns-in_err-slot-clause-adds : goal.returns-in_err-slot-clause-adds
 returns-in_err-slot-clause-adds g c =
-    rw (← c.self.view_is) (room_adds _ _ _ refl refl c.in_err-slot.ensures.err refl refl refl)
+    rw (← c.self.view_is) (capacity_adds _ _ _ refl refl c.in_err-slot.ensures.err refl refl refl)
 
 pub returns-clause-adds : goal.returns-clause-adds
 returns-clause-adds g c =
@@ -61,7 +61,7 @@ returns-clause-table g c =
 
 pub returns-in_err-slot-clause-but : goal.returns-in_err-slot-clause-but
 returns-in_err-slot-clause-but g c =
-    rw (← c.self.view_is) (room_but _ _ _ refl refl c.in_err-slot.ensures.err refl refl refl Upper c.args.p)
+    rw (← c.self.view_is) (capacity_but _ _ _ refl refl c.in_err-slot.ensures.err refl refl refl Upper c.args.p)
 
 pub returns-clause-but : goal.returns-clause-but
 returns-clause-but g c =

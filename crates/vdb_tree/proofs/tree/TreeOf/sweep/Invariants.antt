@@ -1,6 +1,6 @@
 use Rattle.vdb_tree.specs.Layout.{bits_of}
 use Rattle.vdb_tree.proofs.KeysPast.{keys_past}
-use Rattle.vdb_tree.proofs.Sweeps.{SweepsTo}
+use Rattle.vdb_tree.proofs.RootSweeps.{SweepsTo}
 use Rattle.vdb_tree.proofs.tree.TreeOf.sweep.Given as goal
 
 abbrev pub invariant-loop-key : goal.invariant-loop-key

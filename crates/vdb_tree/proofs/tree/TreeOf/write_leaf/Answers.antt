@@ -18,7 +18,7 @@ use Rattle.vdb_tree.proofs.Equations.{keeps_field}
 use Rattle.vdb_tree.proofs.Levels.{tile_or_child}
 use Rattle.vdb_tree.proofs.Needed.{child_of}
 use Rattle.vdb_tree.proofs.Splits.{keeps_twice}
-use Rattle.vdb_tree.proofs.Writes.{full_outcome, kept_outcome, leaf_has_room}
+use Rattle.vdb_tree.proofs.Writes.{full_outcome, kept_outcome, leaf_has_capacity}
 use Rattle.vdb_tree.proofs.WrittenLeaves.{leaf_altered, leaf_differs, leaf_fills}
 use Rattle.vdb_tree.proofs.tree.TreeOf.write_leaf.Goals as goal
 
@@ -47,7 +47,7 @@ returns-in_err-make_capacity-clause-outcome g c =
     (c.in_err-make_capacity.ensures.full.1 changed (leaf_altered bits c.args.p leaf (field_of bits t))
     (λ same. elim (tile_or_child (lower_entry bits t c.args.p)) [
       | inl x ↦ leaf_differs bits c.args.p leaf configured inside t x.0 x.1 c.states.ensures.values mixed same
-      | inr x ↦ never refl (c.in_err-make_capacity.ensures.there (leaf_has_room bits t c.args.p x.0 x.1)).0
+      | inr x ↦ never refl (c.in_err-make_capacity.ensures.there (leaf_has_capacity bits t c.args.p x.0 x.1)).0
     ]))
 
 pub returns-in_err-make_capacity-clause-there : goal.returns-in_err-make_capacity-clause-there
@@ -55,7 +55,7 @@ returns-in_err-make_capacity-clause-there g c = λ h.
     let bits = bits_of g.row.U g.row.L g.row.F in
     let t = c.args.self.now in
     let over = child_of (lower_entry bits t c.args.p) h in
-    absurd (never refl (c.in_err-make_capacity.ensures.there (leaf_has_room bits t c.args.p over.0 over.1)).0)
+    absurd (never refl (c.in_err-make_capacity.ensures.there (leaf_has_capacity bits t c.args.p over.0 over.1)).0)
 
 pub returns-in_err-slot-clause-outcome : goal.returns-in_err-slot-clause-outcome
 returns-in_err-slot-clause-outcome g c =
@@ -72,7 +72,7 @@ returns-in_err-slot-clause-there g c = λ h.
     let bits = bits_of g.row.U g.row.L g.row.F in
     let t = c.args.self.now in
     let over = child_of (lower_entry bits t c.args.p) h in
-    let same = (c.make_capacity.ensures.there (leaf_has_room bits t c.args.p over.0 over.1)).1 in
+    let same = (c.make_capacity.ensures.there (leaf_has_capacity bits t c.args.p over.0 over.1)).1 in
     absurd (never refl (c.in_err-slot.ensures.there (subst (λ (s : Layout g.row.V.Denot). IsTrue (in_leaf bits s c.args.p)) (sym same) h)))
 
 pub returns-clause-outcome : goal.returns-clause-outcome

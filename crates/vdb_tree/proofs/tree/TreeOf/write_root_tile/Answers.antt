@@ -34,18 +34,18 @@ returns-clause-outcome g c = λ _.
     (written_field bits c.args.self.now c.leaf_around.new.self c.write_voxel.new.self c.args.p c.args.change keeps c.write_voxel.ensures.changes, c.in_ok-make_capacity.ensures.within (write c.args.p c.args.change (field_of bits c.args.self.now)) (write_altered c.args.p c.args.change (field_of bits c.args.self.now) bits))
 
 pub returns-in_err-make_capacity-clause-elsewhere : goal.returns-in_err-make_capacity-clause-elsewhere
-returns-in_err-make_capacity-clause-elsewhere g c = λ room.
+returns-in_err-make_capacity-clause-elsewhere g c = λ capacity.
     let bits = bits_of g.row.U g.row.L g.row.F in
-    subst (λ (t : Layout g.row.V.Denot). KeepsElsewhere bits c.args.self.now t c.args.p) (sym (c.make_capacity.ensures.there room).1) (elsewhere_itself bits c.args.self.now c.args.p)
+    subst (λ (t : Layout g.row.V.Denot). KeepsElsewhere bits c.args.self.now t c.args.p) (sym (c.make_capacity.ensures.there capacity).1) (elsewhere_itself bits c.args.self.now c.args.p)
 
 pub returns-in_err-leaf-clause-elsewhere : goal.returns-in_err-leaf-clause-elsewhere
-returns-in_err-leaf-clause-elsewhere g c = λ room.
+returns-in_err-leaf-clause-elsewhere g c = λ capacity.
     let bits = bits_of g.row.U g.row.L g.row.F in
-    subst (λ (t : Layout g.row.V.Denot). KeepsElsewhere bits t c.leaf_around.new.self c.args.p) (c.make_capacity.ensures.there room).1 c.leaf_around.ensures.elsewhere
+    subst (λ (t : Layout g.row.V.Denot). KeepsElsewhere bits t c.leaf_around.new.self c.args.p) (c.make_capacity.ensures.there capacity).1 c.leaf_around.ensures.elsewhere
 
 pub returns-clause-elsewhere : goal.returns-clause-elsewhere
-returns-clause-elsewhere g c = λ room.
+returns-clause-elsewhere g c = λ capacity.
     let bits = bits_of g.row.U g.row.L g.row.F in
     let made = c.leaf_around.new.self in
-    let around = subst (λ (t : Layout g.row.V.Denot). KeepsElsewhere bits t made c.args.p) (c.make_capacity.ensures.there room).1 c.leaf_around.ensures.elsewhere in
+    let around = subst (λ (t : Layout g.row.V.Denot). KeepsElsewhere bits t made c.args.p) (c.make_capacity.ensures.there capacity).1 c.leaf_around.ensures.elsewhere in
     elsewhere_twice bits c.args.self.now made c.write_voxel.new.self c.args.p around (elsewhere_same bits made c.write_voxel.new.self c.args.p c.write_voxel.ensures.same)

@@ -1,9 +1,0 @@
-use Rattle.std.proofs.Common.{◌<◌, subst}
-use Rattle.std.specs.Prelude.{IfSome}
-use Rattle.vdb_coord.specs.Order.{coordinates_past}
-use Rattle.vdb_coord.specs.declared.Bits.{Bits}
-use Rattle.vdb_tree.proofs.tree.TreeOf.place_past_block.Goals as goal
-
-pub returns-clause-nearer : goal.returns-clause-nearer
-returns-clause-nearer g c =
-    subst (λ (b : Bits). IfSome c.next_place_in.result (λ next. coordinates_past b next < coordinates_past b c.args.p)) c.bits.ensures.value c.next_place_in.ensures.nearer

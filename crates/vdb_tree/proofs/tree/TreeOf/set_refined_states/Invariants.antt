@@ -1,0 +1,10 @@
+use Rattle.vdb_tree.specs.Layout.{bits_of}
+use Rattle.vdb_tree.proofs.KeysPast.{keys_past}
+use Rattle.vdb_tree.proofs.Ruled.{SetsTo}
+use Rattle.vdb_tree.proofs.tree.TreeOf.set_refined_states.Given as goal
+
+abbrev pub invariant-loop-key : goal.invariant-loop-key
+invariant-loop-key g l = SetsTo (bits_of g.row.U g.row.L g.row.F) l.rule l.other l.fn.self l.self l.passed
+
+abbrev pub decreases-loop-key : goal.decreases-loop-key
+decreases-loop-key g l = keys_past l.passed l.fn.self.root
