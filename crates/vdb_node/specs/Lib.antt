@@ -2,3 +2,4 @@ pub mod Blends
 pub mod Entries
 pub mod Leaf
 pub mod Nodes
+pub mod Slots
