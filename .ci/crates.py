@@ -11,10 +11,10 @@ def crates_of(root):
     ordered = []
 
     def add(name):
-        for dep in below[name]:
-            if dep in below:
-                add(dep)
         if name not in ordered:
+            for dep in below[name]:
+                if dep in below:
+                    add(dep)
             ordered.append(name)
 
     for name in below:

@@ -1,11 +1,10 @@
 #!/usr/bin/env python3
 """rt ci, which shares out the processors in another way.
 
-rt ci gives each task one processor: the proof of a crate, of its tests, and its must-fail edits. Most crates here stand on one
-another, so that for hours one proof would hold up all others, on one processor. Here a proof gets all of them that no other proof waits for
-(lanes.py). What is read, proved, run and tried, and what fails, is rt's own: only the function that says when a task runs gives way.
-In a kit whose rt has no such function, this is rt ci. With names of crates it does so for these and those below them alone, on a copy, as
-rt ci does with names.
+rt ci tries edits and proves tests as soon as it may, as many tasks side by side as there are processors, so that they take turns with the
+proofs that all other crates wait for. Here they give way to proofs, and each says how long it took (lanes.py). What is read, proved, run
+and tried, and what fails, is rt's own: only the function that says when a task runs gives way. In a kit whose rt has no such function, this is
+rt ci. With names of crates it does so for these and those below them alone, on a copy, as rt ci does with names.
 """
 import importlib.machinery
 import importlib.util
@@ -30,8 +29,8 @@ def load():
 def lengths(tasks):
     """How long each task is: a crate's lines for a proof or a seed, from which its edits begin, and an eighth for what begins with a seed."""
     lines = {key[0]: task[1] for key, task in tasks.items() if key[1] == "proof"}
-    parts = {"seed": 1, "edits": 8, "sound": 8}
-    return {key: lines[key[0]] // parts[key[1]] if key[1] in parts else task[1] for key, task in tasks.items()}
+    parts = {"seed": 1, "edits": 8, "sound": 8, "again": 8}
+    return {key: 1 + lines[key[0]] // parts[key[1]] if key[1] in parts else task[1] for key, task in tasks.items()}
 
 
 def told(key, call):

@@ -26,11 +26,11 @@ def taken(needs, jobs):
 def in_turn(tasks, processors, memory):
     """Runs tasks, each once those that it waits for have ended, and returns what each gave.
 
-    A proof by four jobs keeps four processors little more than half busy, since what is left of it in the end is one chain. So where there
-    are four, two proofs run side by side; seeds and edits, tests and whatever else is no proof fill the gaps, and give way to proofs. Those with
+    A proof by four jobs doesn't keep four processors busy to its end, since what is left of it then is one chain. So where there are four,
+    two proofs may run side by side; seeds and edits, tests and whatever else is no proof fill the gaps, and give way to proofs. Tasks with
     the longest chain of others behind them come first. A task of no length doesn't count.
     """
-    behind, ended = chains(tasks), queue.Queue()
+    behind, ended, most = chains(tasks), queue.Queue(), 2 if processors >= 4 else 1
     left, running, given = sorted(tasks, key=lambda key: -behind[key]), {}, {}
     is_proof = lambda key: key[1] == "proof"
 
@@ -50,7 +50,8 @@ def in_turn(tasks, processors, memory):
         counted = [it for it in running if tasks[it][1]]
         proofs = sum(is_proof(it) for it in counted)
         if is_proof(key):
-            wanted = 0 if proofs >= max(1, processors // 2) else processors - min(proofs + waiting, 1)
+            alone = most == 1 or proofs + waiting == 0
+            wanted = 0 if proofs == most else processors if alone else 3 * processors // 4
         elif proofs:
             wanted = int(len(counted) - proofs < processors + 1 - 2 * proofs)
         else:
