@@ -13,5 +13,5 @@ leaf_fits a b row mask ha hb hr hm = omega (arith, up_le b 0, up_le 8 (up b 0 + 
 
 -- an internal node: two masks of at most 512 words, and its row of entries, beside that of truth values
 pub node_fits : (a b masks row truths : ℕ) → a ≤ 8 → b ≤ 8 → masks ≤ 8208 → row ≤ 64 + truths → truths ≤ 4152
-    → up (max 8 (max 8 (max a 1))) (up b masks + row) < 2 ^ 63
-node_fits a b masks row truths ha hb hs hr ht = omega (arith, up_le b masks, up_le (max 8 (max 8 (max a 1))) (up b masks + row))
+    → up (max 8 (max 8 a)) (up b masks + row) < 2 ^ 63
+node_fits a b masks row truths ha hb hs hr ht = omega (arith, up_le b masks, up_le (max 8 (max 8 a)) (up b masks + row))

@@ -12,8 +12,8 @@ use Rattle.vdb_composite.proofs.search.lacks.Goals as goal
 
 pub pairs-walk-requires : goal.pairs-walk-requires
 pairs-walk-requires g c =
-    let upper = g.met.V.Stored-1.entries_small in
-    let lower = g.met.V.Stored-2.entries_small in
+    let upper = g.met.V.Stored-1.row_small in
+    let lower = g.met.V.Stored-2.row_small in
     let leaf = g.met.V.Stored-3.row_small in (
       search rules,
       (

@@ -7,8 +7,8 @@ use Rattle.vdb_walk.proofs.listing.list_past.Goals as goal
 
 pub begun-requires : goal.begun-requires
 begun-requires g c =
-    let upper = g.met.V.Stored-1.entries_small in
-    let lower = g.met.V.Stored-2.entries_small in
+    let upper = g.met.V.Stored-1.row_small in
+    let lower = g.met.V.Stored-2.row_small in
     let leaf = g.met.V.Stored-3.row_small in (
       search rules,
       (

@@ -16,7 +16,7 @@ overflow_sub-count g c = rw (c.from-count.ensures, c.entries.ensures) (entries_s
 
 pub entry-requires : goal.entry-requires
 entry-requires g c =
-    let small = g.met.V.Stored-2.entries_small in
+    let small = g.met.V.Stored-2.row_small in
     let bits = bits_of g.row.U g.row.L g.row.F in
     let count : c.from-count.result ≡ entries bits Lower = c.from-count.ensures ∙ c.entries.ensures ∙ ap (λ b. entries b Lower) c.bits.ensures.value in
     (internal_small _ _ g.row.WL _ c.self.invariant.0.few_lower_words small.1 small.1 small.0, last_within bits Lower c.args.p _ count)

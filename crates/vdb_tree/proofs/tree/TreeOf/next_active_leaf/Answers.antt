@@ -13,7 +13,7 @@ use Rattle.vdb_tree.proofs.tree.TreeOf.next_active_leaf.Goals as goal
 
 pub next_active-requires : goal.next_active-requires
 next_active-requires g c =
-    let small = g.met.V.Stored-2.entries_small in
+    let small = g.met.V.Stored-2.row_small in
     (internal_small _ _ g.row.WL _ c.self.invariant.0.few_lower_words small.1 small.1 small.0, rw (entries_is (bits_of g.row.U g.row.L g.row.F) Lower) at c.requires.within)
 
 pub returns : goal.returns

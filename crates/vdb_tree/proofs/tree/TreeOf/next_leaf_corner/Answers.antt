@@ -17,7 +17,7 @@ less i n h k = omega (arith, h, k)
 
 pub next_child-requires : goal.next_child-requires
 next_child-requires g c =
-    let small = g.met.V.Stored-2.entries_small in
+    let small = g.met.V.Stored-2.row_small in
     (internal_small _ _ g.row.WL _ c.self.invariant.0.few_lower_words small.1 small.1 small.0, c.requires.within)
 
 pub entry_corner-requires-clause-within : goal.entry_corner-requires-clause-within

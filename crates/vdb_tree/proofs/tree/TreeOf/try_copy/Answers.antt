@@ -1,7 +1,7 @@
 use Rattle.std.proofs.Common.{refl}
 use Rattle.vdb_tree.specs.Layout.{bits_of}
 use Rattle.vdb_tree.proofs.Equations.{keeps_field}
-use Rattle.vdb_tree.proofs.Sizes.{internal_small, leaf_small}
+use Rattle.vdb_tree.proofs.Sizes.{internal_small}
 use Rattle.vdb_tree.proofs.Rooted.{same_size}
 use Rattle.vdb_tree.proofs.Splits.{alike_keeps, alike_sound, alike_tree}
 use Rattle.vdb_tree.proofs.SweptTables.{kept_swept}
@@ -9,28 +9,13 @@ use Rattle.vdb_tree.proofs.tree.TreeOf.try_copy.Goals as goal
 
 pub drop-lowers-requires-room-T-Destruct : goal.drop-lowers-requires-room-T-Destruct
 drop-lowers-requires-room-T-Destruct g c κs within =
-    let small = g.met.V.Stored-2.entries_small in
+    let small = g.met.V.Stored-2.row_small in
     internal_small _ _ g.row.WL _ c.self.invariant.0.few_lower_words small.1 small.1 small.0
 
 pub drop-uppers-requires-in_err-leaves-room-T-Destruct : goal.drop-uppers-requires-in_err-leaves-room-T-Destruct
 drop-uppers-requires-in_err-leaves-room-T-Destruct g c κs within =
-    let small = g.met.V.Stored-1.entries_small in
+    let small = g.met.V.Stored-1.row_small in
     internal_small _ _ g.row.WU _ c.self.invariant.0.few_upper_words small.1 small.1 small.0
-
-pub drop-uppers-requires-room-T-Destruct : goal.drop-uppers-requires-room-T-Destruct
-drop-uppers-requires-room-T-Destruct g c κs within =
-    let small = g.met.V.Stored-1.entries_small in
-    internal_small _ _ g.row.WU _ c.self.invariant.0.few_upper_words small.1 small.1 small.0
-
-pub try_copy-requires-4-room-T-TryCopy : goal.try_copy-requires-4-room-T-TryCopy
-try_copy-requires-4-room-T-TryCopy g c κs within =
-    let small = g.met.V.Stored-3.row_small in
-    leaf_small _ _ g.row.WF _ c.self.invariant.0.few_leaf_words small.1 small.1 small.0
-
-pub try_copy-requires-4-room-T-Destruct : goal.try_copy-requires-4-room-T-Destruct
-try_copy-requires-4-room-T-Destruct g c κs within =
-    let small = g.met.V.Stored-3.row_small in
-    leaf_small _ _ g.row.WF _ c.self.invariant.0.few_leaf_words small.1 small.1 small.0
 
 pub invariant_of-result : goal.invariant_of-result
 invariant_of-result g c = (

@@ -16,7 +16,7 @@ overflow_sub-count g c = rw (c.from-count.ensures, c.entries.ensures) (entries_s
 
 pub entry-requires : goal.entry-requires
 entry-requires g c =
-    let small = g.met.V.Stored-1.entries_small in
+    let small = g.met.V.Stored-1.row_small in
     let bits = bits_of g.row.U g.row.L g.row.F in
     let count : c.from-count.result ≡ entries bits Upper = c.from-count.ensures ∙ c.entries.ensures ∙ ap (λ b. entries b Upper) c.bits.ensures.value in
     (internal_small _ _ g.row.WU _ c.self.invariant.0.few_upper_words small.1 small.1 small.0, last_within bits Upper c.args.p _ count)
