@@ -1,4 +1,4 @@
--- For callers whose goal is that a type with a node in it fits in memory. A goal about a row of values cites the law `row_small` of `Stored`, as `g.met.V.Stored.row_small.0` for its bytes, and one about a row of entries the law `entries_small`.
+-- For callers whose goal is that a type with a node in it fits in memory. A goal about a row cites the law `row_small` of `Stored`, as `g.met.V.Stored.row_small.0` for its bytes.
 use Rattle.std.proofs.Common.{◌+◌, ◌-◌, ◌%◌, ◌^◌, ◌<◌, ◌≤◌, ℕ, max, arith}
 use Rattle.std.proofs.Math.Nat.{mod-le}
 use prog.Memory.{up}
@@ -11,7 +11,8 @@ up_le alignment bytes = omega (arith, mod-le (alignment - bytes % alignment) ali
 pub leaf_fits : (a b row mask : ℕ) → a ≤ 8 → b ≤ 8 → row ≤ 64 + mask → mask ≤ 4104 → up (max a 8) (up 8 (up b 0 + row) + mask) < 2 ^ 63
 leaf_fits a b row mask ha hb hr hm = omega (arith, up_le b 0, up_le 8 (up b 0 + row), up_le (max a 8) (up 8 (up b 0 + row) + mask))
 
--- an internal node: two masks of at most 512 words, and its row of entries, beside that of truth values
-pub node_fits : (a b masks row truths : ℕ) → a ≤ 8 → b ≤ 8 → masks ≤ 8208 → row ≤ 64 + truths → truths ≤ 4152
-    → up (max 8 (max 8 a)) (up b masks + row) < 2 ^ 63
-node_fits a b masks row truths ha hb hs hr ht = omega (arith, up_le b masks, up_le (max 8 (max 8 a)) (up b masks + row))
+-- an internal node: two masks, its row of values, and the vector of its slots
+pub node_fits : (a b masks row mask : ℕ) → a ≤ 8 → b ≤ 8 → masks ≤ 8208 → row ≤ 64 + mask → mask ≤ 4104
+    → up (max 8 (max 8 (max a 8))) (up 8 (up b masks + row) + 24) < 2 ^ 63
+node_fits a b masks row mask ha hb hs hr hm =
+    omega (arith, up_le b masks, up_le 8 (up b masks + row), up_le (max 8 (max 8 (max a 8))) (up 8 (up b masks + row) + 24))

@@ -6,10 +6,10 @@ use Rattle.vdb_node.specs.declared.Entry.{Entry}
 use Rattle.vdb_node.specs.declared.Entry.TheVariants.{Child, Tile}
 use Rattle.vdb_value.specs.declared.Cell.{Cell}
 
--- the child or the tile at an index of the masks, the values and the slots
-abbrev pub entry_of : {V : Type 0} → List Bool → List Bool → (ℕ → V) → (ℕ → ℕ) → ℕ → Entry V
-entry_of children states value_at slot_at i =
-    if is_on children i then Child (slot_at i) else Tile (record { value = value_at i; on = is_on states i })
+-- the child or the tile at an index of the masks and the rows
+abbrev pub entry_of : {V : Type 0} → List Bool → List Bool → (ℕ → V) → List ℕ → ℕ → Entry V
+entry_of children states value_at slots i =
+    if is_on children i then Child (slice_index_or slots i 0) else Tile (record { value = value_at i; on = is_on states i })
 
 -- the new list has this at the index, and at every other what the old one has
 pub record SetsEntry {A : Type 0} (old new : List A) (i : ℕ) (x : A) : Type 0 where
@@ -57,10 +57,11 @@ IsFirstWithout Has n from (Some index) = IsFirstWithoutAt Has n from index
 IsFirstWithout Has n from None = (i : ℕ) → from ≤ i → i < n → Has i
 
 -- an internal node with so many bits and words has room for its entries, and no bit past them
-pub record IsSoundInternal (bits words row_len : ℕ) (children states : List Bool) : Type 0 where
+pub record IsSoundInternal (bits words row_len slots_len : ℕ) (children states : List Bool) : Type 0 where
   pub few_bits : bits ≤ 5
   pub few_words : words ≤ 512
   pub mask_room : entry_count bits ≤ 64 * words
   pub row_room : entry_count bits ≤ row_len
+  pub slots_room : entry_count bits ≤ slots_len
   pub no_child_past : IsOffFrom children (entry_count bits)
   pub no_state_past : IsOffFrom states (entry_count bits)

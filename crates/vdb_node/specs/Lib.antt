@@ -2,4 +2,3 @@ pub mod Blends
 pub mod Entries
 pub mod Leaf
 pub mod Nodes
-pub mod Slots

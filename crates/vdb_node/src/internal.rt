@@ -15,8 +15,8 @@ use vdb_pool::TryCopy;
 use vdb_value::Cell;
 
 /// A node whose 8 to the power `LOG2` entries are children or tiles. It is a mask of the children, a
-/// mask of active states, and a row of entries, each a tile's value or a child's slot. The masks' bits
-/// past the last entry are off; with the least `W` only a node of 1 bit has such bits.
+/// mask of active states, a row of values and a row of slots. The masks' bits past the last entry are
+/// off; with the least `W` only a node of 1 bit has such bits.
 ///
 /// A contract sees the list of the entries. It reads the one at index `i` by
 /// `slice_index_or node i d`, which below the entry count is the same for every `d`. OpenVDB's class
@@ -25,11 +25,12 @@ use vdb_value::Cell;
 pub struct Internal<V: Stored<W>, const LOG2: u32, const W: usize> {
     children: Mask<W>,
     states: Mask<W>,
-    entries: V::Entries,
+    values: V::Row,
+    slots: Vec<u32>,
 }
 
 impl<V: Stored<W>, const LOG2: u32, const W: usize> Model for Internal<V, LOG2, W> {
-    ghost use Rattle.std.specs.Prelude.{List};
+    ghost use Rattle.std.specs.Prelude.{List, length};
     ghost use Rattle.vdb_node.specs.Entries.{entry_of, IsSoundInternal};
     ghost use Rattle.vdb_node.specs.Nodes.{entry_count, listed};
     ghost use Rattle.vdb_node.specs.declared.Entry.{Entry};
@@ -37,34 +38,37 @@ impl<V: Stored<W>, const LOG2: u32, const W: usize> Model for Internal<V, LOG2, 
     ghost Value = { List (Entry V) };
 
     ghost view = { λ node. listed
-        (entry_of node.children node.states (V.tile_value_in node.entries) (V.child_slot_in node.entries))
+        (entry_of node.children node.states (V.value_in node.values) node.slots.items)
         (entry_count LOG2) };
 
-    ghost invariant = { λ node. IsSoundInternal LOG2 W (V.entries_len node.entries) node.children node.states };
+    ghost invariant = { λ node. IsSoundInternal LOG2 W (V.row_len node.values)
+        (length node.slots.items) node.children node.states };
 }
 
 impl<V: Stored<W>, const LOG2: u32, const W: usize> Internal<V, LOG2, W> {
-    /// A node with a tile of this cell at every entry. The error says that the memory for the
-    /// entries was refused. The constructor `InternalNode(Coord, ValueType, bool)`.
+    /// A node with a tile of this cell at every entry. The error says that the memory for the values
+    /// or the slots was refused. The constructor `InternalNode(Coord, ValueType, bool)`.
     pub fn new_constant(alloc: Global, cell: Cell<V>) -> Result<Internal<V, LOG2, W>, AllocError>
         requires bits { LOG2 ≤ 5 }
         requires room { entry_count LOG2 ≤ 64 * W }
         requires few_words { W ≤ 512 }
         ensures { IfOk result (λ node. IsConstant node (entry_count LOG2) (Tile cell)) }
     {
-        let tiles = cell.value.filled_entries(alloc, entries(LOG2))?;
+        let values = cell.value.filled_row(alloc, entries(LOG2))?;
+        let slots = vec![in alloc; 0; entries(LOG2) as usize]?;
         let mut states = Mask::filled(cell.on);
         cut(&mut states, entries(LOG2));
         Ok(Internal {
             children: Mask::off(),
             states,
-            entries: tiles,
+            values,
+            slots,
         })
     }
 
     /// A node of its own with the same entry at every index; this one stays. A child keeps its slot,
     /// and so it is a child of both nodes: no node below is copied. The error says that the memory
-    /// for the entries was refused. The copy constructor of `InternalNode`, which copies
+    /// for the values or the slots was refused. The copy constructor of `InternalNode`, which copies
     /// the nodes below too.
     pub fn try_copy(&self, alloc: Global) -> Result<Self, AllocError>
         ensures { IfOk result (λ copy. copy ≡ self.now) }
@@ -72,7 +76,8 @@ impl<V: Stored<W>, const LOG2: u32, const W: usize> Internal<V, LOG2, W> {
         Ok(Internal {
             children: self.children.copied(),
             states: self.states.copied(),
-            entries: V::copied_entries(&self.entries, alloc)?,
+            values: V::copied_row(&self.values, alloc)?,
+            slots: Vec::from_slice(alloc, &self.slots)?,
         })
     }
 
@@ -83,10 +88,10 @@ impl<V: Stored<W>, const LOG2: u32, const W: usize> Internal<V, LOG2, W> {
         ensures { (d : Entry V) → slice_index_or self.now i d ≡ result }
     {
         if self.children.test(i) {
-            Entry::Child(V::child_slot(&self.entries, i))
+            Entry::Child(self.slots[i as usize])
         } else {
             Entry::Tile(Cell {
-                value: V::tile_value(&self.entries, i),
+                value: V::value_at(&self.values, i),
                 on: self.states.test(i),
             })
         }
@@ -99,7 +104,7 @@ impl<V: Stored<W>, const LOG2: u32, const W: usize> Internal<V, LOG2, W> {
         ensures { SetsEntry self.old self.new i (Tile cell) }
     {
         self.children.clear(i);
-        V::set_tile_value(&mut self.entries, i, cell.value);
+        V::set_value(&mut self.values, i, cell.value);
         put(&mut self.states, i, cell.on);
     }
 
@@ -110,7 +115,7 @@ impl<V: Stored<W>, const LOG2: u32, const W: usize> Internal<V, LOG2, W> {
         ensures { SetsEntry self.old self.new i (Child slot) }
     {
         self.children.set(i);
-        V::set_child_slot(&mut self.entries, i, slot);
+        self.slots[i as usize] = slot;
     }
 
     /// The cell that every entry is a tile of, or `None` where there is a child or two tiles differ.
@@ -119,14 +124,11 @@ impl<V: Stored<W>, const LOG2: u32, const W: usize> Internal<V, LOG2, W> {
         ensures { (cell : Cell V) → (result ≡ Some cell)
             ↔ IsConstant self.now (entry_count LOG2) (Tile cell) }
     {
-        let (tiles, states) = (&self.entries, &self.states);
+        let (values, states) = (&self.values, &self.states);
         let count = entries(LOG2);
-        if self.children.all_off()
-            && is_uniform(states, count)
-            && V::are_tiles_alike(tiles, count)
-        {
+        if self.children.all_off() && is_uniform(states, count) && V::are_alike(values, count) {
             Some(Cell {
-                value: V::tile_value(tiles, 0),
+                value: V::value_at(values, 0),
                 on: states.test(0),
             })
         } else {
@@ -158,15 +160,15 @@ impl<V: Stored<W>, const LOG2: u32, const W: usize> Internal<V, LOG2, W> {
         requires { from ≤ entry_count LOG2 }
         ensures { IsFirstWithout (IsTileOf cell self.now) (entry_count LOG2) from result }
     {
-        let (children, states, tiles) = (&self.children, &self.states, &self.entries);
+        let (children, states, values) = (&self.children, &self.states, &self.values);
         let Cell { value, on } = cell;
         let count = entries(LOG2);
         let mut start = from;
-        // The masks are read only so far ahead of the tiles.
+        // The masks are read only so far ahead of the values.
         'parts: while start < count {
             let end = count.min(start + 512);
             let marked = next_marked(children, states, on, start, end);
-            let found = V::next_unlike_tile(tiles, value, start, marked);
+            let found = V::next_unlike(values, value, start, marked);
             if found < end {
                 return Some(found);
             }

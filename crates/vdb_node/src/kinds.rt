@@ -1,13 +1,12 @@
-//! The rows of the integers.
+//! The rows of the three kinds of values.
 
 ghost use Rattle.std.specs.Prelude.{◌≡◌, ◌≢◌, ◌*◌, ◌<◌, ◌≤◌, ◌↔◌, ℕ, pos, length, slice_index_or, false, if◌then◌else◌, Some, None, IsTrue};
 ghost use Rattle.std.proofs.Common.{arith};
 ghost use Rattle.vdb_mask.specs.Mask.{is_on};
-ghost use Rattle.vdb_node.specs.Slots.{slot_of_i32, slot_of_i64};
 ghost use Rattle.vdb_value.specs.Blends.{blended};
 
 use crate::Stored;
-use crate::slots::{i32_of_slot, i64_of_slot, slot_of_i32, slot_of_i64};
+use crate::uniform::{is_uniform, put};
 use std::alloc::{AllocError, Global};
 use vdb_mask::Mask;
 use vdb_value::{Blend, Voxel};
@@ -216,20 +215,83 @@ fn take_each<V: Voxel, const W: usize>(values: &mut [V], others: &[V], marks: &M
     }
 }
 
+impl<const W: usize> Stored<W> for bool {
+    type Row = Mask<W>;
+
+    ghost row_len = { λ row. 64 * W };
+
+    ghost value_in = { is_on };
+
+    fn filled_row(self, _alloc: Global, _count: u32) -> Result<Mask<W>, AllocError> {
+        Ok(Mask::filled(self))
+    }
+
+    fn copied_row(row: &Mask<W>, _alloc: Global) -> Result<Mask<W>, AllocError> {
+        Ok(row.copied())
+    }
+
+    fn copy_row(row: &mut Mask<W>, other: &Mask<W>, _count: u32) {
+        row.copy_from(other);
+    }
+
+    fn value_at(row: &Mask<W>, i: u32) -> bool {
+        row.test(i)
+    }
+
+    fn set_value(row: &mut Mask<W>, i: u32, value: bool) {
+        put(row, i, value);
+    }
+
+    fn set_run(row: &mut Mask<W>, from: u32, to: u32, value: bool) {
+        row.set_run(from, to, value);
+    }
+
+    fn are_alike(row: &Mask<W>, count: u32) -> bool {
+        is_uniform(row, count)
+    }
+
+    fn next_unlike(row: &Mask<W>, value: bool, from: u32, to: u32) -> u32 {
+        match row.next_before(!value, from, to) {
+            Some(i) => i,
+            None => to,
+        }
+    }
+
+    fn blend_rows(row: &mut Mask<W>, other: &Mask<W>, count: u32, how: Blend) -> bool {
+        match how {
+            Blend::Greatest => row.union(other),
+            Blend::Least => row.both(other),
+            Blend::Sum => return count == 0,
+        }
+        true
+    }
+
+    fn blend_row_with(row: &mut Mask<W>, value: bool, count: u32, how: Blend) -> bool {
+        match how {
+            Blend::Greatest if value => row.set_run(0, count, true),
+            Blend::Least if !value => row.set_run(0, count, false),
+            Blend::Sum => return count == 0,
+            _ => {}
+        }
+        true
+    }
+
+    fn take_marked(row: &mut Mask<W>, other: &Mask<W>, marks: &Mask<W>, _count: u32) {
+        let mut taken = other.copied();
+        taken.both(marks);
+        row.minus(marks);
+        row.union(&taken);
+    }
+
+    ghost row_small = { (Prim.omega arith, Prim.omega arith) };
+}
+
 impl<const W: usize> Stored<W> for i32 {
     type Row = Vec<i32>;
 
     ghost row_len = { λ row. length row.items };
 
     ghost value_in = { λ row i. slice_index_or row.items i (pos 0) };
-
-    type Entries = Vec<i32>;
-
-    ghost entries_len = { λ entries. length entries.items };
-
-    ghost tile_value_in = { λ entries i. slice_index_or entries.items i (pos 0) };
-
-    ghost child_slot_in = { λ entries i. slot_of_i32 (slice_index_or entries.items i (pos 0)) };
 
     fn filled_row(self, alloc: Global, count: u32) -> Result<Vec<i32>, AllocError> {
         vec![in alloc; self; count as usize]
@@ -275,41 +337,7 @@ impl<const W: usize> Stored<W> for i32 {
         take_each(row, other, marks, count);
     }
 
-    fn filled_entries(self, alloc: Global, count: u32) -> Result<Vec<i32>, AllocError> {
-        vec![in alloc; self; count as usize]
-    }
-
-    fn copied_entries(entries: &Vec<i32>, alloc: Global) -> Result<Vec<i32>, AllocError> {
-        Vec::from_slice(alloc, entries)
-    }
-
-    fn tile_value(entries: &Vec<i32>, i: u32) -> i32 {
-        entries[i as usize]
-    }
-
-    fn child_slot(entries: &Vec<i32>, i: u32) -> u32 {
-        slot_of_i32(entries[i as usize])
-    }
-
-    fn set_tile_value(entries: &mut Vec<i32>, i: u32, value: i32) {
-        entries[i as usize] = value;
-    }
-
-    fn set_child_slot(entries: &mut Vec<i32>, i: u32, slot: u32) {
-        entries[i as usize] = i32_of_slot(slot);
-    }
-
-    fn are_tiles_alike(entries: &Vec<i32>, count: u32) -> bool {
-        are_one(&entries[..count as usize])
-    }
-
-    fn next_unlike_tile(entries: &Vec<i32>, value: i32, from: u32, to: u32) -> u32 {
-        next_other(entries, value, from, to)
-    }
-
     ghost row_small = { (Prim.omega arith, Prim.omega arith) };
-
-    ghost entries_small = { (Prim.omega arith, Prim.omega arith) };
 }
 
 impl<const W: usize> Stored<W> for i64 {
@@ -318,14 +346,6 @@ impl<const W: usize> Stored<W> for i64 {
     ghost row_len = { λ row. length row.items };
 
     ghost value_in = { λ row i. slice_index_or row.items i (pos 0) };
-
-    type Entries = Vec<i64>;
-
-    ghost entries_len = { λ entries. length entries.items };
-
-    ghost tile_value_in = { λ entries i. slice_index_or entries.items i (pos 0) };
-
-    ghost child_slot_in = { λ entries i. slot_of_i64 (slice_index_or entries.items i (pos 0)) };
 
     fn filled_row(self, alloc: Global, count: u32) -> Result<Vec<i64>, AllocError> {
         vec![in alloc; self; count as usize]
@@ -371,39 +391,5 @@ impl<const W: usize> Stored<W> for i64 {
         take_each(row, other, marks, count);
     }
 
-    fn filled_entries(self, alloc: Global, count: u32) -> Result<Vec<i64>, AllocError> {
-        vec![in alloc; self; count as usize]
-    }
-
-    fn copied_entries(entries: &Vec<i64>, alloc: Global) -> Result<Vec<i64>, AllocError> {
-        Vec::from_slice(alloc, entries)
-    }
-
-    fn tile_value(entries: &Vec<i64>, i: u32) -> i64 {
-        entries[i as usize]
-    }
-
-    fn child_slot(entries: &Vec<i64>, i: u32) -> u32 {
-        slot_of_i64(entries[i as usize])
-    }
-
-    fn set_tile_value(entries: &mut Vec<i64>, i: u32, value: i64) {
-        entries[i as usize] = value;
-    }
-
-    fn set_child_slot(entries: &mut Vec<i64>, i: u32, slot: u32) {
-        entries[i as usize] = i64_of_slot(slot);
-    }
-
-    fn are_tiles_alike(entries: &Vec<i64>, count: u32) -> bool {
-        are_one(&entries[..count as usize])
-    }
-
-    fn next_unlike_tile(entries: &Vec<i64>, value: i64, from: u32, to: u32) -> u32 {
-        next_other(entries, value, from, to)
-    }
-
     ghost row_small = { (Prim.omega arith, Prim.omega arith) };
-
-    ghost entries_small = { (Prim.omega arith, Prim.omega arith) };
 }

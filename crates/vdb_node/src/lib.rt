@@ -1,5 +1,5 @@
 //! Nodes of the tree: leaves and internal nodes, for any number of bits from 1 to 5. Outside each is a table of entries; inside
-//! it is masks, 64 entries to a word, beside a row of values or slots.
+//! it is masks, 64 entries to a word, beside rows of values and slots.
 //!
 //! These are the `LeafNode` and the `InternalNode` of OpenVDB (`tree/LeafNode.h`,
 //! `tree/InternalNode.h`). The names in the items' docs are theirs. A node with `LOG2` bits has 2 to
@@ -11,11 +11,9 @@
 mod internal;
 mod kinds;
 mod leaf;
-mod slots;
 mod stored;
 #[cfg(test)]
 mod tests;
-mod truths;
 mod uniform;
 
 pub use internal::Internal;

@@ -170,53 +170,6 @@ fn internal_nodes_of_every_kind(rt: HostRuntime) -> Result<(), AllocError> {
     try_internal::<i64, 5, 512>(&rt, rt.alloc(), 7, 8, 32768)
 }
 
-// A node of 64 entries in which children in small and great slots stand beside tiles, and change places with
-// them.
-fn try_slots<V: Stored<1>>(
-    rt: &impl Abort,
-    alloc: Global,
-    one: V,
-    other: V,
-) -> Result<(), AllocError> {
-    let children = [
-        (0, 0),
-        (15, 1),
-        (30, 2_147_483_647),
-        (45, 2_147_483_648),
-        (62, 4_294_967_294),
-    ];
-    let mut node: Internal<V, 2, 1> = Internal::new_constant(alloc, off(one))?;
-    for (i, slot) in children {
-        node.set_child(i, slot);
-        node.set_tile(i + 1, on(other));
-    }
-    for (i, slot) in children {
-        assert!(rt; node.entry(i) == Entry::Child(slot), "the child at {i}");
-        assert!(rt; node.entry(i + 1) == Entry::Tile(on(other)), "after {i}");
-    }
-    for (i, slot) in children {
-        node.set_tile(i, off(other));
-        node.set_child(i + 1, slot);
-    }
-    for (i, slot) in children {
-        assert!(rt; node.entry(i) == Entry::Tile(off(other)), "at {i}");
-        assert!(rt;
-            node.entry(i + 1) == Entry::Child(slot),
-            "the child after {i}"
-        );
-    }
-    assert!(rt; node.entry(2) == Entry::Tile(off(one)));
-    Ok(())
-}
-
-#[test]
-fn slots_of_every_kind(rt: HostRuntime) -> Result<(), AllocError> {
-    try_slots(&rt, rt.alloc(), false, true)?;
-    try_slots(&rt, rt.alloc(), true, false)?;
-    try_slots(&rt, rt.alloc(), i32::MIN, i32::MAX)?;
-    try_slots(&rt, rt.alloc(), i64::MIN, i64::MAX)
-}
-
 // A leaf of 512 entries with two cells set has a copy with the same cells, and a change of the copy
 // leaves the leaf as it was.
 fn try_leaf_copy<V: Stored<8>>(
@@ -410,8 +363,8 @@ fn a_leaf_of_truth_values_takes_no_memory(rt: HostRuntime) {
 fn places_are_small(rt: HostRuntime) {
     assert_eq!(rt; size_of::<Leaf<bool, 3, 8>>(), 128);
     assert_eq!(rt; size_of::<Leaf<i32, 3, 8>>(), 88);
-    assert_eq!(rt; size_of::<Internal<i32, 4, 64>>(), 1048);
-    assert_eq!(rt; size_of::<Internal<i32, 5, 512>>(), 8216);
+    assert_eq!(rt; size_of::<Internal<i32, 4, 64>>(), 1072);
+    assert_eq!(rt; size_of::<Internal<i32, 5, 512>>(), 8240);
     assert_eq!(rt; size_of::<Internal<bool, 4, 64>>(), 1560);
     assert_eq!(rt; size_of::<Internal<bool, 5, 512>>(), 12312);
 }

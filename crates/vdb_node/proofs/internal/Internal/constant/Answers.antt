@@ -4,28 +4,28 @@ use Rattle.vdb_node.specs.Nodes.{entry_count}
 use Rattle.vdb_node.proofs.Entries.{constant_alike, constant_mixed}
 use Rattle.vdb_node.proofs.Listed.{entry_count-pos}
 use Rattle.vdb_node.proofs.internal.Internal.constant.Goals as goal
-use Rattle.vdb_node.proofs.internal.Internal.constant.Goals.{else-all_off-via-then-all_off+then-is_uniform+else-are_tiles_alike, else-all_off-via-then-all_off+else-is_uniform, else-all_off-via-else-all_off}
+use Rattle.vdb_node.proofs.internal.Internal.constant.Goals.{else-all_off-via-then-all_off+then-is_uniform+else-are_alike, else-all_off-via-then-all_off+else-is_uniform, else-all_off-via-else-all_off}
 
-pub returns-then-are_tiles_alike : goal.returns-then-are_tiles_alike
-returns-then-are_tiles_alike g c =
+pub returns-then-are_alike : goal.returns-then-are_alike
+returns-then-are_alike g c =
     rw (← c.self.view_is)
-    (constant_alike c.self.inside.children c.self.inside.states (g.V.Stored.tile_value_in c.self.inside.entries) (g.V.Stored.child_slot_in c.self.inside.entries)
-    (entry_count g.row.LOG2) (entry_count-pos g.row.LOG2) (record { value = c.tile_value.result; on = c.test.result })
+    (constant_alike c.self.inside.children c.self.inside.states (g.V.Stored.value_in c.self.inside.values) c.self.inside.slots.items
+    (entry_count g.row.LOG2) (entry_count-pos g.row.LOG2) (record { value = c.value_at.result; on = c.test.result })
     (c.all_off.ensures.0 c.if-all_off.true)
     (rw c.entries-count.ensures at (c.is_uniform.ensures.0 c.if-is_uniform.true))
-    (rw c.entries-count.ensures at (c.are_tiles_alike.ensures.0 c.if-are_tiles_alike.true))
-    c.tile_value.ensures c.test.ensures)
+    (rw c.entries-count.ensures at (c.are_alike.ensures.0 c.if-are_alike.true))
+    c.value_at.ensures c.test.ensures)
 
 pub returns-else-all_off : goal.returns-else-all_off
 returns-else-all_off g c =
     rw (← c.self.view_is)
-    (constant_mixed c.self.inside.children c.self.inside.states (g.V.Stored.tile_value_in c.self.inside.entries) (g.V.Stored.child_slot_in c.self.inside.entries)
+    (constant_mixed c.self.inside.children c.self.inside.states (g.V.Stored.value_in c.self.inside.values) c.self.inside.slots.items
     (entry_count g.row.LOG2) (entry_count-pos g.row.LOG2)
     (λ off on values.
     elim c.else-all_off.branch [
-      | else-all_off-via-then-all_off+then-is_uniform+else-are_tiles_alike w ↦
-          let yes = w.are_tiles_alike.ensures.1 (rw (← c.entries-count.ensures) at values) in
-          let no = w.if-are_tiles_alike.false in
+      | else-all_off-via-then-all_off+then-is_uniform+else-are_alike w ↦
+          let yes = w.are_alike.ensures.1 (rw (← c.entries-count.ensures) at values) in
+          let no = w.if-are_alike.false in
           cc (yes, no)
       | else-all_off-via-then-all_off+else-is_uniform w ↦
           let yes = w.is_uniform.ensures.1 (rw (← c.entries-count.ensures) at on) in

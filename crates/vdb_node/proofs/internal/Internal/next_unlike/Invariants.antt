@@ -8,7 +8,7 @@ invariant-parts g l =
       least : l.from ≤ l.start;
       within : l.start ≤ l.count;
       unmarked : (i : ℕ) → l.from ≤ i → i < l.start → is_on l.children i ≡ false;
-      values : (i : ℕ) → l.from ≤ i → i < l.start → g.V.Stored.tile_value_in l.tiles i ≡ l.value;
+      values : (i : ℕ) → l.from ≤ i → i < l.start → g.V.Stored.value_in l.values i ≡ l.value;
       same : (i : ℕ) → l.from ≤ i → i < l.start → is_on l.states i ≡ l.on;
     }
 

@@ -7,14 +7,12 @@ use Rattle.vdb_node.proofs.internal.Internal.set_tile.Goals as goal
 pub returns : goal.returns
 returns g c =
     rw (← c.self.view_is)
-    (SetsEntry-listed (entry_of c.self.inside.children c.self.inside.states (g.V.Stored.tile_value_in c.self.inside.entries) (g.V.Stored.child_slot_in c.self.inside.entries))
-    (entry_of c.clear.new.self c.put.new.mask (g.V.Stored.tile_value_in c.set_tile_value.new.entries) (g.V.Stored.child_slot_in c.set_tile_value.new.entries))
-    (entry_count g.row.LOG2) c.args.i _ c.requires
-    (entry_of-tile c.clear.new.self c.put.new.mask (g.V.Stored.tile_value_in c.set_tile_value.new.entries)
-    (g.V.Stored.child_slot_in c.set_tile_value.new.entries) c.args.i c.clear.ensures.here
-    ∙ rw (c.set_tile_value.ensures.here, c.put.ensures.here) refl)
-    (λ j other.
-    rw (c.clear.ensures.others j other, c.set_tile_value.ensures.values j other, c.set_tile_value.ensures.slots j other, c.put.ensures.others j other) refl))
+    (SetsEntry-listed (entry_of c.self.inside.children c.self.inside.states (g.V.Stored.value_in c.self.inside.values) c.self.inside.slots.items)
+    (entry_of c.clear.new.self c.put.new.mask (g.V.Stored.value_in c.set_value.new.row) c.self.inside.slots.items) (entry_count g.row.LOG2) c.args.i _
+    c.requires
+    (entry_of-tile c.clear.new.self c.put.new.mask (g.V.Stored.value_in c.set_value.new.row) c.self.inside.slots.items c.args.i c.clear.ensures.here
+    ∙ rw (c.set_value.ensures.here, c.put.ensures.here) refl)
+    (λ j other. rw (c.clear.ensures.others j other, c.set_value.ensures.others j other, c.put.ensures.others j other) refl))
 
 pub invariant_of-self : goal.invariant_of-self
 invariant_of-self g c =
@@ -22,7 +20,8 @@ invariant_of-self g c =
       few_bits = c.self.invariant.few_bits;
       few_words = c.self.invariant.few_words;
       mask_room = c.self.invariant.mask_room;
-      row_room = omega (arith, c.self.invariant.row_room, c.set_tile_value.ensures.capacity);
+      row_room = omega (arith, c.self.invariant.row_room, c.set_value.ensures.room);
+      slots_room = c.self.invariant.slots_room;
       no_child_past = λ j past.
           c.clear.ensures.others j (λ same. omega (arith, past, same, c.requires)) ∙ c.self.invariant.no_child_past j past;
       no_state_past = λ j past.
