@@ -17,6 +17,9 @@ from lanes import in_turn
 
 BEGUN = time.time()
 
+# the most memory that one job of a proof takes, in bytes, as measured for the largest crate; rt's own estimate is three times that
+JOB = 3_800_000_000
+
 
 def load():
     """Loads rt as a module."""
@@ -52,7 +55,7 @@ def in_lanes(tasks):
     long = lengths(tasks)
     with rt.ending():
         return in_turn(
-            {key: (waits, long[key], needs, told(key, call)) for key, (waits, _, needs, call) in tasks.items()},
+            {key: (waits, long[key], min(needs, JOB), told(key, call)) for key, (waits, _, needs, call) in tasks.items()},
             rt.processors(),
             0.85 * rt.free(),
         )
