@@ -17,8 +17,9 @@ from lanes import in_turn
 
 BEGUN = time.time()
 
-# the most memory that one job of a proof takes, in bytes, as measured for the largest crate; rt's own estimate is three times that
-JOB = 3_800_000_000
+# the most memory that one job of a proof takes, in bytes, as measured for the largest crate, and that one of tests or of an edit does; rt's
+# own estimate is three times that
+PROOF, OTHER = 3_800_000_000, 2_800_000_000
 
 
 def load():
@@ -55,7 +56,7 @@ def in_lanes(tasks):
     long = lengths(tasks)
     with rt.ending():
         return in_turn(
-            {key: (waits, long[key], min(needs, JOB), told(key, call)) for key, (waits, _, needs, call) in tasks.items()},
+            {key: (waits, long[key], min(needs, PROOF if key[1] == "proof" else OTHER), told(key, call)) for key, (waits, _, needs, call) in tasks.items()},
             rt.processors(),
             0.85 * rt.free(),
         )

@@ -27,8 +27,8 @@ def in_turn(tasks, processors, memory):
     """Runs tasks, each once those that it waits for have ended, and returns what each gave.
 
     A proof by four jobs doesn't keep four processors busy to its end, since what is left of it then is one chain. So where there are four,
-    two proofs may run side by side; seeds and edits, tests and whatever else is no proof fill the gaps, and give way to proofs. Tasks with
-    the longest chain of others behind them come first. A task of no length doesn't count.
+    two proofs may run side by side; seeds and edits, tests and whatever else is no proof fill the gaps, give way to proofs, and leave the
+    memory that the next proof takes. Tasks with the longest chain of others behind them come first. A task of no length doesn't count.
     """
     behind, ended, most = chains(tasks), queue.Queue(), 2 if processors >= 4 else 1
     left, running, given = sorted(tasks, key=lambda key: -behind[key]), {}, {}
@@ -58,6 +58,9 @@ def in_turn(tasks, processors, memory):
             idle = processors - sum(running[it] for it in counted)
             wanted = -(-idle // (waiting + 1)) if idle > 0 else 0
         free = memory - sum(taken(tasks[it][2], running[it]) for it in counted)
+        if not is_proof(key):
+            next_proof = max((taken(tasks[it][2], processors) for it in left if is_proof(it)), default=0)
+            free -= max(0, next_proof - sum(taken(tasks[it][2], running[it]) for it in counted if is_proof(it)))
         while wanted > 0 and counted and taken(needs, wanted) > free:
             wanted -= 1
         return wanted

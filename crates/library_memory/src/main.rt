@@ -1,4 +1,4 @@
-//! Takes memory by the calls of the library that make room, nodes and copies of them, and by calls on a grid. A call that is
+//! Takes memory by the calls of the library that reserve it, that make nodes and that copy them, and by calls on a grid. A call that is
 //! refused is told, with what stands after it, and made once more. The hostile runs refuse each growth of this program in turn.
 #![tactic(auto)]
 
@@ -53,7 +53,7 @@ pub(crate) fn tell_done(rt: &HostRuntime, call: &str, is_right: bool) {
     tell(rt, call, if is_right { "done" } else { "done, but wrong" });
 }
 
-/// Makes room in a pool: for two nodes, and then for so many more that it takes further chunks.
+/// Reserves places in a pool: for two nodes, and then for so many more that it takes further chunks.
 fn reserve(rt: &HostRuntime, steps: &mut Steps) {
     let mut pool = Pool::new(rt.alloc());
     if pool.reserve(2).is_err() {

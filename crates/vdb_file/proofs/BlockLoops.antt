@@ -17,7 +17,7 @@ use Rattle.vdb_file.specs.Bodies.{listed}
 use Rattle.vdb_file.specs.declared.fault.LoadFault.{LoadFault}
 use Rattle.vdb_file.specs.internal.LeafVoxels.{HasValues}
 use Rattle.vdb_file.specs.internal.Loading.{IsIndex}
-use Rattle.vdb_file.specs.internal.LoadedFields.{AreReady, HasCapacityAt, IsNext, IsReady, KeptOutside, ShowsIn, ShowsInEach, entry_box, next_bytes}
+use Rattle.vdb_file.specs.internal.LoadedFields.{AreLoadable, HasCapacityAt, IsNext, IsLoadable, KeptOutside, ShowsIn, ShowsInEach, entry_box, next_bytes}
 use Rattle.vdb_file.specs.internal.Reading.{Fails, Position, Took}
 use Rattle.vdb_file.specs.internal.Written.{numbered}
 use Rattle.vdb_file.proofs.Agreement.{AreValues}
@@ -60,12 +60,12 @@ module _ {V : Type 0} {eq : V → V → Bool} {value_bytes : V → List ℕ} {P 
     entry_values : HasValues P g.background g
     entry_values = record { same = refl; values = so_far.values.values }
 
-    -- each entry that may come next is ready, as a block of the level below
-    pub entries_ready : (few : AreBits bits) (below : Level) → ((i : ℕ) → i < entries bits level → block_around bits below (box i).min ≡ box i) → (limit : ℕ) → HasCapacityAt eq bits limit (block_around bits Upper p) f → AreReady eq P bits limit below N box g
-    entries_ready few below own limit capacity = record { configured = few; each = ready }
+    -- each entry that may come next is loadable, as a block of the level below
+    pub entries_loadable : (few : AreBits bits) (below : Level) → ((i : ℕ) → i < entries bits level → block_around bits below (box i).min ≡ box i) → (limit : ℕ) → HasCapacityAt eq bits limit (block_around bits Upper p) f → AreLoadable eq P bits limit below N box g
+    entries_loadable few below own limit capacity = record { configured = few; each = loadable }
       where
-        ready : (i : ℕ) → N i → IsReady eq P bits limit below (box i).min g
-        ready i index = record {
+        loadable : (i : ℕ) → N i → IsLoadable eq P bits limit below (box i).min g
+        loadable i index = record {
           configured = few;
           values = entry_values;
           clear = subst (λ (c : Box). is_background eq g c ≡ true) (sym (own i index.within)) (next_clear values is background b f old done before g now so_far i (below_member bits level i index.within) index.later);

@@ -19,7 +19,7 @@ use Rattle.vdb_tree.proofs.Uniform.{uniform_from}
 use Rattle.vdb_file.specs.Bodies.{key_bytes, root_body, roots_bytes}
 use Rattle.vdb_file.specs.declared.fault.LoadFault.{LoadFault}
 use Rattle.vdb_file.specs.internal.Loading.{IsKey}
-use Rattle.vdb_file.specs.internal.LoadedFields.{AreReady, HasCapacityAt, IsNext, IsReady, IsWithin, KeptOutside, ShowsIn, ShowsInEach, next_bytes}
+use Rattle.vdb_file.specs.internal.LoadedFields.{AreLoadable, HasCapacityAt, IsNext, IsLoadable, IsWithin, KeptOutside, ShowsIn, ShowsInEach, next_bytes}
 use Rattle.vdb_file.specs.internal.Reading.{Fails, Position, Reads, Took}
 use Rattle.vdb_file.specs.internal.Following.{Follows}
 use Rattle.vdb_file.proofs.Ordered.{last_of}
@@ -160,9 +160,9 @@ module _ {V : Type 0} {eq : V → V → Bool} {value_bytes : V → List ℕ} {P 
       own : block_around bits Upper (box k).min ≡ box k
       own = ap (block bits Upper) (number_of_corner bits Upper k)
 
-      -- is ready
-      root_ready : (limit : ℕ) → count ≤ limit → IsReady eq P bits limit Upper (box k).min g
-      root_ready limit most = record {
+      -- is loadable
+      root_loadable : (limit : ℕ) → count ≤ limit → IsLoadable eq P bits limit Upper (box k).min g
+      root_loadable limit most = record {
         configured = configured;
         values = record { same = refl; values = so_far.values.values };
         clear = subst (λ (c : Box). is_background eq g c ≡ true) (sym own) clear_here;
@@ -170,8 +170,8 @@ module _ {V : Type 0} {eq : V → V → Bool} {value_bytes : V → List ℕ} {P 
       }
 
     -- each that may come next is
-    pub roots_ready : (limit : ℕ) → count ≤ limit → AreReady eq P bits limit Upper N box g
-    roots_ready limit most = record { configured = configured; each = λ k key. root_ready k key limit most }
+    pub roots_loadable : (limit : ℕ) → count ≤ limit → AreLoadable eq P bits limit Upper N box g
+    roots_loadable limit most = record { configured = configured; each = λ k key. root_loadable k key limit most }
 
     -- no root block is ahead
     pub no_next_root : (fault : LoadFault) → Fails (IsNext eq P g.background N box) (next_bytes key_bytes (root_body eq value_bytes bits) box) fault now → Fails (Each count) list fault old

@@ -6,7 +6,7 @@
 //! The modules, from below:
 //! - `accessors`: paths traced anew after a change of the tree.
 //! - `grid`: the grid, its probes and its writes.
-//! - `edits`: the calls on boxes and on two grids.
+//! - `edits`: all that changes more than a voxel: fill, clip, prune, voxelise, the calls on two grids, dilate and erode.
 #![tactic(auto)]
 
 mod accessors;

@@ -76,9 +76,43 @@ fn masks_of_several_sizes_at_both_ends(rt: HostRuntime) {
     try_words_at_both_ends::<512>(&rt);
 }
 
+// A mask with this word and no other value on.
+fn mask_of(k: u32, word: u64) -> Mask<8>
+    requires { k < 8 }
+{
+    let mut mask: Mask<8> = Mask::off();
+    mask.set_word(k, word);
+    mask
+}
+
+fn expect_word(rt: &impl Abort, mask: &Mask<8>, k: u32, word: u64, what: &str)
+    requires { k < 8 }
+{
+    assert_eq!(rt; mask.word(k), word, "{what}, word {k}");
+    assert_eq!(rt; mask.count(), word.count_ones(), "{what}, word {k}");
+}
+
+// One word of two masks, and then of either, of the first without the second, and of both.
+fn try_two_masks(rt: &impl Abort, k: u32, words: [u64; 5])
+    requires { k < 8 }
+{
+    let [a, b, either, only_a, in_both] = words;
+    let one = mask_of(k, a);
+    let other = mask_of(k, b);
+    let mut union = one.copied();
+    union.union(&other);
+    expect_word(rt, &union, k, either, "union");
+    let mut minus = one.copied();
+    minus.minus(&other);
+    expect_word(rt, &minus, k, only_a, "minus");
+    let mut both = one.copied();
+    both.both(&other);
+    expect_word(rt, &both, k, in_both, "both");
+    expect_word(rt, &other, k, b, "the other mask");
+}
+
 #[test]
 fn two_masks_word_by_word(rt: HostRuntime) {
-    // a, b, then a or b, a without b, and a and b
     let table: [[u64; 5]; 6] = [
         [0b1100, 0b1010, 0b1110, 0b0100, 0b1000],
         [0, 0, 0, 0, 0],
@@ -93,39 +127,34 @@ fn two_masks_word_by_word(rt: HostRuntime) {
             0x8000_0000_0000_0001,
         ],
     ];
-    for [a, b, either, only_a, in_both] in table {
+    for words in table {
         for k in 0..8 {
-            let mut one: Mask<8> = Mask::off();
-            let mut other: Mask<8> = Mask::off();
-            one.set_word(k, a);
-            other.set_word(k, b);
-            let mut union = one.copied();
-            union.union(&other);
-            assert_eq!(rt; union.word(k), either, "{a} or {b}, word {k}");
-            assert_eq!(rt; union.count(), either.count_ones(), "{a} or {b}, word {k}");
-            let mut minus = one.copied();
-            minus.minus(&other);
-            assert_eq!(rt; minus.word(k), only_a, "{a} without {b}, word {k}");
-            assert_eq!(rt;
-                minus.count(),
-                only_a.count_ones(),
-                "{a} without {b}, word {k}"
-            );
-            let mut both = one.copied();
-            both.both(&other);
-            assert_eq!(rt; both.word(k), in_both, "{a} and {b}, word {k}");
-            assert_eq!(rt; both.count(), in_both.count_ones(), "{a} and {b}, word {k}");
-            assert_eq!(rt; other.word(k), b, "the other mask, word {k}");
+            try_two_masks(&rt, k, words);
         }
     }
 }
 
+fn expect_next_on(rt: &impl Abort, mask: &Mask<4>, from: u32, index: Option<u32>)
+    requires { from ≤ 256 }
+{
+    assert_eq!(rt; mask.next_on(from), index, "on, from {from}");
+}
+
+fn expect_next_off(rt: &impl Abort, mask: &Mask<4>, from: u32, index: Option<u32>)
+    requires { from ≤ 256 }
+{
+    assert_eq!(rt; mask.next_off(from), index, "off, from {from}");
+}
+
+// The values on in one mask are those off in the other.
 #[test]
 fn next_indices(rt: HostRuntime) {
     let mut mask: Mask<4> = Mask::off();
     mask.set_word(1, 0b1010_0000);
     mask.set_word(3, 1 << 63);
-    let on = [
+    let mut opposite: Mask<4> = Mask::filled(true);
+    opposite.minus(&mask);
+    for (from, index) in [
         (0, Some(69)),
         (63, Some(69)),
         (69, Some(69)),
@@ -133,30 +162,37 @@ fn next_indices(rt: HostRuntime) {
         (72, Some(255)),
         (255, Some(255)),
         (256, None),
-    ];
-    for (from, index) in on {
-        assert_eq!(rt; mask.next_on(from), index, "on, from {from}");
+    ] {
+        expect_next_on(&rt, &mask, from, index);
+        expect_next_off(&rt, &opposite, from, index);
     }
-    // the same indices are off
-    let mut opposite: Mask<4> = Mask::filled(true);
-    opposite.minus(&mask);
-    for (from, index) in on {
-        assert_eq!(rt; opposite.next_off(from), index, "off, from {from}");
+    for (from, index) in [(69, Some(70)), (255, None), (256, None)] {
+        expect_next_off(&rt, &mask, from, index);
     }
-    assert_eq!(rt; mask.next_off(69), Some(70), "off between the two");
-    assert_eq!(rt; mask.next_off(255), None, "off after the last");
-    assert_eq!(rt; mask.next_off(256), None, "off from the end");
+}
+
+// A mask with two values on.
+fn pair(first: u32, second: u32) -> Mask<4>
+    requires first { first < 256 }
+    requires second { second < 256 }
+{
+    let mut mask: Mask<4> = Mask::off();
+    mask.set(first);
+    mask.set(second);
+    mask
+}
+
+fn expect_in_either(rt: &impl Abort, one: &Mask<4>, other: &Mask<4>, from: u32, index: Option<u32>)
+    requires { from ≤ 256 }
+{
+    assert_eq!(rt; one.next_on_in_either(other, from), index, "from {from}");
 }
 
 #[test]
-fn next_indices_of_two_masks(rt: HostRuntime) {
-    let mut one: Mask<4> = Mask::off();
-    one.set(70);
-    one.set(255);
-    let mut other: Mask<4> = Mask::off();
-    other.set(69);
-    other.set(130);
-    let either = [
+fn next_indices_on_in_either_of_two_masks(rt: HostRuntime) {
+    let one = pair(70, 255);
+    let other = pair(69, 130);
+    for (from, index) in [
         (0, Some(69)),
         (69, Some(69)),
         (70, Some(70)),
@@ -164,109 +200,118 @@ fn next_indices_of_two_masks(rt: HostRuntime) {
         (131, Some(255)),
         (255, Some(255)),
         (256, None),
-    ];
-    for (from, index) in either {
-        assert_eq!(rt;
-            one.next_on_in_either(&other, from),
-            index,
-            "one and other, from {from}"
-        );
-        assert_eq!(rt;
-            other.next_on_in_either(&one, from),
-            index,
-            "other and one, from {from}"
-        );
+    ] {
+        expect_in_either(&rt, &one, &other, from, index);
+        expect_in_either(&rt, &other, &one, from, index);
     }
     let off: Mask<4> = Mask::off();
-    assert_eq!(rt; off.next_on_in_either(&off, 0), None, "none on");
-    for (from, index) in either {
-        assert_eq!(rt;
-            one.next_on_or_other(&other, true, from, 256),
-            index,
-            "below the end, from {from}"
-        );
+    expect_in_either(&rt, &off, &off, 0, None);
+}
+
+fn expect_or_other(
+    rt: &impl Abort,
+    other: &Mask<4>,
+    on: bool,
+    range: (u32, u32),
+    index: Option<u32>,
+)
+    requires in_order { range.0 ≤ range.1 }
+    requires within { range.1 ≤ 256 }
+{
+    let (from, to) = range;
+    let next = pair(70, 255).next_on_or_other(other, on, from, to);
+    assert_eq!(rt; next, index, "from {from} to {to}");
+}
+
+#[test]
+fn next_indices_below_a_bound_of_two_masks(rt: HostRuntime) {
+    let other = pair(69, 130);
+    for (on, from, to, index) in [
+        (true, 0, 256, Some(69)),
+        (true, 70, 256, Some(70)),
+        (true, 71, 256, Some(130)),
+        (true, 131, 256, Some(255)),
+        (true, 256, 256, None),
+        (true, 71, 130, None),
+        (true, 71, 131, Some(130)),
+        (false, 69, 256, Some(70)),
+    ] {
+        expect_or_other(&rt, &other, on, (from, to), index);
     }
-    assert_eq!(rt;
-        one.next_on_or_other(&other, true, 71, 130),
-        None,
-        "on at the bound"
-    );
-    assert_eq!(rt;
-        one.next_on_or_other(&other, true, 71, 131),
-        Some(130),
-        "on below the bound"
-    );
-    assert_eq!(rt;
-        one.next_on_or_other(&other, false, 69, 256),
-        Some(70),
-        "off after one"
-    );
     let filled: Mask<4> = Mask::filled(true);
+    expect_or_other(&rt, &filled, false, (0, 256), Some(70));
+    expect_or_other(&rt, &filled, false, (71, 255), None);
+}
+
+fn expect_before(rt: &impl Abort, mask: &Mask<4>, on: bool, range: (u32, u32), index: Option<u32>)
+    requires in_order { range.0 ≤ range.1 }
+    requires within { range.1 ≤ 256 }
+{
+    let (from, to) = range;
     assert_eq!(rt;
-        one.next_on_or_other(&filled, false, 0, 256),
-        Some(70),
-        "none off"
-    );
-    assert_eq!(rt;
-        one.next_on_or_other(&filled, false, 71, 255),
-        None,
-        "none off below"
+        mask.next_before(on, from, to),
+        index,
+        "from {from} to {to}"
     );
 }
 
 #[test]
 fn next_indices_below_a_bound(rt: HostRuntime) {
-    let mut mask: Mask<4> = Mask::off();
-    mask.set(70);
-    mask.set(255);
-    let on = [
-        (0, 70, None),
-        (0, 71, Some(70)),
-        (71, 128, None),
-        (71, 255, None),
-        (71, 256, Some(255)),
-        (256, 256, None),
-    ];
-    for (from, to, index) in on {
-        assert_eq!(rt;
-            mask.next_before(true, from, to),
-            index,
-            "from {from} to {to}"
-        );
+    let mask = pair(70, 255);
+    for (on, from, to, index) in [
+        (true, 0, 70, None),
+        (true, 0, 71, Some(70)),
+        (true, 71, 128, None),
+        (true, 71, 255, None),
+        (true, 71, 256, Some(255)),
+        (true, 256, 256, None),
+        (false, 70, 71, None),
+        (false, 70, 72, Some(71)),
+    ] {
+        expect_before(&rt, &mask, on, (from, to), index);
     }
-    assert_eq!(rt; mask.next_before(false, 70, 71), None, "off at none");
-    assert_eq!(rt; mask.next_before(false, 70, 72), Some(71), "off after one");
+}
+
+// A run of values on in a mask, and off in another: how many differ from the rest, and the first of them.
+fn try_run(rt: &impl Abort, from: u32, to: u32, count: u32, first: Option<u32>)
+    requires in_order { from ≤ to }
+    requires within { to ≤ 256 }
+    requires few { count ≤ 256 }
+{
+    let mut mask: Mask<4> = Mask::off();
+    mask.set_run(from, to, true);
+    assert_eq!(rt; mask.count(), count, "on, from {from} to {to}");
+    expect_next_on(rt, &mask, 0, first);
+    let mut opposite: Mask<4> = Mask::filled(true);
+    opposite.set_run(from, to, false);
+    assert_eq!(rt; opposite.count(), 256 - count, "off, from {from} to {to}");
+    expect_next_off(rt, &opposite, 0, first);
+    opposite.minus(&mask);
+    assert_eq!(rt; opposite.count(), 256 - count, "both, from {from} to {to}");
+}
+
+// The first value off from the start of a run on.
+fn expect_end(rt: &impl Abort, from: u32, to: u32, end: Option<u32>)
+    requires in_order { from ≤ to }
+    requires within { to ≤ 256 }
+{
+    let mut mask: Mask<4> = Mask::off();
+    mask.set_run(from, to, true);
+    expect_before(rt, &mask, false, (from, 256), end);
 }
 
 #[test]
 fn runs_of_values(rt: HostRuntime) {
-    // from, to, how many are on then, the first on and the first off after it
-    let table = [
-        (0, 0, 0, None, None),
+    for (from, to, count, first, end) in [
+        (0, 0, 0, None, Some(0)),
         (5, 9, 4, Some(5), Some(9)),
         (63, 64, 1, Some(63), Some(64)),
         (60, 130, 70, Some(60), Some(130)),
         (64, 128, 64, Some(64), Some(128)),
         (0, 256, 256, Some(0), None),
         (256, 256, 0, None, None),
-    ];
-    for (from, to, count, first_on, first_off) in table {
-        let mut mask: Mask<4> = Mask::off();
-        mask.set_run(from, to, true);
-        assert_eq!(rt; mask.count(), count, "on, from {from} to {to}");
-        assert_eq!(rt; mask.next_on(0), first_on, "on, from {from} to {to}");
-        if first_on.is_some() {
-            assert_eq!(rt;
-                mask.next_before(false, from, 256),
-                first_off,
-                "from {from} to {to}"
-            );
-        }
-        let mut opposite: Mask<4> = Mask::filled(true);
-        opposite.set_run(from, to, false);
-        assert_eq!(rt; opposite.count(), 256 - count, "off, from {from} to {to}");
-        assert_eq!(rt; opposite.next_off(0), first_on, "off, from {from} to {to}");
-        opposite.minus(&mask);
-        assert_eq!(rt; opposite.count(), 256 - count, "both, from {from} to {to}");
+    ] {
+        try_run(&rt, from, to, count, first);
+        expect_end(&rt, from, to, end);
     }
 }

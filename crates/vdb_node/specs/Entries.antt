@@ -56,12 +56,12 @@ abbrev pub IsFirstWithout : (ℕ → Type 0) → ℕ → ℕ → Option ℕ → 
 IsFirstWithout Has n from (Some index) = IsFirstWithoutAt Has n from index
 IsFirstWithout Has n from None = (i : ℕ) → from ≤ i → i < n → Has i
 
--- an internal node with so many bits and words has room for its entries, and no bit past them
+-- an internal node with so many bits and words has capacity for its entries, and no bit past them
 pub record IsSoundInternal (bits words row_len slots_len : ℕ) (children states : List Bool) : Type 0 where
   pub few_bits : bits ≤ 5
   pub few_words : words ≤ 512
-  pub mask_room : entry_count bits ≤ 64 * words
-  pub row_room : entry_count bits ≤ row_len
-  pub slots_room : entry_count bits ≤ slots_len
+  pub mask_capacity : entry_count bits ≤ 64 * words
+  pub row_capacity : entry_count bits ≤ row_len
+  pub slots_capacity : entry_count bits ≤ slots_len
   pub no_child_past : IsOffFrom children (entry_count bits)
   pub no_state_past : IsOffFrom states (entry_count bits)

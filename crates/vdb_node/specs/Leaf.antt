@@ -39,10 +39,10 @@ pub record FillsRun {V : Type 0} (old new : Leaf V) (from to : ℕ) (cell : Cell
 abbrev pub IsConstantLeaf : {V : Type 0} → Leaf V → ℕ → Cell V → Type 0
 IsConstantLeaf {V} leaf n cell = (d : Cell V) (i : ℕ) → i < n → cell_in d leaf i ≡ cell
 
--- a leaf with so many bits and words has room for its entries, and no state past them
+-- a leaf with so many bits and words has capacity for its entries, and no state past them
 pub record IsSoundLeaf (bits words row_len : ℕ) (states : List Bool) : Type 0 where
   pub few_bits : bits ≤ 5
   pub few_words : words ≤ 512
-  pub mask_room : entry_count bits ≤ 64 * words
-  pub row_room : entry_count bits ≤ row_len
+  pub mask_capacity : entry_count bits ≤ 64 * words
+  pub row_capacity : entry_count bits ≤ row_len
   pub past_end : IsOffFrom states (entry_count bits)

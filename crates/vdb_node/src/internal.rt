@@ -50,7 +50,7 @@ impl<V: Stored<W>, const LOG2: u32, const W: usize> Internal<V, LOG2, W> {
     /// or the slots was refused. The constructor `InternalNode(Coord, ValueType, bool)`.
     pub fn new_constant(alloc: Global, cell: Cell<V>) -> Result<Internal<V, LOG2, W>, AllocError>
         requires bits { LOG2 ≤ 5 }
-        requires room { entry_count LOG2 ≤ 64 * W }
+        requires capacity { entry_count LOG2 ≤ 64 * W }
         requires few_words { W ≤ 512 }
         ensures { IfOk result (λ node. IsConstant node (entry_count LOG2) (Tile cell)) }
     {

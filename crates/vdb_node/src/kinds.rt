@@ -25,7 +25,7 @@ fn are_one<V: Voxel>(values: &[V]) -> bool
 /// none.
 fn next_other<V: Voxel>(values: &[V], value: V, from: u32, to: u32) -> u32
     requires from_within { from ≤ to }
-    requires room { to ≤ length values.now }
+    requires capacity { to ≤ length values.now }
     ensures least { from ≤ result }
     ensures within { result ≤ to }
     ensures here { (d : V) → result < to → slice_index_or values.now result d ≢ value }
@@ -44,7 +44,7 @@ fn next_other<V: Voxel>(values: &[V], value: V, from: u32, to: u32) -> u32
 fn set_each<V: Voxel>(values: &mut [V], from: u32, to: u32, value: V)
     requires in_order { from ≤ to }
     requires within { to ≤ length values.old }
-    ensures room { length values.new ≡ length values.old }
+    ensures capacity { length values.new ≡ length values.old }
     ensures run { (i : ℕ) (d : V) → from ≤ i → i < to → slice_index_or values.new i d ≡ value }
     ensures before { (i : ℕ) (d : V) → i < from
         → slice_index_or values.new i d ≡ slice_index_or values.old i d }
@@ -60,7 +60,7 @@ fn set_each<V: Voxel>(values: &mut [V], from: u32, to: u32, value: V)
 fn copy_first<V: Voxel>(values: &mut [V], others: &[V], count: u32)
     requires within { count ≤ length values.old }
     requires source { count ≤ length others.now }
-    ensures room { length values.new ≡ length values.old }
+    ensures capacity { length values.new ≡ length values.old }
     ensures values { (i : ℕ) (d : V) → i < count
         → slice_index_or values.new i d ≡ slice_index_or others.now i d }
 {
@@ -73,7 +73,7 @@ fn copy_run<V: Voxel>(values: &mut [V], others: &[V], from: u32, to: u32)
     requires in_order { from ≤ to }
     requires within { to ≤ length values.old }
     requires other_within { to ≤ length others.now }
-    ensures room { length values.new ≡ length values.old }
+    ensures capacity { length values.new ≡ length values.old }
     ensures run { (i : ℕ) (d : V) → from ≤ i → i < to
         → slice_index_or values.new i d ≡ slice_index_or others.now i d }
     ensures before { (i : ℕ) (d : V) → i < from
@@ -88,9 +88,9 @@ fn copy_run<V: Voxel>(values: &mut [V], others: &[V], from: u32, to: u32)
 /// them stay. False says that some two of the first `count` become none: then some may have changed.
 #[inline(always)]
 fn blend_each<V: Voxel>(values: &mut [V], others: &[V], count: u32, how: Blend) -> bool
-    requires room { count ≤ length values.old }
-    requires other_room { count ≤ length others.now }
-    ensures room { length values.new ≡ length values.old }
+    requires capacity { count ≤ length values.old }
+    requires other_capacity { count ≤ length others.now }
+    ensures capacity { length values.new ≡ length values.old }
     ensures blended { (i : ℕ) (d : V) → IsTrue result → i < count
         → blended V.greater V.lesser V.sum_of how (slice_index_or values.old i d) (slice_index_or others.now i d)
         ≡ Some (slice_index_or values.new i d) }
@@ -111,8 +111,8 @@ fn blend_each<V: Voxel>(values: &mut [V], others: &[V], count: u32, how: Blend) 
 /// says that one of the first `count` and this become none: then some may have changed.
 #[inline(always)]
 fn blend_each_with<V: Voxel>(values: &mut [V], value: V, count: u32, how: Blend) -> bool
-    requires room { count ≤ length values.old }
-    ensures room { length values.new ≡ length values.old }
+    requires capacity { count ≤ length values.old }
+    ensures capacity { length values.new ≡ length values.old }
     ensures blended { (i : ℕ) (d : V) → IsTrue result → i < count
         → blended V.greater V.lesser V.sum_of how (slice_index_or values.old i d) value
         ≡ Some (slice_index_or values.new i d) }
@@ -130,9 +130,9 @@ fn blend_each_with<V: Voxel>(values: &mut [V], value: V, count: u32, how: Blend)
 
 /// What `blend_each` does, by a loop for each way: none asks at a value which way it is.
 fn blend_slices<V: Voxel>(values: &mut [V], others: &[V], count: u32, how: Blend) -> bool
-    requires room { count ≤ length values.old }
-    requires other_room { count ≤ length others.now }
-    ensures room { length values.new ≡ length values.old }
+    requires capacity { count ≤ length values.old }
+    requires other_capacity { count ≤ length others.now }
+    ensures capacity { length values.new ≡ length values.old }
     ensures blended { (i : ℕ) (d : V) → IsTrue result → i < count
         → blended V.greater V.lesser V.sum_of how (slice_index_or values.old i d) (slice_index_or others.now i d)
         ≡ Some (slice_index_or values.new i d) }
@@ -149,8 +149,8 @@ fn blend_slices<V: Voxel>(values: &mut [V], others: &[V], count: u32, how: Blend
 
 /// What `blend_each_with` does, by a loop for each way.
 fn blend_slice_with<V: Voxel>(values: &mut [V], value: V, count: u32, how: Blend) -> bool
-    requires room { count ≤ length values.old }
-    ensures room { length values.new ≡ length values.old }
+    requires capacity { count ≤ length values.old }
+    ensures capacity { length values.new ≡ length values.old }
     ensures blended { (i : ℕ) (d : V) → IsTrue result → i < count
         → blended V.greater V.lesser V.sum_of how (slice_index_or values.old i d) value
         ≡ Some (slice_index_or values.new i d) }
@@ -175,10 +175,10 @@ fn take_next_run<V: Voxel, const W: usize>(
 ) -> u32
     requires few_words { W ≤ 512 }
     requires some { from < count }
-    requires mask_room { count ≤ 64 * W }
-    requires room { count ≤ length values.old }
-    requires other_room { count ≤ length others.now }
-    ensures room { length values.new ≡ length values.old }
+    requires mask_capacity { count ≤ 64 * W }
+    requires capacity { count ≤ length values.old }
+    requires other_capacity { count ≤ length others.now }
+    ensures capacity { length values.new ≡ length values.old }
     ensures further { from < result }
     ensures within { result ≤ count }
     ensures before { (i : ℕ) (d : V) → i < from
@@ -202,10 +202,10 @@ fn take_next_run<V: Voxel, const W: usize>(
 /// Takes the others' values at each index below `count` where the mask is on; every other stays.
 fn take_each<V: Voxel, const W: usize>(values: &mut [V], others: &[V], marks: &Mask<W>, count: u32)
     requires few_words { W ≤ 512 }
-    requires mask_room { count ≤ 64 * W }
-    requires room { count ≤ length values.old }
-    requires other_room { count ≤ length others.now }
-    ensures room { length values.new ≡ length values.old }
+    requires mask_capacity { count ≤ 64 * W }
+    requires capacity { count ≤ length values.old }
+    requires other_capacity { count ≤ length others.now }
+    ensures capacity { length values.new ≡ length values.old }
     ensures taken { (i : ℕ) (d : V) → i < count → slice_index_or values.new i d
         ≡ (if is_on marks.now i then slice_index_or others.now i d else slice_index_or values.old i d) }
 {

@@ -51,7 +51,7 @@ impl<V: Stored<W>, const LOG2: u32, const W: usize> Leaf<V, LOG2, W> {
     /// `LeafNode(Coord, ValueType, bool)`.
     pub fn new_constant(alloc: Global, cell: Cell<V>) -> Result<Leaf<V, LOG2, W>, AllocError>
         requires bits { LOG2 ≤ 5 }
-        requires room { entry_count LOG2 ≤ 64 * W }
+        requires capacity { entry_count LOG2 ≤ 64 * W }
         requires few_words { W ≤ 512 }
         ensures cells { IfOk result (λ leaf. IsConstantLeaf leaf (entry_count LOG2) cell) }
         ensures past_end { IfOk result (λ leaf. IsOffFrom leaf.states (entry_count LOG2)) }

@@ -4,7 +4,7 @@
 //! These are the `LeafNode` and the `InternalNode` of OpenVDB (`tree/LeafNode.h`,
 //! `tree/InternalNode.h`). The names in the items' docs are theirs. A node with `LOG2` bits has 2 to
 //! the power `LOG2` entries along each axis, 8 to that power in all, and a mask of `W` words of 64
-//! bits has room for them: `W` is 1, 1, 8, 64 and 512 at 1 to 5 bits. An index counts the entries as
+//! bits holds them: `W` is 1, 1, 8, 64 and 512 at 1 to 5 bits. An index counts the entries as
 //! `LeafNode::coordToOffset` does; nothing here uses coordinates.
 #![tactic(auto)]
 

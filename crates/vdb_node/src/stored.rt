@@ -18,7 +18,7 @@ pub trait Stored<const W: usize>: Voxel {
     /// A row of values.
     type Row: Drop;
 
-    /// How many values a row has room for, and the value at an index of a row.
+    /// The capacity of a row, in values, and the value at an index of a row.
     ghost row_len: { Self.Row → ℕ };
 
     ghost value_in: { Self.Row → ℕ → Self };
@@ -27,14 +27,14 @@ pub trait Stored<const W: usize>: Voxel {
     /// was refused; truth values take none beyond the row's place.
     fn filled_row(self, alloc: Global, count: u32) -> Result<Self::Row, AllocError>
         requires { count ≤ 64 * W }
-        ensures room { IfOk result (λ row. count ≤ row_len row) }
+        ensures capacity { IfOk result (λ row. count ≤ row_len row) }
         ensures values { IfOk result (λ row. (i : ℕ) → i < count → value_in row i ≡ self) }
         ensures in_place { Self.KIND ≡ truths → IsOk result };
 
-    /// A row of its own with as much room and the same values; this one stays. The error says that
+    /// A row of its own with the same capacity and values; this one stays. The error says that
     /// the memory for them was refused; truth values take none beyond the row's place.
     fn copied_row(row: &Self::Row, alloc: Global) -> Result<Self::Row, AllocError>
-        ensures room { IfOk result (λ copy. row_len copy ≡ row_len row.now) }
+        ensures capacity { IfOk result (λ copy. row_len copy ≡ row_len row.now) }
         ensures values { IfOk result (λ copy. value_in copy ≡ value_in row.now) }
         ensures in_place { Self.KIND ≡ truths → IsOk result };
 
@@ -42,7 +42,7 @@ pub trait Stored<const W: usize>: Voxel {
     fn copy_row(row: &mut Self::Row, other: &Self::Row, count: u32)
         requires within { count ≤ row_len row.old }
         requires source { count ≤ row_len other.now }
-        ensures room { row_len row.new ≡ row_len row.old }
+        ensures capacity { row_len row.new ≡ row_len row.old }
         ensures values { (i : ℕ) → i < count → value_in row.new i ≡ value_in other.now i };
 
     /// The value at an index.
@@ -53,7 +53,7 @@ pub trait Stored<const W: usize>: Voxel {
     /// Makes this the value at an index; every other stays.
     fn set_value(row: &mut Self::Row, i: u32, value: Self)
         requires { i < row_len row.old }
-        ensures room { row_len row.new ≡ row_len row.old }
+        ensures capacity { row_len row.new ≡ row_len row.old }
         ensures here { value_in row.new i ≡ value }
         ensures others { (j : ℕ) → j ≢ i → value_in row.new j ≡ value_in row.old j };
 
@@ -62,7 +62,7 @@ pub trait Stored<const W: usize>: Voxel {
         requires few_words { W ≤ 512 }
         requires in_order { from ≤ to }
         requires within { to ≤ row_len row.old }
-        ensures room { row_len row.new ≡ row_len row.old }
+        ensures capacity { row_len row.new ≡ row_len row.old }
         ensures run { (i : ℕ) → from ≤ i → i < to → value_in row.new i ≡ value }
         ensures before { (i : ℕ) → i < from → value_in row.new i ≡ value_in row.old i }
         ensures after { (i : ℕ) → to ≤ i → value_in row.new i ≡ value_in row.old i };
@@ -71,7 +71,7 @@ pub trait Stored<const W: usize>: Voxel {
     fn are_alike(row: &Self::Row, count: u32) -> bool
         requires few_words { W ≤ 512 }
         requires some { 0 < count }
-        requires room { count ≤ row_len row.now }
+        requires capacity { count ≤ row_len row.now }
         ensures { IsTrue result ↔ ((i : ℕ) → i < count → value_in row.now i ≡ value_in row.now 0) };
 
     /// The first index from `from` on and below `to` with another value than this, or `to` where there
@@ -79,7 +79,7 @@ pub trait Stored<const W: usize>: Voxel {
     fn next_unlike(row: &Self::Row, value: Self, from: u32, to: u32) -> u32
         requires few_words { W ≤ 512 }
         requires from_within { from ≤ to }
-        requires room { to ≤ row_len row.now }
+        requires capacity { to ≤ row_len row.now }
         ensures least { from ≤ result }
         ensures within { result ≤ to }
         ensures here { result < to → value_in row.now result ≢ value }
@@ -89,9 +89,9 @@ pub trait Stored<const W: usize>: Voxel {
     /// the values past them isn't said. False says that some two of the first `count` become none, as
     /// they have no sum: then some of these may have changed.
     fn blend_rows(row: &mut Self::Row, other: &Self::Row, count: u32, how: Blend) -> bool
-        requires room { count ≤ row_len row.old }
-        requires other_room { count ≤ row_len other.now }
-        ensures room { row_len row.new ≡ row_len row.old }
+        requires capacity { count ≤ row_len row.old }
+        requires other_capacity { count ≤ row_len other.now }
+        ensures capacity { row_len row.new ≡ row_len row.old }
         ensures blended { IsTrue result → (i : ℕ) → i < count
             → blended Self.greater Self.lesser Self.sum_of how (value_in row.old i) (value_in other.now i)
             ≡ Some (value_in row.new i) }
@@ -103,8 +103,8 @@ pub trait Stored<const W: usize>: Voxel {
     /// none, as they have no sum: then some of these may have changed.
     fn blend_row_with(row: &mut Self::Row, value: Self, count: u32, how: Blend) -> bool
         requires few_words { W ≤ 512 }
-        requires room { count ≤ row_len row.old }
-        ensures room { row_len row.new ≡ row_len row.old }
+        requires capacity { count ≤ row_len row.old }
+        ensures capacity { row_len row.new ≡ row_len row.old }
         ensures blended { IsTrue result → (i : ℕ) → i < count
             → blended Self.greater Self.lesser Self.sum_of how (value_in row.old i) value
             ≡ Some (value_in row.new i) }
@@ -115,10 +115,10 @@ pub trait Stored<const W: usize>: Voxel {
     /// `count` stay.
     fn take_marked(row: &mut Self::Row, other: &Self::Row, marks: &Mask<W>, count: u32)
         requires few_words { W ≤ 512 }
-        requires mask_room { count ≤ 64 * W }
-        requires room { count ≤ row_len row.old }
-        requires other_room { count ≤ row_len other.now }
-        ensures room { row_len row.new ≡ row_len row.old }
+        requires mask_capacity { count ≤ 64 * W }
+        requires capacity { count ≤ row_len row.old }
+        requires other_capacity { count ≤ row_len other.now }
+        ensures capacity { row_len row.new ≡ row_len row.old }
         ensures taken { (i : ℕ) → i < count → value_in row.new i
             ≡ (if is_on marks.now i then value_in other.now i else value_in row.old i) };
 

@@ -14,30 +14,25 @@ use vdb_value::Cell;
 
 #[test]
 fn a_voxel_changes_and_changes_back(rt: HostRuntime) -> Result<(), AllocError> {
-    let three = Cell { value: 3, on: true };
-    let mut leaf: Leaf<i32, 3, 8> = Leaf::new_constant(rt.alloc(), three)?;
-    assert_eq!(rt; leaf.entry(83), three);
-    leaf.set(83, Cell { value: 5, on: true });
-    assert_eq!(rt; leaf.constant(), None);
-    leaf.set(83, three);
-    assert_eq!(rt; leaf.constant(), Some(three));
+    let mut leaf: Leaf<i32, 3, 8> = Leaf::new_constant(rt.alloc(), on(3))?;
+    expect_leaf(&rt, &leaf, 83, on(3), true, 512);
+    leaf.set(83, on(5));
+    expect_leaf(&rt, &leaf, 83, on(5), false, 512);
+    leaf.set(83, on(3));
+    expect_leaf(&rt, &leaf, 83, on(3), true, 512);
     Ok(())
 }
 
 #[test]
 fn a_child_leaves_no_constant(rt: HostRuntime) -> Result<(), AllocError> {
-    let plain = Cell {
-        value: 3,
-        on: false,
-    };
-    let mut node: Internal<i32, 4, 64> = Internal::new_constant(rt.alloc(), plain)?;
-    assert_eq!(rt; node.constant(), Some(plain));
+    let tile = off(3);
+    let mut node: Internal<i32, 4, 64> = Internal::new_constant(rt.alloc(), tile)?;
+    expect_node(&rt, &node, 0, Entry::Tile(tile), Some(tile), None);
     node.set_child(0, 4);
-    assert_eq!(rt; node.constant(), None);
-    assert_eq!(rt; node.entry(0), Entry::Child(4));
-    assert_eq!(rt; node.entry(1), Entry::Tile(plain));
-    node.set_tile(0, plain);
-    assert_eq!(rt; node.constant(), Some(plain));
+    expect_node(&rt, &node, 0, Entry::Child(4), None, Some(0));
+    expect_entry(&rt, &node, 1, Entry::Tile(tile));
+    node.set_tile(0, tile);
+    expect_node(&rt, &node, 0, Entry::Tile(tile), Some(tile), None);
     Ok(())
 }
 
@@ -74,7 +69,7 @@ fn try_leaf<V: Stored<W>, const LOG2: u32, const W: usize>(
     count: u32,
 ) -> Result<(), AllocError>
     requires bits { LOG2 ≤ 5 }
-    requires room { entry_count LOG2 ≤ 64 * W }
+    requires capacity { entry_count LOG2 ≤ 64 * W }
     requires few_words { W ≤ 512 }
     requires all { count ≡ entry_count LOG2 }
     requires several { 2 ≤ count }
@@ -120,9 +115,20 @@ fn expect_node<V: Stored<W>, const LOG2: u32, const W: usize>(
 )
     requires { i < entry_count LOG2 }
 {
-    assert!(rt; node.entry(i) == entry);
+    expect_entry(rt, node, i, entry);
     assert!(rt; node.constant() == constant);
     assert_eq!(rt; node.next_child(0), child);
+}
+
+fn expect_entry<V: Stored<W>, const LOG2: u32, const W: usize>(
+    rt: &impl Abort,
+    node: &Internal<V, LOG2, W>,
+    i: u32,
+    entry: Entry<V>,
+)
+    requires { i < entry_count LOG2 }
+{
+    assert!(rt; node.entry(i) == entry);
 }
 
 // An internal node of `count` entries, each a tile of `one`, in which the last is made another tile,
@@ -135,7 +141,7 @@ fn try_internal<V: Stored<W>, const LOG2: u32, const W: usize>(
     count: u32,
 ) -> Result<(), AllocError>
     requires bits { LOG2 ≤ 5 }
-    requires room { entry_count LOG2 ≤ 64 * W }
+    requires capacity { entry_count LOG2 ≤ 64 * W }
     requires few_words { W ≤ 512 }
     requires all { count ≡ entry_count LOG2 }
     requires several { 2 ≤ count }
@@ -170,6 +176,22 @@ fn internal_nodes_of_every_kind(rt: HostRuntime) -> Result<(), AllocError> {
     try_internal::<i64, 5, 512>(&rt, rt.alloc(), 7, 8, 32768)
 }
 
+fn expect_same_cells<V: Stored<8>>(rt: &impl Abort, copy: &Leaf<V, 3, 8>, leaf: &Leaf<V, 3, 8>) {
+    for i in 0..512 {
+        assert!(rt; copy.entry(i) == leaf.entry(i));
+    }
+}
+
+fn expect_same_entries<V: Stored<8>>(
+    rt: &impl Abort,
+    copy: &Internal<V, 3, 8>,
+    node: &Internal<V, 3, 8>,
+) {
+    for i in 0..512 {
+        expect_entry(rt, copy, i, node.entry(i));
+    }
+}
+
 // A leaf of 512 entries with two cells set has a copy with the same cells, and a change of the copy
 // leaves the leaf as it was.
 fn try_leaf_copy<V: Stored<8>>(
@@ -182,18 +204,14 @@ fn try_leaf_copy<V: Stored<8>>(
     leaf.set(5, on(other));
     leaf.set(511, on(one));
     let mut copy = leaf.try_copy(alloc)?;
-    for i in 0..512 {
-        assert!(rt; copy.entry(i) == leaf.entry(i));
-    }
+    expect_same_cells(rt, &copy, &leaf);
     expect_leaf(rt, &copy, 5, on(other), false, 2);
     copy.set(5, off(one));
     expect_leaf(rt, &copy, 5, off(one), false, 1);
     expect_leaf(rt, &leaf, 5, on(other), false, 2);
     copy.set(510, on(other));
     copy.copy_from(&leaf);
-    for i in 0..512 {
-        assert!(rt; copy.entry(i) == leaf.entry(i));
-    }
+    expect_same_cells(rt, &copy, &leaf);
     expect_leaf(rt, &copy, 5, on(other), false, 2);
     expect_leaf(rt, &leaf, 5, on(other), false, 2);
     Ok(())
@@ -211,86 +229,98 @@ fn try_internal_copy<V: Stored<8>>(
     node.set_tile(5, off(other));
     node.set_child(511, 7);
     let mut copy = node.try_copy(alloc)?;
-    for i in 0..512 {
-        assert!(rt; copy.entry(i) == node.entry(i));
-    }
-    expect_node(rt, &copy, 511, Entry::Child(7), None, Some(511));
+    expect_same_entries(rt, &copy, &node);
     copy.set_child(5, 9);
     copy.set_tile(511, on(one));
     expect_node(rt, &copy, 5, Entry::Child(9), None, Some(5));
-    expect_node(rt, &node, 5, Entry::Tile(off(other)), None, Some(511));
+    expect_entry(rt, &node, 5, Entry::Tile(off(other)));
     expect_node(rt, &node, 511, Entry::Child(7), None, Some(511));
     Ok(())
 }
 
 #[test]
-fn a_change_of_a_copy_leaves_its_source(rt: HostRuntime) -> Result<(), AllocError> {
+fn a_change_of_a_copied_leaf(rt: HostRuntime) -> Result<(), AllocError> {
     try_leaf_copy(&rt, rt.alloc(), false, true)?;
     try_leaf_copy(&rt, rt.alloc(), 3, i32::MIN)?;
-    try_leaf_copy(&rt, rt.alloc(), 3, i64::MIN)?;
+    try_leaf_copy(&rt, rt.alloc(), 3, i64::MIN)
+}
+
+#[test]
+fn a_change_of_a_copied_internal_node(rt: HostRuntime) -> Result<(), AllocError> {
     try_internal_copy(&rt, rt.alloc(), false, true)?;
     try_internal_copy(&rt, rt.alloc(), 3, i32::MIN)?;
     try_internal_copy(&rt, rt.alloc(), 3, i64::MIN)
 }
 
-// A node of 4096 tiles in which a child, an active tile and a tile of another value are set, the next
-// entries of which are sought.
+fn expect_next_active<V: Stored<64>>(
+    rt: &impl Abort,
+    node: &Internal<V, 4, 64>,
+    from: u32,
+    index: Option<u32>,
+) {
+    assert_eq!(rt; node.next_active(from), index, "active, from {from}");
+}
+
+fn expect_next_unlike<V: Stored<64>>(
+    rt: &impl Abort,
+    node: &Internal<V, 4, 64>,
+    cell: Cell<V>,
+    from: u32,
+    index: Option<u32>,
+) {
+    assert_eq!(rt; node.next_unlike(cell, from), index, "unlike, from {from}");
+}
+
+// A node of 4096 tiles in which a child, an active tile and tiles of another value are set.
+fn mixed_node<V: Stored<64>>(
+    alloc: Global,
+    one: V,
+    other: V,
+) -> Result<Internal<V, 4, 64>, AllocError> {
+    let mut node: Internal<V, 4, 64> = Internal::new_constant(alloc, off(one))?;
+    node.set_child(70, 9);
+    node.set_tile(130, on(one));
+    node.set_tile(1300, off(other));
+    node.set_tile(4095, on(other));
+    Ok(node)
+}
+
+// The next entries of a node of one tile, and of the mixed node.
 fn try_next_entries<V: Stored<64>>(
     rt: &impl Abort,
     alloc: Global,
     one: V,
     other: V,
 ) -> Result<(), AllocError> {
-    let mut node: Internal<V, 4, 64> = Internal::new_constant(alloc, off(one))?;
-    assert_eq!(rt; node.next_active(0), None);
-    assert_eq!(rt; node.next_unlike(off(one), 0), None);
-    assert_eq!(rt; node.next_unlike(on(one), 0), Some(0));
-    node.set_child(70, 9);
-    node.set_tile(130, on(one));
-    node.set_tile(1300, off(other));
-    node.set_tile(4095, on(other));
-    let active = [
+    let same: Internal<V, 4, 64> = Internal::new_constant(alloc, off(one))?;
+    expect_next_active(rt, &same, 0, None);
+    expect_next_unlike(rt, &same, off(one), 0, None);
+    expect_next_unlike(rt, &same, on(one), 0, Some(0));
+    let node = mixed_node(alloc, one, other)?;
+    for (from, index) in [
         (0, Some(70)),
         (70, Some(70)),
         (71, Some(130)),
         (131, Some(4095)),
         (4095, Some(4095)),
         (4096, None),
-    ];
-    for (from, index) in active {
-        assert_eq!(rt; node.next_active(from), index, "active, from {from}");
+    ] {
+        expect_next_active(rt, &node, from, index);
     }
-    let unlike = [
-        (0, Some(70)),
-        (70, Some(70)),
-        (71, Some(130)),
-        (131, Some(1300)),
-        (1300, Some(1300)),
-        (1301, Some(4095)),
-        (4096, None),
-    ];
-    for (from, index) in unlike {
-        assert_eq!(rt;
-            node.next_unlike(off(one), from),
-            index,
-            "unlike, from {from}"
-        );
+    for (cell, from, index) in [
+        (off(one), 0, Some(70)),
+        (off(one), 70, Some(70)),
+        (off(one), 71, Some(130)),
+        (off(one), 131, Some(1300)),
+        (off(one), 1300, Some(1300)),
+        (off(one), 1301, Some(4095)),
+        (off(one), 4096, None),
+        (on(one), 130, Some(131)),
+        (off(other), 1300, Some(1301)),
+        (on(other), 4095, None),
+    ] {
+        expect_next_unlike(rt, &node, cell, from, index);
     }
-    assert_eq!(rt;
-        node.next_unlike(on(one), 130),
-        Some(131),
-        "after the active tile"
-    );
-    assert_eq!(rt;
-        node.next_unlike(off(other), 1300),
-        Some(1301),
-        "after the other tile"
-    );
-    assert_eq!(rt;
-        node.next_unlike(on(other), 4095),
-        None,
-        "after the last tile"
-    );
     Ok(())
 }
 
@@ -344,18 +374,14 @@ fn a_leaf_of_truth_values_takes_no_memory(rt: HostRuntime) {
         value: true,
         on: true,
     };
-    let Ok(small) = Leaf::<bool, 3, 8>::new_constant(rt.alloc(), yes) else {
+    let Ok(leaf) = Leaf::<bool, 5, 512>::new_constant(rt.alloc(), yes) else {
         unreachable!()
     };
-    let Ok(large) = Leaf::<bool, 5, 512>::new_constant(rt.alloc(), yes) else {
+    let Ok(copy) = leaf.try_copy(rt.alloc()) else {
         unreachable!()
     };
-    let Ok(copy) = large.try_copy(rt.alloc()) else {
-        unreachable!()
-    };
-    assert_eq!(rt; small.constant(), Some(yes));
-    assert_eq!(rt; large.constant(), Some(yes));
-    assert_eq!(rt; copy.constant(), Some(yes));
+    expect_leaf(&rt, &leaf, 0, yes, true, 32768);
+    expect_leaf(&rt, &copy, 0, yes, true, 32768);
 }
 
 // The bytes of a node's place: 8 for each word of a mask, and 24 for each vector.

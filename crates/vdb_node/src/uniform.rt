@@ -31,7 +31,7 @@ pub fn put<const W: usize>(mask: &mut Mask<W>, i: u32, on: bool)
 pub fn is_uniform<const W: usize>(mask: &Mask<W>, count: u32) -> bool
     requires few_words { W ≤ 512 }
     requires some { 0 < count }
-    requires room { count ≤ 64 * W }
+    requires capacity { count ≤ 64 * W }
     ensures { IsTrue result ↔ ((i : ℕ) → i < count → is_on mask.now i ≡ is_on mask.now 0) }
 {
     let other = if mask.test(0) {
@@ -68,7 +68,7 @@ pub fn next_marked<const W: usize>(
 ) -> u32
     requires few_words { W ≤ 512 }
     requires from_within { from ≤ to }
-    requires room { to ≤ 64 * W }
+    requires capacity { to ≤ 64 * W }
     ensures least { from ≤ result }
     ensures within { result ≤ to }
     ensures here { result < to → is_on mask.now result ≡ false → is_on states.now result ≢ on }
@@ -84,7 +84,7 @@ pub fn next_marked<const W: usize>(
 /// Turns on the first `count` values of the mask where `on` says so; the others stay.
 pub fn join<const W: usize>(mask: &mut Mask<W>, on: bool, count: u32)
     requires few_words { W ≤ 512 }
-    requires room { count ≤ 64 * W }
+    requires capacity { count ≤ 64 * W }
     ensures within { (i : ℕ) → i < count → is_on mask.new i ≡ (is_on mask.old i || on) }
     ensures after { (i : ℕ) → count ≤ i → is_on mask.new i ≡ is_on mask.old i }
 {

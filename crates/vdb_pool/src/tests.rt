@@ -2,40 +2,93 @@
 mod copied_pool;
 mod kept_path;
 
+ghost use Rattle.vdb_pool.specs.Live.{IsLive};
+
 use crate::slot::Slot;
-use crate::{Memory, Pool, Steps};
+use crate::{Memory, Place, Pool, Steps};
 use std::mem::size_of;
+use std::process::Abort;
 use std::rc::Rc;
 use std::test::Fail;
+
+// Puts a number into the pool, which takes it into this slot and has so many nodes then.
+fn expect_slot(
+    rt: &impl Abort,
+    pool: &mut Pool<u32>,
+    number: u32,
+    slot: u32,
+    nodes: u64,
+) -> Result<(), Memory> {
+    pool.reserve(1)?;
+    let spare = pool.spare();
+    let place = pool.insert(number);
+    assert_eq!(rt; place.slot(), slot);
+    assert_eq!(rt; pool.spare(), spare.wrapping_sub(1));
+    assert_eq!(rt; pool.len(), nodes);
+    Ok(())
+}
+
+// The number in a slot, which is held, is this one, and is read by one visit.
+fn expect_number(rt: &impl Abort, pool: &Pool<u32>, slot: u32, number: u32, steps: &mut Steps) {
+    let before = steps.count();
+    match pool.place(slot) {
+        Some(place) => assert_eq!(rt; *pool.at(place, steps), number),
+        None => assert!(rt; false, "slot {slot} is vacant"),
+    }
+    assert_eq!(rt; steps.count().wrapping_sub(before), 1);
+}
+
+// Adds 1 to the number in a slot, by one visit.
+fn raise(rt: &impl Abort, pool: &mut Pool<u32>, slot: u32, steps: &mut Steps) {
+    let before = steps.count();
+    if let Some(place) = pool.place(slot) {
+        let number = pool.at_mut(place, steps);
+        *number = number.wrapping_add(1);
+    }
+    assert_eq!(rt; steps.count().wrapping_sub(before), 1);
+}
+
+// Takes the number in a slot, which is held, out by one visit. The slot is vacant then.
+fn expect_taken(rt: &impl Abort, pool: &mut Pool<u32>, slot: u32, number: u32, steps: &mut Steps) {
+    let before = steps.count();
+    match pool.place(slot) {
+        Some(place) => assert_eq!(rt; pool.take(place, steps), number),
+        None => assert!(rt; false, "slot {slot} is vacant"),
+    }
+    assert_eq!(rt; steps.count().wrapping_sub(before), 1);
+    assert!(rt; pool.place(slot).is_none());
+}
 
 #[test]
 fn slots_are_used_again(rt: HostRuntime) -> Result<(), Memory> {
     let mut steps = Steps::new(&rt);
     let mut pool = Pool::new(rt.alloc());
     assert_eq!(rt; pool.spare(), 0);
-    assert!(rt; pool.reserve(2).is_ok());
-    assert!(rt; pool.spare() >= 2);
-    let seven = pool.insert(7i32);
-    assert!(rt; pool.spare() >= 1);
-    let nine = pool.insert(9);
-    assert_eq!(rt; seven.slot(), 0);
-    assert_eq!(rt; nine.slot(), 1);
-    assert_eq!(rt; pool.len(), 2);
-    assert_eq!(rt; pool.take(seven, &mut steps), 7);
-    assert!(rt; pool.place(0).is_none());
-    assert!(rt; pool.place(2).is_none());
-    assert!(rt; pool.reserve(1).is_ok());
-    assert!(rt; pool.spare() >= 1);
-    let eight = pool.insert(8);
-    assert_eq!(rt; eight.slot(), 0);
-    let before = steps.count();
-    assert_eq!(rt; *pool.at(nine, &mut steps), 9);
-    assert_eq!(rt; steps.count(), before + 1);
-    *pool.at_mut(nine, &mut steps) = 10;
-    assert_eq!(rt; *pool.at(nine, &mut steps), 10);
-    assert_eq!(rt; steps.count(), 4);
-    assert_eq!(rt; pool.len(), 2);
+    expect_slot(&rt, &mut pool, 7, 0, 1)?;
+    expect_slot(&rt, &mut pool, 9, 1, 2)?;
+    expect_taken(&rt, &mut pool, 0, 7, &mut steps);
+    assert!(rt; pool.len() == 1 && pool.place(2).is_none());
+    expect_slot(&rt, &mut pool, 8, 0, 2)?;
+    expect_number(&rt, &pool, 1, 9, &mut steps);
+    raise(&rt, &mut pool, 1, &mut steps);
+    expect_number(&rt, &pool, 1, 10, &mut steps);
+    expect_number(&rt, &pool, 0, 8, &mut steps);
     Ok(())
+}
+
+// The numbers at two places.
+fn expect_at(
+    rt: &impl Abort,
+    pool: &Pool<u32>,
+    first: Place<u32>,
+    second: Place<u32>,
+    steps: &mut Steps,
+)
+    requires first { IsLive pool.now first }
+    requires second { IsLive pool.now second }
+{
+    assert_eq!(rt; *pool.at(first, steps), 0);
+    assert_eq!(rt; *pool.at(second, steps), 1);
 }
 
 // Five chunks. The places of the first one are read after each growth, and all are found again in the end.
@@ -47,25 +100,17 @@ fn places_outlast_growth(rt: HostRuntime) -> Result<(), Memory> {
     let first = pool.insert(0u32);
     let second = pool.insert(1);
     pool.reserve(600)?;
-    assert_eq!(rt; *pool.at(first, &mut steps), 0);
-    assert_eq!(rt; *pool.at(second, &mut steps), 1);
+    expect_at(&rt, &pool, first, second, &mut steps);
     pool.reserve(1200)?;
-    assert_eq!(rt; *pool.at(first, &mut steps), 0);
-    assert_eq!(rt; *pool.at(second, &mut steps), 1);
+    expect_at(&rt, &pool, first, second, &mut steps);
     assert_eq!(rt; pool.spare(), 1273);
     for number in 2..1000u32 {
-        pool.reserve(1)?;
-        let place = pool.insert(number);
-        assert_eq!(rt; place.slot(), number);
-        assert_eq!(rt; *pool.at(place, &mut steps), number);
+        expect_slot(&rt, &mut pool, number, number, u64::from(number) + 1)?;
+        expect_number(&rt, &pool, number, number, &mut steps);
     }
-    assert_eq!(rt; pool.len(), 1000);
     assert_eq!(rt; pool.spare(), 275);
     for slot in 0..1000u32 {
-        match pool.place(slot) {
-            Some(place) => assert_eq!(rt; *pool.at(place, &mut steps), slot),
-            None => assert!(rt; false, "slot {slot} is vacant"),
-        }
+        expect_number(&rt, &pool, slot, slot, &mut steps);
     }
     Ok(())
 }
@@ -93,30 +138,32 @@ fn nodes_are_dropped_with_the_pool(rt: HostRuntime) -> Result<(), Fail> {
     Ok(())
 }
 
+// More nodes than there are slot numbers are refused, and so are 600 in a run with refused allocations.
+fn expect_refused(rt: &impl Abort, pool: &mut Pool<u32>) {
+    let spare = pool.spare();
+    assert!(rt; pool.reserve(4_294_967_294).is_err());
+    assert!(rt; pool.reserve(u64::MAX).is_err());
+    assert_eq!(rt; pool.spare(), spare);
+    let _ = pool.reserve(600);
+}
+
 // Refused for lack of slot numbers, and at a run with refused allocations for lack of memory.
 #[test]
 fn a_refused_reserve_keeps_everything(rt: HostRuntime) -> Result<(), Memory> {
     let mut steps = Steps::new(&rt);
     let mut pool = Pool::new(rt.alloc());
     pool.reserve(3)?;
-    let five = pool.insert(5u64);
-    let six = pool.insert(6);
-    let seven = pool.insert(7);
-    assert_eq!(rt; pool.take(six, &mut steps), 6);
-    let spare = pool.spare();
-    assert!(rt; pool.reserve(4_294_967_294).is_err());
-    assert!(rt; pool.reserve(u64::MAX).is_err());
-    assert_eq!(rt; pool.spare(), spare);
-    if pool.reserve(600).is_err() {
-        assert!(rt; pool.spare() >= spare);
+    for slot in 0..3u32 {
+        expect_slot(&rt, &mut pool, slot + 5, slot, u64::from(slot) + 1)?;
     }
-    assert_eq!(rt; pool.len(), 2);
-    assert_eq!(rt; *pool.at(five, &mut steps), 5);
-    assert_eq!(rt; *pool.at(seven, &mut steps), 7);
+    expect_taken(&rt, &mut pool, 1, 6, &mut steps);
+    let spare = pool.spare();
+    expect_refused(&rt, &mut pool);
+    assert!(rt; pool.len() == 2 && pool.spare() >= spare);
+    expect_number(&rt, &pool, 0, 5, &mut steps);
+    expect_number(&rt, &pool, 2, 7, &mut steps);
     assert!(rt; pool.place(1).is_none());
-    let eight = pool.insert(8);
-    assert_eq!(rt; eight.slot(), 1);
-    Ok(())
+    expect_slot(&rt, &mut pool, 8, 1, 3)
 }
 
 // It passes with every allocation refused.

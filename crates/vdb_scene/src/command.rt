@@ -57,7 +57,7 @@ pub enum Command {
     Drop {
         name: Name,
     },
-    /// Makes a grid like another that is there, of its kind and background and with its cells.
+    /// Makes a grid like another that is there, of its kind, background, root limit and metadata and with its cells.
     Copy {
         from: Name,
         to: Name,

@@ -100,6 +100,38 @@ fn is_value(answer: &Answer, value: Scalar, on: bool) -> bool {
     }
 }
 
+/// Plays a command whose answer is `ok`.
+fn expect_done(rt: &impl Abort, scene: &mut Scene, command: &Command, steps: &mut Steps) {
+    assert!(rt; is_done(&scene.apply(command, steps)));
+}
+
+/// Plays a command that is refused so.
+fn expect_refused(
+    rt: &impl Abort,
+    scene: &mut Scene,
+    command: &Command,
+    refusal: Refusal,
+    steps: &mut Steps,
+) {
+    assert!(rt;
+        is_refused(&scene.apply(command, steps), refusal),
+        "{refusal:?}"
+    );
+}
+
+/// Plays a command whose answer is this cell.
+fn expect_value(
+    rt: &impl Abort,
+    scene: &mut Scene,
+    command: &Command,
+    value: Scalar,
+    on: bool,
+    steps: &mut Steps,
+) {
+    let answer = scene.apply(command, steps);
+    assert!(rt; is_value(&answer, value, on), "{value:?}");
+}
+
 #[test]
 fn a_name_has_its_form(rt: HostRuntime) {
     for (bytes, valid) in [
@@ -137,8 +169,8 @@ fn grids_of_each_kind_hold_their_cells(rt: HostRuntime) {
         (b'l', Kind::I64, near(-3), near(9223372036854775807)),
     ] {
         let name = letter(&rt, byte);
-        assert!(rt; is_done(&scene.apply(&grid(name, kind, background), &mut steps)));
-        assert!(rt; is_done(&scene.apply(&set(name, minus, value), &mut steps)));
+        expect_done(&rt, &mut scene, &grid(name, kind, background), &mut steps);
+        expect_done(&rt, &mut scene, &set(name, minus, value), &mut steps);
     }
     for (byte, there, elsewhere) in [
         (b'b', Scalar::Bool(true), Scalar::Bool(false)),
@@ -146,13 +178,14 @@ fn grids_of_each_kind_hold_their_cells(rt: HostRuntime) {
         (b'l', Scalar::I64(9223372036854775807), Scalar::I64(-3)),
     ] {
         let name = letter(&rt, byte);
-        assert!(rt; is_value(&scene.apply(&get(name, minus), &mut steps), there, true));
-        assert!(rt;
-            is_value(
-                &scene.apply(&get(name, point(0, 0, 0)), &mut steps),
-                elsewhere,
-                false
-            )
+        expect_value(&rt, &mut scene, &get(name, minus), there, true, &mut steps);
+        expect_value(
+            &rt,
+            &mut scene,
+            &get(name, point(0, 0, 0)),
+            elsewhere,
+            false,
+            &mut steps,
         );
     }
     let mut names = scene.names();
@@ -177,9 +210,9 @@ fn refusals_come_in_their_order(rt: HostRuntime) {
         (grid(a, Kind::I32, Literal::Truth(true)), Refusal::Kind),
         (set(a, far, Literal::Truth(true)), Refusal::NoGrid),
     ] {
-        assert!(rt; is_refused(&scene.apply(&command, &mut steps), refusal));
+        expect_refused(&rt, &mut scene, &command, refusal, &mut steps);
     }
-    assert!(rt; is_done(&scene.apply(&grid(a, Kind::I32, near(0)), &mut steps)));
+    expect_done(&rt, &mut scene, &grid(a, Kind::I32, near(0)), &mut steps);
     let eighth = Command::Set {
         name: a,
         accessor: Some(Num::Near(8)),
@@ -200,14 +233,15 @@ fn refusals_come_in_their_order(rt: HostRuntime) {
         (eighth, Refusal::NoAccessor),
         (get(letter(&rt, b'b'), far), Refusal::NoGrid),
     ] {
-        assert!(rt; is_refused(&scene.apply(&command, &mut steps), refusal));
+        expect_refused(&rt, &mut scene, &command, refusal, &mut steps);
     }
-    assert!(rt;
-        is_value(
-            &scene.apply(&get(a, point(0, 0, 0)), &mut steps),
-            Scalar::I32(0),
-            false
-        )
+    expect_value(
+        &rt,
+        &mut scene,
+        &get(a, point(0, 0, 0)),
+        Scalar::I32(0),
+        false,
+        &mut steps,
     );
 }
 
@@ -223,11 +257,12 @@ fn a_scene_has_at_most_64_grids(rt: HostRuntime) {
         }
     }
     let a = letter(&rt, b'a');
-    assert!(rt;
-        is_refused(
-            &scene.apply(&grid(a, Kind::I32, near(0)), &mut steps),
-            Refusal::GridLimit
-        )
+    expect_refused(
+        &rt,
+        &mut scene,
+        &grid(a, Kind::I32, near(0)),
+        Refusal::GridLimit,
+        &mut steps,
     );
     let again = AnyGrid::new(rt.alloc(), Scalar::Bool(true), ROOT_LIMIT);
     assert!(rt; scene.insert(a, again) == Err(Refusal::GridLimit));
@@ -237,7 +272,7 @@ fn a_scene_has_at_most_64_grids(rt: HostRuntime) {
         (copy(first, first), Refusal::NameTaken),
         (copy(first, a), Refusal::GridLimit),
     ] {
-        assert!(rt; is_refused(&scene.apply(&command, &mut steps), refusal));
+        expect_refused(&rt, &mut scene, &command, refusal, &mut steps);
     }
     let taken = AnyGrid::new(rt.alloc(), Scalar::Bool(true), ROOT_LIMIT);
     assert!(rt; scene.insert(first, taken) == Err(Refusal::NameTaken));
@@ -255,7 +290,7 @@ fn each_write_changes_its_part_of_a_cell(rt: HostRuntime) {
     let mut scene = Scene::new(rt.alloc());
     let a = letter(&rt, b'a');
     let at = point(7, -8, 4096);
-    assert!(rt; is_done(&scene.apply(&grid(a, Kind::I64, near(-3)), &mut steps)));
+    expect_done(&rt, &mut scene, &grid(a, Kind::I64, near(-3)), &mut steps);
     let only = Command::Only {
         name: a,
         accessor: None,
@@ -277,24 +312,26 @@ fn each_write_changes_its_part_of_a_cell(rt: HostRuntime) {
         (state(a, at, false), 4, false),
         (Command::Prune { name: a }, 4, false),
     ] {
-        assert!(rt; is_done(&scene.apply(&command, &mut steps)));
-        assert!(rt;
-            is_value(
-                &scene.apply(&get(a, at), &mut steps),
-                Scalar::I64(value),
-                on
-            )
+        expect_done(&rt, &mut scene, &command, &mut steps);
+        expect_value(
+            &rt,
+            &mut scene,
+            &get(a, at),
+            Scalar::I64(value),
+            on,
+            &mut steps,
         );
     }
     let prune = Command::Prune {
         name: letter(&rt, b'b'),
     };
-    assert!(rt; is_refused(&scene.apply(&prune, &mut steps), Refusal::NoGrid));
-    assert!(rt;
-        is_refused(
-            &scene.apply(&state(letter(&rt, b'b'), at, true), &mut steps),
-            Refusal::NoGrid
-        )
+    expect_refused(&rt, &mut scene, &prune, Refusal::NoGrid, &mut steps);
+    expect_refused(
+        &rt,
+        &mut scene,
+        &state(letter(&rt, b'b'), at, true),
+        Refusal::NoGrid,
+        &mut steps,
     );
 }
 
@@ -339,7 +376,7 @@ fn a_copy_is_a_grid_of_its_own(rt: HostRuntime) {
             state(from, here, false),
             set(to, there, value),
         ] {
-            assert!(rt; is_done(&scene.apply(&command, &mut steps)));
+            expect_done(&rt, &mut scene, &command, &mut steps);
         }
         for (name, at, value, is_on) in [
             (from, here, on, false),
@@ -348,13 +385,25 @@ fn a_copy_is_a_grid_of_its_own(rt: HostRuntime) {
             (to, there, on, true),
             (to, point(0, 0, 1), off, false),
         ] {
-            assert!(rt; is_value(&scene.apply(&get(name, at), &mut steps), value, is_on));
+            expect_value(&rt, &mut scene, &get(name, at), value, is_on, &mut steps);
         }
-        assert!(rt; is_done(&scene.apply(&Command::Drop { name: from }, &mut steps)));
-        assert!(rt; is_value(&scene.apply(&get(to, here), &mut steps), on, true));
-        assert!(rt; is_refused(&scene.apply(&copy(from, to), &mut steps), Refusal::NoGrid));
-        assert!(rt; is_refused(&scene.apply(&copy(to, to), &mut steps), Refusal::NameTaken));
-        assert!(rt; is_done(&scene.apply(&Command::Drop { name: to }, &mut steps)));
+        expect_done(&rt, &mut scene, &Command::Drop { name: from }, &mut steps);
+        expect_value(&rt, &mut scene, &get(to, here), on, true, &mut steps);
+        expect_refused(
+            &rt,
+            &mut scene,
+            &copy(from, to),
+            Refusal::NoGrid,
+            &mut steps,
+        );
+        expect_refused(
+            &rt,
+            &mut scene,
+            &copy(to, to),
+            Refusal::NameTaken,
+            &mut steps,
+        );
+        expect_done(&rt, &mut scene, &Command::Drop { name: to }, &mut steps);
     }
 }
 
@@ -363,34 +412,47 @@ fn a_grid_has_at_most_4096_root_blocks(rt: HostRuntime) {
     let mut steps = Steps::new(&rt);
     let mut scene = Scene::new(rt.alloc());
     let a = letter(&rt, b'a');
-    assert!(rt; is_done(&scene.apply(&grid(a, Kind::Bool, Literal::Truth(false)), &mut steps)));
+    expect_done(
+        &rt,
+        &mut scene,
+        &grid(a, Kind::Bool, Literal::Truth(false)),
+        &mut steps,
+    );
     for x in 0..64i64 {
         for y in 0..64i64 {
             let at = point(x.wrapping_mul(4096), y.wrapping_mul(-4096), 0);
-            assert!(rt; is_done(&scene.apply(&state(a, at, true), &mut steps)));
+            expect_done(&rt, &mut scene, &state(a, at, true), &mut steps);
         }
     }
     let further = point(-1, 0, 0);
-    assert!(rt;
-        is_refused(
-            &scene.apply(&state(a, further, true), &mut steps),
-            Refusal::RootLimit
-        )
+    expect_refused(
+        &rt,
+        &mut scene,
+        &state(a, further, true),
+        Refusal::RootLimit,
+        &mut steps,
     );
-    assert!(rt;
-        is_value(
-            &scene.apply(&get(a, further), &mut steps),
-            Scalar::Bool(false),
-            false
-        )
+    expect_value(
+        &rt,
+        &mut scene,
+        &get(a, further),
+        Scalar::Bool(false),
+        false,
+        &mut steps,
     );
-    assert!(rt; is_done(&scene.apply(&state(a, further, false), &mut steps)));
-    assert!(rt; is_done(&scene.apply(&state(a, point(0, 0, 0), false), &mut steps)));
-    assert!(rt; is_done(&scene.apply(&state(a, further, true), &mut steps)));
-    assert!(rt;
-        is_refused(
-            &scene.apply(&state(a, point(0, 0, 0), true), &mut steps),
-            Refusal::RootLimit
-        )
+    expect_done(&rt, &mut scene, &state(a, further, false), &mut steps);
+    expect_done(
+        &rt,
+        &mut scene,
+        &state(a, point(0, 0, 0), false),
+        &mut steps,
+    );
+    expect_done(&rt, &mut scene, &state(a, further, true), &mut steps);
+    expect_refused(
+        &rt,
+        &mut scene,
+        &state(a, point(0, 0, 0), true),
+        Refusal::RootLimit,
+        &mut steps,
     );
 }

@@ -5,9 +5,8 @@ use Rattle.vdb_coord.specs.Blocks.{block_cmp, is_past}
 use Rattle.vdb_coord.specs.Space.{Box, coordinates, is_inside, is_within}
 use Rattle.vdb_coord.specs.declared.Bits.{Bits}
 use Rattle.vdb_coord.specs.declared.Coord.{Coord}
-use Rattle.vdb_coord.specs.declared.Level.TheVariants.{Leaf, Lower, Upper}
 use Rattle.vdb_tree.specs.Field.{Field}
-use Rattle.vdb_tree.specs.ConstantBlocks.{non_constant, roots}
+use Rattle.vdb_tree.specs.Smallest.{least_counts}
 use Rattle.vdb_walk.specs.declared.smallest.Census.{Census}
 
 -- each of the coordinates once, in block order
@@ -32,9 +31,10 @@ module _ {V : Type 0} where
   IsActiveBounds f None = (p : Coord) → (f.cell p).on ≡ false
   IsActiveBounds f (Some box) = HoldsActive f box × ((other : Box) → HoldsActive f other → IsTrue (is_within box other))
 
--- how many root blocks hold anything but the background, and how many blocks of each level aren't constant
+-- the counts of the smallest tree with this field: how many root blocks hold anything but the background, and how many blocks of
+-- each level aren't constant
 abbrev pub census : {V : Type 0} → (V → V → Bool) → Bits → Field V → Census
-census eq bits f = record { roots = roots eq bits f; upper = non_constant eq bits Upper f; lower = non_constant eq bits Lower f; leaf = non_constant eq bits Leaf f }
+census eq bits f = let counts = least_counts eq bits f in record { roots = counts.entries; upper = counts.upper; lower = counts.lower; leaf = counts.leaf }
 
 -- What a listing has before it.
 pub record Listed (V : Type 0) : Type 0 where

@@ -34,17 +34,18 @@ module _ {V : Type 0} (eq : V → V → Bool) where
   pub record HasCapacityAt (bits : Bits) (limit : ℕ) (b : Box) (f : Field V) : Type 0 where
     pub few : (g : Field V) → KeptOutside b f g → roots eq bits g ≤ limit
 
-  -- ready for a block around p: its values are a type's, the block holds nothing but the background, and its root block has capacity
-  pub record IsReady (is_value : V → Type 0) (bits : Bits) (limit : ℕ) (level : Level) (p : Coord) (f : Field V) : Type 0 where
+  -- the block around p may be loaded: the field's values are a type's, the block holds nothing but the background, and the limit
+  -- leaves an entry for its root block
+  pub record IsLoadable (is_value : V → Type 0) (bits : Bits) (limit : ℕ) (level : Level) (p : Coord) (f : Field V) : Type 0 where
     pub configured : AreBits bits
     pub values : HasValues is_value f.background f
     pub clear : is_background eq f (block_around bits level p) ≡ true
     pub capacity : HasCapacityAt bits limit (block_around bits Upper p) f
 
-  -- ready for each block whose number or key may come next
-  pub record AreReady {K : Type 0} (is_value : V → Type 0) (bits : Bits) (limit : ℕ) (level : Level) (N : K → Type 0) (box : K → Box) (f : Field V) : Type 0 where
+  -- so may each block whose number or key may come next
+  pub record AreLoadable {K : Type 0} (is_value : V → Type 0) (bits : Bits) (limit : ℕ) (level : Level) (N : K → Type 0) (box : K → Box) (f : Field V) : Type 0 where
     pub configured : AreBits bits
-    pub each : (k : K) → N k → IsReady is_value bits limit level (box k).min f
+    pub each : (k : K) → N k → IsLoadable is_value bits limit level (box k).min f
 
   module _ (is_value : V → Type 0) (background : V) where
     -- a field that holds anything but the background in a box

@@ -12,7 +12,7 @@ ghost use Rattle.vdb_scene.specs.Watched.{has_failed, source};
 ghost use Rattle.vdb_file.specs.Bodies.{leaf_body, listed, lower_body, root_body};
 ghost use Rattle.vdb_file.specs.Faults.{is_read_fault};
 ghost use Rattle.vdb_file.specs.internal.FieldFaults.{IsInner};
-ghost use Rattle.vdb_file.specs.internal.LoadedFields.{AreReady, IsNext, IsReady, KeptOutside, ShowsIn, ShowsInEach, entry_box, next_bytes};
+ghost use Rattle.vdb_file.specs.internal.LoadedFields.{AreLoadable, IsNext, IsLoadable, KeptOutside, ShowsIn, ShowsInEach, entry_box, next_bytes};
 ghost use Rattle.vdb_file.specs.internal.Loading.{IsIndex};
 ghost use Rattle.vdb_file.specs.internal.Reading.{EndsWith, Reads, byte_total, position};
 ghost use Rattle.vdb_file.specs.internal.Written.{numbered};
@@ -57,7 +57,7 @@ fn take_leaf_block_at<
 ) -> Result<(), LoadFault>
     requires ends { EndsWith input.old (R.remaining (source reader.old)) }
     requires within { i < entries (bits_of U L F) Lower }
-    requires ready { IsReady V.eq V.is_value (bits_of U L F) tree.old.limit leaf_level (entry_box (bits_of U L F) Lower p i).min (field_of (bits_of U L F) tree.old) }
+    requires loadable { IsLoadable V.eq V.is_value (bits_of U L F) tree.old.limit leaf_level (entry_box (bits_of U L F) Lower p i).min (field_of (bits_of U L F) tree.old) }
     ensures ends { EndsWith input.new (R.remaining (source reader.new)) }
     ensures total { (n : ℕ) → byte_total input.old (R.remaining (source reader.old)) ≡ Some n → byte_total input.new (R.remaining (source reader.new)) ≡ Some n }
     ensures reads { Reads (λ _. field_of (bits_of U L F) tree.new) (ShowsIn V.eq V.is_value tree.old.background (entry_box (bits_of U L F) Lower p i)) (λ f. leaf_body V.eq V.bytes_of (bits_of U L F) f (entry_box (bits_of U L F) Lower p i)) result
@@ -92,7 +92,7 @@ fn take_next_leaf_block<
     steps: &mut Steps,
 ) -> Result<u16, LoadFault>
     requires ends { EndsWith input.old (R.remaining (source reader.old)) }
-    requires ready { AreReady V.eq V.is_value (bits_of U L F) tree.old.limit leaf_level (IsIndex (entries (bits_of U L F) Lower) before) (entry_box (bits_of U L F) Lower p) (field_of (bits_of U L F) tree.old) }
+    requires loadable { AreLoadable V.eq V.is_value (bits_of U L F) tree.old.limit leaf_level (IsIndex (entries (bits_of U L F) Lower) before) (entry_box (bits_of U L F) Lower p) (field_of (bits_of U L F) tree.old) }
     ensures ends { EndsWith input.new (R.remaining (source reader.new)) }
     ensures total { (n : ℕ) → byte_total input.old (R.remaining (source reader.old)) ≡ Some n → byte_total input.new (R.remaining (source reader.new)) ≡ Some n }
     ensures reads { Reads (λ i. (i, field_of (bits_of U L F) tree.new)) (IsNext V.eq V.is_value tree.old.background (IsIndex (entries (bits_of U L F) Lower) before) (entry_box (bits_of U L F) Lower p)) (next_bytes (to_be_bytes w16) (leaf_body V.eq V.bytes_of (bits_of U L F)) (entry_box (bits_of U L F) Lower p)) result
@@ -128,7 +128,7 @@ fn take_leaf_blocks<
     steps: &mut Steps,
 ) -> Result<(), LoadFault>
     requires ends { EndsWith input.old (R.remaining (source reader.old)) }
-    requires ready { IsReady V.eq V.is_value (bits_of U L F) tree.old.limit Lower p (field_of (bits_of U L F) tree.old) }
+    requires loadable { IsLoadable V.eq V.is_value (bits_of U L F) tree.old.limit Lower p (field_of (bits_of U L F) tree.old) }
     ensures ends { EndsWith input.new (R.remaining (source reader.new)) }
     ensures total { (n : ℕ) → byte_total input.old (R.remaining (source reader.old)) ≡ Some n → byte_total input.new (R.remaining (source reader.new)) ≡ Some n }
     ensures reads { Reads (λ _. field_of (bits_of U L F) tree.new) (ShowsInEach V.eq V.is_value tree.old.background (entry_box (bits_of U L F) Lower p) (entry_numbers (bits_of U L F) Lower) count) (λ f. numbered (λ i. leaf_body V.eq V.bytes_of (bits_of U L F) f (entry_box (bits_of U L F) Lower p i)) (listed V.eq V.bytes_of (bits_of U L F) f Lower (block_around (bits_of U L F) Lower p))) result
@@ -166,7 +166,7 @@ fn take_lower_node<
     steps: &mut Steps,
 ) -> Result<(), LoadFault>
     requires ends { EndsWith input.old (R.remaining (source reader.old)) }
-    requires ready { IsReady V.eq V.is_value (bits_of U L F) tree.old.limit Lower p (field_of (bits_of U L F) tree.old) }
+    requires loadable { IsLoadable V.eq V.is_value (bits_of U L F) tree.old.limit Lower p (field_of (bits_of U L F) tree.old) }
     ensures ends { EndsWith input.new (R.remaining (source reader.new)) }
     ensures total { (n : ℕ) → byte_total input.old (R.remaining (source reader.old)) ≡ Some n → byte_total input.new (R.remaining (source reader.new)) ≡ Some n }
     ensures reads { Reads (λ _. field_of (bits_of U L F) tree.new) (λ f. ShowsInEach V.eq V.is_value tree.old.background (entry_box (bits_of U L F) Lower p) (entry_numbers (bits_of U L F) Lower) count f × (is_constant V.eq f (block_around (bits_of U L F) Lower p) ≡ false)) (λ f. numbered (λ i. leaf_body V.eq V.bytes_of (bits_of U L F) f (entry_box (bits_of U L F) Lower p i)) (listed V.eq V.bytes_of (bits_of U L F) f Lower (block_around (bits_of U L F) Lower p))) result
@@ -202,7 +202,7 @@ fn take_lower_block<
     steps: &mut Steps,
 ) -> Result<(), LoadFault>
     requires ends { EndsWith input.old (R.remaining (source reader.old)) }
-    requires ready { IsReady V.eq V.is_value (bits_of U L F) tree.old.limit Lower p (field_of (bits_of U L F) tree.old) }
+    requires loadable { IsLoadable V.eq V.is_value (bits_of U L F) tree.old.limit Lower p (field_of (bits_of U L F) tree.old) }
     ensures ends { EndsWith input.new (R.remaining (source reader.new)) }
     ensures total { (n : ℕ) → byte_total input.old (R.remaining (source reader.old)) ≡ Some n → byte_total input.new (R.remaining (source reader.new)) ≡ Some n }
     ensures reads { Reads (λ _. field_of (bits_of U L F) tree.new) (ShowsIn V.eq V.is_value tree.old.background (block_around (bits_of U L F) Lower p)) (λ f. lower_body V.eq V.bytes_of (bits_of U L F) f (block_around (bits_of U L F) Lower p)) result
@@ -240,7 +240,7 @@ fn take_lower_block_at<
 ) -> Result<(), LoadFault>
     requires ends { EndsWith input.old (R.remaining (source reader.old)) }
     requires within { i < entries (bits_of U L F) Upper }
-    requires ready { IsReady V.eq V.is_value (bits_of U L F) tree.old.limit Lower (entry_box (bits_of U L F) Upper p i).min (field_of (bits_of U L F) tree.old) }
+    requires loadable { IsLoadable V.eq V.is_value (bits_of U L F) tree.old.limit Lower (entry_box (bits_of U L F) Upper p i).min (field_of (bits_of U L F) tree.old) }
     ensures ends { EndsWith input.new (R.remaining (source reader.new)) }
     ensures total { (n : ℕ) → byte_total input.old (R.remaining (source reader.old)) ≡ Some n → byte_total input.new (R.remaining (source reader.new)) ≡ Some n }
     ensures reads { Reads (λ _. field_of (bits_of U L F) tree.new) (ShowsIn V.eq V.is_value tree.old.background (entry_box (bits_of U L F) Upper p i)) (λ f. lower_body V.eq V.bytes_of (bits_of U L F) f (entry_box (bits_of U L F) Upper p i)) result
@@ -275,7 +275,7 @@ fn take_next_lower_block<
     steps: &mut Steps,
 ) -> Result<u16, LoadFault>
     requires ends { EndsWith input.old (R.remaining (source reader.old)) }
-    requires ready { AreReady V.eq V.is_value (bits_of U L F) tree.old.limit Lower (IsIndex (entries (bits_of U L F) Upper) before) (entry_box (bits_of U L F) Upper p) (field_of (bits_of U L F) tree.old) }
+    requires loadable { AreLoadable V.eq V.is_value (bits_of U L F) tree.old.limit Lower (IsIndex (entries (bits_of U L F) Upper) before) (entry_box (bits_of U L F) Upper p) (field_of (bits_of U L F) tree.old) }
     ensures ends { EndsWith input.new (R.remaining (source reader.new)) }
     ensures total { (n : ℕ) → byte_total input.old (R.remaining (source reader.old)) ≡ Some n → byte_total input.new (R.remaining (source reader.new)) ≡ Some n }
     ensures reads { Reads (λ i. (i, field_of (bits_of U L F) tree.new)) (IsNext V.eq V.is_value tree.old.background (IsIndex (entries (bits_of U L F) Upper) before) (entry_box (bits_of U L F) Upper p)) (next_bytes (to_be_bytes w16) (lower_body V.eq V.bytes_of (bits_of U L F)) (entry_box (bits_of U L F) Upper p)) result
@@ -311,7 +311,7 @@ fn take_lower_blocks<
     steps: &mut Steps,
 ) -> Result<(), LoadFault>
     requires ends { EndsWith input.old (R.remaining (source reader.old)) }
-    requires ready { IsReady V.eq V.is_value (bits_of U L F) tree.old.limit Upper p (field_of (bits_of U L F) tree.old) }
+    requires loadable { IsLoadable V.eq V.is_value (bits_of U L F) tree.old.limit Upper p (field_of (bits_of U L F) tree.old) }
     ensures ends { EndsWith input.new (R.remaining (source reader.new)) }
     ensures total { (n : ℕ) → byte_total input.old (R.remaining (source reader.old)) ≡ Some n → byte_total input.new (R.remaining (source reader.new)) ≡ Some n }
     ensures reads { Reads (λ _. field_of (bits_of U L F) tree.new) (ShowsInEach V.eq V.is_value tree.old.background (entry_box (bits_of U L F) Upper p) (entry_numbers (bits_of U L F) Upper) count) (λ f. numbered (λ i. lower_body V.eq V.bytes_of (bits_of U L F) f (entry_box (bits_of U L F) Upper p i)) (listed V.eq V.bytes_of (bits_of U L F) f Upper (block_around (bits_of U L F) Upper p))) result
@@ -349,7 +349,7 @@ fn take_upper_node<
     steps: &mut Steps,
 ) -> Result<(), LoadFault>
     requires ends { EndsWith input.old (R.remaining (source reader.old)) }
-    requires ready { IsReady V.eq V.is_value (bits_of U L F) tree.old.limit Upper p (field_of (bits_of U L F) tree.old) }
+    requires loadable { IsLoadable V.eq V.is_value (bits_of U L F) tree.old.limit Upper p (field_of (bits_of U L F) tree.old) }
     ensures ends { EndsWith input.new (R.remaining (source reader.new)) }
     ensures total { (n : ℕ) → byte_total input.old (R.remaining (source reader.old)) ≡ Some n → byte_total input.new (R.remaining (source reader.new)) ≡ Some n }
     ensures reads { Reads (λ _. field_of (bits_of U L F) tree.new) (λ f. ShowsInEach V.eq V.is_value tree.old.background (entry_box (bits_of U L F) Upper p) (entry_numbers (bits_of U L F) Upper) count f × (is_constant V.eq f (block_around (bits_of U L F) Upper p) ≡ false)) (λ f. numbered (λ i. lower_body V.eq V.bytes_of (bits_of U L F) f (entry_box (bits_of U L F) Upper p i)) (listed V.eq V.bytes_of (bits_of U L F) f Upper (block_around (bits_of U L F) Upper p))) result
@@ -385,7 +385,7 @@ pub(crate) fn take_root_block<
     steps: &mut Steps,
 ) -> Result<(), LoadFault>
     requires ends { EndsWith input.old (R.remaining (source reader.old)) }
-    requires ready { IsReady V.eq V.is_value (bits_of U L F) tree.old.limit Upper p (field_of (bits_of U L F) tree.old) }
+    requires loadable { IsLoadable V.eq V.is_value (bits_of U L F) tree.old.limit Upper p (field_of (bits_of U L F) tree.old) }
     ensures ends { EndsWith input.new (R.remaining (source reader.new)) }
     ensures total { (n : ℕ) → byte_total input.old (R.remaining (source reader.old)) ≡ Some n → byte_total input.new (R.remaining (source reader.new)) ≡ Some n }
     ensures reads { Reads (λ _. field_of (bits_of U L F) tree.new) (ShowsIn V.eq V.is_value tree.old.background (block_around (bits_of U L F) Upper p)) (λ f. root_body V.eq V.bytes_of (bits_of U L F) f (block_around (bits_of U L F) Upper p)) result

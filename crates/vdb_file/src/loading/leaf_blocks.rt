@@ -12,7 +12,7 @@ ghost use Rattle.vdb_file.specs.Bodies.{leaf_body};
 ghost use Rattle.vdb_file.specs.Faults.{is_read_fault};
 ghost use Rattle.vdb_file.specs.internal.FieldFaults.{IsInner};
 ghost use Rattle.vdb_file.specs.internal.LeafVoxels.{IsMixed, voxel_count, voxels_bytes};
-ghost use Rattle.vdb_file.specs.internal.LoadedFields.{HasCapacityAt, IsReady, KeptOutside, ShowsIn};
+ghost use Rattle.vdb_file.specs.internal.LoadedFields.{HasCapacityAt, IsLoadable, KeptOutside, ShowsIn};
 ghost use Rattle.vdb_file.specs.internal.Reading.{EndsWith, Reads, byte_total, position};
 
 use crate::fault::LoadFault;
@@ -104,7 +104,7 @@ fn take_leaf<
     steps: &mut Steps,
 ) -> Result<(), LoadFault>
     requires ends { EndsWith input.old (R.remaining (source reader.old)) }
-    requires ready { IsReady V.eq V.is_value (bits_of U L F) tree.old.limit leaf_level p (field_of (bits_of U L F) tree.old) }
+    requires loadable { IsLoadable V.eq V.is_value (bits_of U L F) tree.old.limit leaf_level p (field_of (bits_of U L F) tree.old) }
     ensures ends { EndsWith input.new (R.remaining (source reader.new)) }
     ensures total { (n : ℕ) → byte_total input.old (R.remaining (source reader.old)) ≡ Some n → byte_total input.new (R.remaining (source reader.new)) ≡ Some n }
     ensures reads { Reads (λ _. field_of (bits_of U L F) tree.new) (λ f. IsMixed V.eq V.is_value tree.old.background (bits_of U L F) p f × (voxel_count V.eq V.bytes_of (bits_of U L F) p f ≡ count)) (voxels_bytes V.eq V.bytes_of (bits_of U L F) p) result
@@ -147,7 +147,7 @@ pub(crate) fn take_leaf_block<
     steps: &mut Steps,
 ) -> Result<(), LoadFault>
     requires ends { EndsWith input.old (R.remaining (source reader.old)) }
-    requires ready { IsReady V.eq V.is_value (bits_of U L F) tree.old.limit leaf_level p (field_of (bits_of U L F) tree.old) }
+    requires loadable { IsLoadable V.eq V.is_value (bits_of U L F) tree.old.limit leaf_level p (field_of (bits_of U L F) tree.old) }
     ensures ends { EndsWith input.new (R.remaining (source reader.new)) }
     ensures total { (n : ℕ) → byte_total input.old (R.remaining (source reader.old)) ≡ Some n → byte_total input.new (R.remaining (source reader.new)) ≡ Some n }
     ensures reads { Reads (λ _. field_of (bits_of U L F) tree.new) (ShowsIn V.eq V.is_value tree.old.background (block_around (bits_of U L F) leaf_level p)) (λ f. leaf_body V.eq V.bytes_of (bits_of U L F) f (block_around (bits_of U L F) leaf_level p)) result

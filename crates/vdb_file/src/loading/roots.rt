@@ -14,7 +14,7 @@ ghost use Rattle.vdb_scene.specs.Watched.{has_failed, source};
 ghost use Rattle.vdb_file.specs.Bodies.{key_bytes, root_body, roots_bytes};
 ghost use Rattle.vdb_file.specs.Faults.{is_read_fault};
 ghost use Rattle.vdb_file.specs.internal.FieldFaults.{IsInner};
-ghost use Rattle.vdb_file.specs.internal.LoadedFields.{AreReady, IsNext, IsReady, IsWithin, KeptOutside, ShowsIn, ShowsInEach, next_bytes};
+ghost use Rattle.vdb_file.specs.internal.LoadedFields.{AreLoadable, IsNext, IsLoadable, IsWithin, KeptOutside, ShowsIn, ShowsInEach, next_bytes};
 ghost use Rattle.vdb_file.specs.internal.Loading.{IsKey};
 ghost use Rattle.vdb_file.specs.internal.Reading.{EndsWith, Reads, byte_total, position};
 
@@ -125,7 +125,7 @@ fn take_next_root<
     steps: &mut Steps,
 ) -> Result<Coord, LoadFault>
     requires ends { EndsWith input.old (R.remaining (source reader.old)) }
-    requires ready { AreReady V.eq V.is_value (bits_of U L F) tree.old.limit Upper (IsKey (bits_of U L F) before) (block (bits_of U L F) Upper) (field_of (bits_of U L F) tree.old) }
+    requires loadable { AreLoadable V.eq V.is_value (bits_of U L F) tree.old.limit Upper (IsKey (bits_of U L F) before) (block (bits_of U L F) Upper) (field_of (bits_of U L F) tree.old) }
     ensures ends { EndsWith input.new (R.remaining (source reader.new)) }
     ensures total { (n : ℕ) → byte_total input.old (R.remaining (source reader.old)) ≡ Some n → byte_total input.new (R.remaining (source reader.new)) ≡ Some n }
     ensures reads { Reads (λ k. (k, field_of (bits_of U L F) tree.new)) (IsNext V.eq V.is_value tree.old.background (IsKey (bits_of U L F) before) (block (bits_of U L F) Upper)) (next_bytes key_bytes (root_body V.eq V.bytes_of (bits_of U L F)) (block (bits_of U L F) Upper)) result
@@ -161,7 +161,7 @@ fn take_root_at<
 ) -> Result<(), LoadFault>
     requires ends { EndsWith input.old (R.remaining (source reader.old)) }
     requires within { IsTrue (is_inside (block_numbers (bits_of U L F) Upper) key) }
-    requires ready { IsReady V.eq V.is_value (bits_of U L F) tree.old.limit Upper (block (bits_of U L F) Upper key).min (field_of (bits_of U L F) tree.old) }
+    requires loadable { IsLoadable V.eq V.is_value (bits_of U L F) tree.old.limit Upper (block (bits_of U L F) Upper key).min (field_of (bits_of U L F) tree.old) }
     ensures ends { EndsWith input.new (R.remaining (source reader.new)) }
     ensures total { (n : ℕ) → byte_total input.old (R.remaining (source reader.old)) ≡ Some n → byte_total input.new (R.remaining (source reader.new)) ≡ Some n }
     ensures reads { Reads (λ _. field_of (bits_of U L F) tree.new) (ShowsIn V.eq V.is_value tree.old.background (block (bits_of U L F) Upper key)) (λ f. root_body V.eq V.bytes_of (bits_of U L F) f (block (bits_of U L F) Upper key)) result

@@ -87,39 +87,50 @@ fn leaves_blended(rt: HostRuntime) -> Result<(), AllocError> {
     Ok(())
 }
 
+// One leaf blended into another, where the last sum is a value and where it is none.
 #[test]
-fn sums_that_no_value_is(rt: HostRuntime) -> Result<(), AllocError> {
+fn sums_of_two_leaves(rt: HostRuntime) -> Result<(), AllocError> {
     let mut leaf: Leaf<i32, 3, 8> = Leaf::new_constant(rt.alloc(), on(1))?;
     let mut with: Leaf<i32, 3, 8> = Leaf::new_constant(rt.alloc(), off(-1))?;
     assert!(rt; leaf.blend(&with, Blend::Sum));
-    assert_eq!(rt; leaf.constant(), Some(on(0)));
+    expect_leaf(&rt, &leaf, 511, on(0), true, 512);
     with.set(511, off(i32::MIN));
     assert!(rt; leaf.blend(&with, Blend::Sum));
-    assert_eq!(rt; leaf.entry(511), on(i32::MIN));
+    expect_leaf(&rt, &leaf, 511, on(i32::MIN), false, 512);
     with.set(511, off(-1));
     assert!(rt; !leaf.blend(&with, Blend::Sum), "the last sum is too small");
-    assert!(rt;
-        !with.blend_with(on(i32::MIN), Blend::Sum),
-        "each sum is too small"
-    );
     assert!(rt; leaf.blend(&with, Blend::Least), "each two have a lesser");
+    Ok(())
+}
+
+// A leaf has no sum with a cell.
+fn expect_no_sum<V: Stored<8>>(
+    rt: &impl Abort,
+    alloc: Global,
+    value: V,
+    more: V,
+) -> Result<(), AllocError> {
+    let mut leaf: Leaf<V, 3, 8> = Leaf::new_constant(alloc, on(value))?;
+    assert!(rt; !leaf.blend_with(on(more), Blend::Sum));
+    let with: Leaf<V, 3, 8> = Leaf::new_constant(alloc, off(more))?;
+    assert!(rt; !leaf.blend(&with, Blend::Sum));
+    Ok(())
+}
+
+// Sums too small and too large; truth values have none.
+#[test]
+fn sums_that_no_value_is(rt: HostRuntime) -> Result<(), AllocError> {
+    expect_no_sum(&rt, rt.alloc(), -1, i32::MIN)?;
+    expect_no_sum(&rt, rt.alloc(), i64::MAX, 1)?;
+    expect_no_sum(&rt, rt.alloc(), false, false)
+}
+
+// The greatest value is a sum.
+#[test]
+fn a_sum_at_the_end_of_the_range(rt: HostRuntime) -> Result<(), AllocError> {
     let mut wide: Leaf<i64, 3, 8> = Leaf::new_constant(rt.alloc(), on(i64::MAX))?;
     assert!(rt; wide.blend_with(on(0), Blend::Sum));
-    assert_eq!(rt; wide.constant(), Some(on(i64::MAX)));
-    assert!(rt;
-        !wide.blend_with(on(1), Blend::Sum),
-        "each sum is too large"
-    );
-    let mut truths: Leaf<bool, 3, 8> = Leaf::new_constant(rt.alloc(), on(false))?;
-    let others: Leaf<bool, 3, 8> = Leaf::new_constant(rt.alloc(), on(false))?;
-    assert!(rt;
-        !truths.blend(&others, Blend::Sum),
-        "truth values have no sum"
-    );
-    assert!(rt;
-        !truths.blend_with(on(false), Blend::Sum),
-        "truth values have no sum"
-    );
+    expect_leaf(&rt, &wide, 0, on(i64::MAX), true, 512);
     Ok(())
 }
 

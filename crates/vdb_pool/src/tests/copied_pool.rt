@@ -3,6 +3,7 @@
 use crate::{Memory, Pool, Steps, TryCopy};
 use std::alloc::{AllocError, Global};
 use std::marker::Model;
+use std::process::Abort;
 
 /// A node with memory of its own. Contracts see its number alone, which a copy has at another address.
 #[derive(Drop)]
@@ -52,6 +53,38 @@ fn vacate(pool: &mut Pool<Boxed>, slot: u32, steps: &mut Steps) {
     }
 }
 
+/// The number in a slot is this one, or the slot is vacant.
+fn expect_number(
+    rt: &impl Abort,
+    pool: &Pool<Boxed>,
+    slot: u32,
+    number: Option<u64>,
+    steps: &mut Steps,
+) {
+    assert_eq!(rt; number_in(pool, slot, steps), number, "slot {slot}");
+}
+
+/// Puts a number into the pool, which takes it into this slot.
+fn expect_slot(
+    rt: &impl Abort,
+    pool: &mut Pool<Boxed>,
+    alloc: Global,
+    number: u64,
+    slot: u32,
+) -> Result<(), Memory> {
+    let given = put(pool, alloc, number)?;
+    assert_eq!(rt; given, slot);
+    Ok(())
+}
+
+/// Makes a number 1000 and takes another one out.
+fn change(pool: &mut Pool<Boxed>, steps: &mut Steps) {
+    if let Some(place) = pool.place(1) {
+        *pool.at_mut(place, steps).number = 1000;
+    }
+    vacate(pool, 2, steps);
+}
+
 /// Two chunks. Each number is that of its slot, and four slots are vacant.
 fn holed_pool(alloc: Global, steps: &mut Steps) -> Result<Pool<Boxed>, Memory> {
     let mut pool = Pool::new(alloc);
@@ -76,11 +109,11 @@ fn a_copy_has_the_same_slots(rt: HostRuntime) -> Result<(), Memory> {
             0 | 7 | 150 | 299 | 300 => None,
             _ => Some(slot as u64),
         };
-        assert_eq!(rt; number_in(&copy, slot, &mut steps), number);
-        assert_eq!(rt; number_in(&pool, slot, &mut steps), number);
+        expect_number(&rt, &copy, slot, number, &mut steps);
+        expect_number(&rt, &pool, slot, number, &mut steps);
     }
     drop(pool);
-    assert_eq!(rt; number_in(&copy, 298, &mut steps), Some(298));
+    expect_number(&rt, &copy, 298, Some(298), &mut steps);
     Ok(())
 }
 
@@ -90,22 +123,18 @@ fn a_copy_is_changed_alone(rt: HostRuntime) -> Result<(), Memory> {
     let mut steps = Steps::new(&rt);
     let mut pool = holed_pool(rt.alloc(), &mut steps)?;
     let mut copy = pool.try_copy()?;
-    if let Some(place) = copy.place(1) {
-        *copy.at_mut(place, &mut steps).number = 1000;
+    change(&mut copy, &mut steps);
+    for (slot, changed, kept) in [(1, Some(1000), Some(1)), (2, None, Some(2))] {
+        expect_number(&rt, &copy, slot, changed, &mut steps);
+        expect_number(&rt, &pool, slot, kept, &mut steps);
     }
-    vacate(&mut copy, 2, &mut steps);
-    assert_eq!(rt; number_in(&copy, 1, &mut steps), Some(1000));
-    assert_eq!(rt; number_in(&copy, 2, &mut steps), None);
-    assert_eq!(rt; number_in(&pool, 1, &mut steps), Some(1));
-    assert_eq!(rt; number_in(&pool, 2, &mut steps), Some(2));
     for slot in [2, 299, 150, 7, 0, 300u32] {
-        assert_eq!(rt; put(&mut copy, rt.alloc(), 5)?, slot);
+        expect_slot(&rt, &mut copy, rt.alloc(), 5, slot)?;
     }
     for slot in [150, 0, 7, 299, 300u32] {
-        assert_eq!(rt; put(&mut pool, rt.alloc(), 6)?, slot);
+        expect_slot(&rt, &mut pool, rt.alloc(), 6, slot)?;
     }
-    assert_eq!(rt; copy.len(), 301);
-    assert_eq!(rt; pool.len(), 301);
+    assert!(rt; copy.len() == 301 && pool.len() == 301);
     Ok(())
 }
 

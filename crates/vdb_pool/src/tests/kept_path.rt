@@ -6,6 +6,7 @@ ghost use Rattle.vdb_pool.specs.Live.{IsLive, place_slot};
 use crate::{Memory, Place, Pool, Steps};
 use std::alloc::{AllocError, Global};
 use std::marker::Model;
+use std::process::Abort;
 
 /// A node of a linked structure: a number, and the slot of the next node.
 #[derive(Drop)]
@@ -132,16 +133,12 @@ impl Chain {
     }
 }
 
-#[test]
-fn a_path_follows_the_chain(rt: HostRuntime) -> Result<(), Memory> {
-    let mut steps = Steps::new(&rt);
-    let mut chain = Chain::new(rt.alloc());
-    assert!(rt; chain.number(&mut steps).is_none());
-    chain.push(3)?;
-    chain.push(4)?;
-    assert_eq!(rt; chain.number(&mut steps), Some(4));
-    assert!(rt; chain.write(5, &mut steps));
-    assert_eq!(rt; chain.number(&mut steps), Some(5));
+fn expect_number(rt: &impl Abort, chain: &Chain, number: Option<u64>, steps: &mut Steps) {
+    assert_eq!(rt; chain.number(steps), number);
+}
+
+// The path of a chain of two, and a copy of it, are at the slots 0 and 1.
+fn expect_places(rt: &impl Abort, chain: &Chain) {
     let path = chain.path();
     let same = path;
     match (path.upper, same.lower) {
@@ -151,10 +148,28 @@ fn a_path_follows_the_chain(rt: HostRuntime) -> Result<(), Memory> {
         }
         _ => assert!(rt; false, "a place is missing"),
     }
-    match chain.pop(&mut steps) {
+}
+
+// The last node of a chain of two is before the one in slot 0.
+fn expect_last(rt: &impl Abort, chain: &mut Chain, steps: &mut Steps) {
+    match chain.pop(steps) {
         Some(node) => assert_eq!(rt; node.next, Some(0)),
         None => assert!(rt; false, "the chain is empty"),
     }
-    assert!(rt; chain.number(&mut steps).is_none());
+}
+
+#[test]
+fn a_path_follows_the_chain(rt: HostRuntime) -> Result<(), Memory> {
+    let mut steps = Steps::new(&rt);
+    let mut chain = Chain::new(rt.alloc());
+    expect_number(&rt, &chain, None, &mut steps);
+    chain.push(3)?;
+    chain.push(4)?;
+    expect_number(&rt, &chain, Some(4), &mut steps);
+    assert!(rt; chain.write(5, &mut steps));
+    expect_number(&rt, &chain, Some(5), &mut steps);
+    expect_places(&rt, &chain);
+    expect_last(&rt, &mut chain, &mut steps);
+    expect_number(&rt, &chain, None, &mut steps);
     Ok(())
 }

@@ -41,8 +41,13 @@ fn a_command_moves_the_accessor_that_it_names(rt: HostRuntime) {
     let mut steps = Steps::new(&rt);
     let mut scene = Scene::new(rt.alloc());
     let a = letter(&rt, b'a');
-    assert!(rt; is_done(&scene.apply(&grid(a, Kind::I32, near(0)), &mut steps)));
-    assert!(rt; is_done(&scene.apply(&set_by(a, 2, point(1, 2, 3), 7), &mut steps)));
+    expect_done(&rt, &mut scene, &grid(a, Kind::I32, near(0)), &mut steps);
+    expect_done(
+        &rt,
+        &mut scene,
+        &set_by(a, 2, point(1, 2, 3), 7),
+        &mut steps,
+    );
     let seen = scene.apply(&get_by(a, 5, point(-1, -2, -3)), &mut steps);
     assert!(rt; is_value(&seen, Scalar::I32(0), false));
     assert_eq!(rt; cached(&scene, a, 2), Some(Coord { x: 1, y: 2, z: 3 }));
@@ -72,15 +77,25 @@ fn a_get_near_the_last_one_visits_one_node(rt: HostRuntime) {
     let mut steps = Steps::new(&rt);
     let mut scene = Scene::new(rt.alloc());
     let a = letter(&rt, b'a');
-    assert!(rt; is_done(&scene.apply(&grid(a, Kind::I32, near(0)), &mut steps)));
-    assert!(rt; is_done(&scene.apply(&set_by(a, 0, point(8, 8, 8), 1), &mut steps)));
-    assert!(rt; is_done(&scene.apply(&Command::Prune { name: a }, &mut steps)));
+    expect_done(&rt, &mut scene, &grid(a, Kind::I32, near(0)), &mut steps);
+    expect_done(
+        &rt,
+        &mut scene,
+        &set_by(a, 0, point(8, 8, 8), 1),
+        &mut steps,
+    );
+    expect_done(&rt, &mut scene, &Command::Prune { name: a }, &mut steps);
     let before = steps.count();
     let seen = scene.apply(&get_by(a, 0, point(8, 8, 15)), &mut steps);
     assert!(rt; is_value(&seen, Scalar::I32(0), false));
     assert!(rt; steps.count().wrapping_sub(before) <= 1);
     let before = steps.count();
-    assert!(rt; is_done(&scene.apply(&set_by(a, 0, point(15, 8, 8), 2), &mut steps)));
+    expect_done(
+        &rt,
+        &mut scene,
+        &set_by(a, 0, point(15, 8, 8), 2),
+        &mut steps,
+    );
     assert!(rt; steps.count().wrapping_sub(before) <= 1);
 }
 
@@ -148,7 +163,7 @@ fn with_line(rt: &(impl Abort + AllocGlobal), steps: &mut Steps) -> Scene {
         fill(b, line, 4),
         set_by(a, 3, point(8, 8, 8), 1),
     ] {
-        assert!(rt; is_done(&scene.apply(&command, steps)));
+        expect_done(rt, &mut scene, &command, steps);
     }
     scene
 }
@@ -250,7 +265,7 @@ fn no_refused_command_makes_an_accessor_forget(rt: HostRuntime) {
         grid(m, Kind::Bool, Literal::Truth(false)),
         grid(x, Kind::I32, near(2147483647)),
     ] {
-        assert!(rt; is_done(&scene.apply(&command, &mut steps)));
+        expect_done(&rt, &mut scene, &command, &mut steps);
     }
     for (i, (command, refusal)) in refused(a, m, x).into_iter().enumerate() {
         assert!(rt;
@@ -286,7 +301,7 @@ fn with_full_table(rt: &(impl Abort + AllocGlobal), steps: &mut Steps) -> Scene 
         set(b, point(-1, 0, 0), near(6)),
         set_by(s, 3, point(4095, 0, 0), 5),
     ] {
-        assert!(rt; is_done(&scene.apply(&command, steps)));
+        expect_done(rt, &mut scene, &command, steps);
     }
     scene
 }

@@ -57,7 +57,7 @@ fn boxes_are_filled_and_all_around_them_is_cleared(rt: HostRuntime) {
             fill(name, point(-2, -1, 0), point(7, 4096, 1), value, true),
             fill(name, zero, point(0, 1, 0), value, false),
         ] {
-            assert!(rt; is_done(&scene.apply(&command, &mut steps)));
+            expect_done(&rt, &mut scene, &command, &mut steps);
         }
         for (at, value, is_on) in [
             (point(-2, -1, 0), on, true),
@@ -69,9 +69,14 @@ fn boxes_are_filled_and_all_around_them_is_cleared(rt: HostRuntime) {
             (point(7, 4097, 1), off, false),
             (point(7, 4096, 2), off, false),
         ] {
-            assert!(rt; is_value(&scene.apply(&get(name, at), &mut steps), value, is_on));
+            expect_value(&rt, &mut scene, &get(name, at), value, is_on, &mut steps);
         }
-        assert!(rt; is_done(&scene.apply(&clip(name, zero, point(100, 10, 0)), &mut steps)));
+        expect_done(
+            &rt,
+            &mut scene,
+            &clip(name, zero, point(100, 10, 0)),
+            &mut steps,
+        );
         for (at, value, is_on) in [
             (zero, on, false),
             (point(7, 10, 0), on, true),
@@ -81,7 +86,7 @@ fn boxes_are_filled_and_all_around_them_is_cleared(rt: HostRuntime) {
             (point(-1, 0, 0), off, false),
             (point(7, 4096, 1), off, false),
         ] {
-            assert!(rt; is_value(&scene.apply(&get(name, at), &mut steps), value, is_on));
+            expect_value(&rt, &mut scene, &get(name, at), value, is_on, &mut steps);
         }
     }
 }
@@ -101,7 +106,7 @@ fn refusals_of_boxes_come_in_their_order(rt: HostRuntime) {
         grid(b, Kind::Bool, Literal::Truth(true)),
         set(a, zero, near(3)),
     ] {
-        assert!(rt; is_done(&scene.apply(&command, &mut steps)));
+        expect_done(&rt, &mut scene, &command, &mut steps);
     }
     for (command, refusal) in [
         (
@@ -127,24 +132,26 @@ fn refusals_of_boxes_come_in_their_order(rt: HostRuntime) {
         (clip(a, zero, past), Refusal::ValueRange),
         (clip(a, one, zero), Refusal::Box),
     ] {
-        assert!(rt; is_refused(&scene.apply(&command, &mut steps), refusal));
+        expect_refused(&rt, &mut scene, &command, refusal, &mut steps);
     }
-    assert!(rt; is_done(&scene.apply(&clip(a, least, greatest), &mut steps)));
-    assert!(rt;
-        is_value(
-            &scene.apply(&get(a, zero), &mut steps),
-            Scalar::I32(3),
-            true
-        )
+    expect_done(&rt, &mut scene, &clip(a, least, greatest), &mut steps);
+    expect_value(
+        &rt,
+        &mut scene,
+        &get(a, zero),
+        Scalar::I32(3),
+        true,
+        &mut steps,
     );
     let plain = fill(a, least, greatest, near(0), false);
-    assert!(rt; is_done(&scene.apply(&plain, &mut steps)));
-    assert!(rt;
-        is_value(
-            &scene.apply(&get(a, zero), &mut steps),
-            Scalar::I32(0),
-            false
-        )
+    expect_done(&rt, &mut scene, &plain, &mut steps);
+    expect_value(
+        &rt,
+        &mut scene,
+        &get(a, zero),
+        Scalar::I32(0),
+        false,
+        &mut steps,
     );
 }
 
@@ -157,24 +164,30 @@ fn a_fill_keeps_to_the_root_limit_of_its_grid(rt: HostRuntime) {
     assert!(rt; scene.insert(a, grid) == Ok(()));
     let (first, last) = (point(-1, 0, 0), point(4095, 4095, 4095));
     let beyond = point(4096, 0, 0);
-    assert!(rt; is_done(&scene.apply(&fill(a, first, last, near(1), true), &mut steps)));
+    expect_done(
+        &rt,
+        &mut scene,
+        &fill(a, first, last, near(1), true),
+        &mut steps,
+    );
     let third = fill(a, beyond, beyond, near(1), false);
-    assert!(rt; is_refused(&scene.apply(&third, &mut steps), Refusal::RootLimit));
+    expect_refused(&rt, &mut scene, &third, Refusal::RootLimit, &mut steps);
     let two = fill(a, point(0, 0, 0), last, near(0), false);
-    assert!(rt; is_done(&scene.apply(&two, &mut steps)));
-    assert!(rt; is_done(&scene.apply(&third, &mut steps)));
+    expect_done(&rt, &mut scene, &two, &mut steps);
+    expect_done(&rt, &mut scene, &third, &mut steps);
     for (at, value, on) in [
         (first, 1, true),
         (point(0, 0, 0), 0, false),
         (last, 0, false),
         (beyond, 1, false),
     ] {
-        assert!(rt;
-            is_value(
-                &scene.apply(&get(a, at), &mut steps),
-                Scalar::I32(value),
-                on
-            )
+        expect_value(
+            &rt,
+            &mut scene,
+            &get(a, at),
+            Scalar::I32(value),
+            on,
+            &mut steps,
         );
     }
 }

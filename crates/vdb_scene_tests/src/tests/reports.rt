@@ -73,7 +73,7 @@ fn active_voxels_are_counted(rt: HostRuntime) {
         (b'l', Kind::I64, near(0)),
     ] {
         let name = letter(&rt, byte);
-        assert!(rt; is_done(&scene.apply(&grid(name, kind, background), &mut steps)));
+        expect_done(&rt, &mut scene, &grid(name, kind, background), &mut steps);
         assert!(rt; is_count(&scene.apply(&count(name), &mut steps), 0));
         assert!(rt; is_bounds(&scene.apply(&Command::Bounds { name }, &mut steps), None));
         let box_of_ten = Command::Fill {
@@ -91,7 +91,7 @@ fn active_voxels_are_counted(rt: HostRuntime) {
             state(name, point(-5, 0, 3), false),
             state(name, point(2147483647, 0, 0), false),
         ] {
-            assert!(rt; is_done(&scene.apply(&command, &mut steps)));
+            expect_done(&rt, &mut scene, &command, &mut steps);
         }
         let wanted = corners((-5, -200, 3), (100, 9, 12));
         for (command, active) in [
@@ -122,8 +122,8 @@ fn many_tiles_are_counted(rt: HostRuntime) {
         value: near(1),
         on: true,
     };
-    assert!(rt; is_done(&scene.apply(&grid(name, Kind::I32, near(0)), &mut steps)));
-    assert!(rt; is_done(&scene.apply(&fill, &mut steps)));
+    expect_done(&rt, &mut scene, &grid(name, Kind::I32, near(0)), &mut steps);
+    expect_done(&rt, &mut scene, &fill, &mut steps);
     assert!(rt; is_count(&scene.apply(&count(name), &mut steps), 281_474_976_710_656));
     let wanted = corners((-2147483648, 0, 0), (-2130706433, 4095, 4095));
     assert!(rt; is_bounds(&scene.apply(&Command::Bounds { name }, &mut steps), wanted));
@@ -137,7 +137,7 @@ fn reports_are_refused_in_order(rt: HostRuntime) {
     let b = letter(&rt, b'b');
     let zero = point(0, 0, 0);
     let far = point(0, 0, 2147483648);
-    assert!(rt; is_done(&scene.apply(&grid(a, Kind::I32, near(0)), &mut steps)));
+    expect_done(&rt, &mut scene, &grid(a, Kind::I32, near(0)), &mut steps);
     for (command, refusal) in [
         (count(b), Refusal::NoGrid),
         (count_in(b, far, zero), Refusal::NoGrid),
@@ -147,7 +147,7 @@ fn reports_are_refused_in_order(rt: HostRuntime) {
         (Command::Bounds { name: b }, Refusal::NoGrid),
         (Command::Census { name: b }, Refusal::NoGrid),
     ] {
-        assert!(rt; is_refused(&scene.apply(&command, &mut steps), refusal));
+        expect_refused(&rt, &mut scene, &command, refusal, &mut steps);
     }
 }
 
@@ -193,7 +193,7 @@ fn blocks_that_are_no_single_tile_are_counted(rt: HostRuntime) {
             (Command::Prune { name }, [1, 0, 0, 0]),
             (state(name, point(9, 9, 9), false), [1, 1, 1, 1]),
         ] {
-            assert!(rt; is_done(&scene.apply(&command, &mut steps)));
+            expect_done(&rt, &mut scene, &command, &mut steps);
             assert!(rt; is_census(&scene.apply(&census, &mut steps), wanted));
         }
     }

@@ -23,10 +23,10 @@ fn a_row_goes_on_along_its_path(rt: HostRuntime) {
     let mut steps = Steps::new(&rt);
     let mut scene = Scene::new(rt.alloc());
     let a = letter(&rt, b'a');
-    assert!(rt; is_done(&scene.apply(&grid(a, Kind::I32, near(0)), &mut steps)));
+    expect_done(&rt, &mut scene, &grid(a, Kind::I32, near(0)), &mut steps);
     for (x, value) in [(0, 5), (9, 6)] {
         let at = point(x, 0, 0);
-        assert!(rt; is_done(&scene.apply(&set(a, at, near(value)), &mut steps)));
+        expect_done(&rt, &mut scene, &set(a, at, near(value)), &mut steps);
     }
     let mut visits = Steps::new(&rt);
     match scene.apply(&row(a, 15), &mut steps) {

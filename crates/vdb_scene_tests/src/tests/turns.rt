@@ -54,7 +54,7 @@ fn a_voxel_grows_by_turns_and_shrinks_again(rt: HostRuntime) {
             set(name, point(-1, 7, 4095), value),
             dilate(name, 2),
         ] {
-            assert!(rt; is_done(&scene.apply(&command, &mut steps)));
+            expect_done(&rt, &mut scene, &command, &mut steps);
         }
         for (at, value, on) in [
             (point(-1, 7, 4095), there, true),
@@ -63,14 +63,14 @@ fn a_voxel_grows_by_turns_and_shrinks_again(rt: HostRuntime) {
             (point(-1, 8, 4096), off, true),
             (point(0, 8, 4096), off, false),
         ] {
-            assert!(rt; is_value(&scene.apply(&get(name, at), &mut steps), value, on));
+            expect_value(&rt, &mut scene, &get(name, at), value, on, &mut steps);
         }
         for (turns, middle, beside) in [(1, true, true), (1, true, false), (16, false, false)] {
-            assert!(rt; is_done(&scene.apply(&erode(name, turns), &mut steps)));
+            expect_done(&rt, &mut scene, &erode(name, turns), &mut steps);
             let at = get(name, point(-1, 7, 4095));
-            assert!(rt; is_value(&scene.apply(&at, &mut steps), there, middle));
+            expect_value(&rt, &mut scene, &at, there, middle, &mut steps);
             let next = get(name, point(-1, 7, 4096));
-            assert!(rt; is_value(&scene.apply(&next, &mut steps), off, beside));
+            expect_value(&rt, &mut scene, &next, off, beside, &mut steps);
         }
     }
 }
@@ -81,10 +81,15 @@ fn there_are_1_to_16_turns(rt: HostRuntime) {
     let mut scene = Scene::new(rt.alloc());
     let a = letter(&rt, b'a');
     for command in [dilate(a, 17), erode(a, 0)] {
-        assert!(rt; is_refused(&scene.apply(&command, &mut steps), Refusal::NoGrid));
+        expect_refused(&rt, &mut scene, &command, Refusal::NoGrid, &mut steps);
     }
-    assert!(rt; is_done(&scene.apply(&grid(a, Kind::I32, near(0)), &mut steps)));
-    assert!(rt; is_done(&scene.apply(&set(a, point(0, 0, 0), near(1)), &mut steps)));
+    expect_done(&rt, &mut scene, &grid(a, Kind::I32, near(0)), &mut steps);
+    expect_done(
+        &rt,
+        &mut scene,
+        &set(a, point(0, 0, 0), near(1)),
+        &mut steps,
+    );
     let far = Num::Far;
     for command in [
         dilate(a, 0),
@@ -100,13 +105,14 @@ fn there_are_1_to_16_turns(rt: HostRuntime) {
             turns: far,
         },
     ] {
-        assert!(rt; is_refused(&scene.apply(&command, &mut steps), Refusal::ValueRange));
+        expect_refused(&rt, &mut scene, &command, Refusal::ValueRange, &mut steps);
     }
-    assert!(rt;
-        is_value(
-            &scene.apply(&get(a, point(0, 0, 0)), &mut steps),
-            Scalar::I32(1),
-            true
-        )
+    expect_value(
+        &rt,
+        &mut scene,
+        &get(a, point(0, 0, 0)),
+        Scalar::I32(1),
+        true,
+        &mut steps,
     );
 }

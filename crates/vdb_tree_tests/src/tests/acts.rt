@@ -257,6 +257,34 @@ fn expect_limit<
     assert_eq!(rt; tree.limit(), limit, "act {number}");
 }
 
+// What is expected of a tree; an act that changes it expects nothing.
+fn expect_act<
+    V: Stored<WU> + Stored<WL> + Stored<WF>,
+    const U: u32,
+    const L: u32,
+    const F: u32,
+    const WU: usize,
+    const WL: usize,
+    const WF: usize,
+>(
+    rt: &impl Abort,
+    number: usize,
+    tree: &TreeOf<V, U, L, F, WU, WL, WF>,
+    act: &Act<V>,
+    steps: &mut Steps,
+) {
+    match *act {
+        Act::Counts(counts) => expect_counts(rt, number, tree, counts),
+        Act::RootBlocks(count) => expect_root_blocks(rt, number, tree, count, steps),
+        Act::Limit(limit) => expect_limit(rt, number, tree, limit),
+        Act::Cell(p, cell) => expect_cell(rt, number, tree, p, cell, steps),
+        Act::Leaf(p, there) => expect_leaf(rt, number, tree, p, there, steps),
+        Act::NextLeaf(after, corner) => expect_next_leaf(rt, number, tree, after, corner, steps),
+        Act::NextKey(after, key) => expect_next_key(rt, number, tree, after, key),
+        _ => {}
+    }
+}
+
 fn act_once<
     V: Stored<WU> + Stored<WL> + Stored<WF>,
     const U: u32,
@@ -288,13 +316,7 @@ fn act_once<
         ),
         Act::Paint(min, max, cell) => paint(tree, bounds(rt, min, max), cell, steps)?,
         Act::Voxelise(min, max) => tree.voxelise(bounds(rt, min, max), steps)?,
-        Act::Counts(counts) => expect_counts(rt, number, tree, counts),
-        Act::RootBlocks(count) => expect_root_blocks(rt, number, tree, count, steps),
-        Act::Limit(limit) => expect_limit(rt, number, tree, limit),
-        Act::Cell(p, cell) => expect_cell(rt, number, tree, p, cell, steps),
-        Act::Leaf(p, there) => expect_leaf(rt, number, tree, p, there, steps),
-        Act::NextLeaf(after, corner) => expect_next_leaf(rt, number, tree, after, corner, steps),
-        Act::NextKey(after, key) => expect_next_key(rt, number, tree, after, key),
+        _ => expect_act(rt, number, tree, act, steps),
     }
     Ok(())
 }

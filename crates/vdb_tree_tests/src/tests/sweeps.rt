@@ -104,17 +104,13 @@ fn expect_slot(
     Ok(())
 }
 
-// Of the block's nodes only the leaf goes: the blocks around it hold the background, too. The next leaf gets its slot.
-#[test]
-fn a_leaf_of_one_cell_becomes_a_tile(rt: HostRuntime) -> Result<(), TreeRefusal> {
-    let mut steps = Steps::new(&rt);
-    let mut tree = Tree::new(rt.alloc(), 0i32, 4096);
-    let p = at(8, 16, 24);
-    let acts = [Act::Fill(p, 8, Write::On(5)), Act::Counts([1, 1, 1, 1])];
-    expect_slot(&rt, &mut tree, &acts, p, Some(0), &mut steps)?;
-    let acts = [Act::Prune, Act::Counts([1, 1, 1, 0])];
-    expect_slot(&rt, &mut tree, &acts, p, None, &mut steps)?;
-    let cells = [
+// The block of 8 voxels around `at(8, 16, 24)` has one cell, and the blocks beside it the background.
+fn expect_one_block(
+    rt: &impl Abort,
+    tree: &mut Tree<i32>,
+    steps: &mut Steps,
+) -> Result<(), TreeRefusal> {
+    let acts = [
         Act::Cell(at(8, 16, 24), on(5)),
         Act::Cell(at(15, 23, 31), on(5)),
         Act::Cell(at(11, 17, 30), on(5)),
@@ -122,17 +118,46 @@ fn a_leaf_of_one_cell_becomes_a_tile(rt: HostRuntime) -> Result<(), TreeRefusal>
         Act::Cell(at(8, 24, 24), off(0)),
         Act::Cell(at(8, 16, 32), off(0)),
     ];
-    run(&rt, &mut tree, &cells, &mut steps)?;
+    run(rt, tree, &acts, steps)
+}
+
+// That block filled, and its leaf pruned.
+fn prune_one_block(
+    rt: &impl Abort,
+    tree: &mut Tree<i32>,
+    steps: &mut Steps,
+) -> Result<(), TreeRefusal> {
+    let p = at(8, 16, 24);
+    let acts = [Act::Fill(p, 8, Write::On(5)), Act::Counts([1, 1, 1, 1])];
+    expect_slot(rt, tree, &acts, p, Some(0), steps)?;
+    let acts = [Act::Prune, Act::Counts([1, 1, 1, 0])];
+    expect_slot(rt, tree, &acts, p, None, steps)
+}
+
+// Of the block's nodes only the leaf goes: the blocks around it hold the background, too. The next leaf gets its slot.
+#[test]
+fn a_leaf_of_one_cell_becomes_a_tile(rt: HostRuntime) -> Result<(), TreeRefusal> {
+    let mut steps = Steps::new(&rt);
+    let mut tree = Tree::new(rt.alloc(), 0i32, 4096);
+    prune_one_block(&rt, &mut tree, &mut steps)?;
+    expect_one_block(&rt, &mut tree, &mut steps)?;
     let q = at(500, 0, 0);
     let acts = [Act::Write(q, Write::On(9)), Act::Counts([1, 1, 2, 1])];
     expect_slot(&rt, &mut tree, &acts, q, Some(0), &mut steps)?;
-    run(&rt, &mut tree, &cells, &mut steps)?;
+    expect_one_block(&rt, &mut tree, &mut steps)
+}
+
+// A write in the block of a tile makes a leaf of the tile's cells.
+#[test]
+fn a_voxel_of_a_tile_is_written(rt: HostRuntime) -> Result<(), TreeRefusal> {
+    let mut steps = Steps::new(&rt);
+    let mut tree = Tree::new(rt.alloc(), 0i32, 4096);
+    prune_one_block(&rt, &mut tree, &mut steps)?;
     let acts = [
         Act::Write(at(8, 16, 24), Write::Value(6)),
-        Act::Counts([1, 1, 2, 2]),
+        Act::Counts([1, 1, 1, 1]),
         Act::Cell(at(8, 16, 24), on(6)),
         Act::Cell(at(8, 16, 25), on(5)),
-        Act::Cell(at(500, 0, 0), on(9)),
     ];
     run(&rt, &mut tree, &acts, &mut steps)
 }

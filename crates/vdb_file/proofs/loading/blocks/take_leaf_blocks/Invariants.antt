@@ -4,19 +4,19 @@ use Rattle.vdb_coord.specs.declared.Level.TheVariants.{Leaf, Lower}
 use Rattle.vdb_tree.specs.Layout.{bits_of, field_of}
 use Rattle.vdb_scene.specs.Watched.{has_failed, source}
 use Rattle.vdb_file.specs.Bodies.{leaf_body}
-use Rattle.vdb_file.specs.internal.LoadedFields.{AreReady, entry_box}
+use Rattle.vdb_file.specs.internal.LoadedFields.{AreLoadable, entry_box}
 use Rattle.vdb_file.specs.internal.Loading.{IsIndex}
 use Rattle.vdb_file.specs.internal.Reading.{EndsWith, byte_total, position}
 use Rattle.vdb_file.proofs.RowInstances.{node_row}
 use Rattle.vdb_file.proofs.RowLoops.{IsUnderway}
 use Rattle.vdb_file.proofs.loading.blocks.take_leaf_blocks.Given as goal
 
--- so many entries were read, and the next ones are ready
+-- so many entries were read, and the next ones are loadable
 abbrev pub invariant-loop : goal.invariant-loop
 invariant-loop g l = let bits = bits_of g.row.U g.row.L g.row.F in record {
   underway : IsUnderway g.V.PartialEq.eq g.V.Voxel.is_value (node_row bits Lower (block_around bits Lower l.fn.p) (leaf_body g.V.PartialEq.eq g.V.Voxel.bytes_of bits)) l.fn.tree.background (block_around bits Lower l.fn.p)
       (field_of bits l.fn.tree) (position l.fn.input (g.R.Read.remaining (source l.fn.reader))) l.counter l.before (field_of bits l.tree) (position l.input (g.R.Read.remaining (source l.reader)));
-  ready : AreReady g.V.PartialEq.eq g.V.Voxel.is_value bits l.tree.limit Leaf (IsIndex (entries bits Lower) l.before) (entry_box bits Lower l.fn.p) (field_of bits l.tree);
+  loadable : AreLoadable g.V.PartialEq.eq g.V.Voxel.is_value bits l.tree.limit Leaf (IsIndex (entries bits Lower) l.before) (entry_box bits Lower l.fn.p) (field_of bits l.tree);
   ends : EndsWith l.input (g.R.Read.remaining (source l.reader));
   total : (n : ℕ) → byte_total l.fn.input (g.R.Read.remaining (source l.fn.reader)) ≡ Some n → byte_total l.input (g.R.Read.remaining (source l.reader)) ≡ Some n;
   limit : l.tree.limit ≡ l.fn.tree.limit;

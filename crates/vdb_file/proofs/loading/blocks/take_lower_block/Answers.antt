@@ -34,7 +34,7 @@ returns-in-One-clause-reads g c =
     let configured = rw c.bits.ensures.value at c.bits.ensures.configured in
     let inside = fits_everywhere c.args.p (search rules) (search rules) (search rules) in
     let head = rw (c.in-One.is, c.background.ensures) at c.in_ok-cell.ensures.reads in
-    one_result values bits configured Lower p (leaf_body g.V.PartialEq.eq g.V.Voxel.bytes_of bits) t.background inside (cell_at bits t) c.requires.ready.values c.in-One.cell head.0 _ _ head.1 (field_of bits c.fill_block.new.tree) c.fill_block.result c.fill_block.ensures.memory c.fill_block.ensures.field
+    one_result values bits configured Lower p (leaf_body g.V.PartialEq.eq g.V.Voxel.bytes_of bits) t.background inside (cell_at bits t) c.requires.loadable.values c.in-One.cell head.0 _ _ head.1 (field_of bits c.fill_block.new.tree) c.fill_block.result c.fill_block.ensures.memory c.fill_block.ensures.field
 
 pub returns-in-One-clause-kept : goal.returns-in-One-clause-kept
 returns-in-One-clause-kept g c =

@@ -10,7 +10,7 @@ use Rattle.vdb_file.specs.Bodies.{lower_body}
 use Rattle.vdb_file.specs.internal.LoadedFields.{HasCapacityAt}
 use Rattle.vdb_file.specs.internal.Reading.{position}
 use Rattle.vdb_file.proofs.Bodies.{entry_is_lower}
-use Rattle.vdb_file.proofs.BlockLoops.{entries_ready, more_entries, no_entries, no_next_entry}
+use Rattle.vdb_file.proofs.BlockLoops.{entries_loadable, more_entries, no_entries, no_next_entry}
 use Rattle.vdb_file.proofs.HeadCodes.{voxel_values}
 use Rattle.vdb_file.proofs.RowInstances.{is_upper_row}
 use Rattle.vdb_file.proofs.RowLoops.{all_underway}
@@ -25,12 +25,12 @@ loop-init g c =
     let t = c.args.tree.now in
     let f = field_of bits t in
     let old = position c.args.input.now (g.R.Read.remaining (source c.args.reader.now)) in
-    let configured = c.requires.ready.configured in
+    let configured = c.requires.loadable.configured in
     let row = is_upper_row values bits configured p in
-    let under = no_entries values bits Upper p (lower_body g.V.PartialEq.eq g.V.Voxel.bytes_of bits) t.background row f old c.requires.ready.values c.requires.ready.clear in
+    let under = no_entries values bits Upper p (lower_body g.V.PartialEq.eq g.V.Voxel.bytes_of bits) t.background row f old c.requires.loadable.values c.requires.loadable.clear in
     record {
       underway = under;
-      ready = entries_ready values bits Upper p (lower_body g.V.PartialEq.eq g.V.Voxel.bytes_of bits) t.background row f old 0 None f old under configured Lower (entry_is_lower bits p) t.limit c.requires.ready.capacity;
+      loadable = entries_loadable values bits Upper p (lower_body g.V.PartialEq.eq g.V.Voxel.bytes_of bits) t.background row f old 0 None f old under configured Lower (entry_is_lower bits p) t.limit c.requires.loadable.capacity;
       ends = c.requires.ends;
       total = λ n h. h;
       limit = refl;
@@ -46,7 +46,7 @@ returns-in_err-i-clause-reads g c =
     let t = c.args.tree.now in
     let f = field_of bits t in
     let old = position c.args.input.now (g.R.Read.remaining (source c.args.reader.now)) in
-    let configured = c.requires.ready.configured in
+    let configured = c.requires.loadable.configured in
     let row = is_upper_row values bits configured p in
     let s = field_of bits c.loop.tree in
     let now = position c.loop.input (g.R.Read.remaining (source c.loop.reader)) in
@@ -62,7 +62,7 @@ loop-preserved g c =
     let t = c.args.tree.now in
     let f = field_of bits t in
     let old = position c.args.input.now (g.R.Read.remaining (source c.args.reader.now)) in
-    let configured = c.requires.ready.configured in
+    let configured = c.requires.loadable.configured in
     let row = is_upper_row values bits configured p in
     let s = field_of bits c.loop.tree in
     let now = position c.loop.input (g.R.Read.remaining (source c.loop.reader)) in
@@ -71,10 +71,10 @@ loop-preserved g c =
     let next = position c.take_next_lower_block.new.input (g.R.Read.remaining (source c.take_next_lower_block.new.reader)) in
     let under = more_entries values bits Upper p (lower_body g.V.PartialEq.eq g.V.Voxel.bytes_of bits) t.background row f old c.loop.counter c.loop.before s now c.loop.invariant.underway c.in_ok-i.i next after read.0 read.1 c.in_ok-i.ensures.kept in
     let limit = c.in_ok-i.ensures.limit ∙ c.loop.invariant.limit in
-    let capacity = subst (λ (n : ℕ). HasCapacityAt g.V.PartialEq.eq bits n (block_around bits Upper p) f) (sym limit) c.requires.ready.capacity in
+    let capacity = subst (λ (n : ℕ). HasCapacityAt g.V.PartialEq.eq bits n (block_around bits Upper p) f) (sym limit) c.requires.loadable.capacity in
     record {
       underway = under;
-      ready = entries_ready values bits Upper p (lower_body g.V.PartialEq.eq g.V.Voxel.bytes_of bits) t.background row f old (c.loop.counter + 1) (Some c.in_ok-i.i) after next under configured Lower (entry_is_lower bits p) c.take_next_lower_block.new.tree.limit capacity;
+      loadable = entries_loadable values bits Upper p (lower_body g.V.PartialEq.eq g.V.Voxel.bytes_of bits) t.background row f old (c.loop.counter + 1) (Some c.in_ok-i.i) after next under configured Lower (entry_is_lower bits p) c.take_next_lower_block.new.tree.limit capacity;
       ends = c.in_ok-i.ensures.ends;
       total = λ n h. c.in_ok-i.ensures.total n (c.loop.invariant.total n h);
       limit = limit;
@@ -90,7 +90,7 @@ returns-clause-reads g c =
     let t = c.args.tree.now in
     let f = field_of bits t in
     let old = position c.args.input.now (g.R.Read.remaining (source c.args.reader.now)) in
-    let configured = c.requires.ready.configured in
+    let configured = c.requires.loadable.configured in
     let row = is_upper_row values bits configured p in
     let s = field_of bits c.loop.tree in
     let now = position c.loop.input (g.R.Read.remaining (source c.loop.reader)) in

@@ -16,7 +16,7 @@ returns-in_err-take_leaf_blocks-clause-reads g c =
     let bits = bits_of g.row.U g.row.L g.row.F in
     let e = err_from_is_err_and c.from_residual.result c.from_residual.ensures.1 in
     rw (e.1, e.2)
-    (no_mixed_list values bits c.requires.ready.configured Lower c.args.p (leaf_body g.V.PartialEq.eq g.V.Voxel.bytes_of bits) c.args.tree.now.background c.args.count c.in_err-take_leaf_blocks.field-0.0 _ c.in_err-take_leaf_blocks.ensures.reads)
+    (no_mixed_list values bits c.requires.loadable.configured Lower c.args.p (leaf_body g.V.PartialEq.eq g.V.Voxel.bytes_of bits) c.args.tree.now.background c.args.count c.in_err-take_leaf_blocks.field-0.0 _ c.in_err-take_leaf_blocks.ensures.reads)
 
 pub returns-then-is_some-clause-reads : goal.returns-then-is_some-clause-reads
 returns-then-is_some-clause-reads g c =
@@ -24,7 +24,7 @@ returns-then-is_some-clause-reads g c =
     let values = voxel_values g.V.PartialEq.eq g.V.Voxel.bytes_of g.V.Voxel.is_value g.V.Voxel.KIND exact g.met.V.Eq.laws.refl g.met.V.Voxel.bytes_known g.met.V.Voxel.bytes_exact in
     let bits = bits_of g.row.U g.row.L g.row.F in
     let p = c.args.p in
-    let configured = c.requires.ready.configured in
+    let configured = c.requires.loadable.configured in
     let read = c.in_ok-take_leaf_blocks.ensures.reads in
     no_mixed values bits configured Lower p (leaf_body g.V.PartialEq.eq g.V.Voxel.bytes_of bits) c.args.tree.now.background (is_lower_row values bits configured p) c.args.count (field_of bits c.take_leaf_blocks.new.tree) _ _ _ read.0 (search rules) read.1
 

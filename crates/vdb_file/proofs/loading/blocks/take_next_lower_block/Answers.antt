@@ -21,7 +21,7 @@ returns-in_err-take_lower_block_at-clause-reads g c =
     let index = rw c.bits-bits.ensures.value at c.in_ok-i.ensures.reads in
     let e = err_from_is_err_and c.from_residual-in_err-take_lower_block_at.result c.from_residual-in_err-take_lower_block_at.ensures.1 in
     rw (e.1, e.2)
-    (no_block_next g.V.PartialEq.eq g.V.Voxel.is_value c.args.tree.now.background (IsIndex (entries bits Upper) c.args.before) (to_be_bytes w16) (entry_box bits Upper c.args.p) (lower_body g.V.PartialEq.eq g.V.Voxel.bytes_of bits) c.in_err-take_lower_block_at.field-0.0 _ (index_says bits c.requires.ready.configured Upper c.args.before) c.in_ok-i.i index.0 _ index.1
+    (no_block_next g.V.PartialEq.eq g.V.Voxel.is_value c.args.tree.now.background (IsIndex (entries bits Upper) c.args.before) (to_be_bytes w16) (entry_box bits Upper c.args.p) (lower_body g.V.PartialEq.eq g.V.Voxel.bytes_of bits) c.in_err-take_lower_block_at.field-0.0 _ (index_says bits c.requires.loadable.configured Upper c.args.before) c.in_ok-i.i index.0 _ index.1
     c.in_err-take_lower_block_at.ensures.reads)
 
 pub returns-clause-reads : goal.returns-clause-reads

@@ -18,7 +18,7 @@ pub take_listed_voxels-requires : goal.take_listed_voxels-requires
 take_listed_voxels-requires g c =
     let small = g.met.V.Stored-3.row_small in
     let fits = leaf_small _ _ g.row.WF _ c.has_leaf_words.ensures.few small.1 small.1 small.0 in
-    let value : g.V.Voxel.is_value c.background-background.result = rw c.background-background.ensures (background_value g.V.Voxel.is_value c.args.tree.now.background (bits_of g.row.U g.row.L g.row.F) c.args.tree.now c.requires.ready.values) in
+    let value : g.V.Voxel.is_value c.background-background.result = rw c.background-background.ensures (background_value g.V.Voxel.is_value c.args.tree.now.background (bits_of g.row.U g.row.L g.row.F) c.args.tree.now c.requires.loadable.values) in
     let leaf = ap (λ (b : Bits). b.leaf) c.bits-bits.ensures.value in
     let capacity = subst (λ (n : ℕ). n ≤ 64 * g.row.WF) (entries_is (bits_of g.row.U g.row.L g.row.F) Leaf) c.has_leaf_words.ensures.capacity in
     (fits, (c.bits-bits.ensures.configured, (leaf, (capacity, (c.has_leaf_words.ensures.few, (value, c.requires.ends))))))
@@ -38,7 +38,7 @@ returns-clause-reads g c =
     let configured = rw c.bits-bits.ensures.value at c.bits-bits.ensures.configured in
     let inside = fits_everywhere c.args.p (search rules) (search rules) (search rules) in
     let read = rw (c.background-background.ensures, c.bits-bits.ensures.value) at (c.in_ok-leaf.ensures.reads p) in
-    leaf_result values bits configured p inside t.background (cell_at bits t) c.requires.ready.values c.args.count c.in_ok-leaf.leaf read.0 _ _ read.1 (field_of bits c.write_leaf_block.new.tree) c.write_leaf_block.result c.write_leaf_block.ensures.memory c.write_leaf_block.ensures.field
+    leaf_result values bits configured p inside t.background (cell_at bits t) c.requires.loadable.values c.args.count c.in_ok-leaf.leaf read.0 _ _ read.1 (field_of bits c.write_leaf_block.new.tree) c.write_leaf_block.result c.write_leaf_block.ensures.memory c.write_leaf_block.ensures.field
 
 pub returns-clause-kept : goal.returns-clause-kept
 returns-clause-kept g c =

@@ -7,7 +7,7 @@ use Rattle.vdb_tree.proofs.Uniform.{exact_by}
 use Rattle.vdb_scene.specs.Watched.{source}
 use Rattle.vdb_file.specs.internal.Reading.{position}
 use Rattle.vdb_file.proofs.HeadCodes.{voxel_values}
-use Rattle.vdb_file.proofs.RootReads.{more_roots, no_next_root, no_roots, roots_ready}
+use Rattle.vdb_file.proofs.RootReads.{more_roots, no_next_root, no_roots, roots_loadable}
 use Rattle.vdb_file.proofs.RowInstances.{is_root_row}
 use Rattle.vdb_file.proofs.RowLoops.{all_underway}
 use Rattle.vdb_file.proofs.loading.roots.take_keyed_roots.Goals as goal
@@ -24,7 +24,7 @@ loop-init g c =
     let under = no_roots values bits configured t.background f old c.requires.fresh c.requires.value in
     record {
       underway = under;
-      ready = λ more. roots_ready values bits configured t.background f old 0 None f old under c.args.count more t.limit c.requires.few;
+      loadable = λ more. roots_loadable values bits configured t.background f old 0 None f old under c.args.count more t.limit c.requires.few;
       ends = c.requires.ends;
       total = λ n h. h;
       limit = refl;
@@ -64,7 +64,7 @@ loop-preserved g c =
     let few = subst (λ (n : ℕ). c.args.count ≤ n) (sym limit) c.requires.few in
     record {
       underway = under;
-      ready = λ more. roots_ready values bits configured t.background f old (c.loop.counter + 1) (Some c.in_ok-key.key) after next under c.args.count more c.take_next_root.new.tree.limit few;
+      loadable = λ more. roots_loadable values bits configured t.background f old (c.loop.counter + 1) (Some c.in_ok-key.key) after next under c.args.count more c.take_next_root.new.tree.limit few;
       ends = c.in_ok-key.ensures.ends;
       total = λ n h. c.in_ok-key.ensures.total n (c.loop.invariant.total n h);
       limit = limit;

@@ -19,7 +19,7 @@ returns-in_err-take_root_at-clause-reads g c =
     let key = rw c.bits-bits.ensures.value at c.in_ok-key.ensures.reads in
     let e = err_from_is_err_and c.from_residual-in_err-take_root_at.result c.from_residual-in_err-take_root_at.ensures.1 in
     rw (e.1, e.2)
-    (no_block_next g.V.PartialEq.eq g.V.Voxel.is_value c.args.tree.now.background (IsKey bits c.args.before) key_bytes (block bits Upper) (root_body g.V.PartialEq.eq g.V.Voxel.bytes_of bits) c.in_err-take_root_at.field-0.0 _ (key_says bits c.requires.ready.configured c.args.before) c.in_ok-key.key key.0 _ key.1
+    (no_block_next g.V.PartialEq.eq g.V.Voxel.is_value c.args.tree.now.background (IsKey bits c.args.before) key_bytes (block bits Upper) (root_body g.V.PartialEq.eq g.V.Voxel.bytes_of bits) c.in_err-take_root_at.field-0.0 _ (key_says bits c.requires.loadable.configured c.args.before) c.in_ok-key.key key.0 _ key.1
     c.in_err-take_root_at.ensures.reads)
 
 pub returns-clause-reads : goal.returns-clause-reads

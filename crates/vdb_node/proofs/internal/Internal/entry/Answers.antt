@@ -16,7 +16,7 @@ returns-then-test g c =
     ∙ entry_of-child c.self.inside.children c.self.inside.states (g.V.Stored.value_in c.self.inside.values) c.self.inside.slots.items c.args.i
     (c.test.ensures ∙ c.if-test.true)
     ∙ ap Child
-    (get_or_default c.self.inside.slots.items c.args.i 0 c.index.result.now (omega (arith, c.requires, c.self.invariant.slots_room))
+    (get_or_default c.self.inside.slots.items c.args.i 0 c.index.result.now (omega (arith, c.requires, c.self.invariant.slots_capacity))
     ∙ sym c.index.ensures))
 
 pub returns-else-test : goal.returns-else-test

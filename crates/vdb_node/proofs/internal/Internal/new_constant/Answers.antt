@@ -10,4 +10,4 @@ returns g c =
     (λ i _. c.off.ensures i)
     (λ i h. c.in_ok-values.ensures.values i (omega (arith, h, c.entries.ensures)))
     (λ i h.
-    c.cut.ensures.others i (omega (arith, h, c.entries-3.ensures)) ∙ c.filled-states.ensures.within i (omega (arith, h, c.requires.room)))
+    c.cut.ensures.others i (omega (arith, h, c.entries-3.ensures)) ∙ c.filled-states.ensures.within i (omega (arith, h, c.requires.capacity)))

@@ -13,5 +13,5 @@ returns g c =
     (entry_count g.row.LOG2) c.args.i _ c.requires
     (entry_of-child c.set.new.self c.self.inside.states (g.V.Stored.value_in c.self.inside.values)
     (set c.self.inside.slots.items c.args.i c.args.slot) c.args.i c.set.ensures.here
-    ∙ ap Child (get_or-set_same c.self.inside.slots.items c.args.i c.args.slot 0 (omega (arith, c.requires, c.self.invariant.slots_room))))
+    ∙ ap Child (get_or-set_same c.self.inside.slots.items c.args.i c.args.slot 0 (omega (arith, c.requires, c.self.invariant.slots_capacity))))
     (λ j other. rw (c.set.ensures.others j other, get_or-set_other c.self.inside.slots.items c.args.i j c.args.slot 0 other) refl))

@@ -19,9 +19,9 @@ invariant_of-self g c =
     record {
       few_bits = c.self.invariant.few_bits;
       few_words = c.self.invariant.few_words;
-      mask_room = c.self.invariant.mask_room;
-      row_room = omega (arith, c.self.invariant.row_room, c.set_value.ensures.room);
-      slots_room = c.self.invariant.slots_room;
+      mask_capacity = c.self.invariant.mask_capacity;
+      row_capacity = omega (arith, c.self.invariant.row_capacity, c.set_value.ensures.capacity);
+      slots_capacity = c.self.invariant.slots_capacity;
       no_child_past = λ j past.
           c.clear.ensures.others j (λ same. omega (arith, past, same, c.requires)) ∙ c.self.invariant.no_child_past j past;
       no_state_past = λ j past.

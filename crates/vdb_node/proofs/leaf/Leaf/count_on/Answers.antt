@@ -7,5 +7,5 @@ pub returns : goal.returns
 returns g c =
     rw (← c.self.view_is)
     (c.count.ensures
-    ∙ on_count-past c.self.inside.states (entry_count g.row.LOG2) (64 * g.row.W) c.self.invariant.mask_room
+    ∙ on_count-past c.self.inside.states (entry_count g.row.LOG2) (64 * g.row.W) c.self.invariant.mask_capacity
     (λ i past _. c.self.invariant.past_end i past))

@@ -8,4 +8,4 @@ returns-clause-cells g c =
     IsConstantLeaf-leaf_of (g.V.Stored.value_in c.in_ok-row.row) (entry_count g.row.LOG2) c.cut.new.mask c.args.cell
     (λ i h. c.in_ok-row.ensures.values i (omega (arith, h, c.entries.ensures)))
     (λ i h.
-    c.cut.ensures.others i (omega (arith, h, c.entries-2.ensures)) ∙ c.filled-states.ensures.within i (omega (arith, h, c.requires.room)))
+    c.cut.ensures.others i (omega (arith, h, c.entries-2.ensures)) ∙ c.filled-states.ensures.within i (omega (arith, h, c.requires.capacity)))
