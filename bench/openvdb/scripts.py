@@ -1,7 +1,8 @@
 #!/usr/bin/env python3
-"""Writes scripts to measure programs by into a folder: scripts.py FOLDER. docs/BENCHMARKS.md has their names.
+"""Writes scripts to measure programs by into a folder: scripts.py FOLDER [SEED [KIND]]. docs/BENCHMARKS.md has their names.
 
-Each has at most the 16,777,216 bytes that a script may have. The random numbers begin with seeds, so they are the same each time.
+SEED is a number, 7 where it is left out: with the same one the random numbers are the same each time. KIND is that of the grids of numbers,
+i32 or i64, i32 where it is left out. Each script has at most the 16,777,216 bytes that a script may have.
 """
 import math
 import os
@@ -17,9 +18,9 @@ def numbers(*parts):
     return " ".join(str(n) for part in parts for n in (part if isinstance(part, (list, tuple)) else [part]))
 
 
-def random_voxels(accessor):
+def random_voxels(accessor, seed):
     """Sets of random voxels of a cube, then gets of the same from the last one back."""
-    draw = random.Random(11)
+    draw = random.Random(seed + 4)
     voxels = [(draw.randrange(256), draw.randrange(256), draw.randrange(256)) for _ in range(350000)]
     sets = [f"set a {accessor} {numbers(voxel)} 7" for voxel in voxels]
     return GRID + sets + [f"get a {accessor} {numbers(voxel)}" for voxel in reversed(voxels)]
@@ -101,26 +102,26 @@ def reports():
     return lines + asked * 30 + ["census a"] * 10
 
 
-def save_scene():
+def save_scene(seed):
     """A scene of scattered voxels and two copies."""
-    draw = random.Random(3)
+    draw = random.Random(seed - 4)
     voxels = sorted({(draw.randrange(256), draw.randrange(256), draw.randrange(256)) for _ in range(440000)})
     sets = [f"set a 0 {numbers(voxel, number % 1000)}" for number, voxel in enumerate(voxels)]
     return GRID + sets + ["copy a b", "copy a c", "count c all"]
 
 
-def scattered():
+def scattered(seed):
     """Reports on voxels each of which is in a root block of its own."""
-    draw = random.Random(27)
+    draw = random.Random(seed + 20)
     voxels = [[draw.randrange(-2**31, 2**31) for _ in range(3)] for _ in range(300)]
     wide, half = ([-2**31] * 3, [2**31 - 1, 2**31 - 1, 2**31 - 2]), ([-10**9] * 3, [10**9] * 3)
     asked = ["count a all", "bounds a", f"count a {numbers(*half)}", f"list a {numbers(*wide)} 4096", "census a"]
     return GRID + [f"set a - {numbers(voxel)} 1" for voxel in voxels] + asked * 10
 
 
-def small_boxes():
+def small_boxes(seed):
     """Small fills and counts in a grid of many root blocks."""
-    draw = random.Random(28)
+    draw = random.Random(seed + 21)
     lines = GRID + ["fill a 0 0 0 65535 65535 4095 1 on"]
     for turn in range(20000):
         least = [draw.randrange(60000), draw.randrange(60000), draw.randrange(4000)]
@@ -129,18 +130,18 @@ def small_boxes():
     return lines
 
 
-def lists():
+def lists(seed):
     """Long lists and wide slices."""
-    draw = random.Random(29)
+    draw = random.Random(seed + 22)
     lines = GRID + [f"set a 0 {numbers([draw.randrange(-60, 60) for _ in range(3)], i % 99)}" for i in range(60000)]
     for turn in range(60):
         lines += ["list a -60 -60 -60 59 59 59 4096", f"list a {turn - 50} -60 -60 59 59 59 4096", f"slice a {turn - 30} -32 -32 31 31"]
     return lines
 
 
-def truths():
+def truths(seed):
     """Boxes of truth values, and operations on their states."""
-    draw = random.Random(30)
+    draw = random.Random(seed + 23)
     lines = ["grid m bool false", "grid n bool false"]
     for name in "mn":
         for _ in range(300):
@@ -152,11 +153,11 @@ def truths():
     return lines
 
 
-def all_scripts():
+def all_scripts(seed):
     """Each script's name with its lines. `load-scene` begins with the file that `save-scene` saves: see run.py."""
-    draw = random.Random(7)
-    yield "random-accessor", random_voxels("0")
-    yield "random-plain", random_voxels("-")
+    draw = random.Random(seed)
+    yield "random-accessor", random_voxels("0", seed)
+    yield "random-plain", random_voxels("-", seed)
     path = walk("0", draw)
     yield "walk-accessor", path
     yield "walk-plain", [line.replace("a 0 ", "a - ", 1) for line in path]
@@ -170,23 +171,24 @@ def all_scripts():
     yield "shell-dilate-erode", shell("a", 3, (0, 0, 0)) + ["dilate a 5", "count a all", "erode a 5", "count a all"] * 2
     yield "shell-two-grids", two_grids()
     yield "reports", reports()
-    yield "save-scene", save_scene()
+    yield "save-scene", save_scene(seed)
     yield "load-scene", ["count a all", "count b all", "count c all", "get c - 1 2 3"]
-    yield "scattered", scattered()
-    yield "small-boxes", small_boxes()
-    yield "lists", lists()
-    yield "truths", truths()
+    yield "scattered", scattered(seed)
+    yield "small-boxes", small_boxes(seed)
+    yield "lists", lists(seed)
+    yield "truths", truths(seed)
 
 
 def main(words):
-    if len(words) != 1:
+    folder, seed, kind = [*words, *["7", "i32"][len(words) - 1 :]] if 1 <= len(words) <= 3 else ["", "", ""]
+    if not seed.isdigit() or kind not in ("i32", "i64"):
         sys.exit(__doc__)
-    os.makedirs(words[0], exist_ok=True)
-    for name, lines in all_scripts():
-        text = "\n".join(lines) + "\n"
+    os.makedirs(folder, exist_ok=True)
+    for name, lines in all_scripts(int(seed)):
+        text = "\n".join(lines).replace(" i32 ", f" {kind} ") + "\n"
         if len(text) > LENGTH_LIMIT:
             sys.exit(f"scripts.py: {name} is longer than a script may be")
-        with open(os.path.join(words[0], f"{name}.script"), "w", encoding="ascii") as file:
+        with open(os.path.join(folder, f"{name}.script"), "w", encoding="ascii") as file:
             file.write(text)
 
 
