@@ -252,75 +252,64 @@ fn a_change_of_a_copied_internal_node(rt: HostRuntime) -> Result<(), AllocError>
     try_internal_copy(&rt, rt.alloc(), 3, i64::MIN)
 }
 
-fn expect_next_active<V: Stored<64>>(
-    rt: &impl Abort,
-    node: &Internal<V, 4, 64>,
-    from: u32,
-    index: Option<u32>,
-) {
-    assert_eq!(rt; node.next_active(from), index, "active, from {from}");
-}
-
-fn expect_next_unlike<V: Stored<64>>(
-    rt: &impl Abort,
-    node: &Internal<V, 4, 64>,
-    cell: Cell<V>,
-    from: u32,
-    index: Option<u32>,
-) {
-    assert_eq!(rt; node.next_unlike(cell, from), index, "unlike, from {from}");
-}
-
-// A node of 4096 tiles in which a child, an active tile and tiles of another value are set.
-fn mixed_node<V: Stored<64>>(
-    alloc: Global,
-    one: V,
-    other: V,
-) -> Result<Internal<V, 4, 64>, AllocError> {
-    let mut node: Internal<V, 4, 64> = Internal::new_constant(alloc, off(one))?;
-    node.set_child(70, 9);
-    node.set_tile(130, on(one));
-    node.set_tile(1300, off(other));
-    node.set_tile(4095, on(other));
-    Ok(node)
-}
-
-// The next entries of a node of one tile, and of the mixed node.
+// A node of 4096 tiles in which a child, an active tile and a tile of another value are set, the next
+// entries of which are sought.
 fn try_next_entries<V: Stored<64>>(
     rt: &impl Abort,
     alloc: Global,
     one: V,
     other: V,
 ) -> Result<(), AllocError> {
-    let same: Internal<V, 4, 64> = Internal::new_constant(alloc, off(one))?;
-    expect_next_active(rt, &same, 0, None);
-    expect_next_unlike(rt, &same, off(one), 0, None);
-    expect_next_unlike(rt, &same, on(one), 0, Some(0));
-    let node = mixed_node(alloc, one, other)?;
-    for (from, index) in [
+    let mut node: Internal<V, 4, 64> = Internal::new_constant(alloc, off(one))?;
+    assert_eq!(rt; node.next_active(0), None);
+    assert_eq!(rt; node.next_unlike(off(one), 0), None);
+    assert_eq!(rt; node.next_unlike(on(one), 0), Some(0));
+    node.set_child(70, 9);
+    node.set_tile(130, on(one));
+    node.set_tile(1300, off(other));
+    node.set_tile(4095, on(other));
+    let active = [
         (0, Some(70)),
         (70, Some(70)),
         (71, Some(130)),
         (131, Some(4095)),
         (4095, Some(4095)),
         (4096, None),
-    ] {
-        expect_next_active(rt, &node, from, index);
+    ];
+    for (from, index) in active {
+        assert_eq!(rt; node.next_active(from), index, "active, from {from}");
     }
-    for (cell, from, index) in [
-        (off(one), 0, Some(70)),
-        (off(one), 70, Some(70)),
-        (off(one), 71, Some(130)),
-        (off(one), 131, Some(1300)),
-        (off(one), 1300, Some(1300)),
-        (off(one), 1301, Some(4095)),
-        (off(one), 4096, None),
-        (on(one), 130, Some(131)),
-        (off(other), 1300, Some(1301)),
-        (on(other), 4095, None),
-    ] {
-        expect_next_unlike(rt, &node, cell, from, index);
+    let unlike = [
+        (0, Some(70)),
+        (70, Some(70)),
+        (71, Some(130)),
+        (131, Some(1300)),
+        (1300, Some(1300)),
+        (1301, Some(4095)),
+        (4096, None),
+    ];
+    for (from, index) in unlike {
+        assert_eq!(rt;
+            node.next_unlike(off(one), from),
+            index,
+            "unlike, from {from}"
+        );
     }
+    assert_eq!(rt;
+        node.next_unlike(on(one), 130),
+        Some(131),
+        "after the active tile"
+    );
+    assert_eq!(rt;
+        node.next_unlike(off(other), 1300),
+        Some(1301),
+        "after the other tile"
+    );
+    assert_eq!(rt;
+        node.next_unlike(on(other), 4095),
+        None,
+        "after the last tile"
+    );
     Ok(())
 }
 
