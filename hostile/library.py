@@ -1,6 +1,6 @@
 #!/usr/bin/env python3
-"""Refuses each growth of the program `library_memory` in turn, which takes memory by the calls of the library that reserve it in a
-pool, nodes, and copies of nodes and trees, and by calls on a grid with accessors: library.py.
+"""Refuses each growth of the program `library_memory` in turn, which takes memory by the calls of the library that reserve places in a
+pool, make nodes, and copy nodes and trees, and by calls on a grid with accessors: library.py.
 
 In each run one growth is refused, the first, then the second, until a run meets none. The call that met the refusal must tell that
 it was refused and that all is as it was before, and no other call may tell so. Made once more it must do what it does without a
