@@ -18,7 +18,7 @@ const LOW: i32 = -9;
 const HIGH: i32 = 12;
 
 /// What is made of two trees.
-#[derive(Clone, Copy, PartialEq, Eq)]
+#[derive(Clone, Copy)]
 enum Operation {
     Maximum,
     Minimum,
@@ -66,23 +66,50 @@ impl Draws {
     }
 }
 
-// Fills some boxes, and at times prunes the tree or makes leaves in it.
-fn draw(tree: &mut Tiny, draws: &mut Draws, steps: &mut Steps) -> Result<(), TreeRefusal> {
-    for _ in 0..5u32 {
-        if let Some(bounds) = draws.bounds() {
-            let value = (draws.below(4) as i32).wrapping_sub(1);
-            let on = draws.below(3) > 0;
-            let cell = Cell { value, on };
-            tree.split(bounds, cell, steps)?;
-            tree.paint(bounds, cell, steps);
-            match draws.below(4) {
-                0 => tree.prune(steps),
-                1 => tree.voxelise(bounds, steps)?,
-                _ => {}
-            }
-        }
+// Gives the coordinates of a box this cell, which is accepted.
+fn fill<
+    const U: u32,
+    const L: u32,
+    const F: u32,
+    const WU: usize,
+    const WL: usize,
+    const WF: usize,
+>(
+    rt: &impl Abort,
+    tree: &mut TreeOf<i32, U, L, F, WU, WL, WF>,
+    bounds: Bounds,
+    cell: Cell<i32>,
+    steps: &mut Steps,
+) {
+    tree.split(bounds, cell, steps).expect(rt, "a split");
+    tree.paint(bounds, cell, steps);
+}
+
+// Writes a voxel, which is accepted.
+fn write(rt: &impl Abort, tree: &mut Tree<i32>, p: Coord, change: Write<i32>, steps: &mut Steps) {
+    tree.write(p, change, steps).expect(rt, "a write");
+}
+
+// Fills a box that is drawn, and at times prunes the tree or makes leaves in the box.
+fn draw_box(rt: &impl Abort, tree: &mut Tiny, draws: &mut Draws, steps: &mut Steps) {
+    let Some(bounds) = draws.bounds() else {
+        return;
+    };
+    let value = (draws.below(4) as i32).wrapping_sub(1);
+    let on = draws.below(3) > 0;
+    fill(rt, tree, bounds, Cell { value, on }, steps);
+    match draws.below(4) {
+        0 => tree.prune(steps),
+        1 => tree.voxelise(bounds, steps).expect(rt, "leaves"),
+        _ => {}
     }
-    Ok(())
+}
+
+// Fills some boxes.
+fn draw(rt: &impl Abort, tree: &mut Tiny, draws: &mut Draws, steps: &mut Steps) {
+    for _ in 0..5u32 {
+        draw_box(rt, tree, draws, steps);
+    }
 }
 
 fn made(operation: Operation, first: Cell<i32>, second: Cell<i32>) -> Cell<i32> {
@@ -100,21 +127,29 @@ fn made(operation: Operation, first: Cell<i32>, second: Cell<i32>) -> Cell<i32> 
     }
 }
 
-fn carry_out(
-    rt: &impl Abort,
+fn carry_out<
+    const U: u32,
+    const L: u32,
+    const F: u32,
+    const WU: usize,
+    const WL: usize,
+    const WF: usize,
+>(
     operation: Operation,
-    tree: &mut Tiny,
-    other: &Tiny,
+    tree: &mut TreeOf<i32, U, L, F, WU, WL, WF>,
+    other: &TreeOf<i32, U, L, F, WU, WL, WF>,
     steps: &mut Steps,
-) -> Result<(), TreeRefusal> {
-    match operation {
+) -> Result<(), SumRefusal> {
+    let outcome = match operation {
         Operation::Maximum => maximum(tree, other, steps),
         Operation::Minimum => minimum(tree, other, steps),
         Operation::Replace => replace(tree, other, steps),
-        Operation::Sum => {
-            assert!(rt; sum(tree, other, steps).is_ok());
-            Ok(())
-        }
+        Operation::Sum => return sum(tree, other, steps),
+    };
+    match outcome {
+        Ok(()) => Ok(()),
+        Err(TreeRefusal::RootLimit) => Err(SumRefusal::RootLimit),
+        Err(TreeRefusal::Memory) => Err(SumRefusal::Memory),
     }
 }
 
@@ -138,83 +173,124 @@ fn expect_made(
     }
 }
 
+// Makes of a copy of a tree what an operation makes of it, and compares each cell around the boxes and one far from them.
+fn expect_operation(
+    rt: &impl Abort,
+    operation: Operation,
+    tree: &Tiny,
+    other: &Tiny,
+    steps: &mut Steps,
+) {
+    let mut changed = tree.try_copy().expect(rt, "a copy");
+    let outcome = carry_out(operation, &mut changed, other, steps);
+    outcome.expect(rt, "an operation");
+    expect_made(rt, operation, tree, other, &changed, steps);
+    let far = made(operation, off(tree.background()), off(other.background()));
+    assert!(rt; changed.get(at(5000, 0, 0), steps) == far);
+    assert!(rt; changed.background() == far.value);
+}
+
 #[test]
-fn random_trees(rt: HostRuntime) -> Result<(), TreeRefusal> {
+fn random_trees(rt: HostRuntime) {
     let mut steps = Steps::new(&rt);
     let mut draws = Draws { state: 6 };
     for turn in 0..30i32 {
         let mut tree: Tiny = Tiny::new(rt.alloc(), turn % 3, 4096);
         let mut other: Tiny = Tiny::new(rt.alloc(), turn % 2, 4096);
-        draw(&mut tree, &mut draws, &mut steps)?;
-        draw(&mut other, &mut draws, &mut steps)?;
+        draw(&rt, &mut tree, &mut draws, &mut steps);
+        draw(&rt, &mut other, &mut draws, &mut steps);
         for operation in [
             Operation::Maximum,
             Operation::Minimum,
             Operation::Sum,
             Operation::Replace,
         ] {
-            let mut changed = tree.try_copy()?;
-            carry_out(&rt, operation, &mut changed, &other, &mut steps)?;
-            expect_made(&rt, operation, &tree, &other, &changed, &mut steps);
-            let far = made(operation, off(turn % 3), off(turn % 2));
-            assert!(rt; changed.get(at(5000, 0, 0), &mut steps) == far);
-            assert!(rt; changed.background() == far.value);
+            expect_operation(&rt, operation, &tree, &other, &mut steps);
         }
     }
-    Ok(())
 }
 
 // Fills the first `count` root blocks from 0 on along z.
 fn fill_roots(
+    rt: &impl Abort,
     tree: &mut Tree<i32>,
     count: i32,
     cell: Cell<i32>,
     steps: &mut Steps,
-) -> Result<(), TreeRefusal> {
+) {
     let last = count.wrapping_mul(4096).wrapping_sub(1);
-    if let Some(bounds) = Bounds::new(at(0, 0, 0), at(4095, 4095, last)) {
-        tree.split(bounds, cell, steps)?;
-        tree.paint(bounds, cell, steps);
-    }
-    Ok(())
+    let bounds = Bounds::new(at(0, 0, 0), at(4095, 4095, last)).expect(rt, "a box");
+    fill(rt, tree, bounds, cell, steps);
+}
+
+// What an operation on two trees answers.
+fn expect_answer(
+    rt: &impl Abort,
+    operation: Operation,
+    tree: &mut Tree<i32>,
+    other: &Tree<i32>,
+    answer: Result<(), SumRefusal>,
+    steps: &mut Steps,
+) {
+    assert!(rt; carry_out(operation, tree, other, steps) == answer);
+}
+
+fn expect_cell(rt: &impl Abort, tree: &Tree<i32>, p: Coord, cell: Cell<i32>, steps: &mut Steps) {
+    assert!(rt; tree.get(p, steps) == cell, "at {p:?}");
 }
 
 #[test]
-fn the_limit_is_that_of_the_first_tree(rt: HostRuntime) -> Result<(), TreeRefusal> {
+fn the_limit_is_that_of_the_first_tree(rt: HostRuntime) {
     let mut steps = Steps::new(&rt);
     let mut tree = Tree::new(rt.alloc(), 0, 3);
     let mut other = Tree::new(rt.alloc(), 0, 100);
-    fill_roots(&mut tree, 3, off(1), &mut steps)?;
-    other.write(at(-1, 0, 0), Write::On(5), &mut steps)?;
-    assert!(rt; maximum(&mut tree, &other, &mut steps) == Err(TreeRefusal::RootLimit));
-    assert!(rt; replace(&mut tree, &other, &mut steps) == Err(TreeRefusal::RootLimit));
-    assert!(rt; sum(&mut tree, &other, &mut steps) == Err(SumRefusal::RootLimit));
-    assert!(rt; tree.get(at(9, 9, 9), &mut steps) == off(1));
-    assert!(rt; tree.get(at(-1, 0, 0), &mut steps) == off(0));
+    let (inside, outside) = (at(9, 9, 9), at(-1, 0, 0));
+    fill_roots(&rt, &mut tree, 3, off(1), &mut steps);
+    write(&rt, &mut other, outside, Write::On(5), &mut steps);
+    let refused = Err(SumRefusal::RootLimit);
+    for operation in [Operation::Maximum, Operation::Replace, Operation::Sum] {
+        expect_answer(&rt, operation, &mut tree, &other, refused, &mut steps);
+    }
+    expect_cell(&rt, &tree, inside, off(1), &mut steps);
+    expect_cell(&rt, &tree, outside, off(0), &mut steps);
     // Its three blocks become background as the other's comes in.
-    minimum(&mut tree, &other, &mut steps)?;
-    assert!(rt; tree.get(at(9, 9, 9), &mut steps) == off(0));
-    assert!(rt; tree.get(at(-1, 0, 0), &mut steps) == Cell { value: 0, on: true });
+    expect_answer(
+        &rt,
+        Operation::Minimum,
+        &mut tree,
+        &other,
+        Ok(()),
+        &mut steps,
+    );
+    expect_cell(&rt, &tree, inside, off(0), &mut steps);
+    expect_cell(&rt, &tree, outside, Cell { value: 0, on: true }, &mut steps);
     assert!(rt; tree.root_blocks(&mut steps) == 1);
-    Ok(())
 }
 
 #[test]
-fn sums_outside_the_type(rt: HostRuntime) -> Result<(), TreeRefusal> {
+fn backgrounds_outside_the_type(rt: HostRuntime) {
     let mut steps = Steps::new(&rt);
     let mut tree = Tree::new(rt.alloc(), i32::MAX, 1);
     let other = Tree::new(rt.alloc(), 1, 1);
-    assert!(rt; sum(&mut tree, &other, &mut steps) == Err(SumRefusal::SumRange));
-    assert!(rt; tree.background() == i32::MAX);
-    // One inactive voxel is enough, and it comes before the root limit.
+    let refused = Err(SumRefusal::SumRange);
+    expect_answer(&rt, Operation::Sum, &mut tree, &other, refused, &mut steps);
+    expect_cell(&rt, &tree, at(0, 0, 0), off(i32::MAX), &mut steps);
+}
+
+// One inactive voxel is enough, and it comes before the root limit.
+#[test]
+fn sums_outside_the_type(rt: HostRuntime) {
+    let mut steps = Steps::new(&rt);
     let mut tree = Tree::new(rt.alloc(), 0, 1);
     let mut other = Tree::new(rt.alloc(), 0, 9);
-    tree.write(at(1, 2, 3), Write::Off(i32::MIN), &mut steps)?;
-    other.write(at(1, 2, 3), Write::Off(-1), &mut steps)?;
-    other.write(at(5000, 0, 0), Write::On(1), &mut steps)?;
-    assert!(rt; sum(&mut tree, &other, &mut steps) == Err(SumRefusal::SumRange));
-    other.write(at(1, 2, 3), Write::Off(0), &mut steps)?;
-    assert!(rt; sum(&mut tree, &other, &mut steps) == Err(SumRefusal::RootLimit));
-    assert!(rt; tree.get(at(1, 2, 3), &mut steps) == off(i32::MIN));
-    Ok(())
+    let p = at(1, 2, 3);
+    write(&rt, &mut tree, p, Write::Off(i32::MIN), &mut steps);
+    write(&rt, &mut other, p, Write::Off(-1), &mut steps);
+    write(&rt, &mut other, at(5000, 0, 0), Write::On(1), &mut steps);
+    let refused = Err(SumRefusal::SumRange);
+    expect_answer(&rt, Operation::Sum, &mut tree, &other, refused, &mut steps);
+    write(&rt, &mut other, p, Write::Off(0), &mut steps);
+    let refused = Err(SumRefusal::RootLimit);
+    expect_answer(&rt, Operation::Sum, &mut tree, &other, refused, &mut steps);
+    expect_cell(&rt, &tree, p, off(i32::MIN), &mut steps);
 }

@@ -113,6 +113,14 @@ module _ {V : Type 0} (t : Layout V) where
   pub nothing_whole : (n : ℕ) (paths : List (TreePath V)) → ArePathsWhole t (replicate n None) paths
   nothing_whole n paths k p e = absurd (none_apart p (sym (nothing_last n k) ∙ e))
 
+  -- and of an accessor that was given none the path may be emptied
+  pub whole_emptied : (coords : List (Option Coord)) (paths : List (TreePath V)) (k : ℕ) → last coords k ≡ None → ArePathsWhole t coords paths → ArePathsWhole t coords (slice_set paths k Empty)
+  whole_emptied coords paths k s h j q e =
+      elim (eqb_tells j k) [
+        | inl f ↦ absurd (none_apart q (sym s ∙ sym (ap (last coords) f.1) ∙ e))
+        | inr f ↦ whole_as q q _ _ refl (sym (get_or-set_other paths k j Empty Empty f.1)) (h j q e)
+      ]
+
   -- where a path is whole it lives
   pub start_lives : (coords : List (Option Coord)) (paths : List (TreePath V)) (k : ℕ) (p : Coord) → ArePathsWhole t coords paths → last coords k ≡ Some p → Lives vdb t (path paths k) p
   start_lives coords paths k p h e = (h k p e).lives

@@ -142,24 +142,29 @@ impl<V: Stored<512> + Stored<64> + Stored<8>, const K: usize> Grid<V, K> {
             → steps.new ≤ steps.old + 1 }
         ensures steps { steps.new ≤ steps.old + 3 }
     {
-        let (q, mut path) = self.start(k, p);
-        let cell = self.tree.descend(&mut path, q, p, steps);
+        let q = self.start(k, p);
+        let cell = self.tree.descend(&mut self.paths[k], q, p, steps);
         self.coords[k] = Some(p);
-        self.paths[k] = path;
         cell
     }
 
-    /// Where a descent to `p` through an accessor begins: the coordinate that it was last given with the path to it, or `p`
-    /// without a node.
+    /// Where a descent to `p` through an accessor begins: the coordinate that it was last given, with the path to it. Where it
+    /// was given none, its path gets no node, and the descent begins at `p` itself.
     #[inline(always)]
-    fn start(&self, k: usize, p: Coord) -> (Coord, Path<V>)
+    fn start(&mut self, k: usize, p: Coord) -> Coord
         requires { k < K }
-        ensures value { (q : Coord) → last self.now.coords k ≡ Some q → result ≡ (q, path self.now.paths k) }
-        ensures lives { Lives vdb self.now.tree result.1 result.0 }
+        ensures tree { self.new.tree ≡ self.old.tree }
+        ensures last { self.new.coords ≡ self.old.coords }
+        ensures others { (j : ℕ) → j ≢ k → path self.new.paths j ≡ path self.old.paths j }
+        ensures value { (q : Coord) → last self.old.coords k ≡ Some q → (result ≡ q) × (path self.new.paths k ≡ path self.old.paths k) }
+        ensures lives { Lives vdb self.new.tree (path self.new.paths k) result }
     {
         match self.coords[k] {
-            Some(q) => (q, self.paths[k]),
-            None => (p, Path::Empty),
+            Some(q) => q,
+            None => {
+                self.paths[k] = Path::Empty;
+                p
+            }
         }
     }
 

@@ -12,7 +12,7 @@ use vdb_coord::{Bounds, Coord};
 use vdb_morph::{dilate, erode};
 use vdb_node::Stored;
 use vdb_pool::Steps;
-use vdb_tree::{TreeOf, TreeRefusal};
+use vdb_tree::{TreeOf, Write};
 use vdb_value::Cell;
 use vdb_walk::count;
 
@@ -30,7 +30,7 @@ enum Turn {
 }
 
 impl Turn {
-    /// Makes some turns in one call.
+    /// Makes some turns in one call, which are accepted.
     fn make<
         V: Stored<WU> + Stored<WL> + Stored<WF>,
         const U: u32,
@@ -41,17 +41,19 @@ impl Turn {
         const WF: usize,
     >(
         self,
+        rt: &impl Abort,
         tree: &mut TreeOf<V, U, L, F, WU, WL, WF>,
         turns: u32,
         steps: &mut Steps,
-    ) -> Result<(), TreeRefusal>
+    )
         requires some { 1 ≤ turns }
         requires few { turns ≤ 16 }
     {
-        match self {
+        let made = match self {
             Turn::Dilate => dilate(tree, turns, steps),
             Turn::Erode => erode(tree, turns, steps),
-        }
+        };
+        made.expect(rt, "turns");
     }
 }
 
@@ -71,7 +73,7 @@ fn off<V>(value: V) -> Cell<V> {
     Cell { value, on: false }
 }
 
-// Gives each coordinate from one corner to the other this cell.
+// Gives each coordinate from one corner to the other this cell, which is accepted.
 fn fill<
     V: Stored<WU> + Stored<WL> + Stored<WF>,
     const U: u32,
@@ -87,11 +89,42 @@ fn fill<
     max: Coord,
     cell: Cell<V>,
     steps: &mut Steps,
-) -> Result<(), TreeRefusal> {
+) {
     let bounds = Bounds::new(min, max).expect(rt, "a box");
-    tree.split(bounds, cell, steps)?;
+    tree.split(bounds, cell, steps).expect(rt, "a split");
     tree.paint(bounds, cell, steps);
-    Ok(())
+}
+
+// Writes a voxel, which is accepted.
+fn write<
+    V: Stored<WU> + Stored<WL> + Stored<WF>,
+    const U: u32,
+    const L: u32,
+    const F: u32,
+    const WU: usize,
+    const WL: usize,
+    const WF: usize,
+>(
+    rt: &impl Abort,
+    tree: &mut TreeOf<V, U, L, F, WU, WL, WF>,
+    p: Coord,
+    change: Write<V>,
+    steps: &mut Steps,
+) {
+    tree.write(p, change, steps).expect(rt, "a write");
+}
+
+// How many voxels are active.
+fn expect_count<
+    V: Stored<WU> + Stored<WL> + Stored<WF>,
+    const U: u32,
+    const L: u32,
+    const F: u32,
+    const WU: usize,
+    const WL: usize,
+    const WF: usize,
+>(rt: &impl Abort, tree: &TreeOf<V, U, L, F, WU, WL, WF>, wanted: u128, steps: &mut Steps) {
+    assert_eq!(rt; count(tree, None, steps), wanted);
 }
 
 fn expect_cells<
@@ -128,8 +161,7 @@ fn expect_turn<
     tree: &mut TreeOf<V, U, L, F, WU, WL, WF>,
     wanted: u128,
     steps: &mut Steps,
-) -> Result<(), TreeRefusal> {
-    turn.make(tree, 1, steps)?;
-    assert_eq!(rt; count(tree, None, steps), wanted);
-    Ok(())
+) {
+    turn.make(rt, tree, 1, steps);
+    expect_count(rt, tree, wanted, steps);
 }

@@ -54,7 +54,60 @@ impl Draws {
     }
 }
 
-// Fills some boxes with this value, active or not, and at times prunes the tree or makes leaves in it.
+// Gives the coordinates of a box this cell, which is accepted.
+fn fill<
+    V: Stored<WU> + Stored<WL> + Stored<WF>,
+    const U: u32,
+    const L: u32,
+    const F: u32,
+    const WU: usize,
+    const WL: usize,
+    const WF: usize,
+>(
+    rt: &impl Abort,
+    tree: &mut TreeOf<V, U, L, F, WU, WL, WF>,
+    bounds: Bounds,
+    cell: Cell<V>,
+    steps: &mut Steps,
+) {
+    tree.split(bounds, cell, steps).expect(rt, "a split");
+    tree.paint(bounds, cell, steps);
+}
+
+// Fills a box that is drawn with one of these values, active or not, and at times prunes the tree or makes leaves in the box.
+fn draw_box<
+    V: Stored<WU> + Stored<WL> + Stored<WF>,
+    const U: u32,
+    const L: u32,
+    const F: u32,
+    const WU: usize,
+    const WL: usize,
+    const WF: usize,
+>(
+    rt: &impl Abort,
+    tree: &mut TreeOf<V, U, L, F, WU, WL, WF>,
+    values: [V; 2],
+    draws: &mut Draws,
+    steps: &mut Steps,
+) {
+    let Some(bounds) = draws.bounds() else {
+        return;
+    };
+    let value = if draws.below(2) == 0 {
+        values[0]
+    } else {
+        values[1]
+    };
+    let on = draws.below(3) > 0;
+    fill(rt, tree, bounds, Cell { value, on }, steps);
+    match draws.below(4) {
+        0 => tree.prune(steps),
+        1 => tree.voxelise(bounds, steps).expect(rt, "leaves"),
+        _ => {}
+    }
+}
+
+// Fills some boxes.
 fn draw<
     V: Stored<WU> + Stored<WL> + Stored<WF>,
     const U: u32,
@@ -64,30 +117,15 @@ fn draw<
     const WL: usize,
     const WF: usize,
 >(
+    rt: &impl Abort,
     tree: &mut TreeOf<V, U, L, F, WU, WL, WF>,
     values: [V; 2],
     draws: &mut Draws,
     steps: &mut Steps,
-) -> Result<(), TreeRefusal> {
+) {
     for _ in 0..5u32 {
-        if let Some(bounds) = draws.bounds() {
-            let value = if draws.below(2) == 0 {
-                values[0]
-            } else {
-                values[1]
-            };
-            let on = draws.below(3) > 0;
-            let cell = Cell { value, on };
-            tree.split(bounds, cell, steps)?;
-            tree.paint(bounds, cell, steps);
-            match draws.below(4) {
-                0 => tree.prune(steps),
-                1 => tree.voxelise(bounds, steps)?,
-                _ => {}
-            }
-        }
+        draw_box(rt, tree, values, draws, steps);
     }
-    Ok(())
 }
 
 fn made<V: Copy>(rule: StateRule, first: Cell<V>, second: bool) -> Cell<V> {
@@ -131,130 +169,171 @@ fn expect_around<
     }
 }
 
-// Makes the states of two trees by each rule, and compares each cell around the boxes, and some far from them.
-fn expect_rules(
+// Makes the states of two trees by a rule, which is accepted.
+fn make<
+    V: Stored<WU> + Stored<WL> + Stored<WF>,
+    X: Stored<WU> + Stored<WL> + Stored<WF>,
+    const U: u32,
+    const L: u32,
+    const F: u32,
+    const WU: usize,
+    const WL: usize,
+    const WF: usize,
+>(
     rt: &impl Abort,
-    tree: &Tiny<i32>,
-    other: &Tiny<bool>,
+    rule: StateRule,
+    tree: &mut TreeOf<V, U, L, F, WU, WL, WF>,
+    other: &TreeOf<X, U, L, F, WU, WL, WF>,
     steps: &mut Steps,
-) -> Result<(), TreeRefusal> {
-    for rule in [StateRule::Unite, StateRule::Subtract, StateRule::Intersect] {
-        let mut changed = tree.try_copy()?;
-        match rule {
-            StateRule::Unite => unite(&mut changed, other, steps)?,
-            StateRule::Subtract => subtract(&mut changed, other, steps)?,
-            StateRule::Intersect => intersect(&mut changed, other, steps)?,
-        }
-        expect_around(rt, rule, tree, other, &changed, steps);
-        for p in [
-            at(5000, 0, 0),
-            at(i32::MIN, 7, -1),
-            at(i32::MAX, i32::MAX, i32::MAX),
-        ] {
-            assert!(rt; changed.get(p, steps) == made(rule, tree.get(p, steps), false));
-        }
+) {
+    let result = match rule {
+        StateRule::Unite => unite(tree, other, steps),
+        StateRule::Subtract => subtract(tree, other, steps),
+        StateRule::Intersect => intersect(tree, other, steps),
+    };
+    result.expect(rt, "states");
+}
+
+// The cell at a coordinate.
+fn expect_cell<
+    V: Stored<WU> + Stored<WL> + Stored<WF>,
+    const U: u32,
+    const L: u32,
+    const F: u32,
+    const WU: usize,
+    const WL: usize,
+    const WF: usize,
+>(
+    rt: &impl Abort,
+    tree: &TreeOf<V, U, L, F, WU, WL, WF>,
+    p: Coord,
+    value: V,
+    on: bool,
+    steps: &mut Steps,
+) {
+    assert!(rt; tree.get(p, steps) == Cell { value, on }, "at {p:?}");
+}
+
+// Far from the boxes all cells are the background.
+fn expect_far(rt: &impl Abort, tree: &Tiny<i32>, steps: &mut Steps) {
+    for p in [
+        at(5000, 0, 0),
+        at(i32::MIN, 7, -1),
+        at(i32::MAX, i32::MAX, i32::MAX),
+    ] {
+        expect_cell(rt, tree, p, tree.background(), false, steps);
     }
-    Ok(())
+}
+
+// Makes the states of two trees by a rule, and compares each cell around the boxes.
+fn expect_rule<
+    V: Stored<WU> + Stored<WL> + Stored<WF>,
+    X: Stored<WU> + Stored<WL> + Stored<WF>,
+    const U: u32,
+    const L: u32,
+    const F: u32,
+    const WU: usize,
+    const WL: usize,
+    const WF: usize,
+>(
+    rt: &impl Abort,
+    rule: StateRule,
+    tree: &TreeOf<V, U, L, F, WU, WL, WF>,
+    other: &TreeOf<X, U, L, F, WU, WL, WF>,
+    steps: &mut Steps,
+) -> TreeOf<V, U, L, F, WU, WL, WF> {
+    let mut changed = tree.try_copy().expect(rt, "a copy");
+    make(rt, rule, &mut changed, other, steps);
+    expect_around(rt, rule, tree, other, &changed, steps);
+    changed
 }
 
 #[test]
-fn random_trees_of_small_nodes(rt: HostRuntime) -> Result<(), TreeRefusal> {
+fn random_trees_of_small_nodes(rt: HostRuntime) {
     let mut steps = Steps::new(&rt);
     let mut draws = Draws { state: 5 };
     for _ in 0..40u32 {
         let mut tree: Tiny<i32> = Tiny::new(rt.alloc(), 3, 4096);
         let mut other: Tiny<bool> = Tiny::new(rt.alloc(), true, 4096);
-        draw(&mut tree, [3, 4], &mut draws, &mut steps)?;
-        draw(&mut other, [true, false], &mut draws, &mut steps)?;
-        expect_rules(&rt, &tree, &other, &mut steps)?;
+        draw(&rt, &mut tree, [3, 4], &mut draws, &mut steps);
+        draw(&rt, &mut other, [true, false], &mut draws, &mut steps);
+        for rule in [StateRule::Unite, StateRule::Subtract, StateRule::Intersect] {
+            let changed = expect_rule(&rt, rule, &tree, &other, &mut steps);
+            expect_far(&rt, &changed, &mut steps);
+        }
     }
-    Ok(())
 }
 
 #[test]
-fn random_trees_of_large_nodes(rt: HostRuntime) -> Result<(), TreeRefusal> {
+fn random_trees_of_large_nodes(rt: HostRuntime) {
     let mut steps = Steps::new(&rt);
     let mut draws = Draws { state: 8 };
     for _ in 0..12u32 {
         let mut tree: Tree433<bool> = Tree433::new(rt.alloc(), false, 4096);
         let mut other: Tree433<i64> = Tree433::new(rt.alloc(), -1, 4096);
-        draw(&mut tree, [true, false], &mut draws, &mut steps)?;
-        draw(&mut other, [-1, 9], &mut draws, &mut steps)?;
-        let mut united = tree.try_copy()?;
-        unite(&mut united, &other, &mut steps)?;
-        expect_around(&rt, StateRule::Unite, &tree, &other, &united, &mut steps);
+        draw(&rt, &mut tree, [true, false], &mut draws, &mut steps);
+        draw(&rt, &mut other, [-1, 9], &mut draws, &mut steps);
+        let _ = expect_rule(&rt, StateRule::Unite, &tree, &other, &mut steps);
     }
-    Ok(())
 }
 
-// A root block at each key from 0 to `count - 1` along z.
+// Gives the root blocks with the keys from 0 to `count - 1` along z a cell.
 fn fill_roots(
+    rt: &impl Abort,
     tree: &mut Tree<i32>,
     count: i32,
     cell: Cell<i32>,
     steps: &mut Steps,
-) -> Result<(), TreeRefusal> {
+) {
     let last = count.wrapping_mul(4096).wrapping_sub(1);
-    if let Some(bounds) = Bounds::new(at(0, 0, 0), at(4095, 4095, last)) {
-        tree.split(bounds, cell, steps)?;
-        tree.paint(bounds, cell, steps);
-    }
-    Ok(())
+    let bounds = Bounds::new(at(0, 0, 0), at(4095, 4095, last)).expect(rt, "a box");
+    fill(rt, tree, bounds, cell, steps);
+}
+
+// A union is refused by the root limit.
+fn expect_refused(rt: &impl Abort, tree: &mut Tree<i32>, other: &Tree<bool>, steps: &mut Steps) {
+    let result = unite(tree, other, steps);
+    assert!(rt; result == Err(TreeRefusal::RootLimit));
 }
 
 #[test]
-fn the_limit_is_that_of_the_first_tree(rt: HostRuntime) -> Result<(), TreeRefusal> {
+fn the_limit_is_that_of_the_first_tree(rt: HostRuntime) {
     let mut steps = Steps::new(&rt);
     let mut tree = Tree::new(rt.alloc(), 0, 3);
     let mut other = Tree::new(rt.alloc(), false, 100);
-    fill_roots(
-        &mut tree,
-        3,
+    let (inactive, background) = (
         Cell {
             value: 1,
             on: false,
         },
-        &mut steps,
-    )?;
-    other.write(at(-1, 0, 0), Write::On(true), &mut steps)?;
-    assert!(rt; unite(&mut tree, &other, &mut steps) == Err(TreeRefusal::RootLimit));
-    assert!(rt;
-        tree.get(at(-1, 0, 0), &mut steps)
-            == Cell {
-                value: 0,
-                on: false
-            }
+        Cell {
+            value: 0,
+            on: false,
+        },
     );
-    assert!(rt; subtract(&mut tree, &other, &mut steps).is_ok());
+    let p = at(-1, 0, 0);
+    fill_roots(&rt, &mut tree, 3, inactive, &mut steps);
+    other
+        .write(p, Write::On(true), &mut steps)
+        .expect(&rt, "a write");
+    expect_refused(&rt, &mut tree, &other, &mut steps);
+    expect_cell(&rt, &tree, p, 0, false, &mut steps);
+    make(&rt, StateRule::Subtract, &mut tree, &other, &mut steps);
     // One of the three blocks becomes background, and its entry stays until the table wants room.
-    let background = Cell {
-        value: 0,
-        on: false,
-    };
-    if let Some(bounds) = Bounds::new(at(0, 0, 0), at(4095, 4095, 4095)) {
-        tree.split(bounds, background, &mut steps)?;
-        tree.paint(bounds, background, &mut steps);
-    }
-    unite(&mut tree, &other, &mut steps)?;
-    assert!(rt; tree.get(at(-1, 0, 0), &mut steps) == Cell { value: 0, on: true });
-    assert!(rt; tree.get(at(-1, 0, 1), &mut steps) == background);
-    assert!(rt;
-        other.get(at(-1, 0, 0), &mut steps)
-            == Cell {
-                value: true,
-                on: true
-            }
-    );
-    Ok(())
+    fill_roots(&rt, &mut tree, 1, background, &mut steps);
+    make(&rt, StateRule::Unite, &mut tree, &other, &mut steps);
+    expect_cell(&rt, &tree, p, 0, true, &mut steps);
+    expect_cell(&rt, &tree, at(-1, 0, 1), 0, false, &mut steps);
+    expect_cell(&rt, &other, p, true, true, &mut steps);
 }
 
 #[test]
-fn one_tile_makes_no_node(rt: HostRuntime) -> Result<(), TreeRefusal> {
+fn one_tile_makes_no_node(rt: HostRuntime) {
     let mut steps = Steps::new(&rt);
     let mut tree = Tree::new(rt.alloc(), 0, 4096);
     let mut other = Tree::new(rt.alloc(), 0, 4096);
-    fill_roots(&mut other, 1, Cell { value: 0, on: true }, &mut steps)?;
-    unite(&mut tree, &other, &mut steps)?;
+    fill_roots(&rt, &mut other, 1, Cell { value: 0, on: true }, &mut steps);
+    make(&rt, StateRule::Unite, &mut tree, &other, &mut steps);
     let wanted = NodeCounts {
         entries: 1,
         upper: 0,
@@ -262,6 +341,5 @@ fn one_tile_makes_no_node(rt: HostRuntime) -> Result<(), TreeRefusal> {
         leaf: 0,
     };
     assert!(rt; tree.node_counts() == wanted);
-    assert!(rt; tree.get(at(9, 9, 9), &mut steps) == Cell { value: 0, on: true });
-    Ok(())
+    expect_cell(&rt, &tree, at(9, 9, 9), 0, true, &mut steps);
 }

@@ -8,7 +8,7 @@ use std::process::Abort;
 use vdb_coord::{Bounds, Coord};
 use vdb_node::Stored;
 use vdb_pool::Steps;
-use vdb_tree::{Tree, Tree433, TreeOf, TreeRefusal, Write};
+use vdb_tree::{Tree, Tree433, TreeOf, Write};
 use vdb_value::Cell;
 use vdb_walk::count;
 
@@ -37,7 +37,7 @@ fn off<V>(value: V) -> Cell<V> {
     Cell { value, on: false }
 }
 
-// Gives each coordinate from one corner to the other this cell.
+// Gives each coordinate from one corner to the other this cell, which is accepted.
 fn fill<
     V: Stored<WU> + Stored<WL> + Stored<WF>,
     const U: u32,
@@ -53,11 +53,67 @@ fn fill<
     max: Coord,
     cell: Cell<V>,
     steps: &mut Steps,
-) -> Result<(), TreeRefusal> {
+) {
     let bounds = Bounds::new(min, max).expect(rt, "a box");
-    tree.split(bounds, cell, steps)?;
+    tree.split(bounds, cell, steps).expect(rt, "a split");
     tree.paint(bounds, cell, steps);
-    Ok(())
+}
+
+// Writes a voxel, which is accepted.
+fn write<
+    V: Stored<WU> + Stored<WL> + Stored<WF>,
+    const U: u32,
+    const L: u32,
+    const F: u32,
+    const WU: usize,
+    const WL: usize,
+    const WF: usize,
+>(
+    rt: &impl Abort,
+    tree: &mut TreeOf<V, U, L, F, WU, WL, WF>,
+    p: Coord,
+    change: Write<V>,
+    steps: &mut Steps,
+) {
+    tree.write(p, change, steps).expect(rt, "a write");
+}
+
+// Gives the box from one corner to the other leaves, which is accepted.
+fn voxelise<
+    V: Stored<WU> + Stored<WL> + Stored<WF>,
+    const U: u32,
+    const L: u32,
+    const F: u32,
+    const WU: usize,
+    const WL: usize,
+    const WF: usize,
+>(
+    rt: &impl Abort,
+    tree: &mut TreeOf<V, U, L, F, WU, WL, WF>,
+    min: Coord,
+    max: Coord,
+    steps: &mut Steps,
+) {
+    let bounds = Bounds::new(min, max).expect(rt, "a box");
+    tree.voxelise(bounds, steps).expect(rt, "leaves");
+}
+
+// How many voxels are active.
+fn expect_count<
+    V: Stored<WU> + Stored<WL> + Stored<WF>,
+    const U: u32,
+    const L: u32,
+    const F: u32,
+    const WU: usize,
+    const WL: usize,
+    const WF: usize,
+>(rt: &impl Abort, tree: &TreeOf<V, U, L, F, WU, WL, WF>, wanted: u128, steps: &mut Steps) {
+    assert_eq!(rt; count(tree, None, steps), wanted);
+}
+
+// How many nodes were visited since there were `before` visits.
+fn expect_visits(rt: &impl Abort, steps: &Steps, before: u64, wanted: u64) {
+    assert_eq!(rt; steps.count().wrapping_sub(before), wanted);
 }
 
 // Each case: the corners of a box, and how many of its voxels are active.
@@ -89,7 +145,7 @@ fn expect_counts<
 fn a_fresh_tree_has_none(rt: HostRuntime) {
     let mut steps = Steps::new(&rt);
     let tree = Tree::new(rt.alloc(), 5i32, 4096);
-    assert_eq!(rt; count(&tree, None, &mut steps), 0);
+    expect_count(&rt, &tree, 0, &mut steps);
     let cases = [
         (all(0), all(0), 0),
         (all(-5000), all(5000), 0),
@@ -99,17 +155,29 @@ fn a_fresh_tree_has_none(rt: HostRuntime) {
 }
 
 #[test]
-fn single_voxels(rt: HostRuntime) -> Result<(), TreeRefusal> {
+fn single_voxels(rt: HostRuntime) {
     let mut steps = Steps::new(&rt);
     let mut tree = Tree433::new(rt.alloc(), 0i64, 4096);
-    tree.write(at(1, 2, 3), Write::On(7), &mut steps)?;
-    assert_eq!(rt; count(&tree, None, &mut steps), 1);
-    tree.write(at(1, 2, 4), Write::Off(7), &mut steps)?;
-    assert_eq!(rt; count(&tree, None, &mut steps), 1);
-    tree.write(all(i32::MIN), Write::On(7), &mut steps)?;
-    tree.write(all(i32::MAX), Write::State(true), &mut steps)?;
-    tree.write(at(i32::MIN, i32::MAX, -1), Write::On(0), &mut steps)?;
-    assert_eq!(rt; count(&tree, None, &mut steps), 4);
+    write(&rt, &mut tree, at(1, 2, 3), Write::On(7), &mut steps);
+    expect_count(&rt, &tree, 1, &mut steps);
+    write(&rt, &mut tree, at(1, 2, 4), Write::Off(7), &mut steps);
+    expect_count(&rt, &tree, 1, &mut steps);
+    write(&rt, &mut tree, all(i32::MIN), Write::On(7), &mut steps);
+    write(
+        &rt,
+        &mut tree,
+        all(i32::MAX),
+        Write::State(true),
+        &mut steps,
+    );
+    write(
+        &rt,
+        &mut tree,
+        at(i32::MIN, i32::MAX, -1),
+        Write::On(0),
+        &mut steps,
+    );
+    expect_count(&rt, &tree, 4, &mut steps);
     let cases = [
         (at(1, 2, 3), at(1, 2, 3), 1),
         (at(1, 2, 4), at(1, 2, 4), 0),
@@ -124,15 +192,14 @@ fn single_voxels(rt: HostRuntime) -> Result<(), TreeRefusal> {
         (all(i32::MIN), all(i32::MAX), 4),
     ];
     expect_counts(&rt, &tree, &cases, &mut steps);
-    Ok(())
 }
 
 // A tile of each level: a root block of 4,096 cubed, a lower block of 128 cubed beside it, and a leaf block of 8 cubed.
 #[test]
-fn tiles_of_each_level(rt: HostRuntime) -> Result<(), TreeRefusal> {
+fn tiles_of_each_level(rt: HostRuntime) {
     let mut steps = Steps::new(&rt);
     let mut tree = Tree::new(rt.alloc(), 0i32, 4096);
-    fill(&rt, &mut tree, all(0), all(4095), on(1), &mut steps)?;
+    fill(&rt, &mut tree, all(0), all(4095), on(1), &mut steps);
     fill(
         &rt,
         &mut tree,
@@ -140,7 +207,7 @@ fn tiles_of_each_level(rt: HostRuntime) -> Result<(), TreeRefusal> {
         at(4223, 127, 127),
         on(2),
         &mut steps,
-    )?;
+    );
     fill(
         &rt,
         &mut tree,
@@ -148,12 +215,8 @@ fn tiles_of_each_level(rt: HostRuntime) -> Result<(), TreeRefusal> {
         at(8199, 7, 7),
         on(3),
         &mut steps,
-    )?;
-    assert_eq!(rt; tree.node_counts().leaf, 0);
-    assert_eq!(rt;
-        count(&tree, None, &mut steps),
-        68_719_476_736 + 2_097_152 + 512
     );
+    expect_count(&rt, &tree, 68_719_476_736 + 2_097_152 + 512, &mut steps);
     let cases = [
         (all(0), all(4095), 68_719_476_736),
         (at(4096, 0, 0), at(4223, 127, 127), 2_097_152),
@@ -168,18 +231,17 @@ fn tiles_of_each_level(rt: HostRuntime) -> Result<(), TreeRefusal> {
         (at(8200, -9, -9), at(9000, 9, 9), 0),
     ];
     expect_counts(&rt, &tree, &cases, &mut steps);
-    fill(&rt, &mut tree, all(0), all(4095), off(1), &mut steps)?;
-    assert_eq!(rt; count(&tree, None, &mut steps), 2_097_152 + 512);
-    Ok(())
+    fill(&rt, &mut tree, all(0), all(4095), off(1), &mut steps);
+    expect_count(&rt, &tree, 2_097_152 + 512, &mut steps);
 }
 
 #[test]
-fn boxes_that_cut_leaves(rt: HostRuntime) -> Result<(), TreeRefusal> {
+fn boxes_that_cut_leaves(rt: HostRuntime) {
     let mut steps = Steps::new(&rt);
     let mut tree = Tree::new(rt.alloc(), 0i64, 4096);
     let mut tiny = Tiny::new(rt.alloc(), 0i32, 4096);
-    fill(&rt, &mut tree, all(3), all(12), on(-1), &mut steps)?;
-    fill(&rt, &mut tiny, all(3), all(12), on(1), &mut steps)?;
+    fill(&rt, &mut tree, all(3), all(12), on(-1), &mut steps);
+    fill(&rt, &mut tiny, all(3), all(12), on(1), &mut steps);
     let cases = [
         (all(0), all(7), 125),
         (all(5), all(9), 125),
@@ -191,8 +253,8 @@ fn boxes_that_cut_leaves(rt: HostRuntime) -> Result<(), TreeRefusal> {
     ];
     expect_counts(&rt, &tree, &cases, &mut steps);
     expect_counts(&rt, &tiny, &cases, &mut steps);
-    tree.write(all(7), Write::State(false), &mut steps)?;
-    tiny.write(all(7), Write::State(false), &mut steps)?;
+    write(&rt, &mut tree, all(7), Write::State(false), &mut steps);
+    write(&rt, &mut tiny, all(7), Write::State(false), &mut steps);
     let cases = [
         (all(0), all(7), 124),
         (all(5), all(9), 124),
@@ -202,19 +264,30 @@ fn boxes_that_cut_leaves(rt: HostRuntime) -> Result<(), TreeRefusal> {
     ];
     expect_counts(&rt, &tree, &cases, &mut steps);
     expect_counts(&rt, &tiny, &cases, &mut steps);
-    Ok(())
 }
 
 // Boxes that cut a leaf on all sides, of leaves that span 4 and 16 voxels.
 #[test]
-fn boxes_within_leaves(rt: HostRuntime) -> Result<(), TreeRefusal> {
+fn boxes_within_leaves(rt: HostRuntime) {
     let mut steps = Steps::new(&rt);
     let mut small = Leaves4::new(rt.alloc(), 0i32, 4096);
     let mut large = Leaves16::new(rt.alloc(), 0i32, 4096);
-    fill(&rt, &mut small, all(-4), all(-2), on(1), &mut steps)?;
-    fill(&rt, &mut large, all(-16), all(-2), on(1), &mut steps)?;
-    small.write(at(-3, -2, -3), Write::State(false), &mut steps)?;
-    large.write(at(-9, -2, -3), Write::State(false), &mut steps)?;
+    fill(&rt, &mut small, all(-4), all(-2), on(1), &mut steps);
+    fill(&rt, &mut large, all(-16), all(-2), on(1), &mut steps);
+    write(
+        &rt,
+        &mut small,
+        at(-3, -2, -3),
+        Write::State(false),
+        &mut steps,
+    );
+    write(
+        &rt,
+        &mut large,
+        at(-9, -2, -3),
+        Write::State(false),
+        &mut steps,
+    );
     let cases = [
         (all(-3), all(-2), 7),
         (at(-3, -3, -4), at(-3, -2, -2), 5),
@@ -229,23 +302,22 @@ fn boxes_within_leaves(rt: HostRuntime) -> Result<(), TreeRefusal> {
         (all(-15), all(-1), 2743),
     ];
     expect_counts(&rt, &large, &cases, &mut steps);
-    Ok(())
 }
 
 // A leaf within the box counts by its states alone: two visits find it and one reads it, and one of each node over it finds no
 // other part.
 #[test]
-fn leaves_count_at_once(rt: HostRuntime) -> Result<(), TreeRefusal> {
+fn leaves_count_at_once(rt: HostRuntime) {
     let mut steps = Steps::new(&rt);
     let mut tree = Tree::new(rt.alloc(), 0i64, 4096);
-    tree.write(at(8, -8, 16), Write::On(1), &mut steps)?;
-    tree.write(at(15, -1, 23), Write::On(2), &mut steps)?;
-    tree.write(at(15, -1, 22), Write::Off(3), &mut steps)?;
+    write(&rt, &mut tree, at(8, -8, 16), Write::On(1), &mut steps);
+    write(&rt, &mut tree, at(15, -1, 23), Write::On(2), &mut steps);
+    write(&rt, &mut tree, at(15, -1, 22), Write::Off(3), &mut steps);
     let before = steps.count();
     let cases = [(at(8, -8, 16), at(15, -1, 23), 2)];
     expect_counts(&rt, &tree, &cases, &mut steps);
     // one walk to the first active part of the root block, and one over what the box has of it
-    assert_eq!(rt; steps.count().wrapping_sub(before), 11);
+    expect_visits(&rt, &steps, before, 11);
     let cases = [
         (at(8, -8, 16), at(15, -1, 22), 1),
         (at(9, -8, 16), at(15, -1, 23), 1),
@@ -253,17 +325,16 @@ fn leaves_count_at_once(rt: HostRuntime) -> Result<(), TreeRefusal> {
         (at(0, -16, 8), at(23, 7, 31), 2),
     ];
     expect_counts(&rt, &tree, &cases, &mut steps);
-    Ok(())
 }
 
 // 65,536 voxels along each axis, in 4,096 tiles of the root table: no node is visited.
 #[test]
-fn tiles_count_at_once(rt: HostRuntime) -> Result<(), TreeRefusal> {
+fn tiles_count_at_once(rt: HostRuntime) {
     let mut steps = Steps::new(&rt);
     let mut tree = Tree::new(rt.alloc(), 0i32, 4096);
-    fill(&rt, &mut tree, all(-32768), all(32767), on(1), &mut steps)?;
+    fill(&rt, &mut tree, all(-32768), all(32767), on(1), &mut steps);
     let before = steps.count();
-    assert_eq!(rt; count(&tree, None, &mut steps), 281_474_976_710_656);
+    expect_count(&rt, &tree, 281_474_976_710_656, &mut steps);
     let cases = [
         (all(-32767), all(32767), 65535 * 65535 * 65535),
         (all(0), all(i32::MAX), 32768 * 32768 * 32768),
@@ -271,8 +342,7 @@ fn tiles_count_at_once(rt: HostRuntime) -> Result<(), TreeRefusal> {
         (all(32768), all(i32::MAX), 0),
     ];
     expect_counts(&rt, &tree, &cases, &mut steps);
-    assert_eq!(rt; steps.count(), before);
-    fill(&rt, &mut tree, all(-32768), all(32767), off(2), &mut steps)?;
-    assert_eq!(rt; count(&tree, None, &mut steps), 0);
-    Ok(())
+    expect_visits(&rt, &steps, before, 0);
+    fill(&rt, &mut tree, all(-32768), all(32767), off(2), &mut steps);
+    expect_count(&rt, &tree, 0, &mut steps);
 }

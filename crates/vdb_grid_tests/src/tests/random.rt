@@ -7,7 +7,7 @@ use std::process::Abort;
 use vdb_composite::SumRefusal;
 use vdb_coord::{Bounds, Coord};
 use vdb_pool::Steps;
-use vdb_tree::{Tree, TreeRefusal, Write};
+use vdb_tree::{Tree, Write};
 
 /// Knuth's generator of 64 bits.
 #[derive(Drop)]
@@ -118,13 +118,8 @@ fn expect_cells(rt: &impl Abort, it: &mut Trial, before: &Tree<i32>, draws: &mut
 }
 
 // The sum with a tree of another box. Where it is refused no cell changes.
-fn add(
-    rt: &impl Abort,
-    calls: &mut Calls,
-    other: &Tree<i32>,
-    draws: &mut Draws,
-) -> Result<(), TreeRefusal> {
-    let before = calls.it.grid.try_copy()?;
+fn add(rt: &impl Abort, calls: &mut Calls, other: &Tree<i32>, draws: &mut Draws) {
+    let before = calls.it.grid.try_copy().expect(rt, "a copy");
     match calls.it.grid.sum(other, &mut calls.it.steps) {
         Ok(()) => calls.sums = calls.sums.wrapping_add(1),
         Err(refusal) => {
@@ -134,14 +129,12 @@ fn add(
             expect_cells(rt, &mut calls.it, before.tree(), draws);
         }
     }
-    Ok(())
 }
 
 // The grid's copy in its place. No accessor was given a coordinate.
-fn take_copy(calls: &mut Calls) -> Result<(), TreeRefusal> {
-    calls.it.grid = calls.it.grid.try_copy()?;
+fn take_copy(rt: &impl Abort, calls: &mut Calls) {
+    calls.it.grid = calls.it.grid.try_copy().expect(rt, "a copy");
     calls.given = [None; 8];
-    Ok(())
 }
 
 // A voxel written, with an accessor or without.
@@ -176,48 +169,40 @@ fn check(rt: &impl Abort, calls: &mut Calls, k: usize, p: Coord)
 }
 
 // One call, and a check of one accessor.
-fn turn(
-    rt: &impl Abort,
-    calls: &mut Calls,
-    other: &Tree<i32>,
-    draws: &mut Draws,
-) -> Result<(), TreeRefusal> {
+fn turn(rt: &impl Abort, calls: &mut Calls, other: &Tree<i32>, draws: &mut Draws) {
     let (k, p) = (draws.below(8) as usize, draws.coord());
     match draws.below(240) {
         0..=5 => rebuild(&mut calls.it, draws),
         6..=10 => combine(&mut calls.it, other, draws),
-        11 => add(rt, calls, other, draws)?,
-        12 => take_copy(calls)?,
+        11 => add(rt, calls, other, draws),
+        12 => take_copy(rt, calls),
         _ => write(calls, k, p, draws),
     }
     let (k, p) = (draws.below(8) as usize, draws.coord());
     check(rt, calls, k, p);
-    Ok(())
 }
 
 // A tree with a box, for the calls on two trees.
-fn boxed(rt: &HostRuntime, steps: &mut Steps) -> Result<Tree<i32>, TreeRefusal> {
+fn boxed(rt: &(impl Abort + AllocGlobal), steps: &mut Steps) -> Tree<i32> {
     let mut other = Tree::new(rt.alloc(), 0i32, 4);
-    if let Some(bounds) = Bounds::new(at(-20, 1, 1), at(9, 15, 15)) {
-        vdb_region::fill(&mut other, bounds, on(2), steps)?;
-    }
-    Ok(other)
+    let bounds = Bounds::new(at(-20, 1, 1), at(9, 15, 15)).expect(rt, "a box");
+    vdb_region::fill(&mut other, bounds, on(2), steps).expect(rt, "a fill");
+    other
 }
 
 #[test]
-fn random_calls(rt: HostRuntime) -> Result<(), TreeRefusal> {
+fn random_calls(rt: HostRuntime) {
     let mut calls = Calls {
         it: fresh(&rt, 5),
         given: [None; 8],
         sums: 0,
         refused: 0,
     };
-    let other = boxed(&rt, &mut calls.it.steps)?;
+    let other = boxed(&rt, &mut calls.it.steps);
     let mut draws = Draws { state: 21 };
     for _ in 0..100_000 {
-        turn(&rt, &mut calls, &other, &mut draws)?;
+        turn(&rt, &mut calls, &other, &mut draws);
     }
     assert!(rt; calls.sums > 0);
     assert!(rt; calls.refused > 0);
-    Ok(())
 }

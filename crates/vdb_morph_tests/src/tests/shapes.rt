@@ -3,12 +3,12 @@
 ghost use Rattle.std.specs.Prelude.{◌<◌, ◌≤◌};
 
 use super::voxel_map::{Cube, expect_turns};
-use super::{Leaves8, Tiny, Turn, all, at, fill, on};
+use super::{Leaves8, Tiny, Turn, all, at, fill};
 use std::process::Abort;
 use vdb_coord::{Bounds, Coord};
 use vdb_node::Stored;
 use vdb_pool::Steps;
-use vdb_tree::{Tree, TreeOf, TreeRefusal};
+use vdb_tree::{Tree, TreeOf};
 use vdb_value::Cell;
 
 /// Knuth's generator of 64 bits.
@@ -107,8 +107,32 @@ fn places(extent: i32, blocks: [i32; 3]) -> [Place; 9] {
     ]
 }
 
-// Fills some boxes with these values, active or not, the whole cube before them at times, and prunes the tree or makes leaves in it
-// at times.
+// Fills a box with a cell, and prunes the tree or makes leaves in the box at times.
+fn fill_some<
+    V: Stored<WU> + Stored<WL> + Stored<WF>,
+    const U: u32,
+    const L: u32,
+    const F: u32,
+    const WU: usize,
+    const WL: usize,
+    const WF: usize,
+>(
+    rt: &impl Abort,
+    tree: &mut TreeOf<V, U, L, F, WU, WL, WF>,
+    part: Bounds,
+    cell: Cell<V>,
+    draws: &mut Draws,
+    steps: &mut Steps,
+) {
+    fill(rt, tree, part.min(), part.max(), cell, steps);
+    match draws.below(6) {
+        0 => tree.prune(steps),
+        1 => tree.voxelise(part, steps).expect(rt, "leaves"),
+        _ => {}
+    }
+}
+
+// Fills some boxes with these values, active or not, the whole cube before them at times.
 fn draw<
     V: Stored<WU> + Stored<WL> + Stored<WF>,
     const U: u32,
@@ -118,12 +142,13 @@ fn draw<
     const WL: usize,
     const WF: usize,
 >(
+    rt: &impl Abort,
     tree: &mut TreeOf<V, U, L, F, WU, WL, WF>,
     values: [V; 2],
     place: Place,
     draws: &mut Draws,
     steps: &mut Steps,
-) -> Result<(), TreeRefusal> {
+) {
     let mut bounds = if draws.below(2) == 0 {
         place.whole()
     } else {
@@ -137,116 +162,94 @@ fn draw<
             } else {
                 values[1]
             };
-            let cell = Cell { value, on };
-            tree.split(part, cell, steps)?;
-            tree.paint(part, cell, steps);
-            match draws.below(6) {
-                0 => tree.prune(steps),
-                1 => tree.voxelise(part, steps)?,
-                _ => {}
-            }
+            fill_some(rt, tree, part, Cell { value, on }, draws, steps);
         }
         bounds = place.bounds(draws);
         on = draws.below(2) == 0;
     }
-    Ok(())
 }
 
-// Turns of a random shape in small nodes.
-fn turn_in_small_nodes(
+// Turns of a random shape in an empty tree.
+fn try_shape<
+    V: Stored<WU> + Stored<WL> + Stored<WF>,
+    const U: u32,
+    const L: u32,
+    const F: u32,
+    const WU: usize,
+    const WL: usize,
+    const WF: usize,
+>(
     rt: &(impl Abort + AllocGlobal),
+    tree: &mut TreeOf<V, U, L, F, WU, WL, WF>,
+    values: [V; 2],
     place: Place,
     what: (Turn, u32),
     draws: &mut Draws,
     steps: &mut Steps,
-) -> Result<(), TreeRefusal>
+)
     requires some { 1 ≤ what.1 }
     requires few { what.1 ≤ 16 }
 {
-    let (turn, turns) = what;
-    let mut tree = Tiny::new(rt.alloc(), 3i32, 4096);
-    draw(&mut tree, [3, 4], place, draws, steps)?;
-    let mut turned = tree.try_copy()?;
-    turn.make(&mut turned, turns, steps)?;
-    let trees = (&tree, &turned);
-    expect_turns(rt, rt.alloc(), trees, what, place.cube(), steps)?;
-    Ok(())
+    draw(rt, tree, values, place, draws, steps);
+    let mut turned = tree.try_copy().expect(rt, "a copy");
+    what.0.make(rt, &mut turned, what.1, steps);
+    let trees = (&*tree, &turned);
+    expect_turns(rt, rt.alloc(), trees, what, place.cube(), steps);
 }
 
-// Turns of a random shape in the nodes of a grid.
-fn turn_of_whole_numbers(
+// Turns of random shapes in small nodes, of each number of turns.
+fn try_small_nodes(
     rt: &(impl Abort + AllocGlobal),
-    place: Place,
-    what: (Turn, u32),
+    turn: Turn,
     draws: &mut Draws,
     steps: &mut Steps,
-) -> Result<(), TreeRefusal>
-    requires some { 1 ≤ what.1 }
-    requires few { what.1 ≤ 16 }
-{
-    let (turn, turns) = what;
-    let mut tree = Tree::new(rt.alloc(), 0i32, 4096);
-    draw(&mut tree, [0, -7], place, draws, steps)?;
-    let mut turned = tree.try_copy()?;
-    turn.make(&mut turned, turns, steps)?;
-    let trees = (&tree, &turned);
-    expect_turns(rt, rt.alloc(), trees, what, place.cube(), steps)?;
-    Ok(())
+) {
+    for turns in 1..=16u32 {
+        for place in places(15, [1, 3, 7]) {
+            let tree = &mut Tiny::new(rt.alloc(), 3i32, 4096);
+            try_shape(rt, tree, [3, 4], place, (turn, turns), draws, steps);
+        }
+    }
 }
 
 #[test]
-fn shapes_in_small_nodes_grow(rt: HostRuntime) -> Result<(), TreeRefusal> {
+fn shapes_in_small_nodes_grow(rt: HostRuntime) {
     let mut steps = Steps::new(&rt);
     let mut draws = Draws { state: 1 };
-    for turns in 1..=16u32 {
-        for place in places(15, [1, 3, 7]) {
-            let what = (Turn::Dilate, turns);
-            turn_in_small_nodes(&rt, place, what, &mut draws, &mut steps)?;
-        }
-    }
-    Ok(())
+    try_small_nodes(&rt, Turn::Dilate, &mut draws, &mut steps);
 }
 
 #[test]
-fn shapes_in_small_nodes_shrink(rt: HostRuntime) -> Result<(), TreeRefusal> {
+fn shapes_in_small_nodes_shrink(rt: HostRuntime) {
     let mut steps = Steps::new(&rt);
     let mut draws = Draws { state: 6 };
-    for turns in 1..=16u32 {
-        for place in places(15, [1, 3, 7]) {
-            let what = (Turn::Erode, turns);
-            turn_in_small_nodes(&rt, place, what, &mut draws, &mut steps)?;
-        }
-    }
-    Ok(())
+    try_small_nodes(&rt, Turn::Erode, &mut draws, &mut steps);
 }
 
 // Tiles span 8, 16 and 32 voxels.
 #[test]
-fn shapes_in_leaves_of_three_bits(rt: HostRuntime) -> Result<(), TreeRefusal> {
+fn shapes_in_leaves_of_three_bits(rt: HostRuntime) {
     let mut steps = Steps::new(&rt);
     let mut draws = Draws { state: 2 };
     for (i, place) in places(63, [7, 15, 31]).into_iter().enumerate() {
-        let mut tree = Leaves8::new(rt.alloc(), -1i64, 4096);
-        draw(&mut tree, [-1, 9], place, &mut draws, &mut steps)?;
-        let (turn, turns) = (draws.turn(), 1 + (i.wrapping_mul(7) % 16) as u32);
-        let mut turned = tree.try_copy()?;
-        turn.make(&mut turned, turns, &mut steps)?;
-        let (trees, what) = ((&tree, &turned), (turn, turns));
-        expect_turns(&rt, rt.alloc(), trees, what, place.cube(), &mut steps)?;
+        let tree = &mut Leaves8::new(rt.alloc(), -1i64, 4096);
+        let what = (draws.turn(), 1 + (i.wrapping_mul(7) % 16) as u32);
+        try_shape(&rt, tree, [-1, 9], place, what, &mut draws, &mut steps);
     }
-    Ok(())
 }
 
+// Turns of a random shape in the nodes of a grid.
 #[test]
-fn shapes_of_whole_numbers(rt: HostRuntime) -> Result<(), TreeRefusal> {
+fn shapes_of_whole_numbers(rt: HostRuntime) {
     let mut steps = Steps::new(&rt);
     let mut draws = Draws { state: 4 };
     let places = places(31, [7, 7, 15]);
     for turns in 1..=16u32 {
         let place = places[1 + (turns % 8) as usize];
         for turn in [Turn::Dilate, Turn::Erode] {
-            turn_of_whole_numbers(&rt, place, (turn, turns), &mut draws, &mut steps)?;
+            let tree = &mut Tree::new(rt.alloc(), 0i32, 4096);
+            let what = (turn, turns);
+            try_shape(&rt, tree, [0, -7], place, what, &mut draws, &mut steps);
         }
     }
-    Ok(())
 }

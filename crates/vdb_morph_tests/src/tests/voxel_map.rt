@@ -1,6 +1,6 @@
 //! The states of the voxels of a cube, and what the definition makes of them.
 
-use super::Turn;
+use super::{Turn, expect_count};
 use std::alloc::{AllocError, Global};
 use std::process::Abort;
 use vdb_coord::Coord;
@@ -8,7 +8,6 @@ use vdb_node::Stored;
 use vdb_pool::Steps;
 use vdb_tree::TreeOf;
 use vdb_value::Cell;
-use vdb_walk::count;
 
 /// A cube of coordinates, of which the range may hold a part alone.
 #[derive(Clone, Copy, Debug)]
@@ -200,7 +199,7 @@ fn expect_map<
             }
         }
     }
-    assert_eq!(rt; count(after, None, steps), map.active());
+    expect_count(rt, after, map.active(), steps);
 }
 
 /// Turns made one tree of the other, whose active voxels lie in the cube.
@@ -222,16 +221,12 @@ pub fn expect_turns<
     (turn, turns): (Turn, u32),
     cube: Cube,
     steps: &mut Steps,
-) -> Result<(), AllocError> {
-    let mut map = VoxelMap::of(alloc, before, cube.grown(turns), steps)?;
-    assert_eq!(rt;
-        count(before, None, steps),
-        map.active(),
-        "all lie in the cube"
-    );
+) {
+    let grown = cube.grown(turns);
+    let mut map = VoxelMap::of(alloc, before, grown, steps).expect(rt, "memory for a map");
+    expect_count(rt, before, map.active(), steps);
     for _ in 0..turns {
-        map = map.turned(turn)?;
+        map = map.turned(turn).expect(rt, "memory for a map");
     }
     expect_map(rt, &map, before, after, steps);
-    Ok(())
 }

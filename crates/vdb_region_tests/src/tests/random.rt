@@ -3,7 +3,7 @@
 ghost use Rattle.std.specs.Prelude.{◌<◌, ◌≤◌};
 
 use super::{at, off};
-use std::alloc::{AllocError, Global};
+use std::alloc::Global;
 use std::collections::BTreeMap;
 use std::process::Abort;
 use vdb_coord::{Bounds, Coord};
@@ -79,21 +79,21 @@ impl Wanted {
     }
 
     // Gives the coordinates inside the box, or those outside it, this cell.
-    fn put(&mut self, bounds: Bounds, inside: bool, cell: Cell<i32>) -> Result<(), AllocError> {
+    fn put(&mut self, rt: &impl Abort, bounds: Bounds, inside: bool, cell: Cell<i32>) {
         for x in LOW..=HIGH {
             for y in LOW..=HIGH {
                 for z in LOW..=HIGH {
                     if bounds.contains(at(x, y, z)) == inside {
-                        self.cells.insert(at(x, y, z), cell)?;
+                        let put: Result<_, _> = self.cells.insert(at(x, y, z), cell);
+                        put.expect(rt, "memory for a map");
                     }
                 }
             }
         }
-        Ok(())
     }
 
     // How many blocks of 8 voxels along each axis would hold something with the box filled.
-    fn root_blocks(&self, bounds: Bounds, filled: Cell<i32>) -> Result<usize, AllocError> {
+    fn root_blocks(&self, rt: &impl Abort, bounds: Bounds, filled: Cell<i32>) -> usize {
         let mut keys = BTreeMap::new(self.alloc);
         for x in LOW..=HIGH {
             for y in LOW..=HIGH {
@@ -105,12 +105,22 @@ impl Wanted {
                         self.cell(p)
                     };
                     if cell != off(0) {
-                        keys.insert(at(x >> 3, y >> 3, z >> 3), ())?;
+                        let key = at(x >> 3, y >> 3, z >> 3);
+                        let put: Result<_, _> = keys.insert(key, ());
+                        put.expect(rt, "memory for a map");
                     }
                 }
             }
         }
-        Ok(keys.len())
+        keys.len()
+    }
+}
+
+// What an empty tree holds.
+fn empty(rt: &impl AllocGlobal) -> Wanted {
+    Wanted {
+        alloc: rt.alloc(),
+        cells: BTreeMap::new(rt.alloc()),
     }
 }
 
@@ -133,34 +143,65 @@ fn expect_same<
     }
 }
 
+// Fills a box that is drawn, where the limit lets it, and tells whether the limit refused that.
+fn fill_one(
+    rt: &impl Abort,
+    tree: &mut Tiny,
+    wanted: &mut Wanted,
+    draws: &mut Draws,
+    steps: &mut Steps,
+) -> bool {
+    let Some(bounds) = draws.bounds(9) else {
+        return false;
+    };
+    let cell = draws.cell();
+    match fill(tree, bounds, cell, steps) {
+        Ok(()) => {
+            wanted.put(rt, bounds, true, cell);
+            false
+        }
+        Err(refusal) => {
+            assert_eq!(rt; refusal, TreeRefusal::RootLimit);
+            assert!(rt; wanted.root_blocks(rt, bounds, cell) > 9);
+            true
+        }
+    }
+}
+
+// Clears what lies around a box that is drawn.
+fn clip_one<
+    const U: u32,
+    const L: u32,
+    const F: u32,
+    const WU: usize,
+    const WL: usize,
+    const WF: usize,
+>(
+    rt: &impl Abort,
+    tree: &mut TreeOf<i32, U, L, F, WU, WL, WF>,
+    wanted: &mut Wanted,
+    bounds: Option<Bounds>,
+    steps: &mut Steps,
+) {
+    if let Some(kept) = bounds {
+        clip(tree, kept, steps).expect(rt, "a clip");
+        wanted.put(rt, kept, false, off(0));
+    }
+}
+
 #[test]
-fn small_nodes_within_a_limit(rt: HostRuntime) -> Result<(), TreeRefusal> {
+fn small_nodes_within_a_limit(rt: HostRuntime) {
     let mut steps = Steps::new(&rt);
     let mut draws = Draws { state: 7 };
     let mut tree: Tiny = Tiny::new(rt.alloc(), 0, 9);
-    let mut wanted = Wanted {
-        alloc: rt.alloc(),
-        cells: BTreeMap::new(rt.alloc()),
-    };
+    let mut wanted = empty(&rt);
     let mut refused = 0u32;
     for turn in 0..300u32 {
-        let Some(bounds) = draws.bounds(9) else {
-            continue;
-        };
-        let cell = draws.cell();
-        match fill(&mut tree, bounds, cell, &mut steps) {
-            Ok(()) => wanted.put(bounds, true, cell)?,
-            Err(TreeRefusal::RootLimit) => {
-                assert!(rt; wanted.root_blocks(bounds, cell)? > 9);
-                refused = refused.wrapping_add(1);
-            }
-            Err(TreeRefusal::Memory) => return Err(TreeRefusal::Memory),
+        if fill_one(&rt, &mut tree, &mut wanted, &mut draws, &mut steps) {
+            refused = refused.wrapping_add(1);
         }
         if turn % 16 == 5 {
-            if let Some(kept) = draws.bounds(16) {
-                clip(&mut tree, kept, &mut steps)?;
-                wanted.put(kept, false, off(0))?;
-            }
+            clip_one(&rt, &mut tree, &mut wanted, draws.bounds(16), &mut steps);
         }
         if turn % 32 == 9 {
             tree.prune(&mut steps);
@@ -168,34 +209,48 @@ fn small_nodes_within_a_limit(rt: HostRuntime) -> Result<(), TreeRefusal> {
         expect_same(&rt, &tree, &wanted, &mut steps);
     }
     assert!(rt; refused > 0, "the limit was never reached");
-    Ok(())
+}
+
+// Fills a box that is drawn, and gives it leaves every other time.
+fn fill_large(
+    rt: &impl Abort,
+    tree: &mut Tree433<i32>,
+    wanted: &mut Wanted,
+    draws: &mut Draws,
+    voxelises: bool,
+    steps: &mut Steps,
+) {
+    let Some(bounds) = draws.bounds(22) else {
+        return;
+    };
+    let cell = draws.cell();
+    fill(tree, bounds, cell, steps).expect(rt, "a fill");
+    wanted.put(rt, bounds, true, cell);
+    if voxelises {
+        tree.voxelise(bounds, steps).expect(rt, "leaves");
+    }
 }
 
 #[test]
-fn large_nodes(rt: HostRuntime) -> Result<(), TreeRefusal> {
+fn large_nodes(rt: HostRuntime) {
     let mut steps = Steps::new(&rt);
     let mut draws = Draws { state: 11 };
     let mut tree = Tree433::new(rt.alloc(), 0i32, 8);
-    let mut wanted = Wanted {
-        alloc: rt.alloc(),
-        cells: BTreeMap::new(rt.alloc()),
-    };
+    let mut wanted = empty(&rt);
     for turn in 0..200u32 {
-        let Some(bounds) = draws.bounds(22) else {
-            continue;
-        };
-        let cell = draws.cell();
         if turn % 8 == 3 {
-            clip(&mut tree, bounds, &mut steps)?;
-            wanted.put(bounds, false, off(0))?;
+            clip_one(&rt, &mut tree, &mut wanted, draws.bounds(22), &mut steps);
         } else {
-            fill(&mut tree, bounds, cell, &mut steps)?;
-            wanted.put(bounds, true, cell)?;
-        }
-        if turn % 16 == 9 {
-            tree.voxelise(bounds, &mut steps)?;
+            let voxelises = turn % 16 == 9;
+            fill_large(
+                &rt,
+                &mut tree,
+                &mut wanted,
+                &mut draws,
+                voxelises,
+                &mut steps,
+            );
         }
         expect_same(&rt, &tree, &wanted, &mut steps);
     }
-    Ok(())
 }

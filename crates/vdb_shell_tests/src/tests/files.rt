@@ -52,8 +52,7 @@ fn each_fault_of_a_file_has_its_line_and_its_status(rt: HostRuntime) {
         (Fault::Save(SaveFault::TooLong), "vdb: save: too-long", 4),
         (Fault::Save(SaveFault::Write), "vdb: save: write", 4),
     ] {
-        let text = format!(in rt.alloc(); "{}", fault).expect(&rt, "memory");
-        assert_eq!(rt; text.as_str(), line);
+        expect_line(&rt, fault, line);
         for refused in [false, true] {
             assert_eq!(rt; status(refused, Some(&fault)), number);
         }
@@ -138,6 +137,21 @@ pub(super) fn carry_out(
     }
 }
 
+/// What a session left: its status and its fault, its answers and what was saved.
+fn expect_left(
+    rt: &impl Abort,
+    left: &Left,
+    status: u8,
+    fault: Option<Fault>,
+    answers: &[u8],
+    saved: &[u8],
+) {
+    assert_eq!(rt; left.outcome.status, status);
+    assert!(rt; left.outcome.fault == fault, "{:?}", left.outcome.fault);
+    assert_eq!(rt; left.answers.as_slice(), answers);
+    assert_eq!(rt; left.saved.as_slice(), saved);
+}
+
 #[test]
 fn a_loaded_scene_is_played_on_and_saved(rt: HostRuntime) {
     let mut steps = Steps::new(&rt);
@@ -161,10 +175,7 @@ fn a_loaded_scene_is_played_on_and_saved(rt: HostRuntime) {
     ] {
         for step in [1, 5, 4096] {
             let left = carry_out(&rt, file, script, true, step, &mut steps);
-            assert!(rt; left.outcome.fault.is_none());
-            assert_eq!(rt; left.outcome.status, 0);
-            assert_eq!(rt; left.answers.as_slice(), answers);
-            assert_eq!(rt; left.saved.as_slice(), saved);
+            expect_left(&rt, &left, 0, None, answers, saved);
         }
     }
 }
@@ -172,44 +183,26 @@ fn a_loaded_scene_is_played_on_and_saved(rt: HostRuntime) {
 #[test]
 fn a_scene_is_saved_after_a_refused_line_and_only_where_a_file_is_named(rt: HostRuntime) {
     let mut steps = Steps::new(&rt);
-    for saves in [false, true] {
-        let left = carry_out(
-            &rt,
-            Some(VOXEL),
-            b"get b - 0 0 0\n",
-            saves,
-            4096,
-            &mut steps,
-        );
-        assert_eq!(rt; left.outcome.status, 1);
-        assert!(rt; left.outcome.fault.is_none());
-        assert_eq!(rt; left.answers.as_slice(), b"error no-grid\n".as_slice());
-        assert_eq!(rt;
-            left.saved.as_slice(),
-            if saves { VOXEL } else { b"".as_slice() }
-        );
+    for (saves, saved) in [(false, b"".as_slice()), (true, VOXEL)] {
+        let script = b"get b - 0 0 0\n";
+        let left = carry_out(&rt, Some(VOXEL), script, saves, 4096, &mut steps);
+        expect_left(&rt, &left, 1, None, b"error no-grid\n", saved);
     }
 }
 
 #[test]
 fn of_a_file_that_spells_no_scene_no_line_is_read(rt: HostRuntime) {
     let mut steps = Steps::new(&rt);
+    let truncated = Some(Fault::Load(LoadFault::Truncated));
     for length in 0..VOXEL.len() {
         let left = carry_out(&rt, Some(&VOXEL[..length]), FIRST, true, 7, &mut steps);
-        assert_eq!(rt; left.outcome.status, 3);
-        assert!(rt;
-            left.outcome.fault == Some(Fault::Load(LoadFault::Truncated)),
-            "at {length}"
-        );
-        assert_eq!(rt; left.answers.as_slice(), b"".as_slice());
-        assert_eq!(rt; left.saved.as_slice(), b"".as_slice());
+        expect_left(&rt, &left, 3, truncated, b"", b"");
     }
+    let trailing = Some(Fault::Load(LoadFault::Trailing));
     let mut longer = taken(&rt, Some(VOXEL));
     longer.push(0).expect(&rt, "memory");
     let left = carry_out(&rt, Some(longer.as_slice()), FIRST, true, 4096, &mut steps);
-    assert_eq!(rt; left.outcome.status, 3);
-    assert!(rt; left.outcome.fault == Some(Fault::Load(LoadFault::Trailing)));
-    assert_eq!(rt; left.answers.as_slice(), b"".as_slice());
+    expect_left(&rt, &left, 3, trailing, b"", b"");
 }
 
 #[test]
@@ -333,6 +326,12 @@ fn after_a_script_without_end_nothing_is_saved(rt: HostRuntime) {
     assert!(rt; save.as_ref().map(|file| file.get_ref().calls) == Some(0));
 }
 
+/// The line of a fault.
+fn expect_line(rt: &(impl Abort + AllocGlobal), fault: Fault, line: &str) {
+    let text = format!(in rt.alloc(); "{}", fault).expect(rt, "memory");
+    assert_eq!(rt; text.as_str(), line);
+}
+
 #[test]
 fn a_fault_of_the_file_is_that_of_the_session(rt: HostRuntime) {
     let mut steps = Steps::new(&rt);
@@ -373,14 +372,10 @@ fn a_fault_of_the_file_is_that_of_the_session(rt: HostRuntime) {
             "vdb: load: meta",
         ),
     ] {
+        let fault = Fault::Load(fault);
         let left = carry_out(&rt, Some(file), FIRST, true, 3, &mut steps);
-        assert_eq!(rt; left.outcome.status, 3);
-        let found = left.outcome.fault;
-        assert!(rt; found == Some(Fault::Load(fault)), "{line}: {found:?}");
-        let text = format!(in rt.alloc(); "{}", Fault::Load(fault)).expect(&rt, "memory");
-        assert_eq!(rt; text.as_str(), line);
-        assert_eq!(rt; left.answers.as_slice(), b"".as_slice());
-        assert_eq!(rt; left.saved.as_slice(), b"".as_slice());
+        expect_left(&rt, &left, 3, Some(fault), b"", b"");
+        expect_line(&rt, fault, line);
     }
 }
 
@@ -416,11 +411,10 @@ fn a_writer_of_the_file_that_fails_is_a_save_fault(rt: HostRuntime) {
 #[test]
 fn a_scene_whose_file_would_be_too_long_is_not_saved(rt: HostRuntime) {
     let mut steps = Steps::new(&rt);
+    let answers = b"ok\nok\nok\nok\nok\n";
+    let too_long = Some(Fault::Save(SaveFault::TooLong));
     let left = carry_out(&rt, None, FOUR_BIG, true, 4096, &mut steps);
-    assert_eq!(rt; left.outcome.status, 4);
-    assert!(rt; left.outcome.fault == Some(Fault::Save(SaveFault::TooLong)));
-    assert_eq!(rt; left.answers.as_slice(), b"ok\nok\nok\nok\nok\n".as_slice());
-    assert_eq!(rt; left.saved.as_slice(), b"".as_slice());
+    expect_left(&rt, &left, 4, too_long, answers, b"");
     let left = carry_out(&rt, None, FOUR_BIG, false, 4096, &mut steps);
-    assert_eq!(rt; left.outcome.status, 0);
+    expect_left(&rt, &left, 0, None, answers, b"");
 }

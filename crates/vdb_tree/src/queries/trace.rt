@@ -16,13 +16,6 @@ use vdb_node::{Entry, Internal, Leaf, Stored};
 use vdb_pool::{Place, Steps};
 use vdb_value::Cell;
 
-/// A path with the cell at its end.
-#[derive(Drop)]
-struct Found<Upper, Lower, Leaf, V> {
-    path: PathOf<Upper, Lower, Leaf>,
-    cell: Cell<V>,
-}
-
 impl<
     V: Stored<WU> + Stored<WL> + Stored<WF>,
     const U: u32,
@@ -41,7 +34,9 @@ impl<
         ensures whole { IsWhole (bits_of U L F) self.now result p }
         ensures steps { steps.new ≤ steps.old + 3 }
     {
-        self.found_from_root(p, steps).path
+        let mut path = PathOf::Empty;
+        self.descend_from_root(&mut path, p, steps);
+        path
     }
 
     /// The cell at `p`, by the descent from the lowest node of the path to `q` that contains `p`, which is visited, too. It
@@ -60,9 +55,7 @@ impl<
         ensures steps { steps.new ≤ steps.old + (down_count (bits_of U L F) self.now p - (depth (common (bits_of U L F) q p path.old) - 1)) }
     {
         let common = self.shared(*path, q, p);
-        let found = self.found_from(common, p, steps);
-        *path = found.path;
-        found.cell
+        self.descend_from(common, path, p, steps)
     }
 
     /// Writes the voxel at `p` where the path to `q` ends in a leaf that contains `p`, by one visit and without memory. The
@@ -223,123 +216,126 @@ impl<
         q.block_number_in(bits, level) == p.block_number_in(bits, level)
     }
 
-    /// The cell at `p` and the path to it, by the descent from the path's last node, or from the root where it has none.
+    /// The cell at `p`, by the descent from the last of some nodes around `p`, or from the root where there is none. It leaves
+    /// the path to `p`.
     #[inline(always)]
-    fn found_from(
+    fn descend_from(
         &self,
-        path: PathOf<Internal<V, U, WU>, Internal<V, L, WL>, Leaf<V, F, WF>>,
+        nodes: PathOf<Internal<V, U, WU>, Internal<V, L, WL>, Leaf<V, F, WF>>,
+        path: &mut PathOf<Internal<V, U, WU>, Internal<V, L, WL>, Leaf<V, F, WF>>,
         p: Coord,
         steps: &mut Steps,
-    ) -> Found<Internal<V, U, WU>, Internal<V, L, WL>, Leaf<V, F, WF>, V>
-        requires { Lives (bits_of U L F) self.now path p }
-        ensures cell { cell_at (bits_of U L F) self.now p ≡ result.cell }
-        ensures whole { IsWhole (bits_of U L F) self.now result.path p }
-        ensures steps { steps.new ≤ steps.old + (down_count (bits_of U L F) self.now p - (depth path - 1)) }
+    ) -> Cell<V>
+        requires { Lives (bits_of U L F) self.now nodes p }
+        ensures cell { cell_at (bits_of U L F) self.now p ≡ result }
+        ensures whole { IsWhole (bits_of U L F) self.now path.new p }
+        ensures steps { steps.new ≤ steps.old + (down_count (bits_of U L F) self.now p - (depth nodes - 1)) }
     {
-        match path {
-            PathOf::Empty => self.found_from_root(p, steps),
-            PathOf::ToUpper(upper) => self.found_from_upper(upper, p, steps),
-            PathOf::ToLower(upper, lower) => self.found_from_lower(upper, lower, p, steps),
-            PathOf::ToLeaf(upper, lower, leaf) => self.found_from_leaf(
-                upper, lower, leaf, p, steps,
+        match nodes {
+            PathOf::Empty => self.descend_from_root(path, p, steps),
+            PathOf::ToUpper(upper) => self.descend_from_upper(path, upper, p, steps),
+            PathOf::ToLower(upper, lower) => self.descend_from_lower(path, upper, lower, p, steps),
+            PathOf::ToLeaf(upper, lower, leaf) => self.descend_from_leaf(
+                path, upper, lower, leaf, p, steps,
             ),
         }
     }
 
-    /// The cell at `p` and the path to it, by the descent from the root.
+    /// The cell at `p`, by the descent from the root. It leaves the path to `p`, as those below do.
     #[tactic(auto, unfolding(crate::specs::Layout::cell_at))]
-    fn found_from_root(
+    fn descend_from_root(
         &self,
+        path: &mut PathOf<Internal<V, U, WU>, Internal<V, L, WL>, Leaf<V, F, WF>>,
         p: Coord,
         steps: &mut Steps,
-    ) -> Found<Internal<V, U, WU>, Internal<V, L, WL>, Leaf<V, F, WF>, V>
-        ensures cell { cell_at (bits_of U L F) self.now p ≡ result.cell }
-        ensures whole { IsWhole (bits_of U L F) self.now result.path p }
+    ) -> Cell<V>
+        ensures cell { cell_at (bits_of U L F) self.now p ≡ result }
+        ensures whole { IsWhole (bits_of U L F) self.now path.new p }
         ensures steps { steps.new ≤ steps.old + down_count (bits_of U L F) self.now p }
     {
         match self.root_entry(p) {
-            Entry::Tile(cell) => Found {
-                path: PathOf::Empty,
-                cell,
-            },
+            Entry::Tile(cell) => {
+                *path = PathOf::Empty;
+                cell
+            }
             Entry::Child(slot) => {
                 let upper = self.upper_place(slot, p);
-                self.found_from_upper(upper, p, steps)
+                self.descend_from_upper(path, upper, p, steps)
             }
         }
     }
 
     #[tactic(auto, unfolding(crate::specs::Layout::cell_at))]
-    fn found_from_upper(
+    fn descend_from_upper(
         &self,
+        path: &mut PathOf<Internal<V, U, WU>, Internal<V, L, WL>, Leaf<V, F, WF>>,
         upper: Place<Internal<V, U, WU>>,
         p: Coord,
         steps: &mut Steps,
-    ) -> Found<Internal<V, U, WU>, Internal<V, L, WL>, Leaf<V, F, WF>, V>
+    ) -> Cell<V>
         requires { IsChildAt self.now.uppers (root_entry (bits_of U L F) self.now p) upper }
-        ensures cell { cell_at (bits_of U L F) self.now p ≡ result.cell }
-        ensures whole { IsWhole (bits_of U L F) self.now result.path p }
+        ensures cell { cell_at (bits_of U L F) self.now p ≡ result }
+        ensures whole { IsWhole (bits_of U L F) self.now path.new p }
         ensures steps { steps.new ≤ steps.old + down_count (bits_of U L F) self.now p }
     {
         match self.upper_entry_at(upper, p, steps) {
-            Entry::Tile(cell) => Found {
-                path: PathOf::ToUpper(upper),
-                cell,
-            },
+            Entry::Tile(cell) => {
+                *path = PathOf::ToUpper(upper);
+                cell
+            }
             Entry::Child(slot) => {
                 let lower = self.lower_place(slot, p);
-                self.found_from_lower(upper, lower, p, steps)
+                self.descend_from_lower(path, upper, lower, p, steps)
             }
         }
     }
 
     #[inline(always)]
     #[tactic(auto, unfolding(crate::specs::Layout::cell_at))]
-    fn found_from_lower(
+    fn descend_from_lower(
         &self,
+        path: &mut PathOf<Internal<V, U, WU>, Internal<V, L, WL>, Leaf<V, F, WF>>,
         upper: Place<Internal<V, U, WU>>,
         lower: Place<Internal<V, L, WL>>,
         p: Coord,
         steps: &mut Steps,
-    ) -> Found<Internal<V, U, WU>, Internal<V, L, WL>, Leaf<V, F, WF>, V>
+    ) -> Cell<V>
         requires upper { IsChildAt self.now.uppers (root_entry (bits_of U L F) self.now p) upper }
         requires lower { IsChildAt self.now.lowers (upper_entry (bits_of U L F) self.now p) lower }
-        ensures cell { cell_at (bits_of U L F) self.now p ≡ result.cell }
-        ensures whole { IsWhole (bits_of U L F) self.now result.path p }
+        ensures cell { cell_at (bits_of U L F) self.now p ≡ result }
+        ensures whole { IsWhole (bits_of U L F) self.now path.new p }
         ensures steps { steps.new ≤ steps.old + (down_count (bits_of U L F) self.now p - 1) }
     {
         match self.lower_entry_at(lower, p, steps) {
-            Entry::Tile(cell) => Found {
-                path: PathOf::ToLower(upper, lower),
-                cell,
-            },
+            Entry::Tile(cell) => {
+                *path = PathOf::ToLower(upper, lower);
+                cell
+            }
             Entry::Child(slot) => {
                 let leaf = self.leaf_place(slot, p);
-                self.found_from_leaf(upper, lower, leaf, p, steps)
+                self.descend_from_leaf(path, upper, lower, leaf, p, steps)
             }
         }
     }
 
     #[inline(always)]
-    fn found_from_leaf(
+    fn descend_from_leaf(
         &self,
+        path: &mut PathOf<Internal<V, U, WU>, Internal<V, L, WL>, Leaf<V, F, WF>>,
         upper: Place<Internal<V, U, WU>>,
         lower: Place<Internal<V, L, WL>>,
         leaf: Place<Leaf<V, F, WF>>,
         p: Coord,
         steps: &mut Steps,
-    ) -> Found<Internal<V, U, WU>, Internal<V, L, WL>, Leaf<V, F, WF>, V>
+    ) -> Cell<V>
         requires upper { IsChildAt self.now.uppers (root_entry (bits_of U L F) self.now p) upper }
         requires lower { IsChildAt self.now.lowers (upper_entry (bits_of U L F) self.now p) lower }
         requires leaf { IsChildAt self.now.leaves (lower_entry (bits_of U L F) self.now p) leaf }
-        ensures cell { cell_at (bits_of U L F) self.now p ≡ result.cell }
-        ensures whole { IsWhole (bits_of U L F) self.now result.path p }
+        ensures cell { cell_at (bits_of U L F) self.now p ≡ result }
+        ensures whole { IsWhole (bits_of U L F) self.now path.new p }
         ensures steps { steps.new ≤ steps.old + 1 }
     {
-        let cell = self.voxel_at(leaf, p, steps);
-        Found {
-            path: PathOf::ToLeaf(upper, lower, leaf),
-            cell,
-        }
+        *path = PathOf::ToLeaf(upper, lower, leaf);
+        self.voxel_at(leaf, p, steps)
     }
 }

@@ -1,7 +1,7 @@
 //! Tests as lists of acts: what is done to a tree, and what is then expected of it. A list costs the proof next to nothing,
 //! where as many calls in a row cost much.
 
-use super::{at, nodes};
+use super::{at, nodes, write};
 use std::process::Abort;
 use vdb_coord::{Bounds, Coord};
 use vdb_node::Stored;
@@ -74,12 +74,13 @@ fn fill<
     const WL: usize,
     const WF: usize,
 >(
+    rt: &impl Abort,
     tree: &mut TreeOf<V, U, L, F, WU, WL, WF>,
     corner: Coord,
     span: i32,
     change: Write<V>,
     steps: &mut Steps,
-) -> Result<(), TreeRefusal> {
+) {
     for x in 0..span {
         for y in 0..span {
             for z in 0..span {
@@ -88,11 +89,28 @@ fn fill<
                     corner.y.wrapping_add(y),
                     corner.z.wrapping_add(z),
                 );
-                tree.write(p, change, steps)?;
+                write(rt, tree, p, change, steps);
             }
         }
     }
-    Ok(())
+}
+
+fn split<
+    V: Stored<WU> + Stored<WL> + Stored<WF>,
+    const U: u32,
+    const L: u32,
+    const F: u32,
+    const WU: usize,
+    const WL: usize,
+    const WF: usize,
+>(
+    rt: &impl Abort,
+    tree: &mut TreeOf<V, U, L, F, WU, WL, WF>,
+    bounds: Bounds,
+    cell: Cell<V>,
+    steps: &mut Steps,
+) {
+    tree.split(bounds, cell, steps).expect(rt, "a split");
 }
 
 fn split_refused<
@@ -124,14 +142,26 @@ fn paint<
     const WL: usize,
     const WF: usize,
 >(
+    rt: &impl Abort,
     tree: &mut TreeOf<V, U, L, F, WU, WL, WF>,
     bounds: Bounds,
     cell: Cell<V>,
     steps: &mut Steps,
-) -> Result<(), TreeRefusal> {
-    tree.split(bounds, cell, steps)?;
+) {
+    tree.split(bounds, cell, steps).expect(rt, "a split");
     tree.paint(bounds, cell, steps);
-    Ok(())
+}
+
+fn voxelise<
+    V: Stored<WU> + Stored<WL> + Stored<WF>,
+    const U: u32,
+    const L: u32,
+    const F: u32,
+    const WU: usize,
+    const WL: usize,
+    const WF: usize,
+>(rt: &impl Abort, tree: &mut TreeOf<V, U, L, F, WU, WL, WF>, bounds: Bounds, steps: &mut Steps) {
+    tree.voxelise(bounds, steps).expect(rt, "leaves");
 }
 
 fn expect_counts<
@@ -299,13 +329,13 @@ fn act_once<
     tree: &mut TreeOf<V, U, L, F, WU, WL, WF>,
     act: &Act<V>,
     steps: &mut Steps,
-) -> Result<(), TreeRefusal> {
+) {
     match *act {
-        Act::Write(p, change) => tree.write(p, change, steps)?,
+        Act::Write(p, change) => write(rt, tree, p, change, steps),
         Act::Refused(p, change) => write_refused(rt, number, tree, p, change, steps),
-        Act::Fill(corner, span, change) => fill(tree, corner, span, change, steps)?,
+        Act::Fill(corner, span, change) => fill(rt, tree, corner, span, change, steps),
         Act::Prune => tree.prune(steps),
-        Act::Split(min, max, cell) => tree.split(bounds(rt, min, max), cell, steps)?,
+        Act::Split(min, max, cell) => split(rt, tree, bounds(rt, min, max), cell, steps),
         Act::RefusedSplit(min, max, cell) => split_refused(
             rt,
             number,
@@ -314,11 +344,10 @@ fn act_once<
             cell,
             steps,
         ),
-        Act::Paint(min, max, cell) => paint(tree, bounds(rt, min, max), cell, steps)?,
-        Act::Voxelise(min, max) => tree.voxelise(bounds(rt, min, max), steps)?,
+        Act::Paint(min, max, cell) => paint(rt, tree, bounds(rt, min, max), cell, steps),
+        Act::Voxelise(min, max) => voxelise(rt, tree, bounds(rt, min, max), steps),
         _ => expect_act(rt, number, tree, act, steps),
     }
-    Ok(())
 }
 
 /// Each act in turn. They are numbered from 0 in the texts of what fails.
@@ -330,14 +359,21 @@ pub fn run<
     const WU: usize,
     const WL: usize,
     const WF: usize,
->(
-    rt: &impl Abort,
-    tree: &mut TreeOf<V, U, L, F, WU, WL, WF>,
-    acts: &[Act<V>],
-    steps: &mut Steps,
-) -> Result<(), TreeRefusal> {
+>(rt: &impl Abort, tree: &mut TreeOf<V, U, L, F, WU, WL, WF>, acts: &[Act<V>], steps: &mut Steps) {
     for (number, act) in acts.iter().enumerate() {
-        act_once(rt, number, tree, act, steps)?;
+        act_once(rt, number, tree, act, steps);
     }
-    Ok(())
+}
+
+/// Each act in turn, of a tree that is given up then.
+pub fn try_acts<
+    V: Stored<WU> + Stored<WL> + Stored<WF>,
+    const U: u32,
+    const L: u32,
+    const F: u32,
+    const WU: usize,
+    const WL: usize,
+    const WF: usize,
+>(rt: &impl Abort, mut tree: TreeOf<V, U, L, F, WU, WL, WF>, acts: &[Act<V>], steps: &mut Steps) {
+    run(rt, &mut tree, acts, steps);
 }

@@ -1,15 +1,14 @@
 //! Entries for the root blocks that meet a box, which `split` makes before it makes nodes.
 
-use super::acts::{Act, run};
+use super::acts::{Act, run, try_acts};
 use super::{Tiny, all, at, off, on};
 use vdb_pool::Steps;
-use vdb_tree::{Tree, Tree433, TreeRefusal, Write};
+use vdb_tree::{Tree, Tree433, Write};
 
 // The blocks at 0 and 4,096 are in use, so of a limit of 3 one entry is left.
 #[test]
-fn as_many_root_blocks_as_the_limit(rt: HostRuntime) -> Result<(), TreeRefusal> {
+fn as_many_root_blocks_as_the_limit(rt: HostRuntime) {
     let mut steps = Steps::new(&rt);
-    let mut tree = Tree::new(rt.alloc(), 0i32, 3);
     let acts = [
         Act::Write(all(0), Write::On(1)),
         Act::Write(at(4096, 0, 0), Write::On(2)),
@@ -27,14 +26,13 @@ fn as_many_root_blocks_as_the_limit(rt: HostRuntime) -> Result<(), TreeRefusal> 
         Act::Cell(at(4096, 0, 0), on(2)),
         Act::Cell(at(8192, 5, 5), off(0)),
     ];
-    run(&rt, &mut tree, &acts, &mut steps)
+    try_acts(&rt, Tree::new(rt.alloc(), 0i32, 3), &acts, &mut steps);
 }
 
 // An entry whose block is all background gives way to those of a box.
 #[test]
-fn a_background_entry_gives_way(rt: HostRuntime) -> Result<(), TreeRefusal> {
+fn a_background_entry_gives_way(rt: HostRuntime) {
     let mut steps = Steps::new(&rt);
-    let mut tree = Tree433::new(rt.alloc(), 7i64, 2);
     let acts = [
         Act::Write(all(0), Write::On(1)),
         Act::Write(at(1024, 0, 0), Write::On(2)),
@@ -49,14 +47,13 @@ fn a_background_entry_gives_way(rt: HostRuntime) -> Result<(), TreeRefusal> {
         Act::Cell(at(1024, 0, 0), off(7)),
         Act::Cell(all(-1), off(7)),
     ];
-    run(&rt, &mut tree, &acts, &mut steps)
+    try_acts(&rt, Tree433::new(rt.alloc(), 7i64, 2), &acts, &mut steps);
 }
 
 // Nodes whose cells are all one stay where that cell isn't the background.
 #[test]
-fn other_nodes_stay(rt: HostRuntime) -> Result<(), TreeRefusal> {
+fn other_nodes_stay(rt: HostRuntime) {
     let mut steps = Steps::new(&rt);
-    let mut tree = Tiny::new(rt.alloc(), 0i32, 2);
     let acts = [
         Act::Fill(all(0), 2, Write::On(5)),
         Act::Fill(at(8, 0, 0), 2, Write::Off(0)),
@@ -73,12 +70,12 @@ fn other_nodes_stay(rt: HostRuntime) -> Result<(), TreeRefusal> {
         Act::Cell(all(8), on(4)),
         Act::Cell(all(-1), off(0)),
     ];
-    run(&rt, &mut tree, &acts, &mut steps)
+    try_acts(&rt, Tiny::new(rt.alloc(), 0i32, 2), &acts, &mut steps);
 }
 
 // A background cell needs no entry, and more root blocks than any limit are refused without a look at one of them.
 #[test]
-fn the_whole_space(rt: HostRuntime) -> Result<(), TreeRefusal> {
+fn the_whole_space(rt: HostRuntime) {
     let mut steps = Steps::new(&rt);
     let first = all(i32::MIN);
     let last = all(i32::MAX);
@@ -91,8 +88,7 @@ fn the_whole_space(rt: HostRuntime) -> Result<(), TreeRefusal> {
     ];
     for limit in [0, 1, u32::MAX] {
         let mut tree = Tree::new(rt.alloc(), 0i32, limit);
-        run(&rt, &mut tree, &acts, &mut steps)?;
+        run(&rt, &mut tree, &acts, &mut steps);
     }
     assert_eq!(rt; steps.count(), 0);
-    Ok(())
 }

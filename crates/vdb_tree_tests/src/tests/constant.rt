@@ -1,95 +1,109 @@
 //! The one cell of a block, of each level.
 
-use super::{Tiny, all, at, off, on};
-use vdb_coord::Level;
+use super::{Tiny, all, at, off, on, write};
+use std::process::Abort;
+use vdb_coord::{Coord, Level};
 use vdb_pool::Steps;
-use vdb_tree::{Tree, Tree433, TreeRefusal, Write};
+use vdb_tree::{Tree, Tree433, TreeOf, Write};
+use vdb_value::Cell;
+
+// The one cell of a block, or that it has several.
+fn expect_constant<
+    const U: u32,
+    const L: u32,
+    const F: u32,
+    const WU: usize,
+    const WL: usize,
+    const WF: usize,
+>(
+    rt: &impl Abort,
+    tree: &TreeOf<i32, U, L, F, WU, WL, WF>,
+    level: Level,
+    p: Coord,
+    wanted: Option<Cell<i32>>,
+    steps: &mut Steps,
+) {
+    let found = tree.constant(level, p, steps);
+    assert_eq!(rt; found, wanted, "{level:?} at {p:?}");
+}
+
+// The blocks of all three levels.
+fn expect_constants<
+    const U: u32,
+    const L: u32,
+    const F: u32,
+    const WU: usize,
+    const WL: usize,
+    const WF: usize,
+>(
+    rt: &impl Abort,
+    tree: &TreeOf<i32, U, L, F, WU, WL, WF>,
+    p: Coord,
+    wanted: Option<Cell<i32>>,
+    steps: &mut Steps,
+) {
+    for level in [Level::Leaf, Level::Lower, Level::Upper] {
+        expect_constant(rt, tree, level, p, wanted, steps);
+    }
+}
 
 #[test]
-fn blocks_of_tiles(rt: HostRuntime) -> Result<(), TreeRefusal> {
+fn blocks_of_tiles(rt: HostRuntime) {
     let mut steps = Steps::new(&rt);
     let mut tree = Tree::new(rt.alloc(), 3, 4096);
-    for level in [Level::Leaf, Level::Lower, Level::Upper] {
-        assert_eq!(rt; tree.constant(level, all(-1), &mut steps), Some(off(3)));
+    expect_constants(&rt, &tree, all(-1), Some(off(3)), &mut steps);
+    write(&rt, &mut tree, all(4095), Write::On(7), &mut steps);
+    expect_constants(&rt, &tree, all(4095), None, &mut steps);
+    expect_constants(&rt, &tree, all(-1), Some(off(3)), &mut steps);
+    let beside = [
+        (Level::Leaf, 4087, Some(off(3))),
+        (Level::Lower, 3967, Some(off(3))),
+        (Level::Upper, 0, None),
+    ];
+    for (level, component, wanted) in beside {
+        expect_constant(&rt, &tree, level, all(component), wanted, &mut steps);
     }
-    tree.write(all(4095), Write::On(7), &mut steps)?;
-    for level in [Level::Leaf, Level::Lower, Level::Upper] {
-        assert_eq!(rt; tree.constant(level, all(4095), &mut steps), None);
-        assert_eq!(rt; tree.constant(level, all(-1), &mut steps), Some(off(3)));
-    }
-    assert_eq!(rt;
-        tree.constant(Level::Leaf, all(4087), &mut steps),
-        Some(off(3))
-    );
-    assert_eq!(rt;
-        tree.constant(Level::Lower, all(3967), &mut steps),
-        Some(off(3))
-    );
-    assert_eq!(rt; tree.constant(Level::Upper, all(0), &mut steps), None);
     // Written back, the nodes are still there, but every cell is the background again.
-    tree.write(all(4095), Write::Off(3), &mut steps)?;
-    for level in [Level::Leaf, Level::Lower, Level::Upper] {
-        assert_eq!(rt; tree.constant(level, all(4095), &mut steps), Some(off(3)));
-    }
-    Ok(())
+    write(&rt, &mut tree, all(4095), Write::Off(3), &mut steps);
+    expect_constants(&rt, &tree, all(4095), Some(off(3)), &mut steps);
 }
 
 // Values and states both count, in the first voxel of a block and in the last.
 #[test]
-fn values_and_states(rt: HostRuntime) -> Result<(), TreeRefusal> {
+fn values_and_states(rt: HostRuntime) {
     let mut steps = Steps::new(&rt);
     let mut tree = Tree433::new(rt.alloc(), 0, 4096);
     for p in [all(0), all(7), at(63, 63, 63), all(1023)] {
-        tree.write(p, Write::State(true), &mut steps)?;
-        assert_eq!(rt; tree.constant(Level::Leaf, p, &mut steps), None);
-        assert_eq!(rt; tree.constant(Level::Lower, p, &mut steps), None);
-        assert_eq!(rt; tree.constant(Level::Upper, p, &mut steps), None);
-        tree.write(p, Write::Off(1), &mut steps)?;
-        assert_eq!(rt; tree.constant(Level::Leaf, p, &mut steps), None);
-        assert_eq!(rt; tree.constant(Level::Lower, p, &mut steps), None);
-        assert_eq!(rt; tree.constant(Level::Upper, p, &mut steps), None);
-        tree.write(p, Write::Off(0), &mut steps)?;
-        assert_eq!(rt; tree.constant(Level::Upper, p, &mut steps), Some(off(0)));
+        write(&rt, &mut tree, p, Write::State(true), &mut steps);
+        expect_constants(&rt, &tree, p, None, &mut steps);
+        write(&rt, &mut tree, p, Write::Off(1), &mut steps);
+        expect_constants(&rt, &tree, p, None, &mut steps);
+        write(&rt, &mut tree, p, Write::Off(0), &mut steps);
+        expect_constants(&rt, &tree, p, Some(off(0)), &mut steps);
     }
-    Ok(())
+}
+
+// Gives each voxel of the root block at 0 this cell. Until the last, its cells aren't all equal.
+fn fill_root_block(rt: &impl Abort, tree: &mut Tiny<i32>, value: i32, steps: &mut Steps) {
+    for number in 0..512 {
+        let p = at(number >> 6, number >> 3 & 7, number & 7);
+        write(rt, tree, p, Write::On(value), steps);
+        let wanted = if number == 511 { Some(on(value)) } else { None };
+        expect_constant(rt, tree, Level::Upper, all(0), wanted, steps);
+    }
 }
 
 // Nodes and tiles of one cell side by side make a block of one cell.
 #[test]
-fn nodes_beside_tiles(rt: HostRuntime) -> Result<(), TreeRefusal> {
+fn nodes_beside_tiles(rt: HostRuntime) {
     let mut steps = Steps::new(&rt);
     let mut tree = Tiny::new(rt.alloc(), 0, 1);
-    for x in 0..8 {
-        for y in 0..8 {
-            for z in 0..8 {
-                assert_eq!(rt;
-                    tree.constant(Level::Upper, all(0), &mut steps).is_some(),
-                    x == 0 && y == 0 && z == 0
-                );
-                tree.write(at(x, y, z), Write::On(8), &mut steps)?;
-            }
-        }
-    }
-    assert_eq!(rt;
-        tree.constant(Level::Upper, all(0), &mut steps),
-        Some(on(8))
-    );
+    fill_root_block(&rt, &mut tree, 8, &mut steps);
     tree.prune(&mut steps);
-    assert_eq!(rt;
-        tree.constant(Level::Upper, all(0), &mut steps),
-        Some(on(8))
-    );
-    tree.write(all(7), Write::On(9), &mut steps)?;
-    assert_eq!(rt; tree.constant(Level::Upper, all(0), &mut steps), None);
-    assert_eq!(rt; tree.constant(Level::Lower, all(7), &mut steps), None);
-    assert_eq!(rt;
-        tree.constant(Level::Lower, all(3), &mut steps),
-        Some(on(8))
-    );
-    tree.write(all(7), Write::On(8), &mut steps)?;
-    assert_eq!(rt;
-        tree.constant(Level::Upper, all(7), &mut steps),
-        Some(on(8))
-    );
-    Ok(())
+    expect_constant(&rt, &tree, Level::Upper, all(0), Some(on(8)), &mut steps);
+    write(&rt, &mut tree, all(7), Write::On(9), &mut steps);
+    expect_constants(&rt, &tree, all(7), None, &mut steps);
+    expect_constant(&rt, &tree, Level::Lower, all(3), Some(on(8)), &mut steps);
+    write(&rt, &mut tree, all(7), Write::On(8), &mut steps);
+    expect_constant(&rt, &tree, Level::Upper, all(7), Some(on(8)), &mut steps);
 }

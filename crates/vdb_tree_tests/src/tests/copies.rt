@@ -4,15 +4,11 @@ use super::acts::{Act, run};
 use super::{Tiny, all, at, off, on};
 use std::process::Abort;
 use vdb_pool::Steps;
-use vdb_tree::{Tree, Tree433, TreeRefusal, Write};
+use vdb_tree::{Tree, Tree433, Write};
 
 // Two lower nodes in a root block, one with a leaf and one with a tile in place of a leaf, whose slot is vacant; and a leaf in
 // each of two other root blocks.
-fn with_each_level(
-    rt: &impl Abort,
-    tree: &mut Tiny<i32>,
-    steps: &mut Steps,
-) -> Result<(), TreeRefusal> {
+fn with_each_level(rt: &impl Abort, tree: &mut Tiny<i32>, steps: &mut Steps) {
     let acts = [
         Act::Fill(at(2, 4, 6), 2, Write::On(8)),
         Act::Write(all(0), Write::On(5)),
@@ -20,7 +16,7 @@ fn with_each_level(
         Act::Write(at(8, 0, 0), Write::State(true)),
         Act::Prune,
     ];
-    run(rt, tree, &acts, steps)
+    run(rt, tree, &acts, steps);
 }
 
 // Acts on a copy of the tree, on the tree, and on the copy again.
@@ -31,19 +27,19 @@ fn run_by_turns(
     of_tree: &[Act<i32>],
     at_end: &[Act<i32>],
     steps: &mut Steps,
-) -> Result<(), TreeRefusal> {
-    let mut copy = tree.try_copy()?;
+) {
+    let mut copy = tree.try_copy().expect(rt, "a copy");
     assert_eq!(rt; copy.background(), -2);
-    run(rt, &mut copy, of_copy, steps)?;
-    run(rt, tree, of_tree, steps)?;
-    run(rt, &mut copy, at_end, steps)
+    run(rt, &mut copy, of_copy, steps);
+    run(rt, tree, of_tree, steps);
+    run(rt, &mut copy, at_end, steps);
 }
 
 #[test]
-fn a_copy_has_each_level(rt: HostRuntime) -> Result<(), TreeRefusal> {
+fn a_copy_has_each_level(rt: HostRuntime) {
     let mut steps = Steps::new(&rt);
     let mut tree = Tiny::new(rt.alloc(), -2, 3);
-    with_each_level(&rt, &mut tree, &mut steps)?;
+    with_each_level(&rt, &mut tree, &mut steps);
     let both = [
         Act::Counts([3, 3, 4, 3]),
         Act::Cell(all(0), on(5)),
@@ -66,14 +62,14 @@ fn a_copy_has_each_level(rt: HostRuntime) -> Result<(), TreeRefusal> {
         Act::Leaf(at(2, 4, 6), false),
         Act::Refused(at(0, 8, 0), Write::On(1)),
     ];
-    run_by_turns(&rt, &mut tree, &both, &both, &at_end, &mut steps)
+    run_by_turns(&rt, &mut tree, &both, &both, &at_end, &mut steps);
 }
 
 #[test]
-fn a_write_to_one_leaves_the_other(rt: HostRuntime) -> Result<(), TreeRefusal> {
+fn a_write_to_one_leaves_the_other(rt: HostRuntime) {
     let mut steps = Steps::new(&rt);
     let mut tree = Tiny::new(rt.alloc(), -2, 4);
-    with_each_level(&rt, &mut tree, &mut steps)?;
+    with_each_level(&rt, &mut tree, &mut steps);
     // In a leaf, in a tile, and in a root block without an entry.
     let of_copy = [
         Act::Write(all(0), Write::Off(6)),
@@ -101,14 +97,14 @@ fn a_write_to_one_leaves_the_other(rt: HostRuntime) -> Result<(), TreeRefusal> {
         Act::Cell(all(-1), off(1)),
         Act::Cell(at(8, 0, 0), on(-2)),
     ];
-    run_by_turns(&rt, &mut tree, &of_copy, &of_tree, &at_end, &mut steps)
+    run_by_turns(&rt, &mut tree, &of_copy, &of_tree, &at_end, &mut steps);
 }
 
 #[test]
-fn a_copy_of_an_empty_tree(rt: HostRuntime) -> Result<(), TreeRefusal> {
+fn a_copy_of_an_empty_tree(rt: HostRuntime) {
     let mut steps = Steps::new(&rt);
     let tree = Tree::new(rt.alloc(), true, 0);
-    let mut copy = tree.try_copy()?;
+    let mut copy = tree.try_copy().expect(&rt, "a copy");
     assert_eq!(rt; copy.background(), true);
     let acts = [
         Act::Limit(0),
@@ -116,18 +112,18 @@ fn a_copy_of_an_empty_tree(rt: HostRuntime) -> Result<(), TreeRefusal> {
         Act::Cell(all(0), off(true)),
         Act::Refused(all(0), Write::On(true)),
     ];
-    run(&rt, &mut copy, &acts, &mut steps)
+    run(&rt, &mut copy, &acts, &mut steps);
 }
 
 // A copy of a copy, once the tree and its copy are gone.
-fn copied_twice(tree: Tree433<i64>) -> Result<Tree433<i64>, TreeRefusal> {
-    let copy = tree.try_copy()?;
-    copy.try_copy()
+fn copied_twice(rt: &impl Abort, tree: Tree433<i64>) -> Tree433<i64> {
+    let copy = tree.try_copy().expect(rt, "a copy");
+    copy.try_copy().expect(rt, "a copy")
 }
 
 // A copy of a copy has what the first tree has, once that is gone; a background entry and its nodes are copied with the others.
 #[test]
-fn a_copy_of_a_copy(rt: HostRuntime) -> Result<(), TreeRefusal> {
+fn a_copy_of_a_copy(rt: HostRuntime) {
     let mut steps = Steps::new(&rt);
     let mut tree = Tree433::new(rt.alloc(), 0i64, 4096);
     let acts = [
@@ -136,7 +132,7 @@ fn a_copy_of_a_copy(rt: HostRuntime) -> Result<(), TreeRefusal> {
         Act::Write(all(0), Write::On(1)),
         Act::Write(all(0), Write::Off(0)),
     ];
-    run(&rt, &mut tree, &acts, &mut steps)?;
+    run(&rt, &mut tree, &acts, &mut steps);
     let acts = [
         Act::Counts([3, 3, 3, 3]),
         Act::RootBlocks(2),
@@ -144,5 +140,5 @@ fn a_copy_of_a_copy(rt: HostRuntime) -> Result<(), TreeRefusal> {
         Act::Cell(all(i32::MAX), on(i64::MAX)),
         Act::Cell(all(0), off(0)),
     ];
-    run(&rt, &mut copied_twice(tree)?, &acts, &mut steps)
+    run(&rt, &mut copied_twice(&rt, tree), &acts, &mut steps);
 }

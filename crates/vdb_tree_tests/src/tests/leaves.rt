@@ -1,12 +1,13 @@
 //! Leaves by their blocks, and in block order.
 
-use super::acts::{Act, run};
-use super::{all, at, expect_cells, nodes, off, on};
+use super::acts::{Act, run, try_acts};
+use super::{all, at, expect_cells, nodes, off, on, write};
 use std::process::Abort;
 use vdb_coord::Coord;
 use vdb_node::{Leaf, Stored};
 use vdb_pool::Steps;
 use vdb_tree::{Tree, Tree433, TreeOf, TreeRefusal, Write};
+use vdb_value::Cell;
 
 // The leaf around `at(1, 2, 3)`, which alone is active.
 fn expect_first_leaf(rt: &impl Abort, tree: &Tree<i32>, steps: &mut Steps) {
@@ -50,14 +51,14 @@ fn expect_leaf(
 }
 
 #[test]
-fn leaves_by_their_blocks(rt: HostRuntime) -> Result<(), TreeRefusal> {
+fn leaves_by_their_blocks(rt: HostRuntime) {
     let mut steps = Steps::new(&rt);
     let mut tree = Tree::new(rt.alloc(), 0i32, 4096);
     let acts = [
         Act::Write(at(1, 2, 3), Write::On(7)),
         Act::Write(all(-8), Write::Off(6)),
     ];
-    run(&rt, &mut tree, &acts, &mut steps)?;
+    run(&rt, &mut tree, &acts, &mut steps);
     expect_first_leaf(&rt, &tree, &mut steps);
     expect_second_leaf(&rt, &tree, &mut steps);
     let cases = [
@@ -70,7 +71,6 @@ fn leaves_by_their_blocks(rt: HostRuntime) -> Result<(), TreeRefusal> {
     for (p, there, visits) in cases {
         expect_leaf(&rt, &tree, p, there, visits, &mut steps);
     }
-    Ok(())
 }
 
 // How many voxels of a leaf are active, and how many nodes are visited to tell.
@@ -88,7 +88,7 @@ fn expect_active(
 }
 
 #[test]
-fn active_voxels_of_a_leaf(rt: HostRuntime) -> Result<(), TreeRefusal> {
+fn active_voxels_of_a_leaf(rt: HostRuntime) {
     let mut steps = Steps::new(&rt);
     let mut tree = Tree433::new(rt.alloc(), 0i32, 4096);
     let acts = [
@@ -97,7 +97,7 @@ fn active_voxels_of_a_leaf(rt: HostRuntime) -> Result<(), TreeRefusal> {
         Act::Write(all(6), Write::Off(5)),
         Act::Write(all(-8), Write::Off(6)),
     ];
-    run(&rt, &mut tree, &acts, &mut steps)?;
+    run(&rt, &mut tree, &acts, &mut steps);
     let cases = [
         (all(0), Some(2), 3),
         (all(-1), Some(0), 3),
@@ -108,7 +108,6 @@ fn active_voxels_of_a_leaf(rt: HostRuntime) -> Result<(), TreeRefusal> {
     for (p, active, visits) in cases {
         expect_active(&rt, &tree, p, active, visits, &mut steps);
     }
-    Ok(())
 }
 
 // Makes one word of the states of the leaf at 0 equal 101 from its lowest bit on. Where no leaf is, states are refused.
@@ -137,15 +136,9 @@ fn try_states<
     const L: u32,
     const WU: usize,
     const WL: usize,
->(
-    rt: &impl Abort,
-    tree: &mut TreeOf<V, U, L, 3, WU, WL, 8>,
-    zero: V,
-    one: V,
-    steps: &mut Steps,
-) -> Result<(), TreeRefusal> {
+>(rt: &impl Abort, tree: &mut TreeOf<V, U, L, 3, WU, WL, 8>, zero: V, one: V, steps: &mut Steps) {
     for p in [all(0), at(0, 0, 1), at(1, 2, 3), all(8)] {
-        tree.write(p, Write::On(one), steps)?;
+        write(rt, tree, p, Write::On(one), steps);
     }
     set_states(rt, tree, steps);
     let cells = [
@@ -160,11 +153,10 @@ fn try_states<
     ];
     expect_cells(rt, tree, &cells, steps);
     assert_eq!(rt; tree.node_counts(), nodes(1, 1, 1, 2));
-    Ok(())
 }
 
 #[test]
-fn states_of_a_leaf(rt: HostRuntime) -> Result<(), TreeRefusal> {
+fn states_of_a_leaf(rt: HostRuntime) {
     let mut steps = Steps::new(&rt);
     let alloc = rt.alloc();
     try_states(
@@ -173,15 +165,15 @@ fn states_of_a_leaf(rt: HostRuntime) -> Result<(), TreeRefusal> {
         false,
         true,
         &mut steps,
-    )?;
-    try_states(&rt, &mut Tree::new(alloc, 0i32, 1), 0, 9, &mut steps)?;
+    );
+    try_states(&rt, &mut Tree::new(alloc, 0i32, 1), 0, 9, &mut steps);
     try_states(
         &rt,
         &mut Tree433::new(alloc, 4i64, 1),
         4,
         i64::MIN,
         &mut steps,
-    )
+    );
 }
 
 // Five leaves in four root blocks, which are told in block order: `order`, and from each coordinate of `seeks` on.
@@ -198,7 +190,7 @@ fn try_order<
     order: [Coord; 5],
     seeks: [(Coord, Option<Coord>); 5],
     steps: &mut Steps,
-) -> Result<(), TreeRefusal> {
+) {
     let acts = [
         Act::NextLeaf(None, None),
         Act::NextKey(None, None),
@@ -208,22 +200,21 @@ fn try_order<
         Act::Write(at(0, 0, 64), Write::Value(1)),
         Act::Write(all(-1), Write::Value(1)),
     ];
-    run(rt, tree, &acts, steps)?;
+    run(rt, tree, &acts, steps);
     let mut after = None;
     for corner in order {
-        run(rt, tree, &[Act::NextLeaf(after, Some(corner))], steps)?;
+        run(rt, tree, &[Act::NextLeaf(after, Some(corner))], steps);
         after = Some(corner);
     }
-    run(rt, tree, &[Act::NextLeaf(after, None)], steps)?;
+    run(rt, tree, &[Act::NextLeaf(after, None)], steps);
     for (p, corner) in seeks {
-        run(rt, tree, &[Act::NextLeaf(Some(p), corner)], steps)?;
+        run(rt, tree, &[Act::NextLeaf(Some(p), corner)], steps);
     }
-    Ok(())
 }
 
 // The layouts differ in which comes first, 63 along x or 64 along z: in one lower node, or in two.
 #[test]
-fn leaves_in_block_order(rt: HostRuntime) -> Result<(), TreeRefusal> {
+fn leaves_in_block_order(rt: HostRuntime) {
     let mut steps = Steps::new(&rt);
     let first = all(-8);
     let second = at(0, 0, -8);
@@ -242,7 +233,7 @@ fn leaves_in_block_order(rt: HostRuntime) -> Result<(), TreeRefusal> {
             (all(i32::MAX), None),
         ],
         &mut steps,
-    )?;
+    );
     try_order(
         &rt,
         &mut Tree433::new(rt.alloc(), 0, 4096),
@@ -255,13 +246,12 @@ fn leaves_in_block_order(rt: HostRuntime) -> Result<(), TreeRefusal> {
             (all(i32::MAX), None),
         ],
         &mut steps,
-    )
+    );
 }
 
 #[test]
-fn keys_in_order(rt: HostRuntime) -> Result<(), TreeRefusal> {
+fn keys_in_order(rt: HostRuntime) {
     let mut steps = Steps::new(&rt);
-    let mut tree = Tree433::new(rt.alloc(), false, 4096);
     let acts = [
         Act::Write(at(5000, 0, 0), Write::On(true)),
         Act::Write(at(0, 0, -1), Write::On(true)),
@@ -275,19 +265,53 @@ fn keys_in_order(rt: HostRuntime) -> Result<(), TreeRefusal> {
         Act::NextKey(Some(at(3, 9, 9)), Some(at(4, 0, 0))),
         Act::NextKey(Some(at(4, 0, 0)), None),
     ];
-    run(&rt, &mut tree, &acts, &mut steps)
+    try_acts(
+        &rt,
+        Tree433::new(rt.alloc(), false, 4096),
+        &acts,
+        &mut steps,
+    );
+}
+
+// A leaf block gets the cells of a leaf, and there are so many leaves then.
+fn expect_written(
+    rt: &impl Abort,
+    tree: &mut Tree<i32>,
+    p: Coord,
+    leaf: &Leaf<i32, 3, 8>,
+    leaves: u64,
+    steps: &mut Steps,
+) {
+    tree.write_leaf(p, leaf, steps).expect(rt, "a leaf");
+    assert_eq!(rt; tree.node_counts(), nodes(1, 1, 1, leaves));
+}
+
+// No second root block may have an entry.
+fn expect_refused(
+    rt: &impl Abort,
+    tree: &mut Tree<i32>,
+    p: Coord,
+    leaf: &Leaf<i32, 3, 8>,
+    steps: &mut Steps,
+) {
+    let refused = tree.write_leaf(p, leaf, steps);
+    assert_eq!(rt; refused, Err(TreeRefusal::RootLimit));
+}
+
+// A leaf of one cell.
+fn constant_leaf(rt: &(impl Abort + AllocGlobal), cell: Cell<i32>) -> Leaf<i32, 3, 8> {
+    Leaf::new_constant(rt.alloc(), cell).expect(rt, "a leaf")
 }
 
 // A leaf written where there is none, refused in a second root block, and over that leaf as one cell.
 #[test]
-fn leaves_written_at_once(rt: HostRuntime) -> Result<(), TreeRefusal> {
+fn leaves_written_at_once(rt: HostRuntime) {
     let mut steps = Steps::new(&rt);
     let mut tree = Tree::new(rt.alloc(), 0i32, 1);
-    let mut leaf: Leaf<i32, 3, 8> = Leaf::new_constant(rt.alloc(), off(0))?;
+    let mut leaf = constant_leaf(&rt, off(0));
     leaf.set(83, on(7));
-    tree.write_leaf(all(15), &leaf, &mut steps)?;
-    let refused = tree.write_leaf(all(-1), &leaf, &mut steps);
-    assert_eq!(rt; refused, Err(TreeRefusal::RootLimit));
+    expect_written(&rt, &mut tree, all(15), &leaf, 1, &mut steps);
+    expect_refused(&rt, &mut tree, all(-1), &leaf, &mut steps);
     let cells = [
         (at(9, 10, 11), on(7)),
         (all(8), off(0)),
@@ -295,9 +319,8 @@ fn leaves_written_at_once(rt: HostRuntime) -> Result<(), TreeRefusal> {
         (at(-7, -6, -5), off(0)),
     ];
     expect_cells(&rt, &tree, &cells, &mut steps);
-    assert_eq!(rt; tree.node_counts(), nodes(1, 1, 1, 1));
-    let full: Leaf<i32, 3, 8> = Leaf::new_constant(rt.alloc(), on(5))?;
-    tree.write_leaf(all(8), &full, &mut steps)?;
+    let full = constant_leaf(&rt, on(5));
+    expect_written(&rt, &mut tree, all(8), &full, 0, &mut steps);
     let cells = [
         (all(8), on(5)),
         (all(15), on(5)),
@@ -305,6 +328,4 @@ fn leaves_written_at_once(rt: HostRuntime) -> Result<(), TreeRefusal> {
         (all(16), off(0)),
     ];
     expect_cells(&rt, &tree, &cells, &mut steps);
-    assert_eq!(rt; tree.node_counts(), nodes(1, 1, 1, 0));
-    Ok(())
 }

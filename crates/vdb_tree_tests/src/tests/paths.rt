@@ -1,18 +1,17 @@
 //! Paths of nodes, and what a descent from one costs.
 
-use super::{all, at, off, on};
+use super::{all, at, off, on, write};
 use std::process::Abort;
 use vdb_coord::{Bounds, Coord, Level};
 use vdb_pool::Steps;
-use vdb_tree::{PathOf, Skip, Tree, TreeRefusal, Write};
+use vdb_tree::{PathOf, Skip, Tree, Write};
 use vdb_value::Cell;
 
 // In a tree of one root block: leaves around 0 and 9 of one lower node, and around 200 of another.
-fn write_leaves(tree: &mut Tree<i32>, steps: &mut Steps) -> Result<(), TreeRefusal> {
+fn write_leaves(rt: &impl Abort, tree: &mut Tree<i32>, steps: &mut Steps) {
     for x in [0, 9, 200] {
-        tree.write(at(x, 0, 0), Write::On(5), steps)?;
+        write(rt, tree, at(x, 0, 0), Write::On(5), steps);
     }
-    Ok(())
 }
 
 // The cell at the end of a descent from another coordinate's path.
@@ -37,10 +36,10 @@ fn expect_descent(
 
 // As many visits as the first path has nodes, and then as there are on the way down from the lowest that both have.
 #[test]
-fn descents_from_what_is_shared(rt: HostRuntime) -> Result<(), TreeRefusal> {
+fn descents_from_what_is_shared(rt: HostRuntime) {
     let mut steps = Steps::new(&rt);
     let mut tree = Tree::new(rt.alloc(), 0i32, 1);
-    write_leaves(&mut tree, &mut steps)?;
+    write_leaves(&rt, &mut tree, &mut steps);
     let absent = at(4096, 0, 0);
     let empty = at(16, 0, 0);
     let bare = at(0, 200, 0);
@@ -60,7 +59,6 @@ fn descents_from_what_is_shared(rt: HostRuntime) -> Result<(), TreeRefusal> {
     for (from, to, cell, visits) in turns {
         expect_descent(&rt, &tree, (from, to), cell, visits, &mut steps);
     }
-    Ok(())
 }
 
 // How many nodes a path has.
@@ -78,10 +76,10 @@ fn expect_length(rt: &impl Abort, tree: &Tree<i32>, p: Coord, nodes: u32, steps:
 }
 
 #[test]
-fn traces_end_where_the_nodes_end(rt: HostRuntime) -> Result<(), TreeRefusal> {
+fn traces_end_where_the_nodes_end(rt: HostRuntime) {
     let mut steps = Steps::new(&rt);
     let mut tree = Tree::new(rt.alloc(), 0i32, 1);
-    write_leaves(&mut tree, &mut steps)?;
+    write_leaves(&rt, &mut tree, &mut steps);
     let cases = [
         (all(7), 3),
         (at(15, 7, 7), 3),
@@ -93,7 +91,6 @@ fn traces_end_where_the_nodes_end(rt: HostRuntime) -> Result<(), TreeRefusal> {
     for (p, nodes) in cases {
         expect_length(&rt, &tree, p, nodes, &mut steps);
     }
-    Ok(())
 }
 
 // Whether a write of the value 9 is done near another coordinate's path.
@@ -116,10 +113,10 @@ fn expect_near(
 }
 
 #[test]
-fn writes_in_the_leaf_of_a_path(rt: HostRuntime) -> Result<(), TreeRefusal> {
+fn writes_in_the_leaf_of_a_path(rt: HostRuntime) {
     let mut steps = Steps::new(&rt);
     let mut tree = Tree::new(rt.alloc(), 0i32, 1);
-    write_leaves(&mut tree, &mut steps)?;
+    write_leaves(&rt, &mut tree, &mut steps);
     let cases = [
         (all(0), all(7), true, off(9)),
         (all(0), at(9, 0, 0), false, on(5)),
@@ -134,7 +131,6 @@ fn writes_in_the_leaf_of_a_path(rt: HostRuntime) -> Result<(), TreeRefusal> {
     for (from, to, near, cell) in cases {
         expect_near(&rt, &mut tree, (from, to), near, cell, &mut steps);
     }
-    Ok(())
 }
 
 // The value of a voxel in the leaf around it, after a walk has yielded the first leaf, and how many nodes are visited for it.
@@ -149,12 +145,22 @@ fn value_near_first(tree: &Tree<i32>, p: Coord, steps: &mut Steps) -> (Option<i3
     (value, steps.count().wrapping_sub(before))
 }
 
+fn expect_near_first(
+    rt: &impl Abort,
+    tree: &Tree<i32>,
+    p: Coord,
+    answer: (Option<i32>, u64),
+    steps: &mut Steps,
+) {
+    assert_eq!(rt; value_near_first(tree, p, steps), answer, "at {p:?}");
+}
+
 // The leaf that a walk has yielded is had by one visit, and another by the descent to it.
 #[test]
-fn leaves_near_a_walk(rt: HostRuntime) -> Result<(), TreeRefusal> {
+fn leaves_near_a_walk(rt: HostRuntime) {
     let mut steps = Steps::new(&rt);
     let mut tree = Tree::new(rt.alloc(), 0i32, 1);
-    write_leaves(&mut tree, &mut steps)?;
+    write_leaves(&rt, &mut tree, &mut steps);
     let cases = [
         (all(0), (Some(5), 1)),
         (all(7), (Some(0), 1)),
@@ -165,7 +171,6 @@ fn leaves_near_a_walk(rt: HostRuntime) -> Result<(), TreeRefusal> {
         (at(4096, 0, 0), (None, 0)),
     ];
     for (p, answer) in cases {
-        assert_eq!(rt; value_near_first(&tree, p, &mut steps), answer, "at {p:?}");
+        expect_near_first(&rt, &tree, p, answer, &mut steps);
     }
-    Ok(())
 }

@@ -1,10 +1,10 @@
 //! The blocks of one cell where descents end.
 
-use super::{Tiny, all, at, off, on};
+use super::{Tiny, all, at, off, on, write};
 use std::process::Abort;
 use vdb_coord::{Bounds, Coord};
 use vdb_pool::Steps;
-use vdb_tree::{Tree, Tree433, TreeOf, TreeRefusal, Write};
+use vdb_tree::{Tree, Tree433, TreeOf, Write};
 use vdb_value::Cell;
 
 // A coordinate, its piece's first and last one, its cell, and how many nodes are visited.
@@ -41,15 +41,14 @@ fn expect_pieces<
     change: Write<i32>,
     cases: &[Case],
     steps: &mut Steps,
-) -> Result<(), TreeRefusal> {
-    tree.write(p, change, steps)?;
+) {
+    write(rt, tree, p, change, steps);
     for case in cases {
         expect_piece(rt, tree, *case, steps);
     }
-    Ok(())
 }
 
-fn try_wide(rt: &impl Abort, tree: &mut Tree<i32>, steps: &mut Steps) -> Result<(), TreeRefusal> {
+fn try_wide(rt: &impl Abort, tree: &mut Tree<i32>, steps: &mut Steps) {
     let cases = [
         (at(1, 2, 3), at(1, 2, 3), at(1, 2, 3), on(7), 3),
         (all(0), all(0), all(0), off(0), 3),
@@ -66,14 +65,10 @@ fn try_wide(rt: &impl Abort, tree: &mut Tree<i32>, steps: &mut Steps) -> Result<
         (all(i32::MAX), all(2147479552), all(i32::MAX), off(0), 0),
         (all(i32::MIN), all(i32::MIN), all(-2147479553), off(0), 0),
     ];
-    expect_pieces(rt, tree, at(1, 2, 3), Write::On(7), &cases, steps)
+    expect_pieces(rt, tree, at(1, 2, 3), Write::On(7), &cases, steps);
 }
 
-fn try_narrow(
-    rt: &impl Abort,
-    tree: &mut Tree433<i32>,
-    steps: &mut Steps,
-) -> Result<(), TreeRefusal> {
+fn try_narrow(rt: &impl Abort, tree: &mut Tree433<i32>, steps: &mut Steps) {
     let cases = [
         (all(-1), all(-1), all(-1), off(7), 3),
         (all(-2), all(-2), all(-2), off(-1), 3),
@@ -93,40 +88,42 @@ fn try_narrow(
             0,
         ),
     ];
-    expect_pieces(rt, tree, all(-1), Write::Off(7), &cases, steps)
+    expect_pieces(rt, tree, all(-1), Write::Off(7), &cases, steps);
 }
 
 #[test]
-fn pieces_of_each_level(rt: HostRuntime) -> Result<(), TreeRefusal> {
+fn pieces_of_each_level(rt: HostRuntime) {
     let mut steps = Steps::new(&rt);
-    try_wide(&rt, &mut Tree::new(rt.alloc(), 0, 4096), &mut steps)?;
-    try_narrow(&rt, &mut Tree433::new(rt.alloc(), -1, 4096), &mut steps)
+    try_wide(&rt, &mut Tree::new(rt.alloc(), 0, 4096), &mut steps);
+    try_narrow(&rt, &mut Tree433::new(rt.alloc(), -1, 4096), &mut steps);
 }
 
 // Eight voxels of one leaf block, made alike.
-fn write_leaf(tree: &mut Tiny<i32>, steps: &mut Steps) -> Result<(), TreeRefusal> {
+fn write_leaf(rt: &impl Abort, tree: &mut Tiny<i32>, steps: &mut Steps) {
     for x in [2, 3] {
         for y in [4, 5] {
             for z in [6, 7] {
-                tree.write(at(x, y, z), Write::On(8), steps)?;
+                write(rt, tree, at(x, y, z), Write::On(8), steps);
             }
         }
     }
-    Ok(())
+}
+
+fn expect_leaf(rt: &impl Abort, tree: &Tiny<i32>, p: Coord, there: bool, steps: &mut Steps) {
+    assert_eq!(rt; tree.leaf_at(p, steps), there);
 }
 
 // A leaf whose voxels are made alike is still a leaf, until it is pruned.
 #[test]
-fn a_pruned_leaf_is_one_piece(rt: HostRuntime) -> Result<(), TreeRefusal> {
+fn a_pruned_leaf_is_one_piece(rt: HostRuntime) {
     let mut steps = Steps::new(&rt);
     let mut tree = Tiny::new(rt.alloc(), 0, 1);
-    write_leaf(&mut tree, &mut steps)?;
+    write_leaf(&rt, &mut tree, &mut steps);
     let p = at(3, 4, 7);
     expect_piece(&rt, &tree, (p, p, p, on(8), 3), &mut steps);
-    assert!(rt; tree.leaf_at(p, &mut steps));
+    expect_leaf(&rt, &tree, p, true, &mut steps);
     tree.prune(&mut steps);
     let whole = (p, at(2, 4, 6), at(3, 5, 7), on(8), 2);
     expect_piece(&rt, &tree, whole, &mut steps);
-    assert!(rt; !tree.leaf_at(p, &mut steps));
-    Ok(())
+    expect_leaf(&rt, &tree, p, false, &mut steps);
 }

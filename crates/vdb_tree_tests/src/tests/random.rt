@@ -3,7 +3,7 @@
 ghost use Rattle.std.specs.Prelude.{◌<◌};
 
 use super::{Tiny, at, off};
-use std::alloc::{AllocError, Global};
+use std::alloc::Global;
 use std::collections::BTreeMap;
 use std::process::Abort;
 use vdb_coord::Coord;
@@ -72,39 +72,33 @@ impl Wanted {
         }
     }
 
-    fn put(&mut self, p: Coord, cell: Cell<i32>) -> Result<(), AllocError> {
-        self.cells.insert(p, cell)?;
-        Ok(())
+    fn put(&mut self, rt: &impl Abort, p: Coord, cell: Cell<i32>) {
+        let put: Result<_, _> = self.cells.insert(p, cell);
+        put.expect(rt, "memory for a map");
     }
 
     // How many root blocks hold something.
-    fn root_blocks(&self) -> Result<u64, AllocError> {
+    fn root_blocks(&self, rt: &impl Abort) -> u64 {
         let mut keys = BTreeMap::new(self.alloc);
         for (p, cell) in &self.cells {
             if *cell != off(0) {
                 let x = p.x.wrapping_shr(self.block_bits);
                 let y = p.y.wrapping_shr(self.block_bits);
                 let z = p.z.wrapping_shr(self.block_bits);
-                keys.insert(at(x, y, z), ())?;
+                let put: Result<_, _> = keys.insert(at(x, y, z), ());
+                put.expect(rt, "memory for a map");
             }
         }
-        Ok(keys.len() as u64)
+        keys.len() as u64
     }
 }
 
 // The root limit refuses a cell where there would be a root block too many.
-fn expect_too_many(
-    rt: &impl Abort,
-    wanted: &mut Wanted,
-    p: Coord,
-    new: Cell<i32>,
-    limit: u32,
-) -> Result<(), TreeRefusal> {
+fn expect_too_many(rt: &impl Abort, wanted: &mut Wanted, p: Coord, new: Cell<i32>, limit: u32) {
     let old = wanted.cell(p);
-    wanted.put(p, new)?;
-    assert!(rt; wanted.root_blocks()? > u64::from(limit));
-    wanted.put(p, old)?;
-    Ok(())
+    wanted.put(rt, p, new);
+    assert!(rt; wanted.root_blocks(rt) > u64::from(limit));
+    wanted.put(rt, p, old);
 }
 
 fn change_one<
@@ -121,16 +115,17 @@ fn change_one<
     p: Coord,
     change: Write<i32>,
     steps: &mut Steps,
-) -> Result<(), TreeRefusal> {
+) {
     let new = change.applied(wanted.cell(p));
     match tree.write(p, change, steps) {
         Ok(()) => {
-            wanted.put(p, new)?;
-            assert_eq!(rt; tree.get(p, steps), new);
-            Ok(())
+            wanted.put(rt, p, new);
+            expect_cell(rt, tree, wanted, p, steps);
         }
-        Err(TreeRefusal::RootLimit) => expect_too_many(rt, wanted, p, new, tree.limit()),
-        Err(TreeRefusal::Memory) => Err(TreeRefusal::Memory),
+        Err(refusal) => {
+            assert_eq!(rt; refusal, TreeRefusal::RootLimit);
+            expect_too_many(rt, wanted, p, new, tree.limit());
+        }
     }
 }
 
@@ -149,16 +144,15 @@ fn change_eight<
     p: Coord,
     change: Write<i32>,
     steps: &mut Steps,
-) -> Result<(), TreeRefusal> {
+) {
     for i in 0..8 {
         let q = at(
             (p.x & !1) | (i & 1),
             (p.y & !1) | ((i >> 1) & 1),
             (p.z & !1) | (i >> 2),
         );
-        change_one(rt, tree, wanted, q, change, steps)?;
+        change_one(rt, tree, wanted, q, change, steps);
     }
-    Ok(())
 }
 
 fn expect_cell<
@@ -191,7 +185,7 @@ fn expect_wanted<
     wanted: &Wanted,
     components: &[i32; 8],
     steps: &mut Steps,
-) -> Result<(), TreeRefusal> {
+) {
     for x in components {
         for y in components {
             for z in components {
@@ -199,8 +193,7 @@ fn expect_wanted<
             }
         }
     }
-    assert_eq!(rt; tree.root_blocks(steps), wanted.root_blocks()?);
-    Ok(())
+    assert_eq!(rt; tree.root_blocks(steps), wanted.root_blocks(rt));
 }
 
 // A change of a single voxel or of an aligned cube of eight, with a prune now and then.
@@ -217,18 +210,17 @@ fn change_some<
     wanted: &mut Wanted,
     draws: &mut Draws,
     steps: &mut Steps,
-) -> Result<(), TreeRefusal> {
+) {
     let p = draws.coordinate();
     let change = draws.change();
     if draws.below(2) == 0 {
-        change_one(rt, tree, wanted, p, change, steps)?;
+        change_one(rt, tree, wanted, p, change, steps);
     } else {
-        change_eight(rt, tree, wanted, p, change, steps)?;
+        change_eight(rt, tree, wanted, p, change, steps);
     }
     if draws.below(10) == 0 {
         tree.prune(steps);
     }
-    Ok(())
 }
 
 fn try_changes<
@@ -244,62 +236,53 @@ fn try_changes<
     wanted: &mut Wanted,
     draws: &mut Draws,
     steps: &mut Steps,
-) -> Result<(), TreeRefusal> {
+) {
     for _ in 0..100 {
-        change_some(rt, tree, wanted, draws, steps)?;
+        change_some(rt, tree, wanted, draws, steps);
     }
     let components = draws.components;
-    expect_wanted(rt, tree, wanted, &components, steps)?;
+    expect_wanted(rt, tree, wanted, &components, steps);
     tree.prune(steps);
-    expect_wanted(rt, tree, wanted, &components, steps)?;
-    assert_eq!(rt; tree.node_counts().entries, wanted.root_blocks()?);
-    Ok(())
+    expect_wanted(rt, tree, wanted, &components, steps);
+    assert_eq!(rt; tree.node_counts().entries, wanted.root_blocks(rt));
+}
+
+// Changes of an empty tree whose root blocks span 2 to the power of `block_bits` voxels along each axis.
+fn try_tree<
+    const U: u32,
+    const L: u32,
+    const F: u32,
+    const WU: usize,
+    const WL: usize,
+    const WF: usize,
+>(
+    rt: &(impl Abort + AllocGlobal),
+    tree: &mut TreeOf<i32, U, L, F, WU, WL, WF>,
+    block_bits: u32,
+    draws: &mut Draws,
+    steps: &mut Steps,
+) {
+    let mut wanted = Wanted {
+        alloc: rt.alloc(),
+        cells: BTreeMap::new(rt.alloc()),
+        block_bits,
+    };
+    try_changes(rt, tree, &mut wanted, draws, steps);
 }
 
 #[test]
-fn changes_beside_a_map(rt: HostRuntime) -> Result<(), TreeRefusal> {
+fn changes_beside_a_map(rt: HostRuntime) {
     let mut steps = Steps::new(&rt);
     let alloc = rt.alloc();
     let far = [-70, -10, -1, 0, 1, 7, 64, 1030];
     let near = [-4, -3, -2, -1, 0, 1, 2, 3];
     for (components, limit, state) in [(far, 4096, 1), (near, 3, 2)] {
         let mut draws = Draws { state, components };
-        let mut wanted = Wanted {
-            alloc,
-            cells: BTreeMap::new(alloc),
-            block_bits: 12,
-        };
-        try_changes(
-            &rt,
-            &mut Tree::new(alloc, 0, limit),
-            &mut wanted,
-            &mut draws,
-            &mut steps,
-        )?;
-        let mut wanted = Wanted {
-            alloc,
-            cells: BTreeMap::new(alloc),
-            block_bits: 10,
-        };
-        try_changes(
-            &rt,
-            &mut Tree433::new(alloc, 0, limit),
-            &mut wanted,
-            &mut draws,
-            &mut steps,
-        )?;
-        let mut wanted = Wanted {
-            alloc,
-            cells: BTreeMap::new(alloc),
-            block_bits: 3,
-        };
-        try_changes(
-            &rt,
-            &mut Tiny::new(alloc, 0, limit),
-            &mut wanted,
-            &mut draws,
-            &mut steps,
-        )?;
+        let mut tree = Tree::new(alloc, 0, limit);
+        try_tree(&rt, &mut tree, 12, &mut draws, &mut steps);
+        let mut tree = Tree433::new(alloc, 0, limit);
+        try_tree(&rt, &mut tree, 10, &mut draws, &mut steps);
+        let mut tree = Tiny::new(alloc, 0, limit);
+        try_tree(&rt, &mut tree, 3, &mut draws, &mut steps);
     }
-    Ok(())
 }

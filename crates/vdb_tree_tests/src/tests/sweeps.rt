@@ -1,17 +1,16 @@
 //! How many nodes a tree has, and which it gives back.
 
-use super::acts::{Act, run};
+use super::acts::{Act, run, try_acts};
 use super::{Tiny, all, at, off, on};
 use std::process::Abort;
 use vdb_coord::Coord;
 use vdb_pool::Steps;
-use vdb_tree::{PathOf, Tree, Tree433, TreeOf, TreeRefusal, Write};
+use vdb_tree::{PathOf, Tree, Tree433, TreeOf, Write};
 use vdb_value::Cell;
 
 #[test]
-fn a_tree_of_one_voxel(rt: HostRuntime) -> Result<(), TreeRefusal> {
+fn a_tree_of_one_voxel(rt: HostRuntime) {
     let mut steps = Steps::new(&rt);
-    let mut tree = Tree::new(rt.alloc(), 0i32, 4096);
     let acts = [
         Act::Counts([0, 0, 0, 0]),
         Act::RootBlocks(0),
@@ -29,7 +28,7 @@ fn a_tree_of_one_voxel(rt: HostRuntime) -> Result<(), TreeRefusal> {
         Act::Cell(all(1), off(0)),
         Act::Limit(4096),
     ];
-    run(&rt, &mut tree, &acts, &mut steps)
+    try_acts(&rt, Tree::new(rt.alloc(), 0i32, 4096), &acts, &mut steps);
 }
 
 // Three voxels in two root blocks. The last two share a block of 128 along each axis, but none of 64.
@@ -45,7 +44,7 @@ fn write_three<
     tree: &mut TreeOf<i32, U, L, F, WU, WL, WF>,
     counts: [u64; 4],
     steps: &mut Steps,
-) -> Result<(), TreeRefusal> {
+) {
     let acts = [
         Act::Write(all(-1), Write::On(7)),
         Act::Write(at(63, 0, 0), Write::On(1)),
@@ -62,24 +61,24 @@ fn write_three<
         Act::Cell(at(65, 0, 0), off(0)),
         Act::Cell(at(63, 0, 1), off(0)),
     ];
-    run(rt, tree, &acts, steps)
+    run(rt, tree, &acts, steps);
 }
 
 #[test]
-fn counts_by_layout(rt: HostRuntime) -> Result<(), TreeRefusal> {
+fn counts_by_layout(rt: HostRuntime) {
     let mut steps = Steps::new(&rt);
     write_three(
         &rt,
         &mut Tree::new(rt.alloc(), 0, 4096),
         [2, 2, 2, 3],
         &mut steps,
-    )?;
+    );
     write_three(
         &rt,
         &mut Tree433::new(rt.alloc(), 0, 4096),
         [2, 2, 3, 3],
         &mut steps,
-    )
+    );
 }
 
 // The slot of the leaf around a coordinate.
@@ -98,18 +97,13 @@ fn expect_slot(
     p: Coord,
     slot: Option<u32>,
     steps: &mut Steps,
-) -> Result<(), TreeRefusal> {
-    run(rt, tree, acts, steps)?;
+) {
+    run(rt, tree, acts, steps);
     assert_eq!(rt; leaf_slot(tree, p, steps), slot, "at {p:?}");
-    Ok(())
 }
 
 // The block of 8 voxels around `at(8, 16, 24)` has one cell, and the blocks beside it the background.
-fn expect_one_block(
-    rt: &impl Abort,
-    tree: &mut Tree<i32>,
-    steps: &mut Steps,
-) -> Result<(), TreeRefusal> {
+fn expect_one_block(rt: &impl Abort, tree: &mut Tree<i32>, steps: &mut Steps) {
     let acts = [
         Act::Cell(at(8, 16, 24), on(5)),
         Act::Cell(at(15, 23, 31), on(5)),
@@ -118,48 +112,44 @@ fn expect_one_block(
         Act::Cell(at(8, 24, 24), off(0)),
         Act::Cell(at(8, 16, 32), off(0)),
     ];
-    run(rt, tree, &acts, steps)
+    run(rt, tree, &acts, steps);
 }
 
 // That block filled, and its leaf pruned.
-fn prune_one_block(
-    rt: &impl Abort,
-    tree: &mut Tree<i32>,
-    steps: &mut Steps,
-) -> Result<(), TreeRefusal> {
+fn prune_one_block(rt: &impl Abort, tree: &mut Tree<i32>, steps: &mut Steps) {
     let p = at(8, 16, 24);
     let acts = [Act::Fill(p, 8, Write::On(5)), Act::Counts([1, 1, 1, 1])];
-    expect_slot(rt, tree, &acts, p, Some(0), steps)?;
+    expect_slot(rt, tree, &acts, p, Some(0), steps);
     let acts = [Act::Prune, Act::Counts([1, 1, 1, 0])];
-    expect_slot(rt, tree, &acts, p, None, steps)
+    expect_slot(rt, tree, &acts, p, None, steps);
 }
 
 // Of the block's nodes only the leaf goes: the blocks around it hold the background, too. The next leaf gets its slot.
 #[test]
-fn a_leaf_of_one_cell_becomes_a_tile(rt: HostRuntime) -> Result<(), TreeRefusal> {
+fn a_leaf_of_one_cell_becomes_a_tile(rt: HostRuntime) {
     let mut steps = Steps::new(&rt);
     let mut tree = Tree::new(rt.alloc(), 0i32, 4096);
-    prune_one_block(&rt, &mut tree, &mut steps)?;
-    expect_one_block(&rt, &mut tree, &mut steps)?;
+    prune_one_block(&rt, &mut tree, &mut steps);
+    expect_one_block(&rt, &mut tree, &mut steps);
     let q = at(500, 0, 0);
     let acts = [Act::Write(q, Write::On(9)), Act::Counts([1, 1, 2, 1])];
-    expect_slot(&rt, &mut tree, &acts, q, Some(0), &mut steps)?;
-    expect_one_block(&rt, &mut tree, &mut steps)
+    expect_slot(&rt, &mut tree, &acts, q, Some(0), &mut steps);
+    expect_one_block(&rt, &mut tree, &mut steps);
 }
 
 // A write in the block of a tile makes a leaf of the tile's cells.
 #[test]
-fn a_voxel_of_a_tile_is_written(rt: HostRuntime) -> Result<(), TreeRefusal> {
+fn a_voxel_of_a_tile_is_written(rt: HostRuntime) {
     let mut steps = Steps::new(&rt);
     let mut tree = Tree::new(rt.alloc(), 0i32, 4096);
-    prune_one_block(&rt, &mut tree, &mut steps)?;
+    prune_one_block(&rt, &mut tree, &mut steps);
     let acts = [
         Act::Write(at(8, 16, 24), Write::Value(6)),
         Act::Counts([1, 1, 1, 1]),
         Act::Cell(at(8, 16, 24), on(6)),
         Act::Cell(at(8, 16, 25), on(5)),
     ];
-    run(&rt, &mut tree, &acts, &mut steps)
+    run(&rt, &mut tree, &acts, &mut steps);
 }
 
 // One cell over a block of `span` along each axis, and a voxel of it changed. The states count, too.
@@ -170,7 +160,7 @@ fn try_block(
     pruned: [u64; 4],
     at_end: Cell<i32>,
     steps: &mut Steps,
-) -> Result<(), TreeRefusal> {
+) {
     let acts = [
         Act::Fill(all(-8), span, Write::On(3)),
         Act::Write(all(-8), Write::State(false)),
@@ -194,12 +184,12 @@ fn try_block(
         Act::Prune,
         Act::Counts([0, 0, 0, 0]),
     ];
-    run(rt, tree, &acts, steps)
+    run(rt, tree, &acts, steps);
 }
 
 // A leaf's block, a lower node's and a whole root block in turn.
 #[test]
-fn blocks_of_one_cell_at_each_level(rt: HostRuntime) -> Result<(), TreeRefusal> {
+fn blocks_of_one_cell_at_each_level(rt: HostRuntime) {
     let mut steps = Steps::new(&rt);
     let cases = [
         (2, [1, 1, 1, 0], off(0)),
@@ -208,16 +198,14 @@ fn blocks_of_one_cell_at_each_level(rt: HostRuntime) -> Result<(), TreeRefusal> 
     ];
     for (span, pruned, at_end) in cases {
         let mut tree = Tiny::new(rt.alloc(), 0i32, 1);
-        try_block(&rt, &mut tree, span, pruned, at_end, &mut steps)?;
+        try_block(&rt, &mut tree, span, pruned, at_end, &mut steps);
     }
-    Ok(())
 }
 
 // A full table of background entries in place of one that was filled and pruned.
 #[test]
-fn a_tile_of_the_root_table_is_kept(rt: HostRuntime) -> Result<(), TreeRefusal> {
+fn a_tile_of_the_root_table_is_kept(rt: HostRuntime) {
     let mut steps = Steps::new(&rt);
-    let mut tree = Tiny::new(rt.alloc(), false, 1);
     let acts = [
         Act::Fill(all(0), 8, Write::State(true)),
         Act::Prune,
@@ -232,5 +220,5 @@ fn a_tile_of_the_root_table_is_kept(rt: HostRuntime) -> Result<(), TreeRefusal> 
         Act::Cell(all(8), on(true)),
         Act::Counts([1, 1, 1, 1]),
     ];
-    run(&rt, &mut tree, &acts, &mut steps)
+    try_acts(&rt, Tiny::new(rt.alloc(), false, 1), &acts, &mut steps);
 }

@@ -1,14 +1,13 @@
 //! Leaves in place of active tiles.
 
-use super::acts::{Act, run};
+use super::acts::{Act, run, try_acts};
 use super::{all, off, on};
 use vdb_pool::Steps;
-use vdb_tree::{Tree, Tree433, TreeRefusal, Write};
+use vdb_tree::{Tree, Tree433, Write};
 
 #[test]
-fn an_active_tile_becomes_a_leaf_and_a_tile_again(rt: HostRuntime) -> Result<(), TreeRefusal> {
+fn an_active_tile_becomes_a_leaf_and_a_tile_again(rt: HostRuntime) {
     let mut steps = Steps::new(&rt);
-    let mut tree = Tree::new(rt.alloc(), 0i32, 4096);
     let acts = [
         Act::Fill(all(0), 8, Write::On(3)),
         Act::Prune,
@@ -29,13 +28,12 @@ fn an_active_tile_becomes_a_leaf_and_a_tile_again(rt: HostRuntime) -> Result<(),
         Act::Cell(all(7), on(3)),
         Act::Cell(all(8), off(0)),
     ];
-    run(&rt, &mut tree, &acts, &mut steps)
+    try_acts(&rt, Tree::new(rt.alloc(), 0i32, 4096), &acts, &mut steps);
 }
 
 #[test]
-fn an_inactive_tile_stays(rt: HostRuntime) -> Result<(), TreeRefusal> {
+fn an_inactive_tile_stays(rt: HostRuntime) {
     let mut steps = Steps::new(&rt);
-    let mut tree = Tree433::new(rt.alloc(), true, 4096);
     let acts = [
         Act::Fill(all(0), 8, Write::Off(false)),
         Act::Prune,
@@ -45,11 +43,11 @@ fn an_inactive_tile_stays(rt: HostRuntime) -> Result<(), TreeRefusal> {
         Act::Cell(all(0), off(false)),
         Act::Cell(all(-1), off(true)),
     ];
-    run(&rt, &mut tree, &acts, &mut steps)
+    try_acts(&rt, Tree433::new(rt.alloc(), true, 4096), &acts, &mut steps);
 }
 
 #[test]
-fn boxes_at_both_ends_of_the_range(rt: HostRuntime) -> Result<(), TreeRefusal> {
+fn boxes_at_both_ends_of_the_range(rt: HostRuntime) {
     let mut steps = Steps::new(&rt);
     let mut tree = Tree::new(rt.alloc(), 0i64, 4096);
     for corner in [all(i32::MIN), all(i32::MAX)] {
@@ -59,7 +57,6 @@ fn boxes_at_both_ends_of_the_range(rt: HostRuntime) -> Result<(), TreeRefusal> {
             Act::Leaf(corner, true),
             Act::Cell(corner, on(1)),
         ];
-        run(&rt, &mut tree, &acts, &mut steps)?;
+        run(&rt, &mut tree, &acts, &mut steps);
     }
-    Ok(())
 }

@@ -1,7 +1,7 @@
 //! What each write makes of a cell.
 
 use super::acts::{Act, run};
-use super::{Tiny, all, at, expect_cells, nodes, off, on};
+use super::{Tiny, all, at, expect_cells, nodes, off, on, write};
 use std::process::Abort;
 use std::test::Fail;
 use vdb_coord::Coord;
@@ -25,15 +25,14 @@ fn try_background_writes<
     p: Coord,
     zero: V,
     steps: &mut Steps,
-) -> Result<(), TreeRefusal> {
+) {
     let fresh = steps.count();
     assert!(rt; tree.background() == zero);
-    tree.write(p, Write::State(false), steps)?;
-    tree.write(p, Write::Value(zero), steps)?;
-    tree.write(p, Write::Off(zero), steps)?;
+    write(rt, tree, p, Write::State(false), steps);
+    write(rt, tree, p, Write::Value(zero), steps);
+    write(rt, tree, p, Write::Off(zero), steps);
     assert_eq!(rt; tree.node_counts(), nodes(0, 0, 0, 0));
     assert_eq!(rt; steps.count(), fresh);
-    Ok(())
 }
 
 // A write, and again when the voxel has that cell already. A voxel beside keeps the background.
@@ -52,15 +51,14 @@ fn try_write<
     change: Write<V>,
     cell: Cell<V>,
     steps: &mut Steps,
-) -> Result<(), TreeRefusal> {
+) {
     let beside = at(p.x, p.y, p.z ^ 1);
     let cells = [(p, cell), (beside, off(tree.background()))];
     for _ in 0..2 {
-        tree.write(p, change, steps)?;
+        write(rt, tree, p, change, steps);
         expect_cells(rt, tree, &cells, steps);
         assert_eq!(rt; tree.node_counts(), nodes(1, 1, 1, 1));
     }
-    Ok(())
 }
 
 // The four writes in turn, after one that leaves the cell `on(one)`.
@@ -79,11 +77,11 @@ fn try_each_write<
     zero: V,
     one: V,
     steps: &mut Steps,
-) -> Result<(), TreeRefusal> {
-    try_write(rt, tree, p, Write::Off(one), off(one), steps)?;
-    try_write(rt, tree, p, Write::State(true), on(one), steps)?;
-    try_write(rt, tree, p, Write::Value(zero), on(zero), steps)?;
-    try_write(rt, tree, p, Write::State(false), off(zero), steps)
+) {
+    try_write(rt, tree, p, Write::Off(one), off(one), steps);
+    try_write(rt, tree, p, Write::State(true), on(one), steps);
+    try_write(rt, tree, p, Write::Value(zero), on(zero), steps);
+    try_write(rt, tree, p, Write::State(false), off(zero), steps);
 }
 
 // Writes to a fresh tree with the background `zero`.
@@ -95,23 +93,17 @@ fn try_writes<
     const WU: usize,
     const WL: usize,
     const WF: usize,
->(
-    rt: &impl Abort,
-    tree: &mut TreeOf<V, U, L, F, WU, WL, WF>,
-    zero: V,
-    one: V,
-    steps: &mut Steps,
-) -> Result<(), TreeRefusal> {
+>(rt: &impl Abort, tree: &mut TreeOf<V, U, L, F, WU, WL, WF>, zero: V, one: V, steps: &mut Steps) {
     let p = at(-9, 4100, 64);
-    try_background_writes(rt, tree, p, zero, steps)?;
-    try_write(rt, tree, p, Write::On(one), on(one), steps)?;
-    try_each_write(rt, tree, p, zero, one, steps)?;
-    try_write(rt, tree, p, Write::Value(one), off(one), steps)?;
-    try_write(rt, tree, p, Write::On(zero), on(zero), steps)
+    try_background_writes(rt, tree, p, zero, steps);
+    try_write(rt, tree, p, Write::On(one), on(one), steps);
+    try_each_write(rt, tree, p, zero, one, steps);
+    try_write(rt, tree, p, Write::Value(one), off(one), steps);
+    try_write(rt, tree, p, Write::On(zero), on(zero), steps);
 }
 
 #[test]
-fn writes_of_truth_values(rt: HostRuntime) -> Result<(), TreeRefusal> {
+fn writes_of_truth_values(rt: HostRuntime) {
     let mut steps = Steps::new(&rt);
     let alloc = rt.alloc();
     try_writes(
@@ -120,18 +112,18 @@ fn writes_of_truth_values(rt: HostRuntime) -> Result<(), TreeRefusal> {
         false,
         true,
         &mut steps,
-    )?;
+    );
     try_writes(
         &rt,
         &mut Tree433::new(alloc, true, 1),
         true,
         false,
         &mut steps,
-    )
+    );
 }
 
 #[test]
-fn writes_of_numbers(rt: HostRuntime) -> Result<(), TreeRefusal> {
+fn writes_of_numbers(rt: HostRuntime) {
     let mut steps = Steps::new(&rt);
     let alloc = rt.alloc();
     try_writes(
@@ -140,12 +132,12 @@ fn writes_of_numbers(rt: HostRuntime) -> Result<(), TreeRefusal> {
         3,
         i32::MIN,
         &mut steps,
-    )?;
-    try_writes(&rt, &mut Tiny::new(alloc, 3i32, 1), 3, i32::MAX, &mut steps)
+    );
+    try_writes(&rt, &mut Tiny::new(alloc, 3i32, 1), 3, i32::MAX, &mut steps);
 }
 
 #[test]
-fn writes_of_large_numbers(rt: HostRuntime) -> Result<(), TreeRefusal> {
+fn writes_of_large_numbers(rt: HostRuntime) {
     let mut steps = Steps::new(&rt);
     let alloc = rt.alloc();
     try_writes(
@@ -154,22 +146,18 @@ fn writes_of_large_numbers(rt: HostRuntime) -> Result<(), TreeRefusal> {
         -1,
         i64::MIN,
         &mut steps,
-    )?;
+    );
     try_writes(
         &rt,
         &mut Tree433::new(alloc, -1i64, 1),
         -1,
         i64::MAX,
         &mut steps,
-    )
+    );
 }
 
 // Writes, and then reads, the first and the last coordinate along each axis: eight root blocks.
-fn write_corners(
-    rt: &impl Abort,
-    tree: &mut Tree<i32>,
-    steps: &mut Steps,
-) -> Result<(), TreeRefusal> {
+fn write_corners(rt: &impl Abort, tree: &mut Tree<i32>, steps: &mut Steps) {
     let corners = [
         all(i32::MIN),
         at(i32::MIN, i32::MIN, i32::MAX),
@@ -185,23 +173,22 @@ fn write_corners(
             Act::Write(p, Write::On(p.x)),
             Act::Write(p, Write::State(p.y == i32::MIN)),
         ];
-        run(rt, tree, &acts, steps)?;
+        run(rt, tree, &acts, steps);
     }
     for p in corners {
         let cell = Cell {
             value: p.x,
             on: p.y == i32::MIN,
         };
-        run(rt, tree, &[Act::Cell(p, cell)], steps)?;
+        run(rt, tree, &[Act::Cell(p, cell)], steps);
     }
-    Ok(())
 }
 
 #[test]
-fn cells_at_both_ends(rt: HostRuntime) -> Result<(), TreeRefusal> {
+fn cells_at_both_ends(rt: HostRuntime) {
     let mut steps = Steps::new(&rt);
     let mut tree = Tree::new(rt.alloc(), 0i32, 8);
-    write_corners(&rt, &mut tree, &mut steps)?;
+    write_corners(&rt, &mut tree, &mut steps);
     let last = all(2147483640);
     let acts = [
         Act::Cell(at(i32::MIN, i32::MIN, 0), off(0)),
@@ -217,12 +204,12 @@ fn cells_at_both_ends(rt: HostRuntime) -> Result<(), TreeRefusal> {
         Act::NextLeaf(Some(last), None),
         Act::Refused(all(0), Write::On(1)),
     ];
-    run(&rt, &mut tree, &acts, &mut steps)
+    run(&rt, &mut tree, &acts, &mut steps);
 }
 
 // Refused for lack of memory at a run with refused allocations.
 #[test]
-fn a_refused_write_keeps_every_cell(rt: HostRuntime) -> Result<(), TreeRefusal> {
+fn a_refused_write_keeps_every_cell(rt: HostRuntime) {
     let mut steps = Steps::new(&rt);
     let mut tree = Tree::new(rt.alloc(), 0i64, 4096);
     let mut wanted = [off(0); 3];
@@ -238,7 +225,7 @@ fn a_refused_write_keeps_every_cell(rt: HostRuntime) -> Result<(), TreeRefusal> 
         Act::Cell(all(64), third),
         Act::Cell(all(2), off(0)),
     ];
-    run(&rt, &mut tree, &acts, &mut steps)
+    run(&rt, &mut tree, &acts, &mut steps);
 }
 
 #[test]

@@ -2,14 +2,14 @@
 
 ghost use Rattle.std.specs.Prelude.{◌<◌};
 
-use super::{Tiny, all, at, fill, off, on};
+use super::{Tiny, all, at, expect_visits, fill, off, on, voxelise, write};
 use std::alloc::{AllocError, Global};
 use std::collections::BTreeMap;
 use std::process::Abort;
 use vdb_coord::{Bounds, Coord};
 use vdb_node::Stored;
 use vdb_pool::Steps;
-use vdb_tree::{NodeCounts, Tree, Tree433, TreeOf, TreeRefusal, Write};
+use vdb_tree::{NodeCounts, Tree, Tree433, TreeOf, Write};
 use vdb_value::Cell;
 use vdb_walk::{Census, census, uniform};
 
@@ -78,65 +78,61 @@ fn expect_uniform<
 }
 
 #[test]
-fn tiles_of_each_level_need_the_nodes_above_them(rt: HostRuntime) -> Result<(), TreeRefusal> {
+fn tiles_of_each_level_need_the_nodes_above_them(rt: HostRuntime) {
     let mut steps = Steps::new(&rt);
     let mut tree = Tree::new(rt.alloc(), 0i32, 4096);
     expect_census(&rt, &tree, [0, 0, 0, 0], &mut steps);
-    fill(&rt, &mut tree, all(0), all(7), on(3), &mut steps)?;
+    fill(&rt, &mut tree, all(0), all(7), on(3), &mut steps);
     expect_census(&rt, &tree, [1, 1, 1, 0], &mut steps);
-    fill(&rt, &mut tree, all(0), all(127), on(3), &mut steps)?;
+    fill(&rt, &mut tree, all(0), all(127), on(3), &mut steps);
     expect_census(&rt, &tree, [1, 1, 0, 0], &mut steps);
-    let bounds = Bounds::new(all(0), all(127)).expect(&rt, "a box");
-    tree.voxelise(bounds, &mut steps)?;
+    voxelise(&rt, &mut tree, all(0), all(127), &mut steps);
     expect_nodes(&rt, &tree, [1, 1, 1, 4096]);
     expect_census(&rt, &tree, [1, 1, 0, 0], &mut steps);
-    fill(&rt, &mut tree, all(0), all(4095), on(3), &mut steps)?;
+    fill(&rt, &mut tree, all(0), all(4095), on(3), &mut steps);
     expect_census(&rt, &tree, [1, 0, 0, 0], &mut steps);
-    fill(&rt, &mut tree, all(0), all(4095), off(0), &mut steps)?;
+    fill(&rt, &mut tree, all(0), all(4095), off(0), &mut steps);
     expect_census(&rt, &tree, [0, 0, 0, 0], &mut steps);
-    Ok(())
 }
 
 #[test]
-fn single_voxels(rt: HostRuntime) -> Result<(), TreeRefusal> {
+fn single_voxels(rt: HostRuntime) {
     let mut steps = Steps::new(&rt);
     let mut tree = Tree433::new(rt.alloc(), 5i64, 4096);
-    tree.write(all(-1), Write::On(5), &mut steps)?;
+    write(&rt, &mut tree, all(-1), Write::On(5), &mut steps);
     expect_census(&rt, &tree, [1, 1, 1, 1], &mut steps);
-    tree.write(all(-1), Write::State(false), &mut steps)?;
+    write(&rt, &mut tree, all(-1), Write::State(false), &mut steps);
     expect_nodes(&rt, &tree, [1, 1, 1, 1]);
     expect_census(&rt, &tree, [0, 0, 0, 0], &mut steps);
     // two leaves of a lower block of 64, and one of the next lower block
-    tree.write(at(0, 0, 7), Write::Off(1), &mut steps)?;
-    tree.write(at(0, 63, 8), Write::Off(1), &mut steps)?;
+    write(&rt, &mut tree, at(0, 0, 7), Write::Off(1), &mut steps);
+    write(&rt, &mut tree, at(0, 63, 8), Write::Off(1), &mut steps);
     expect_census(&rt, &tree, [1, 1, 1, 2], &mut steps);
-    tree.write(at(0, 64, 8), Write::Off(1), &mut steps)?;
+    write(&rt, &mut tree, at(0, 64, 8), Write::Off(1), &mut steps);
     expect_census(&rt, &tree, [1, 1, 2, 3], &mut steps);
-    tree.write(all(i32::MIN), Write::On(1), &mut steps)?;
-    tree.write(all(i32::MAX), Write::Value(1), &mut steps)?;
+    write(&rt, &mut tree, all(i32::MIN), Write::On(1), &mut steps);
+    write(&rt, &mut tree, all(i32::MAX), Write::Value(1), &mut steps);
     expect_census(&rt, &tree, [3, 3, 4, 5], &mut steps);
-    Ok(())
 }
 
 #[test]
-fn an_inactive_root_block_is_counted(rt: HostRuntime) -> Result<(), TreeRefusal> {
+fn an_inactive_root_block_is_counted(rt: HostRuntime) {
     let mut steps = Steps::new(&rt);
     let mut tree = Tree::new(rt.alloc(), 0i32, 4096);
-    fill(&rt, &mut tree, all(-4096), all(-1), off(1), &mut steps)?;
+    fill(&rt, &mut tree, all(-4096), all(-1), off(1), &mut steps);
     expect_census(&rt, &tree, [1, 0, 0, 0], &mut steps);
-    fill(&rt, &mut tree, all(-4096), all(4095), on(0), &mut steps)?;
+    fill(&rt, &mut tree, all(-4096), all(4095), on(0), &mut steps);
     expect_census(&rt, &tree, [8, 0, 0, 0], &mut steps);
-    tree.write(at(0, 0, -1), Write::Off(0), &mut steps)?;
+    write(&rt, &mut tree, at(0, 0, -1), Write::Off(0), &mut steps);
     expect_census(&rt, &tree, [8, 1, 1, 1], &mut steps);
-    tree.write(at(0, 0, -1), Write::On(0), &mut steps)?;
+    write(&rt, &mut tree, at(0, 0, -1), Write::On(0), &mut steps);
     expect_nodes(&rt, &tree, [8, 1, 1, 1]);
     expect_census(&rt, &tree, [8, 0, 0, 0], &mut steps);
-    Ok(())
 }
 
 // A sheet of one voxel's height through a root block: 32 by 32 lower blocks, of 16 by 16 leaves each.
 #[test]
-fn a_sheet(rt: HostRuntime) -> Result<(), TreeRefusal> {
+fn a_sheet(rt: HostRuntime) {
     let mut steps = Steps::new(&rt);
     let mut tree = Tree::new(rt.alloc(), false, 4096);
     fill(
@@ -146,17 +142,16 @@ fn a_sheet(rt: HostRuntime) -> Result<(), TreeRefusal> {
         at(0, 4095, 4095),
         on(true),
         &mut steps,
-    )?;
+    );
     expect_census(&rt, &tree, [1, 1, 1024, 262_144], &mut steps);
-    Ok(())
 }
 
 // 65,536 voxels along each axis, in 4,096 tiles of the root table: no node is visited.
 #[test]
-fn tiles_count_at_once(rt: HostRuntime) -> Result<(), TreeRefusal> {
+fn tiles_count_at_once(rt: HostRuntime) {
     let mut steps = Steps::new(&rt);
     let mut tree = Tree::new(rt.alloc(), 0i32, 4096);
-    fill(&rt, &mut tree, all(-32768), all(32767), on(1), &mut steps)?;
+    fill(&rt, &mut tree, all(-32768), all(32767), on(1), &mut steps);
     let before = steps.count();
     expect_census(&rt, &tree, [4096, 0, 0, 0], &mut steps);
     let cases = [
@@ -167,19 +162,18 @@ fn tiles_count_at_once(rt: HostRuntime) -> Result<(), TreeRefusal> {
         (all(i32::MIN), all(i32::MAX), None),
     ];
     expect_uniform(&rt, &tree, &cases, &mut steps);
-    assert_eq!(rt; steps.count(), before);
-    Ok(())
+    expect_visits(&rt, &steps, before, 0);
 }
 
 #[test]
-fn boxes_of_one_cell(rt: HostRuntime) -> Result<(), TreeRefusal> {
+fn boxes_of_one_cell(rt: HostRuntime) {
     let mut steps = Steps::new(&rt);
     let mut tree = Tree::new(rt.alloc(), 0i32, 4096);
     let mut tiny = Tiny::new(rt.alloc(), 0i32, 4096);
     let whole = [(all(i32::MIN), all(i32::MAX), Some(off(0)))];
     expect_uniform(&rt, &tree, &whole, &mut steps);
-    fill(&rt, &mut tree, all(3), all(12), on(1), &mut steps)?;
-    fill(&rt, &mut tiny, all(3), all(12), on(1), &mut steps)?;
+    fill(&rt, &mut tree, all(3), all(12), on(1), &mut steps);
+    fill(&rt, &mut tiny, all(3), all(12), on(1), &mut steps);
     let cases = [
         (all(3), all(12), Some(on(1))),
         (all(3), at(12, 12, 13), None),
@@ -195,37 +189,34 @@ fn boxes_of_one_cell(rt: HostRuntime) -> Result<(), TreeRefusal> {
     expect_uniform(&rt, &tree, &cases, &mut steps);
     expect_uniform(&rt, &tiny, &cases, &mut steps);
     // a state alone, then a value alone
-    tree.write(all(7), Write::State(false), &mut steps)?;
+    write(&rt, &mut tree, all(7), Write::State(false), &mut steps);
     let cases = [
         (all(3), all(12), None),
         (all(7), all(7), Some(off(1))),
         (at(3, 3, 8), all(12), Some(on(1))),
     ];
     expect_uniform(&rt, &tree, &cases, &mut steps);
-    tree.write(all(7), Write::On(2), &mut steps)?;
+    write(&rt, &mut tree, all(7), Write::On(2), &mut steps);
     let cases = [(all(3), all(12), None), (all(7), all(7), Some(on(2)))];
     expect_uniform(&rt, &tree, &cases, &mut steps);
-    tree.write(all(7), Write::On(1), &mut steps)?;
+    write(&rt, &mut tree, all(7), Write::On(1), &mut steps);
     expect_uniform(&rt, &tree, &[(all(3), all(12), Some(on(1)))], &mut steps);
-    Ok(())
 }
 
 // A leaf is decided by itself: three visits find its first voxel, twice, and three the leaf.
 #[test]
-fn leaves_are_decided_at_once(rt: HostRuntime) -> Result<(), TreeRefusal> {
+fn leaves_are_decided_at_once(rt: HostRuntime) {
     let mut steps = Steps::new(&rt);
     let mut tree = Tree::new(rt.alloc(), 0i32, 4096);
-    let bounds = Bounds::new(all(8), all(15)).expect(&rt, "a box");
-    fill(&rt, &mut tree, all(0), all(127), on(1), &mut steps)?;
-    tree.voxelise(bounds, &mut steps)?;
+    fill(&rt, &mut tree, all(0), all(127), on(1), &mut steps);
+    voxelise(&rt, &mut tree, all(8), all(15), &mut steps);
     let before = steps.count();
     expect_uniform(&rt, &tree, &[(all(8), all(15), Some(on(1)))], &mut steps);
-    assert_eq!(rt; steps.count().wrapping_sub(before), 9);
-    tree.write(all(15), Write::On(2), &mut steps)?;
+    expect_visits(&rt, &steps, before, 9);
+    write(&rt, &mut tree, all(15), Write::On(2), &mut steps);
     let before = steps.count();
     expect_uniform(&rt, &tree, &[(all(8), all(15), None)], &mut steps);
-    assert_eq!(rt; steps.count().wrapping_sub(before), 9);
-    Ok(())
+    expect_visits(&rt, &steps, before, 9);
 }
 
 /// Knuth's generator of 64 bits.
@@ -351,8 +342,52 @@ impl Wanted {
     }
 }
 
+// Whether boxes that are drawn are of one cell.
+fn expect_parts(
+    rt: &impl Abort,
+    tree: &Tiny<i32>,
+    wanted: &Wanted,
+    draws: &mut Draws,
+    steps: &mut Steps,
+) {
+    for _ in 0..20 {
+        if let Some(part) = draws.bounds() {
+            let found = uniform(tree, part, steps);
+            assert_eq!(rt; found, wanted.uniform(part), "{part:?}");
+        }
+    }
+}
+
+// Gives a box that is drawn a cell, and now and then leaves. Every fourth time the tree is pruned.
+fn try_box(
+    rt: &impl Abort,
+    tree: &mut Tiny<i32>,
+    wanted: &mut Wanted,
+    draws: &mut Draws,
+    turn: u32,
+    steps: &mut Steps,
+) {
+    let Some(bounds) = draws.bounds() else {
+        return;
+    };
+    let (min, max) = (bounds.min(), bounds.max());
+    let cell = draws.cell();
+    fill(rt, tree, min, max, cell, steps);
+    wanted.put(bounds, cell).expect(rt, "memory for a map");
+    if turn % 8 == 3 {
+        voxelise(rt, tree, min, max, steps);
+    }
+    expect_census(rt, tree, wanted.census(), steps);
+    expect_parts(rt, tree, wanted, draws, steps);
+    if turn % 4 == 1 {
+        tree.prune(steps);
+        expect_nodes(rt, tree, wanted.census());
+        expect_census(rt, tree, wanted.census(), steps);
+    }
+}
+
 #[test]
-fn random_boxes(rt: HostRuntime) -> Result<(), TreeRefusal> {
+fn random_boxes(rt: HostRuntime) {
     let mut steps = Steps::new(&rt);
     let mut draws = Draws { state: 5 };
     let mut tree = Tiny::new(rt.alloc(), 0i32, 4096);
@@ -361,30 +396,6 @@ fn random_boxes(rt: HostRuntime) -> Result<(), TreeRefusal> {
         cells: BTreeMap::new(rt.alloc()),
     };
     for turn in 0..40u32 {
-        let Some(bounds) = draws.bounds() else {
-            continue;
-        };
-        let cell = draws.cell();
-        fill(&rt, &mut tree, bounds.min(), bounds.max(), cell, &mut steps)?;
-        wanted.put(bounds, cell)?;
-        if turn % 8 == 3 {
-            tree.voxelise(bounds, &mut steps)?;
-        }
-        expect_census(&rt, &tree, wanted.census(), &mut steps);
-        for _ in 0..20 {
-            if let Some(part) = draws.bounds() {
-                assert_eq!(rt;
-                    uniform(&tree, part, &mut steps),
-                    wanted.uniform(part),
-                    "{part:?}"
-                );
-            }
-        }
-        if turn % 4 == 1 {
-            tree.prune(&mut steps);
-            expect_nodes(&rt, &tree, wanted.census());
-            expect_census(&rt, &tree, wanted.census(), &mut steps);
-        }
+        try_box(&rt, &mut tree, &mut wanted, &mut draws, turn, &mut steps);
     }
-    Ok(())
 }

@@ -2,13 +2,12 @@
 
 ghost use Rattle.std.specs.Prelude.{◌<◌};
 
-use super::{Tiny, all, at, fill, off, on};
-use std::alloc::{AllocError, Global};
+use super::{Tiny, all, at, fill, off, on, voxelise, write};
 use std::collections::BTreeMap;
 use std::process::Abort;
 use vdb_coord::{Bounds, Coord};
 use vdb_pool::Steps;
-use vdb_tree::{Tree, Tree433, TreeOf, TreeRefusal, Write};
+use vdb_tree::{Tree, Tree433, TreeOf, Write};
 use vdb_walk::{list, next_active};
 
 // The listing of the box is this, and more is left before each voxel but not past the last.
@@ -42,19 +41,18 @@ fn expect_listing<
 }
 
 #[test]
-fn nothing_active(rt: HostRuntime) -> Result<(), TreeRefusal> {
+fn nothing_active(rt: HostRuntime) {
     let mut steps = Steps::new(&rt);
     let mut tree = Tree::new(rt.alloc(), 5i32, 4096);
     let whole = (all(i32::MIN), all(i32::MAX));
     expect_listing(&rt, &tree, whole, &[], &mut steps);
-    fill(&rt, &mut tree, all(0), all(4095), off(1), &mut steps)?;
-    tree.write(at(1, 2, 3), Write::Off(7), &mut steps)?;
+    fill(&rt, &mut tree, all(0), all(4095), off(1), &mut steps);
+    write(&rt, &mut tree, at(1, 2, 3), Write::Off(7), &mut steps);
     expect_listing(&rt, &tree, whole, &[], &mut steps);
-    Ok(())
 }
 
 #[test]
-fn five_voxels(rt: HostRuntime) -> Result<(), TreeRefusal> {
+fn five_voxels(rt: HostRuntime) {
     let mut steps = Steps::new(&rt);
     let mut tree = Tree::new(rt.alloc(), 0i32, 4096);
     let voxels = [
@@ -65,9 +63,9 @@ fn five_voxels(rt: HostRuntime) -> Result<(), TreeRefusal> {
         (at(-1, 0, 0), 5),
     ];
     for (p, value) in voxels {
-        tree.write(p, Write::On(value), &mut steps)?;
+        write(&rt, &mut tree, p, Write::On(value), &mut steps);
     }
-    tree.write(at(0, 0, 3), Write::Off(6), &mut steps)?;
+    write(&rt, &mut tree, at(0, 0, 3), Write::Off(6), &mut steps);
     let wanted = [
         (at(-1, 0, 0), 5),
         (at(0, 0, 7), 2),
@@ -79,52 +77,61 @@ fn five_voxels(rt: HostRuntime) -> Result<(), TreeRefusal> {
     expect_listing(&rt, &tree, corners, &wanted, &mut steps);
     let part = [(at(0, 0, 7), 2), (at(0, 0, 8), 1)];
     expect_listing(&rt, &tree, (all(0), at(7, 0, 20)), &part, &mut steps);
-    Ok(())
+}
+
+// With this limit the listing hands out so many of the voxels with z 0, 4, 8 and so on, and then tells whether more are left.
+fn expect_limited(
+    rt: &impl Abort,
+    tree: &Tree<i32>,
+    bounds: Bounds,
+    limit: u32,
+    handed: i32,
+    more: bool,
+    steps: &mut Steps,
+) {
+    let mut listing = list(tree, bounds, limit);
+    for z in 0..handed {
+        let wanted = Some((at(0, 0, z.wrapping_mul(4)), z));
+        assert_eq!(rt; listing.next(steps), wanted, "limit {limit}");
+    }
+    assert_eq!(rt; listing.next(steps), None, "limit {limit}");
+    assert_eq!(rt; listing.more(steps), more, "limit {limit}");
 }
 
 // A limit ends a listing early, and more tells of the box alone.
 #[test]
-fn limits(rt: HostRuntime) -> Result<(), TreeRefusal> {
+fn limits(rt: HostRuntime) {
     let mut steps = Steps::new(&rt);
     let mut tree = Tree::new(rt.alloc(), 0i32, 4096);
     for z in 0..5i32 {
-        tree.write(at(0, 0, z.wrapping_mul(4)), Write::On(z), &mut steps)?;
+        let p = at(0, 0, z.wrapping_mul(4));
+        write(&rt, &mut tree, p, Write::On(z), &mut steps);
     }
     let bounds = Bounds::new(at(0, 0, 0), at(0, 0, 19)).expect(&rt, "a box");
-    for (limit, handed, more) in [(10, 5i32, false), (2, 2, true), (5, 5, false), (0, 0, true)] {
-        let mut listing = list(&tree, bounds, limit);
-        for z in 0..handed {
-            assert_eq!(rt;
-                listing.next(&mut steps),
-                Some((at(0, 0, z.wrapping_mul(4)), z))
-            );
-        }
-        assert_eq!(rt; listing.next(&mut steps), None, "limit {limit}");
-        assert_eq!(rt; listing.more(&mut steps), more, "limit {limit}");
+    for (limit, handed, more) in [(10, 5, false), (2, 2, true), (5, 5, false), (0, 0, true)] {
+        expect_limited(&rt, &tree, bounds, limit, handed, more, &mut steps);
     }
-    Ok(())
 }
 
 // Both lie in one lower block where lower blocks span 128 voxels, and in two where they span 64.
 #[test]
-fn two_layouts(rt: HostRuntime) -> Result<(), TreeRefusal> {
+fn two_layouts(rt: HostRuntime) {
     let mut steps = Steps::new(&rt);
     let mut tree = Tree::new(rt.alloc(), 0i32, 4096);
     let mut other = Tree433::new(rt.alloc(), 0i32, 4096);
     for p in [at(0, 0, 64), at(63, 0, 0)] {
-        tree.write(p, Write::On(1), &mut steps)?;
-        other.write(p, Write::On(1), &mut steps)?;
+        write(&rt, &mut tree, p, Write::On(1), &mut steps);
+        write(&rt, &mut other, p, Write::On(1), &mut steps);
     }
     let corners = (all(0), all(100));
     let wanted = [(at(0, 0, 64), 1), (at(63, 0, 0), 1)];
     expect_listing(&rt, &tree, corners, &wanted, &mut steps);
     let wanted = [(at(63, 0, 0), 1), (at(0, 0, 64), 1)];
     expect_listing(&rt, &other, corners, &wanted, &mut steps);
-    Ok(())
 }
 
 #[test]
-fn ends_of_the_range(rt: HostRuntime) -> Result<(), TreeRefusal> {
+fn ends_of_the_range(rt: HostRuntime) {
     let mut steps = Steps::new(&rt);
     let mut tree = Tiny::new(rt.alloc(), 0i32, 4096);
     let wanted = [
@@ -134,23 +141,21 @@ fn ends_of_the_range(rt: HostRuntime) -> Result<(), TreeRefusal> {
         (all(i32::MAX), 4),
     ];
     for (p, value) in wanted {
-        tree.write(p, Write::On(value), &mut steps)?;
+        write(&rt, &mut tree, p, Write::On(value), &mut steps);
     }
     let whole = (all(i32::MIN), all(i32::MAX));
     expect_listing(&rt, &tree, whole, &wanted, &mut steps);
     let last = (all(i32::MAX), all(i32::MAX));
     expect_listing(&rt, &tree, last, &[(all(i32::MAX), 4)], &mut steps);
-    Ok(())
 }
 
 // An active tile is listed voxel by voxel: here the eight about an edge of two leaf blocks, of which one is a tile.
 #[test]
-fn tiles(rt: HostRuntime) -> Result<(), TreeRefusal> {
+fn tiles(rt: HostRuntime) {
     let mut steps = Steps::new(&rt);
     let mut tree = Tree::new(rt.alloc(), 0i32, 4096);
-    fill(&rt, &mut tree, all(0), all(7), on(3), &mut steps)?;
-    assert_eq!(rt; tree.node_counts().leaf, 0);
-    tree.write(at(6, 6, 8), Write::On(9), &mut steps)?;
+    fill(&rt, &mut tree, all(0), all(7), on(3), &mut steps);
+    write(&rt, &mut tree, at(6, 6, 8), Write::On(9), &mut steps);
     let wanted = [
         (at(6, 6, 7), 3),
         (at(6, 7, 7), 3),
@@ -159,16 +164,28 @@ fn tiles(rt: HostRuntime) -> Result<(), TreeRefusal> {
         (at(6, 6, 8), 9),
     ];
     expect_listing(&rt, &tree, (at(6, 6, 7), all(8)), &wanted, &mut steps);
-    Ok(())
+}
+
+// The first active voxel of a box past a coordinate.
+fn expect_next(
+    rt: &impl Abort,
+    tree: &Tree<i32>,
+    bounds: Bounds,
+    after: Coord,
+    wanted: Option<(Coord, i32)>,
+    steps: &mut Steps,
+) {
+    let found = next_active(tree, Some(after), bounds, steps);
+    assert_eq!(rt; found, wanted, "past {after:?}");
 }
 
 // The first voxel past a coordinate outside of the box, and past one that isn't active.
 #[test]
-fn past_any_coordinate(rt: HostRuntime) -> Result<(), TreeRefusal> {
+fn past_any_coordinate(rt: HostRuntime) {
     let mut steps = Steps::new(&rt);
     let mut tree = Tree::new(rt.alloc(), 0i32, 4096);
-    fill(&rt, &mut tree, all(0), all(7), on(3), &mut steps)?;
-    tree.write(at(0, 0, 4096), Write::On(1), &mut steps)?;
+    fill(&rt, &mut tree, all(0), all(7), on(3), &mut steps);
+    write(&rt, &mut tree, at(0, 0, 4096), Write::On(1), &mut steps);
     let bounds = Bounds::new(at(0, 2, 2), at(9, 5, 4096)).expect(&rt, "a box");
     let cases = [
         (all(-5), Some((at(0, 2, 2), 3))),
@@ -180,10 +197,8 @@ fn past_any_coordinate(rt: HostRuntime) -> Result<(), TreeRefusal> {
         (at(7, 5, 7), None),
     ];
     for (after, wanted) in cases {
-        let found = next_active(&tree, Some(after), bounds, &mut steps);
-        assert_eq!(rt; found, wanted, "past {after:?}");
+        expect_next(&rt, &tree, bounds, after, wanted, &mut steps);
     }
-    Ok(())
 }
 
 /// Knuth's generator of 64 bits.
@@ -226,41 +241,29 @@ fn placed(x: u64, y: u64, z: u64) -> Coord
     at(x as i32 - 8, y as i32 - 8, z as i32 - 8)
 }
 
-fn put(
-    map: &mut BTreeMap<u64, (Coord, i32)>,
-    rank: u64,
-    item: (Coord, i32),
-) -> Result<(), AllocError> {
-    map.insert(rank, item)?;
-    Ok(())
+fn put(rt: &impl Abort, map: &mut BTreeMap<u64, (Coord, i32)>, rank: u64, item: (Coord, i32)) {
+    let put: Result<_, _> = map.insert(rank, item);
+    put.expect(rt, "memory for a map");
 }
 
-// Random voxels and boxes of a tree, pruned and voxelised now and then, beside a map in the order of ranks.
-fn try_changes(
+// Writes a voxel that is drawn. The map is in the order of ranks.
+fn write_one(
     rt: &impl Abort,
     tree: &mut Tiny<i32>,
     wanted: &mut BTreeMap<u64, (Coord, i32)>,
     draws: &mut Draws,
+    value: i32,
     steps: &mut Steps,
-) -> Result<(), TreeRefusal> {
-    for i in 0..40i32 {
-        let (x, y, z) = (draws.below(24), draws.below(24), draws.below(24));
-        let p = placed(x, y, z);
-        if draws.below(4) == 0 {
-            tree.write(p, Write::Off(i), steps)?;
-            wanted.remove(&rank(x, y, z));
-        } else {
-            tree.write(p, Write::On(i), steps)?;
-            put(wanted, rank(x, y, z), (p, i))?;
-        }
-        if draws.below(10) == 0 {
-            fill_block(rt, tree, wanted, draws, steps)?;
-        }
-        if draws.below(16) == 0 {
-            tree.prune(steps);
-        }
+) {
+    let (x, y, z) = (draws.below(24), draws.below(24), draws.below(24));
+    let p = placed(x, y, z);
+    if draws.below(4) == 0 {
+        write(rt, tree, p, Write::Off(value), steps);
+        wanted.remove(&rank(x, y, z));
+    } else {
+        write(rt, tree, p, Write::On(value), steps);
+        put(rt, wanted, rank(x, y, z), (p, value));
     }
-    Ok(())
 }
 
 // Fills an aligned cube of four voxels along each axis with one active cell.
@@ -270,66 +273,62 @@ fn fill_block(
     wanted: &mut BTreeMap<u64, (Coord, i32)>,
     draws: &mut Draws,
     steps: &mut Steps,
-) -> Result<(), TreeRefusal> {
+) {
     let (x, y, z) = (draws.below(6), draws.below(6), draws.below(6));
     let (x, y, z) = (4 * x, 4 * y, 4 * z);
-    fill(
-        rt,
-        tree,
-        placed(x, y, z),
-        placed(x + 3, y + 3, z + 3),
-        on(-1),
-        steps,
-    )?;
+    let (min, max) = (placed(x, y, z), placed(x + 3, y + 3, z + 3));
+    fill(rt, tree, min, max, on(-1), steps);
     for i in 0..64u64 {
         let (a, b, c) = (x + i / 16, y + i / 4 % 4, z + i % 4);
-        put(wanted, rank(a, b, c), (placed(a, b, c), -1))?;
+        put(rt, wanted, rank(a, b, c), (placed(a, b, c), -1));
     }
-    Ok(())
 }
 
-// The listing of the box is this.
+// Random voxels and boxes of a tree, pruned now and then, beside a map in the order of ranks.
+fn try_changes(
+    rt: &impl Abort,
+    tree: &mut Tiny<i32>,
+    wanted: &mut BTreeMap<u64, (Coord, i32)>,
+    draws: &mut Draws,
+    steps: &mut Steps,
+) {
+    for i in 0..40i32 {
+        write_one(rt, tree, wanted, draws, i, steps);
+        if draws.below(10) == 0 {
+            fill_block(rt, tree, wanted, draws, steps);
+        }
+        if draws.below(16) == 0 {
+            tree.prune(steps);
+        }
+    }
+}
+
+// The listing of the blocks from -8 to 15 is that of the map.
 fn expect_items(
     rt: &impl Abort,
     tree: &Tiny<i32>,
-    bounds: Bounds,
-    wanted: &[(Coord, i32)],
+    wanted: &BTreeMap<u64, (Coord, i32)>,
     steps: &mut Steps,
 ) {
+    let bounds = Bounds::new(all(-8), all(15)).expect(rt, "a box");
     let mut listing = list(tree, bounds, u32::MAX);
-    for item in wanted {
+    for (_, item) in wanted {
         assert_eq!(rt; listing.next(steps), Some(*item));
     }
     assert_eq!(rt; listing.next(steps), None);
 }
 
 #[test]
-fn changes_beside_a_sorted_map(rt: HostRuntime) -> Result<(), TreeRefusal> {
+fn changes_beside_a_sorted_map(rt: HostRuntime) {
     let mut steps = Steps::new(&rt);
     let alloc = rt.alloc();
     for state in 1..3 {
         let mut draws = Draws { state };
         let mut wanted = BTreeMap::new(alloc);
         let mut tree = Tiny::new(alloc, 0i32, 4096);
-        try_changes(&rt, &mut tree, &mut wanted, &mut draws, &mut steps)?;
-        let blocks = Bounds::new(all(-8), all(15)).expect(&rt, "a box");
-        let items = in_turn(alloc, &wanted)?;
-        expect_items(&rt, &tree, blocks, &items, &mut steps);
-        let bounds = Bounds::new(all(-8), all(3)).expect(&rt, "a box");
-        tree.voxelise(bounds, &mut steps)?;
-        expect_items(&rt, &tree, blocks, &items, &mut steps);
+        try_changes(&rt, &mut tree, &mut wanted, &mut draws, &mut steps);
+        expect_items(&rt, &tree, &wanted, &mut steps);
+        voxelise(&rt, &mut tree, all(-8), all(3), &mut steps);
+        expect_items(&rt, &tree, &wanted, &mut steps);
     }
-    Ok(())
-}
-
-// The values of the map in the order of its keys.
-fn in_turn(
-    alloc: Global,
-    map: &BTreeMap<u64, (Coord, i32)>,
-) -> Result<Vec<(Coord, i32)>, AllocError> {
-    let mut items = Vec::new(alloc);
-    for (_, item) in map {
-        items.push(*item)?;
-    }
-    Ok(items)
 }

@@ -11,5 +11,7 @@ invariant_of-self g c =
 
 pub returns-clause-near : goal.returns-clause-near
 returns-clause-near g c = λ q e b.
-    let n = near_visits _ q c.args.p _ b (c.self.invariant c.args.k q (rw (← c.self.view_is) at e)) in
-    one_visit _ _ _ (rw (c.start-path.ensures.value q e, ← c.self.view_is) at c.descend-cell.ensures.steps) n
+    let v = c.start-q.ensures.value q e in
+    let f = rw (← c.start-q.ensures.last) at e in
+    let n = near_visits _ q c.args.p _ b (c.self.invariant c.args.k q (rw (← c.self.view_is) at f)) in
+    one_visit _ _ _ (rw v.0 at c.descend-cell.ensures.steps) n

@@ -8,4 +8,4 @@ pub returns-clause-cell : goal.returns-clause-cell
 returns-clause-cell g c =
     let t = c.args.self.now in
     let here = fits_everywhere c.args.p (search rules) (search rules) (search rules) in
-    sym (cell_inside t.background (cell_at (bits_of g.row.U g.row.L g.row.F) t) c.args.p here ∙ c.found_from-found.ensures.cell)
+    sym (cell_inside t.background (cell_at (bits_of g.row.U g.row.L g.row.F) t) c.args.p here ∙ c.descend_from.ensures.cell)
