@@ -110,7 +110,7 @@ impl<V: Stored<512> + Stored<64> + Stored<8>, const K: usize> Grid<V, K> {
                 self.coords[k] = Some(p);
                 cell
             }
-            None => self.go_to(k, p, steps),
+            None => self.go_to(k, copied(p), steps),
         }
     }
 
@@ -270,4 +270,14 @@ impl<V: Stored<512> + Stored<64> + Stored<8>, const K: usize> Grid<V, K> {
             paths: [Path::Empty; K],
         })
     }
+}
+
+/// The same coordinate, made anew from its components. A call takes a coordinate by its address: one that is made for a call alone
+/// leaves the other in registers.
+#[inline(always)]
+fn copied(p: Coord) -> Coord
+    ensures { result ≡ p }
+{
+    let Coord { x, y, z } = p;
+    Coord { x, y, z }
 }

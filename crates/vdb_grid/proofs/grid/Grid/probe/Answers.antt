@@ -11,7 +11,7 @@ returns-in-Some-clause-below g c = λ q e.
     rw (← c.self.view_is) (near_below _ _ _ c.args.k q c.args.p _ _ c.self.invariant (rw (← c.self.view_is) at e) (rw (← c.self.view_is) at (sym c.in-Some.ensures.answer)) c.in-Some.ensures.steps)
 
 pub returns-in-None-clause-below : goal.returns-in-None-clause-below
-returns-in-None-clause-below g c = λ q e. omega (arith, c.go_to.ensures.below q e, c.in-None.ensures.steps)
+returns-in-None-clause-below g c = λ q e. omega (arith, rw c.copied.ensures at (c.go_to.ensures.below q e), c.in-None.ensures.steps)
 
 pub returns-in-None-clause-near : goal.returns-in-None-clause-near
-returns-in-None-clause-near g c = λ q e b. omega (arith, c.go_to.ensures.near q e b, c.in-None.ensures.steps)
+returns-in-None-clause-near g c = λ q e b. omega (arith, c.go_to.ensures.near q e (rw (← c.copied.ensures) at b), c.in-None.ensures.steps)
