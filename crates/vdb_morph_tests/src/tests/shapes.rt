@@ -169,8 +169,8 @@ fn draw<
     }
 }
 
-// Turns of a random shape in an empty tree.
-fn try_shape<
+// Turns of a copy of a tree, beside the tree itself.
+fn expect_shape<
     V: Stored<WU> + Stored<WL> + Stored<WF>,
     const U: u32,
     const L: u32,
@@ -180,8 +180,23 @@ fn try_shape<
     const WF: usize,
 >(
     rt: &(impl Abort + AllocGlobal),
-    tree: &mut TreeOf<V, U, L, F, WU, WL, WF>,
-    values: [V; 2],
+    tree: &TreeOf<V, U, L, F, WU, WL, WF>,
+    copy: &mut TreeOf<V, U, L, F, WU, WL, WF>,
+    place: Place,
+    what: (Turn, u32),
+    steps: &mut Steps,
+)
+    requires some { 1 ≤ what.1 }
+    requires few { what.1 ≤ 16 }
+{
+    what.0.make(rt, copy, what.1, steps);
+    let trees = (tree, &*copy);
+    expect_turns(rt, rt.alloc(), trees, what, place.cube(), steps);
+}
+
+// Turns of a random shape in small nodes.
+fn try_small_nodes(
+    rt: &(impl Abort + AllocGlobal),
     place: Place,
     what: (Turn, u32),
     draws: &mut Draws,
@@ -190,40 +205,68 @@ fn try_shape<
     requires some { 1 ≤ what.1 }
     requires few { what.1 ≤ 16 }
 {
-    draw(rt, tree, values, place, draws, steps);
-    let mut turned = tree.try_copy().expect(rt, "a copy");
-    what.0.make(rt, &mut turned, what.1, steps);
-    let trees = (&*tree, &turned);
-    expect_turns(rt, rt.alloc(), trees, what, place.cube(), steps);
+    let mut tree = Tiny::new(rt.alloc(), 3i32, 4096);
+    draw(rt, &mut tree, [3, 4], place, draws, steps);
+    let mut copy = tree.try_copy().expect(rt, "a copy");
+    expect_shape(rt, &tree, &mut copy, place, what, steps);
 }
 
-// Turns of random shapes in small nodes, of each number of turns.
-fn try_small_nodes(
+// Turns of a random shape in leaves of three bits.
+fn try_leaves(
     rt: &(impl Abort + AllocGlobal),
-    turn: Turn,
+    place: Place,
+    what: (Turn, u32),
     draws: &mut Draws,
     steps: &mut Steps,
-) {
-    for turns in 1..=16u32 {
-        for place in places(15, [1, 3, 7]) {
-            let tree = &mut Tiny::new(rt.alloc(), 3i32, 4096);
-            try_shape(rt, tree, [3, 4], place, (turn, turns), draws, steps);
-        }
-    }
+)
+    requires some { 1 ≤ what.1 }
+    requires few { what.1 ≤ 16 }
+{
+    let mut tree = Leaves8::new(rt.alloc(), -1i64, 4096);
+    draw(rt, &mut tree, [-1, 9], place, draws, steps);
+    let mut copy = tree.try_copy().expect(rt, "a copy");
+    expect_shape(rt, &tree, &mut copy, place, what, steps);
+}
+
+// Turns of a random shape in the nodes of a grid.
+fn try_whole_numbers(
+    rt: &(impl Abort + AllocGlobal),
+    place: Place,
+    what: (Turn, u32),
+    draws: &mut Draws,
+    steps: &mut Steps,
+)
+    requires some { 1 ≤ what.1 }
+    requires few { what.1 ≤ 16 }
+{
+    let mut tree = Tree::new(rt.alloc(), 0i32, 4096);
+    draw(rt, &mut tree, [0, -7], place, draws, steps);
+    let mut copy = tree.try_copy().expect(rt, "a copy");
+    expect_shape(rt, &tree, &mut copy, place, what, steps);
 }
 
 #[test]
 fn shapes_in_small_nodes_grow(rt: HostRuntime) {
     let mut steps = Steps::new(&rt);
     let mut draws = Draws { state: 1 };
-    try_small_nodes(&rt, Turn::Dilate, &mut draws, &mut steps);
+    for turns in 1..=16u32 {
+        for place in places(15, [1, 3, 7]) {
+            let what = (Turn::Dilate, turns);
+            try_small_nodes(&rt, place, what, &mut draws, &mut steps);
+        }
+    }
 }
 
 #[test]
 fn shapes_in_small_nodes_shrink(rt: HostRuntime) {
     let mut steps = Steps::new(&rt);
     let mut draws = Draws { state: 6 };
-    try_small_nodes(&rt, Turn::Erode, &mut draws, &mut steps);
+    for turns in 1..=16u32 {
+        for place in places(15, [1, 3, 7]) {
+            let what = (Turn::Erode, turns);
+            try_small_nodes(&rt, place, what, &mut draws, &mut steps);
+        }
+    }
 }
 
 // Tiles span 8, 16 and 32 voxels.
@@ -232,13 +275,11 @@ fn shapes_in_leaves_of_three_bits(rt: HostRuntime) {
     let mut steps = Steps::new(&rt);
     let mut draws = Draws { state: 2 };
     for (i, place) in places(63, [7, 15, 31]).into_iter().enumerate() {
-        let tree = &mut Leaves8::new(rt.alloc(), -1i64, 4096);
         let what = (draws.turn(), 1 + (i.wrapping_mul(7) % 16) as u32);
-        try_shape(&rt, tree, [-1, 9], place, what, &mut draws, &mut steps);
+        try_leaves(&rt, place, what, &mut draws, &mut steps);
     }
 }
 
-// Turns of a random shape in the nodes of a grid.
 #[test]
 fn shapes_of_whole_numbers(rt: HostRuntime) {
     let mut steps = Steps::new(&rt);
@@ -247,9 +288,7 @@ fn shapes_of_whole_numbers(rt: HostRuntime) {
     for turns in 1..=16u32 {
         let place = places[1 + (turns % 8) as usize];
         for turn in [Turn::Dilate, Turn::Erode] {
-            let tree = &mut Tree::new(rt.alloc(), 0i32, 4096);
-            let what = (turn, turns);
-            try_shape(&rt, tree, [0, -7], place, what, &mut draws, &mut steps);
+            try_whole_numbers(&rt, place, (turn, turns), &mut draws, &mut steps);
         }
     }
 }
