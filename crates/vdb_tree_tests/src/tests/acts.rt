@@ -11,7 +11,7 @@ use vdb_value::Cell;
 
 /// One thing done to a tree, or expected of it. A box is given by its first voxel and its last one.
 #[derive(Clone, Copy)]
-pub enum Act<V> {
+pub(super) enum Act<V> {
     Write(Coord, Write<V>),
     /// A write that the root limit refuses.
     Refused(Coord, Write<V>),
@@ -351,7 +351,7 @@ fn act_once<
 }
 
 /// Each act in turn. They are numbered from 0 in the texts of what fails.
-pub fn run<
+pub(super) fn run<
     V: Stored<WU> + Stored<WL> + Stored<WF>,
     const U: u32,
     const L: u32,
@@ -366,7 +366,7 @@ pub fn run<
 }
 
 /// Each act in turn, of a tree that is given up then.
-pub fn try_acts<
+pub(super) fn try_acts<
     V: Stored<WU> + Stored<WL> + Stored<WF>,
     const U: u32,
     const L: u32,
