@@ -4,8 +4,9 @@
 rt ci tries edits and proves tests as soon as it may, as many tasks side by side as there are processors, so that they take turns with the
 proofs that all other crates wait for. Here they give way to proofs, and each says how long it took (lanes.py). What is read, proved, run
 and tried, and what fails, is rt's own: only the function that says when a task runs gives way. In a kit whose rt has no such function, this is
-rt ci. With names of crates it does so for these and those below them alone, on a copy, as rt ci does with names.
+rt ci. With names of crates it does so for these and those below them alone, on a copy, where the kit's rt ci takes names.
 """
+import contextlib
 import importlib.machinery
 import importlib.util
 import os
@@ -31,9 +32,10 @@ def load():
 
 
 def lengths(tasks):
-    """How long each task is: a crate's lines for a proof or a seed, from which its edits begin, and an eighth for what begins with a seed."""
+    """How long each task is: a crate's lines for a proof or a seed, from which its edits begin, and an eighth for what begins with a seed. Without
+    seeds the edits of a crate are as long as its proof, which they begin with."""
     lines = {key[0]: task[1] for key, task in tasks.items() if key[1] == "proof"}
-    parts = {"seed": 1, "edits": 8, "sound": 8, "again": 8}
+    parts = {"seed": 1, "edits": 8, "sound": 8, "again": 8} if any(key[1] == "seed" for key in tasks) else {}
     return {key: 1 + lines[key[0]] // parts[key[1]] if key[1] in parts else task[1] for key, task in tasks.items()}
 
 
@@ -54,7 +56,7 @@ def told(key, call):
 def in_lanes(tasks):
     """Runs rt's tasks as in_turn does."""
     long = lengths(tasks)
-    with rt.ending():
+    with getattr(rt, "ending", contextlib.nullcontext)():  # where rt has it, it ends what tasks have started
         return in_turn(
             {key: (waits, long[key], min(needs, PROOF if key[1] == "proof" else OTHER), told(key, call)) for key, (waits, _, needs, call) in tasks.items()},
             rt.processors(),
@@ -63,6 +65,8 @@ def in_lanes(tasks):
 
 
 rt = load()
-if all(hasattr(rt, name) for name in ("in_lanes", "processors", "free", "ending")):
+if all(hasattr(rt, name) for name in ("in_lanes", "processors", "free")):
     rt.in_lanes = in_lanes
+else:
+    print("the processors are shared out by rt itself, whose functions have other names than those known here", flush=True)
 sys.exit(rt.main(["ci", *sys.argv[1:]]))

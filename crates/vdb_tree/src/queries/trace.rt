@@ -213,7 +213,9 @@ impl<
         ensures { result ≡ coord_eq (block_number (bits_of U L F) level q) (block_number (bits_of U L F) level p) }
     {
         let bits = self.bits();
-        q.block_number_in(bits, level) == p.block_number_in(bits, level)
+        let a = q.block_number_in(bits, level);
+        let b = p.block_number_in(bits, level);
+        (a.x == b.x) & (a.y == b.y) & (a.z == b.z) // one branch for the three
     }
 
     /// The cell at `p`, by the descent from the last of some nodes around `p`, or from the root where there is none. It leaves
