@@ -22,6 +22,9 @@ BEGUN = time.time()
 # own estimate is three times that
 PROOF, OTHER = 3_800_000_000, 2_800_000_000
 
+# how many lines are proved in the time of an edit
+EDIT = 300
+
 
 def load():
     """Loads rt as a module."""
@@ -32,11 +35,19 @@ def load():
 
 
 def lengths(tasks):
-    """How long each task is: a crate's lines for a proof or a seed, from which its edits begin, and an eighth for what begins with a seed. Without
-    seeds the edits of a crate are as long as its proof, which they begin with."""
+    """How long each task is, in lines: a crate's for a proof or a seed, from which its edits begin, and an eighth for what begins with a seed.
+    Without seeds the edits of a crate are one task: its proof and then each edit."""
     lines = {key[0]: task[1] for key, task in tasks.items() if key[1] == "proof"}
-    parts = {"seed": 1, "edits": 8, "sound": 8, "again": 8} if any(key[1] == "seed" for key in tasks) else {}
-    return {key: 1 + lines[key[0]] // parts[key[1]] if key[1] in parts else task[1] for key, task in tasks.items()}
+    if any(key[1] == "seed" for key in tasks):
+        parts = {"seed": 1, "edits": 8, "sound": 8, "again": 8}
+        return {key: 1 + lines[key[0]] // parts[key[1]] if key[1] in parts else task[1] for key, task in tasks.items()}
+    return {key: task[1] + (EDIT * count_edits(key[0]) if key[1] == "edits" else 0) for key, task in tasks.items()}
+
+
+def count_edits(name):
+    """How many must-fail edits a crate has."""
+    folder = f"crates/{name}/must-fail"
+    return len(os.listdir(folder)) if os.path.isdir(folder) else 0
 
 
 def told(key, call):
