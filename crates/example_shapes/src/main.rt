@@ -30,16 +30,14 @@ fn between(min: Coord, max: Coord) -> Result<Bounds> {
     Bounds::new(min, max).context("corners out of order")
 }
 
-/// A block of 8 voxels along each axis, and a line of three voxels past it.
-fn solid(rt: &impl Print, alloc: Global, steps: &mut Steps) -> Result<Tree<i32>> {
+/// Fills a block of 8 voxels along each axis, and writes a line of three voxels past it.
+fn build(tree: &mut Tree<i32>, steps: &mut Steps) -> Result<()> {
     let block = between(at(0, 0, 0), at(7, 7, 7))?;
-    let mut tree = Tree::new(alloc, 0, ROOT_LIMIT);
-    fill(&mut tree, block, Cell { value: 5, on: true }, steps)?;
+    fill(tree, block, Cell { value: 5, on: true }, steps)?;
     for z in 20..23 {
         tree.write(at(4, 4, z), Write::On(9), steps)?;
     }
-    println!(rt; "{} active voxels", count(&tree, None, steps))?;
-    Ok(tree)
+    Ok(())
 }
 
 /// A box of two voxels by two, long along z. Nothing but its states will count, so its values are truth values.
@@ -95,14 +93,27 @@ fn print_states(rt: &impl Print, leaf: &NumberLeaf) -> io::Result<()> {
     println!(rt; "")
 }
 
+/// Cuts a tunnel through a tree.
+fn cut(tree: &mut Tree<i32>, alloc: Global, steps: &mut Steps) -> Result<()> {
+    let tunnel = tunnel(alloc, steps)?;
+    subtract(tree, &tunnel, steps)?;
+    Ok(())
+}
+
+/// Builds, dilates and cuts, and prints what there is in between.
+fn show(rt: &impl Print, tree: &mut Tree<i32>, alloc: Global, steps: &mut Steps) -> Result<()> {
+    build(tree, steps)?;
+    println!(rt; "{} active voxels", count(tree, None, steps))?;
+    dilate(tree, 1, steps)?;
+    print_size(rt, tree, steps)?;
+    cut(tree, alloc, steps)?;
+    print_size(rt, tree, steps)?;
+    print_parts(rt, tree, steps)?;
+    Ok(())
+}
+
 fn main(rt: HostRuntime) -> Result<()> {
     let mut steps = Steps::new(&rt);
-    let mut tree = solid(&rt, rt.alloc(), &mut steps)?;
-    dilate(&mut tree, 1, &mut steps)?;
-    print_size(&rt, &tree, &mut steps)?;
-    let tunnel = tunnel(rt.alloc(), &mut steps)?;
-    subtract(&mut tree, &tunnel, &mut steps)?;
-    print_size(&rt, &tree, &mut steps)?;
-    print_parts(&rt, &tree, &mut steps)?;
-    Ok(())
+    let mut tree = Tree::new(rt.alloc(), 0, ROOT_LIMIT);
+    show(&rt, &mut tree, rt.alloc(), &mut steps)
 }
