@@ -94,6 +94,11 @@ fn up_to(p: Coord) -> Bounds {
     Bounds::new(at(0, 0, 0), p).unwrap_or(Bounds::single(p))
 }
 
+/// The cell of a voxel, looked up from the root.
+fn look_up(grid: &Grid<i32, ACCESSORS>, p: Coord, steps: &mut Steps) -> Cell<i32> {
+    grid.tree().get(p, steps)
+}
+
 /// The grid, a copy of it once there is one, and how many nodes were visited.
 #[derive(Drop)]
 struct Watched {
@@ -115,11 +120,18 @@ impl Watched {
         Some(cell)
     }
 
+    /// The coordinate that an accessor has, if it was given one.
+    fn coord_of(&self, k: usize) -> Option<Coord>
+        requires { k < ACCESSORS }
+    {
+        self.grid.cached(k)
+    }
+
     /// What an accessor sees in the leaf block of its last coordinate, where each look-up visits at most one node.
     fn near(&mut self, k: usize) -> Seen
         requires { k < ACCESSORS }
     {
-        let p = self.grid.cached(k)?;
+        let p = self.coord_of(k)?;
         let other = self.look(k, beside(p))?;
         let cell = self.look(k, p)?;
         Some((cell, other))
@@ -129,9 +141,9 @@ impl Watched {
     fn wanted(&mut self, k: usize) -> Seen
         requires { k < ACCESSORS }
     {
-        let p = self.grid.cached(k)?;
-        let cell = self.grid.tree().get(p, &mut self.steps);
-        let other = self.grid.tree().get(beside(p), &mut self.steps);
+        let p = self.coord_of(k)?;
+        let cell = look_up(&self.grid, p, &mut self.steps);
+        let other = look_up(&self.grid, beside(p), &mut self.steps);
         Some((cell, other))
     }
 
@@ -195,9 +207,9 @@ impl Watched {
     fn has_made(&mut self, call: Call) -> bool {
         let (p, cell) = call.outcome();
         if let (Call::Copy, Some(copy)) = (call, &self.copy) {
-            return copy.tree().get(p, &mut self.steps) == cell;
+            return look_up(copy, p, &mut self.steps) == cell;
         }
-        self.grid.tree().get(p, &mut self.steps) == cell
+        look_up(&self.grid, p, &mut self.steps) == cell
     }
 
     /// Makes a call, and where it is refused, makes it once more.
@@ -222,9 +234,9 @@ pub fn grid(rt: &HostRuntime) {
         copy: None,
         steps: Steps::new(rt),
     };
-    let _ = watched.grid.probe(0, at(1, 2, 3), &mut watched.steps);
-    let _ = watched.grid.probe(WRITER, WRITTEN, &mut watched.steps);
-    let _ = watched.grid.probe(7, at(5000, 0, 0), &mut watched.steps);
+    let _ = watched.look(0, at(1, 2, 3));
+    let _ = watched.look(WRITER, WRITTEN);
+    let _ = watched.look(7, at(5000, 0, 0));
     for call in CALLS {
         watched.attempt(rt, call);
     }

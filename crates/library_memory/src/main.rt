@@ -8,7 +8,7 @@ use std::process::ExitCode;
 use vdb_coord::Coord;
 use vdb_node::{Internal, Leaf};
 use vdb_pool::{Pool, Steps};
-use vdb_tree::{Tree, Write};
+use vdb_tree::{NodeCounts, Tree, Write};
 use vdb_value::Cell;
 
 /// The value of the cells that are copied.
@@ -19,6 +19,11 @@ const VOXELS: [i32; 3] = [0, 9, 5000];
 
 /// How many root blocks a tree may have.
 const LIMIT: u32 = 4096;
+
+/// The leaves and the lower internal nodes of a tree of numbers.
+type NumberLeaf = Leaf<i32, 3, 8>;
+
+type NumberNode = Internal<i32, 4, 64>;
 
 fn main(rt: HostRuntime) -> ExitCode {
     let mut steps = Steps::new(&rt);
@@ -93,102 +98,161 @@ fn cell() -> Cell<i32> {
     }
 }
 
+/// A leaf of that cell. A refusal is told, and the call made once more.
+fn made_leaf(rt: &HostRuntime) -> Option<NumberLeaf> {
+    if let Some(leaf) = new_leaf(rt) {
+        return Some(leaf);
+    }
+    tell_refused(rt, "leaf", true);
+    new_leaf(rt)
+}
+
+fn new_leaf(rt: &HostRuntime) -> Option<NumberLeaf> {
+    Leaf::new_constant(rt.alloc(), cell()).ok()
+}
+
+/// A copy of a leaf. A refusal is told, and the call made once more.
+fn copied_leaf(rt: &HostRuntime, leaf: &NumberLeaf) -> Option<NumberLeaf> {
+    if let Some(copy) = copy_leaf(rt, leaf) {
+        return Some(copy);
+    }
+    tell_refused(rt, "copy of a leaf", is_whole_leaf(leaf));
+    copy_leaf(rt, leaf)
+}
+
+fn copy_leaf(rt: &HostRuntime, leaf: &NumberLeaf) -> Option<NumberLeaf> {
+    leaf.try_copy(rt.alloc()).ok()
+}
+
+fn is_whole_leaf(leaf: &NumberLeaf) -> bool {
+    leaf.constant() == Some(cell())
+}
+
 /// Makes a leaf and a copy of it.
 fn leaf(rt: &HostRuntime) {
-    let mut made = Leaf::<i32, 3, 8>::new_constant(rt.alloc(), cell());
-    if made.is_err() {
-        tell_refused(rt, "leaf", true);
-        made = Leaf::new_constant(rt.alloc(), cell());
-    }
-    let Ok(leaf) = made else {
+    let Some(leaf) = made_leaf(rt) else {
         return tell(rt, "leaf", "refused again");
     };
-    tell_done(rt, "leaf", leaf.constant() == Some(cell()));
-    let mut copied = leaf.try_copy(rt.alloc());
-    if copied.is_err() {
-        tell_refused(rt, "copy of a leaf", leaf.constant() == Some(cell()));
-        copied = leaf.try_copy(rt.alloc());
-    }
-    let Ok(copy) = copied else {
+    tell_done(rt, "leaf", is_whole_leaf(&leaf));
+    let Some(copy) = copied_leaf(rt, &leaf) else {
         return tell(rt, "copy of a leaf", "refused again");
     };
-    tell_done(
-        rt,
-        "copy of a leaf",
-        copy.constant() == Some(cell()) && leaf.constant() == Some(cell()),
-    );
+    let is_right = is_whole_leaf(&copy) && is_whole_leaf(&leaf);
+    tell_done(rt, "copy of a leaf", is_right);
+}
+
+/// An internal node of that cell. A refusal is told, and the call made once more.
+fn made_node(rt: &HostRuntime) -> Option<NumberNode> {
+    if let Some(node) = new_node(rt) {
+        return Some(node);
+    }
+    tell_refused(rt, "internal node", true);
+    new_node(rt)
+}
+
+fn new_node(rt: &HostRuntime) -> Option<NumberNode> {
+    Internal::new_constant(rt.alloc(), cell()).ok()
+}
+
+/// A copy of an internal node. A refusal is told, and the call made once more.
+fn copied_node(rt: &HostRuntime, node: &NumberNode) -> Option<NumberNode> {
+    if let Some(copy) = copy_node(rt, node) {
+        return Some(copy);
+    }
+    tell_refused(rt, "copy of an internal node", is_whole_node(node));
+    copy_node(rt, node)
+}
+
+fn copy_node(rt: &HostRuntime, node: &NumberNode) -> Option<NumberNode> {
+    node.try_copy(rt.alloc()).ok()
+}
+
+fn is_whole_node(node: &NumberNode) -> bool {
+    node.constant() == Some(cell())
 }
 
 /// Makes an internal node and a copy of it.
 fn internal(rt: &HostRuntime) {
-    let mut made = Internal::<i32, 4, 64>::new_constant(rt.alloc(), cell());
-    if made.is_err() {
-        tell_refused(rt, "internal node", true);
-        made = Internal::new_constant(rt.alloc(), cell());
-    }
-    let Ok(node) = made else {
+    let Some(node) = made_node(rt) else {
         return tell(rt, "internal node", "refused again");
     };
-    tell_done(rt, "internal node", node.constant() == Some(cell()));
-    let mut copied = node.try_copy(rt.alloc());
-    if copied.is_err() {
-        tell_refused(
-            rt,
-            "copy of an internal node",
-            node.constant() == Some(cell()),
-        );
-        copied = node.try_copy(rt.alloc());
-    }
-    let Ok(copy) = copied else {
+    tell_done(rt, "internal node", is_whole_node(&node));
+    let Some(copy) = copied_node(rt, &node) else {
         return tell(rt, "copy of an internal node", "refused again");
     };
-    tell_done(
-        rt,
-        "copy of an internal node",
-        copy.constant() == Some(cell()) && node.constant() == Some(cell()),
-    );
+    let is_right = is_whole_node(&copy) && is_whole_node(&node);
+    tell_done(rt, "copy of an internal node", is_right);
 }
 
-/// Whether the three voxels of the tree are as they were written.
-fn has_voxels(tree: &Tree<i32>, steps: &mut Steps) -> bool {
+fn look(tree: &Tree<i32>, p: Coord, steps: &mut Steps) -> Cell<i32> {
+    tree.get(p, steps)
+}
+
+/// Writes a voxel. The answer says whether that was carried out.
+fn put(tree: &mut Tree<i32>, p: Coord, steps: &mut Steps) -> bool {
+    tree.write(p, Write::On(VALUE), steps).is_ok()
+}
+
+/// Writes the voxels. A refusal is told, and the call made once more. The answer says whether all were written.
+fn write(rt: &HostRuntime, tree: &mut Tree<i32>, steps: &mut Steps) -> bool {
     for x in VOXELS {
-        if tree.get(Coord { x, y: 0, z: 0 }, steps) != cell() {
-            return false;
+        let p = Coord { x, y: 0, z: 0 };
+        let before = look(tree, p, steps);
+        if !put(tree, p, steps) {
+            tell_refused(rt, "write", look(tree, p, steps) == before);
+            if !put(tree, p, steps) {
+                tell(rt, "write", "refused again");
+                return false;
+            }
         }
+        tell_done(rt, "write", look(tree, p, steps) == cell());
     }
     true
+}
+
+/// How many nodes a tree has, and whether the three voxels are as they were written.
+fn seen(tree: &Tree<i32>, steps: &mut Steps) -> (NodeCounts, bool) {
+    for x in VOXELS {
+        if look(tree, Coord { x, y: 0, z: 0 }, steps) != cell() {
+            return (tree.node_counts(), false);
+        }
+    }
+    (tree.node_counts(), true)
+}
+
+/// A copy of a tree that is seen so. A refusal is told, and the call made once more.
+fn copied_tree(
+    rt: &HostRuntime,
+    tree: &Tree<i32>,
+    wanted: (NodeCounts, bool),
+    steps: &mut Steps,
+) -> Option<Tree<i32>> {
+    if let Some(copy) = copy_tree(tree) {
+        return Some(copy);
+    }
+    tell_refused(rt, "copy of a tree", seen(tree, steps) == wanted);
+    copy_tree(tree)
+}
+
+fn copy_tree(tree: &Tree<i32>) -> Option<Tree<i32>> {
+    tree.try_copy().ok()
+}
+
+/// Makes a copy of a tree.
+fn copy(rt: &HostRuntime, tree: &Tree<i32>, steps: &mut Steps) {
+    let (counts, _) = seen(tree, steps);
+    let wanted = (counts, true);
+    let Some(copy) = copied_tree(rt, tree, wanted, steps) else {
+        return tell(rt, "copy of a tree", "refused again");
+    };
+    let is_right = seen(&copy, steps) == wanted && seen(tree, steps) == wanted;
+    tell_done(rt, "copy of a tree", is_right);
 }
 
 /// Writes voxels into a tree, and makes a copy of it.
 fn tree(rt: &HostRuntime, steps: &mut Steps) {
     let mut tree = Tree::<i32>::new(rt.alloc(), 0, LIMIT);
-    for x in VOXELS {
-        let p = Coord { x, y: 0, z: 0 };
-        let before = tree.get(p, steps);
-        if tree.write(p, Write::On(VALUE), steps).is_err() {
-            tell_refused(rt, "write", tree.get(p, steps) == before);
-            if tree.write(p, Write::On(VALUE), steps).is_err() {
-                return tell(rt, "write", "refused again");
-            }
-        }
-        tell_done(rt, "write", tree.get(p, steps) == cell());
+    if write(rt, &mut tree, steps) {
+        copy(rt, &tree, steps);
     }
-    let counts = tree.node_counts();
-    let mut copied = tree.try_copy();
-    if copied.is_err() {
-        tell_refused(
-            rt,
-            "copy of a tree",
-            tree.node_counts() == counts && has_voxels(&tree, steps),
-        );
-        copied = tree.try_copy();
-    }
-    let Ok(copy) = copied else {
-        return tell(rt, "copy of a tree", "refused again");
-    };
-    tell_done(
-        rt,
-        "copy of a tree",
-        copy.node_counts() == counts && has_voxels(&copy, steps) && has_voxels(&tree, steps),
-    );
 }

@@ -1,14 +1,13 @@
 //! Turns of shapes that the definition makes short work of.
 
-ghost use Rattle.std.specs.Prelude.{◌≤◌};
-
-use super::{Leaves8, Tiny, Turn, all, at, expect_cells, expect_count, fill, off, on, write};
-use std::process::Abort;
-use vdb_coord::{Bounds, Coord};
-use vdb_node::Stored;
+use super::acts::Act;
+use super::trees::{Kind, Start, play};
+use super::voxel_map::Cube;
+use super::{Turn, all, at, off, on};
+use std::alloc::AllocError;
+use vdb_coord::Coord;
 use vdb_pool::Steps;
-use vdb_tree::{Tree, Tree433, TreeOf, Write};
-use vdb_walk::count;
+use vdb_tree::Write;
 
 /// How many voxels are at most n faces away from one, from n = 0 on: the centred octahedral numbers.
 const BALLS: [u128; 17] = [
@@ -21,59 +20,35 @@ const EIGHTHS: [u128; 17] = [
 ];
 
 // A single active voxel grows to this count by so many turns, and shrinks back to itself by as many turns of erosion.
-fn expect_ball<
-    const U: u32,
-    const L: u32,
-    const F: u32,
-    const WU: usize,
-    const WL: usize,
-    const WF: usize,
->(
-    rt: &impl Abort,
-    tree: &mut TreeOf<i32, U, L, F, WU, WL, WF>,
-    p: Coord,
-    turns: u32,
-    wanted: u128,
-    steps: &mut Steps,
-)
-    requires some { 1 ≤ turns }
-    requires few { turns ≤ 16 }
-{
-    write(rt, tree, p, Write::On(7), steps);
-    Turn::Dilate.make(rt, tree, turns, steps);
-    expect_count(rt, tree, wanted, steps);
-    Turn::Erode.make(rt, tree, turns, steps);
-    expect_count(rt, tree, 1, steps);
-    expect_cells(rt, tree, &[(p, on(7))], steps);
-    write(rt, tree, p, Write::Off(0), steps);
+fn add_ball(acts: &mut Vec<Act>, p: Coord, turns: u32, wanted: u128) -> Result<(), AllocError> {
+    for act in [
+        Act::Write(p, Write::On(7)),
+        Act::Turns(Turn::Dilate, turns),
+        Act::Count(wanted),
+        Act::Turns(Turn::Erode, turns),
+        Act::Count(1),
+        Act::Cell(p, on(7)),
+        Act::Write(p, Write::Off(0)),
+    ] {
+        acts.push(act)?;
+    }
+    Ok(())
 }
 
 // A single active voxel grows to these counts, by numbers of turns from 0 on.
-fn expect_balls<
-    const U: u32,
-    const L: u32,
-    const F: u32,
-    const WU: usize,
-    const WL: usize,
-    const WF: usize,
->(
-    rt: &impl Abort,
-    tree: &mut TreeOf<i32, U, L, F, WU, WL, WF>,
-    p: Coord,
-    counts: &[u128; 17],
-    steps: &mut Steps,
-) {
+fn add_balls(acts: &mut Vec<Act>, p: Coord, counts: &[u128; 17]) -> Result<(), AllocError> {
     for turns in [1u32, 2, 3, 8, 16] {
-        expect_ball(rt, tree, p, turns, counts[turns as usize], steps);
+        add_ball(acts, p, turns, counts[turns as usize])?;
     }
+    Ok(())
 }
 
 // In the middle of a leaf, at its corners, and at corners of the blocks above it.
 #[test]
-fn one_voxel_grows_by_its_faces(rt: HostRuntime) {
+fn one_voxel_grows_by_its_faces(rt: HostRuntime) -> Result<(), AllocError> {
     let mut steps = Steps::new(&rt);
     let alloc = rt.alloc();
-    for p in [
+    let voxels = [
         at(3, 4, 2),
         all(0),
         all(7),
@@ -82,72 +57,87 @@ fn one_voxel_grows_by_its_faces(rt: HostRuntime) {
         at(127, 128, -129),
         at(4095, 4096, -4096),
         at(-1, i32::MAX.wrapping_sub(16), i32::MIN.wrapping_add(16)),
-    ] {
-        expect_balls(&rt, &mut Tree::new(alloc, 0, 4096), p, &BALLS, &mut steps);
-        expect_balls(
-            &rt,
-            &mut Tree433::new(alloc, 0, 4096),
-            p,
-            &BALLS,
-            &mut steps,
-        );
-        expect_balls(
-            &rt,
-            &mut Leaves8::new(alloc, 0, 4096),
-            p,
-            &BALLS,
-            &mut steps,
-        );
-        expect_balls(&rt, &mut Tiny::new(alloc, 0, 4096), p, &BALLS, &mut steps);
+    ];
+    for (case, p) in voxels.into_iter().enumerate() {
+        let mut acts = Vec::new(alloc);
+        add_balls(&mut acts, p, &BALLS)?;
+        for kind in [Kind::Tree, Kind::Tree433, Kind::Leaves8, Kind::Tiny] {
+            let start = Start::roomy(kind, 0, case);
+            play(&rt, alloc, start, &acts, &mut steps);
+        }
     }
+    Ok(())
 }
 
 // Past the range there are no voxels.
-#[test]
-fn one_voxel_at_a_corner_of_the_range(rt: HostRuntime) {
-    let mut steps = Steps::new(&rt);
-    let mut tree = Tree::new(rt.alloc(), 0i32, 4096);
-    let mut tiny = Tiny::new(rt.alloc(), 0i32, 4096);
+fn add_corners(acts: &mut Vec<Act>) -> Result<(), AllocError> {
     let (low, high) = (i32::MIN, i32::MAX);
     for x in [low, high] {
         for y in [low, high] {
             for z in [low, high] {
-                expect_balls(&rt, &mut tree, at(x, y, z), &EIGHTHS, &mut steps);
-                expect_balls(&rt, &mut tiny, at(x, y, z), &EIGHTHS, &mut steps);
+                add_balls(acts, at(x, y, z), &EIGHTHS)?;
             }
         }
     }
+    Ok(())
+}
+
+#[test]
+fn one_voxel_at_a_corner_of_the_range(rt: HostRuntime) -> Result<(), AllocError> {
+    let mut steps = Steps::new(&rt);
+    let alloc = rt.alloc();
+    let mut acts = Vec::new(alloc);
+    add_corners(&mut acts)?;
+    for kind in [Kind::Tree, Kind::Tiny] {
+        play(&rt, alloc, Start::roomy(kind, 0, 0), &acts, &mut steps);
+    }
+    Ok(())
 }
 
 #[test]
 fn six_neighbours_and_no_more(rt: HostRuntime) {
     let mut steps = Steps::new(&rt);
-    let mut tree = Tree::new(rt.alloc(), 5i32, 4096);
-    write(&rt, &mut tree, at(7, -8, 0), Write::On(1), &mut steps);
-    Turn::Dilate.make(&rt, &mut tree, 1, &mut steps);
-    let cells = [
-        (at(7, -8, 0), on(1)),
-        (at(6, -8, 0), on(5)),
-        (at(8, -8, 0), on(5)),
-        (at(7, -9, 0), on(5)),
-        (at(7, -7, 0), on(5)),
-        (at(7, -8, -1), on(5)),
-        (at(7, -8, 1), on(5)),
-        (at(8, -7, 0), off(5)),
-        (at(8, -8, 1), off(5)),
-        (at(7, -9, -1), off(5)),
-        (at(6, -9, -1), off(5)),
-        (at(8, -7, 1), off(5)),
+    let acts = [
+        Act::Write(at(7, -8, 0), Write::On(1)),
+        Act::Turns(Turn::Dilate, 1),
+        Act::Cell(at(7, -8, 0), on(1)),
+        Act::Cell(at(6, -8, 0), on(5)),
+        Act::Cell(at(8, -8, 0), on(5)),
+        Act::Cell(at(7, -9, 0), on(5)),
+        Act::Cell(at(7, -7, 0), on(5)),
+        Act::Cell(at(7, -8, -1), on(5)),
+        Act::Cell(at(7, -8, 1), on(5)),
+        Act::Cell(at(8, -7, 0), off(5)),
+        Act::Cell(at(8, -8, 1), off(5)),
+        Act::Cell(at(7, -9, -1), off(5)),
+        Act::Cell(at(6, -9, -1), off(5)),
+        Act::Cell(at(8, -7, 1), off(5)),
+        Act::Count(7),
     ];
-    expect_cells(&rt, &tree, &cells, &mut steps);
-    expect_count(&rt, &tree, 7, &mut steps);
+    let start = Start::roomy(Kind::Tree, 5, 0);
+    play(&rt, rt.alloc(), start, &acts, &mut steps);
+}
+
+// The voxel's missing neighbour doesn't erode it, and the five that became active each lack four.
+fn add_face(acts: &mut Vec<Act>, p: Coord) -> Result<(), AllocError> {
+    for act in [
+        Act::Write(p, Write::On(1)),
+        Act::Turns(Turn::Dilate, 1),
+        Act::Count(6),
+        Act::Turns(Turn::Erode, 1),
+        Act::Count(1),
+        Act::Write(p, Write::Off(0)),
+    ] {
+        acts.push(act)?;
+    }
+    Ok(())
 }
 
 #[test]
-fn one_voxel_at_a_face_of_the_range(rt: HostRuntime) {
+fn one_voxel_at_a_face_of_the_range(rt: HostRuntime) -> Result<(), AllocError> {
     let mut steps = Steps::new(&rt);
-    let mut tree = Tree::new(rt.alloc(), 0i32, 4096);
     let (low, high) = (i32::MIN, i32::MAX);
+    let mut acts = Vec::new(rt.alloc());
     for p in [
         at(low, 0, 0),
         at(high, 0, 0),
@@ -156,14 +146,11 @@ fn one_voxel_at_a_face_of_the_range(rt: HostRuntime) {
         at(0, 0, low),
         at(0, 0, high),
     ] {
-        write(&rt, &mut tree, p, Write::On(1), &mut steps);
-        Turn::Dilate.make(&rt, &mut tree, 1, &mut steps);
-        expect_count(&rt, &tree, 6, &mut steps);
-        // the voxel's missing neighbour doesn't erode it, and the five that became active each lack four
-        Turn::Erode.make(&rt, &mut tree, 1, &mut steps);
-        expect_count(&rt, &tree, 1, &mut steps);
-        write(&rt, &mut tree, p, Write::Off(0), &mut steps);
+        add_face(&mut acts, p)?;
     }
+    let start = Start::roomy(Kind::Tree, 0, 0);
+    play(&rt, rt.alloc(), start, &acts, &mut steps);
+    Ok(())
 }
 
 #[test]
@@ -171,89 +158,81 @@ fn boxes_at_the_faces_of_the_range(rt: HostRuntime) {
     let mut steps = Steps::new(&rt);
     let (low, high) = (i32::MIN, i32::MAX);
     let (low2, high2) = (low.wrapping_add(1), high.wrapping_sub(1));
-    for (min, max, left) in [
+    let boxes = [
         (at(high2, 0, 0), at(high, 2, 2), at(high, 1, 1)),
         (at(low, 0, 0), at(low2, 2, 2), at(low, 1, 1)),
         (at(0, high2, 0), at(2, high, 2), at(1, high, 1)),
         (at(0, low, 0), at(2, low2, 2), at(1, low, 1)),
         (at(0, 0, high2), at(2, 2, high), at(1, 1, high)),
         (at(0, 0, low), at(2, 2, low2), at(1, 1, low)),
-        (at(high2, high2, high2), all(high), all(high)),
-        (at(low, low, low), all(low2), all(low)),
-    ] {
-        let mut tree = Tree::new(rt.alloc(), 0i32, 4096);
-        fill(&rt, &mut tree, min, max, on(3), &mut steps);
-        Turn::Erode.make(&rt, &mut tree, 1, &mut steps);
-        expect_count(&rt, &tree, 1, &mut steps);
-        expect_cells(&rt, &tree, &[(left, on(3))], &mut steps);
+        (all(high2), all(high), all(high)),
+        (all(low), all(low2), all(low)),
+    ];
+    for (case, (min, max, left)) in boxes.into_iter().enumerate() {
+        let acts = [
+            Act::Fill(min, max, on(3)),
+            Act::Turns(Turn::Erode, 1),
+            Act::Count(1),
+            Act::Cell(left, on(3)),
+        ];
+        let start = Start::roomy(Kind::Tree, 0, case);
+        play(&rt, rt.alloc(), start, &acts, &mut steps);
     }
 }
 
 // How many voxels of a cube of one cell are left by erosion, turn by turn. The cube is filled by tiles and nodes, or by leaves.
-fn expect_smaller_cubes<
-    V: Stored<WU> + Stored<WL> + Stored<WF>,
-    const U: u32,
-    const L: u32,
-    const F: u32,
-    const WU: usize,
-    const WL: usize,
-    const WF: usize,
->(
-    rt: &impl Abort,
-    tree: &mut TreeOf<V, U, L, F, WU, WL, WF>,
-    value: V,
-    low: i32,
-    is_voxelised: bool,
-    steps: &mut Steps,
-) {
+fn add_smaller_cubes(acts: &mut Vec<Act>, low: i32, is_voxelised: bool) -> Result<(), AllocError> {
     let (min, max) = (all(low), all(low.wrapping_add(7)));
-    fill(rt, tree, min, max, on(value), steps);
+    acts.push(Act::Fill(min, max, on(1)))?;
     if is_voxelised {
-        let bounds = Bounds::new(min, max).expect(rt, "a box");
-        tree.voxelise(bounds, steps).expect(rt, "leaves");
+        acts.push(Act::Voxelise(min, max))?;
     }
     for left in [512, 216, 64, 8, 0, 0] {
-        expect_count(rt, tree, left, steps);
-        Turn::Erode.make(rt, tree, 1, steps);
+        acts.push(Act::Count(left))?;
+        acts.push(Act::Turns(Turn::Erode, 1))?;
     }
+    Ok(())
 }
 
 #[test]
-fn filled_leaves_shrink(rt: HostRuntime) {
+fn filled_leaves_shrink(rt: HostRuntime) -> Result<(), AllocError> {
     let mut steps = Steps::new(&rt);
-    let mut tree = Tree::new(rt.alloc(), 0i32, 4096);
-    let mut other = Tree433::new(rt.alloc(), true, 4096);
-    let mut tiny = Tiny::new(rt.alloc(), 0i64, 4096);
+    let alloc = rt.alloc();
+    let mut acts = Vec::new(alloc);
     for low in [0i32, -8, -4, 120, 4092, i32::MIN.wrapping_add(1)] {
-        for is_voxelised in [false, true] {
-            expect_smaller_cubes(&rt, &mut tree, 1, low, is_voxelised, &mut steps);
-            expect_smaller_cubes(&rt, &mut other, true, low, is_voxelised, &mut steps);
-            expect_smaller_cubes(&rt, &mut tiny, 1, low, is_voxelised, &mut steps);
-        }
+        add_smaller_cubes(&mut acts, low, false)?;
+        add_smaller_cubes(&mut acts, low, true)?;
     }
+    for (kind, background) in [
+        (Kind::Tree, 0),
+        (Kind::Tree433OfTruths, 1),
+        (Kind::Tree433, 0),
+        (Kind::Tiny, 0),
+    ] {
+        let start = Start::roomy(kind, background, 0);
+        play(&rt, alloc, start, &acts, &mut steps);
+    }
+    Ok(())
 }
 
 // A cube of 40 voxels loses 16 on each side, and at a corner of the range on three sides alone.
 #[test]
 fn sixteen_turns_of_erosion(rt: HostRuntime) {
     let mut steps = Steps::new(&rt);
-    for (low, left) in [
+    let cubes = [
         (-20, 512),
         (3, 512),
         (i32::MIN, 24 * 24 * 24),
         (i32::MAX.wrapping_sub(39), 24 * 24 * 24),
-    ] {
-        let mut tree = Tree::new(rt.alloc(), 0i32, 4096);
-        fill(
-            &rt,
-            &mut tree,
-            all(low),
-            all(low.wrapping_add(39)),
-            on(1),
-            &mut steps,
-        );
-        Turn::Erode.make(&rt, &mut tree, 16, &mut steps);
-        expect_count(&rt, &tree, left, &mut steps);
+    ];
+    for (case, (low, left)) in cubes.into_iter().enumerate() {
+        let acts = [
+            Act::Fill(all(low), all(low.wrapping_add(39)), on(1)),
+            Act::Turns(Turn::Erode, 16),
+            Act::Count(left),
+        ];
+        let start = Start::roomy(Kind::Tree, 0, case);
+        play(&rt, rt.alloc(), start, &acts, &mut steps);
     }
 }
 
@@ -261,100 +240,79 @@ fn sixteen_turns_of_erosion(rt: HostRuntime) {
 #[test]
 fn values_stay(rt: HostRuntime) {
     let mut steps = Steps::new(&rt);
-    let mut tree = Tree433::new(rt.alloc(), 5i64, 4096);
-    fill(&rt, &mut tree, all(8), all(15), off(9), &mut steps);
-    write(&rt, &mut tree, at(7, 10, 10), Write::On(1), &mut steps);
-    write(&rt, &mut tree, at(7, 11, 10), Write::Off(2), &mut steps);
-    write(&rt, &mut tree, at(7, 12, 10), Write::Off(-3), &mut steps);
-    Turn::Dilate.make(&rt, &mut tree, 1, &mut steps);
-    let grown = [
-        (at(7, 10, 10), on(1)),
-        (at(8, 10, 10), on(9)),
-        (at(6, 10, 10), on(5)),
-        (at(7, 11, 10), on(2)),
-        (at(7, 12, 10), off(-3)),
-        (at(8, 11, 10), off(9)),
+    let acts = [
+        Act::Fill(all(8), all(15), off(9)),
+        Act::Write(at(7, 10, 10), Write::On(1)),
+        Act::Write(at(7, 11, 10), Write::Off(2)),
+        Act::Write(at(7, 12, 10), Write::Off(-3)),
+        Act::Turns(Turn::Dilate, 1),
+        Act::Cell(at(7, 10, 10), on(1)),
+        Act::Cell(at(8, 10, 10), on(9)),
+        Act::Cell(at(6, 10, 10), on(5)),
+        Act::Cell(at(7, 11, 10), on(2)),
+        Act::Cell(at(7, 12, 10), off(-3)),
+        Act::Cell(at(8, 11, 10), off(9)),
+        Act::Turns(Turn::Erode, 1),
+        Act::Cell(at(7, 10, 10), on(1)),
+        Act::Cell(at(8, 10, 10), off(9)),
+        Act::Cell(at(6, 10, 10), off(5)),
+        Act::Cell(at(7, 11, 10), off(2)),
+        Act::Cell(at(7, 12, 10), off(-3)),
+        Act::Cell(at(8, 11, 10), off(9)),
+        Act::Turns(Turn::Erode, 1),
+        Act::Cell(at(7, 10, 10), off(1)),
+        Act::Count(0),
     ];
-    expect_cells(&rt, &tree, &grown, &mut steps);
-    Turn::Erode.make(&rt, &mut tree, 1, &mut steps);
-    let shrunk = [
-        (at(7, 10, 10), on(1)),
-        (at(8, 10, 10), off(9)),
-        (at(6, 10, 10), off(5)),
-        (at(7, 11, 10), off(2)),
-        (at(7, 12, 10), off(-3)),
-        (at(8, 11, 10), off(9)),
-    ];
-    expect_cells(&rt, &tree, &shrunk, &mut steps);
-    Turn::Erode.make(&rt, &mut tree, 1, &mut steps);
-    expect_cells(&rt, &tree, &[(at(7, 10, 10), off(1))], &mut steps);
-    expect_count(&rt, &tree, 0, &mut steps);
+    let start = Start::roomy(Kind::Tree433, 5, 0);
+    play(&rt, rt.alloc(), start, &acts, &mut steps);
 }
 
 #[test]
 fn nothing_active_stays_so(rt: HostRuntime) {
     let mut steps = Steps::new(&rt);
-    let mut tree = Tree::new(rt.alloc(), true, 1);
-    for turn in [Turn::Dilate, Turn::Erode] {
-        turn.make(&rt, &mut tree, 16, &mut steps);
-        expect_count(&rt, &tree, 0, &mut steps);
-    }
-    fill(&rt, &mut tree, all(0), all(4095), off(false), &mut steps);
-    for turn in [Turn::Dilate, Turn::Erode] {
-        turn.make(&rt, &mut tree, 16, &mut steps);
-        expect_count(&rt, &tree, 0, &mut steps);
-        let cells = [
-            (all(0), off(false)),
-            (all(4095), off(false)),
-            (all(-1), off(true)),
-        ];
-        expect_cells(&rt, &tree, &cells, &mut steps);
-    }
+    let acts = [
+        Act::Turns(Turn::Dilate, 16),
+        Act::Count(0),
+        Act::Turns(Turn::Erode, 16),
+        Act::Count(0),
+        Act::Fill(all(0), all(4095), off(0)),
+        Act::Turns(Turn::Dilate, 16),
+        Act::Count(0),
+        Act::Cell(all(0), off(0)),
+        Act::Cell(all(4095), off(0)),
+        Act::Cell(all(-1), off(1)),
+        Act::Turns(Turn::Erode, 16),
+        Act::Count(0),
+        Act::Cell(all(0), off(0)),
+        Act::Cell(all(4095), off(0)),
+        Act::Cell(all(-1), off(1)),
+    ];
+    let start = Start {
+        kind: Kind::TreeOfTruths,
+        background: 1,
+        limit: 1,
+        case: 0,
+    };
+    play(&rt, rt.alloc(), start, &acts, &mut steps);
 }
 
-// Two walls with a gap of one voxel, and a hole in one.
-fn walls(rt: &impl Abort, tree: &mut Tree<i32>, steps: &mut Steps) {
-    fill(rt, tree, at(-9, -6, -3), at(-2, 9, 12), on(1), steps);
-    fill(rt, tree, at(0, -7, -5), at(15, 9, 17), on(2), steps);
-    fill(rt, tree, at(0, 0, 0), at(7, 7, 7), off(3), steps);
-    write(rt, tree, at(12, 3, 11), Write::State(false), steps);
-}
-
-// Two trees have the same cells around the walls, and as many active voxels.
-fn expect_same(rt: &impl Abort, once: &Tree<i32>, often: &Tree<i32>, steps: &mut Steps) {
-    for x in -26..33 {
-        for y in -24..27 {
-            for z in -22..35 {
-                let p = at(x, y, z);
-                let wanted = often.get(p, steps);
-                assert!(rt; once.get(p, steps) == wanted, "at {p:?}");
-            }
-        }
-    }
-    expect_count(rt, once, count(often, None, steps), steps);
-}
-
-// Turns in one call, and as many calls of one turn.
-fn try_walls(rt: &(impl Abort + AllocGlobal), turn: Turn, turns: u32, steps: &mut Steps)
-    requires some { 1 ≤ turns }
-    requires few { turns ≤ 16 }
-{
-    let mut once = Tree::new(rt.alloc(), 0i32, 4096);
-    walls(rt, &mut once, steps);
-    let mut often = once.try_copy().expect(rt, "a copy");
-    turn.make(rt, &mut once, turns, steps);
-    for _ in 0..turns {
-        turn.make(rt, &mut often, 1, steps);
-    }
-    expect_same(rt, &once, &often, steps);
-}
-
+// Two walls with a gap of one voxel, and a hole in one. The cube reaches past what 16 turns make of them.
 #[test]
 fn many_turns_in_one_call_or_in_many(rt: HostRuntime) {
     let mut steps = Steps::new(&rt);
-    for turn in [Turn::Dilate, Turn::Erode] {
-        for turns in [2u32, 3, 16] {
-            try_walls(&rt, turn, turns, &mut steps);
-        }
-    }
+    let cube = Cube::from(at(-26, -24, -22), 59);
+    let acts = [
+        Act::Fill(at(-9, -6, -3), at(-2, 9, 12), on(1)),
+        Act::Fill(at(0, -7, -5), at(15, 9, 17), on(2)),
+        Act::Fill(at(0, 0, 0), at(7, 7, 7), off(3)),
+        Act::Write(at(12, 3, 11), Write::State(false)),
+        Act::Copies(Turn::Dilate, 2, cube),
+        Act::Copies(Turn::Dilate, 3, cube),
+        Act::Copies(Turn::Dilate, 16, cube),
+        Act::Copies(Turn::Erode, 2, cube),
+        Act::Copies(Turn::Erode, 3, cube),
+        Act::Copies(Turn::Erode, 16, cube),
+    ];
+    let start = Start::roomy(Kind::Tree, 0, 0);
+    play(&rt, rt.alloc(), start, &acts, &mut steps);
 }

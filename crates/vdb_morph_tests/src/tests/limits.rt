@@ -1,60 +1,52 @@
 //! Trees whose root table is full.
 
-ghost use Rattle.std.specs.Prelude.{◌≤◌};
-
-use super::{Turn, all, at, expect_cells, expect_count, fill, off, on, write};
-use std::process::Abort;
-use vdb_coord::Coord;
-use vdb_morph::dilate;
-use vdb_node::Stored;
+use super::acts::Act;
+use super::trees::{Kind, Start, play};
+use super::{Turn, all, at, off, on};
 use vdb_pool::Steps;
-use vdb_tree::{Tree, Tree433, TreeOf, TreeRefusal, Write};
+use vdb_tree::Write;
 
-// Fills the root blocks at 0 to `count - 1` along z with an inactive value, and with that the table.
-fn fill_table(rt: &impl Abort, tree: &mut Tree<i32>, count: i32, steps: &mut Steps) {
-    let last = count.wrapping_mul(4096).wrapping_sub(1);
-    fill(rt, tree, all(0), at(4095, 4095, last), off(1), steps);
+// A tree of the standard layout, whose background is 0.
+fn start(limit: u32, case: usize) -> Start {
+    Start {
+        kind: Kind::Tree,
+        background: 0,
+        limit,
+        case,
+    }
 }
 
-// A dilation is refused by the root limit.
-fn expect_refused<
-    V: Stored<WU> + Stored<WL> + Stored<WF>,
-    const U: u32,
-    const L: u32,
-    const F: u32,
-    const WU: usize,
-    const WL: usize,
-    const WF: usize,
->(rt: &impl Abort, tree: &mut TreeOf<V, U, L, F, WU, WL, WF>, turns: u32, steps: &mut Steps)
-    requires some { 1 ≤ turns }
-    requires few { turns ≤ 16 }
-{
-    let result = dilate(tree, turns, steps);
-    assert!(rt; result == Err(TreeRefusal::RootLimit), "{turns} turns");
+// Fills the root blocks at 0 to 2 along z with an inactive value, and with that a table of three.
+fn fill_table() -> Act {
+    Act::Fill(all(0), at(4095, 4095, 12287), off(1))
 }
 
 #[test]
 fn a_full_table_refuses_a_new_block(rt: HostRuntime) {
     let mut steps = Steps::new(&rt);
-    for (p, missing) in [
+    let voxels = [
         (at(0, 9, 9), at(-1, 9, 9)),
         (at(4095, 9, 4096), at(4096, 9, 4096)),
         (at(9, 0, 5000), at(9, -1, 5000)),
         (at(9, 4095, 9), at(9, 4096, 9)),
         (at(9, 9, 0), at(9, 9, -1)),
         (at(9, 9, 12287), at(9, 9, 12288)),
-    ] {
-        let mut tree = Tree::new(rt.alloc(), 0i32, 3);
-        fill_table(&rt, &mut tree, 3, &mut steps);
-        write(&rt, &mut tree, p, Write::State(true), &mut steps);
-        expect_refused(&rt, &mut tree, 1, &mut steps);
-        let cells = [(p, on(1)), (missing, off(0)), (all(100), off(1))];
-        expect_cells(&rt, &tree, &cells, &mut steps);
-        expect_count(&rt, &tree, 1, &mut steps);
-        // erosion takes no block
-        Turn::Erode.make(&rt, &mut tree, 1, &mut steps);
-        expect_count(&rt, &tree, 0, &mut steps);
-        expect_cells(&rt, &tree, &[(p, off(1))], &mut steps);
+    ];
+    for (case, (p, missing)) in voxels.into_iter().enumerate() {
+        let acts = [
+            fill_table(),
+            Act::Write(p, Write::State(true)),
+            Act::Refused(1),
+            Act::Cell(p, on(1)),
+            Act::Cell(missing, off(0)),
+            Act::Cell(all(100), off(1)),
+            Act::Count(1),
+            // erosion takes no block
+            Act::Turns(Turn::Erode, 1),
+            Act::Count(0),
+            Act::Cell(p, off(1)),
+        ];
+        play(&rt, rt.alloc(), start(3, case), &acts, &mut steps);
     }
 }
 
@@ -62,25 +54,17 @@ fn a_full_table_refuses_a_new_block(rt: HostRuntime) {
 #[test]
 fn a_full_table_takes_what_lies_in_its_blocks(rt: HostRuntime) {
     let mut steps = Steps::new(&rt);
-    let mut tree = Tree::new(rt.alloc(), 0i32, 3);
-    fill_table(&rt, &mut tree, 3, &mut steps);
-    write(
-        &rt,
-        &mut tree,
-        at(9, 9, 4095),
-        Write::State(true),
-        &mut steps,
-    );
-    Turn::Dilate.make(&rt, &mut tree, 9, &mut steps);
-    expect_count(&rt, &tree, 1159, &mut steps);
-    expect_cells(
-        &rt,
-        &tree,
-        &[(at(9, 9, 4104), on(1)), (at(0, 9, 4095), on(1))],
-        &mut steps,
-    );
-    expect_refused(&rt, &mut tree, 1, &mut steps);
-    expect_count(&rt, &tree, 1159, &mut steps);
+    let acts = [
+        fill_table(),
+        Act::Write(at(9, 9, 4095), Write::State(true)),
+        Act::Turns(Turn::Dilate, 9),
+        Act::Count(1159),
+        Act::Cell(at(9, 9, 4104), on(1)),
+        Act::Cell(at(0, 9, 4095), on(1)),
+        Act::Refused(1),
+        Act::Count(1159),
+    ];
+    play(&rt, rt.alloc(), start(3, 0), &acts, &mut steps);
 }
 
 // The third turn reaches the next root block: with it the two before it are refused too.
@@ -88,56 +72,71 @@ fn a_full_table_takes_what_lies_in_its_blocks(rt: HostRuntime) {
 fn a_later_turn_is_refused(rt: HostRuntime) {
     let mut steps = Steps::new(&rt);
     let p = at(500, 1021, 500);
-    let mut tree = Tree433::new(rt.alloc(), 6i64, 1);
-    write(&rt, &mut tree, p, Write::On(8), &mut steps);
-    for turns in [3u32, 4, 16] {
-        expect_refused(&rt, &mut tree, turns, &mut steps);
-        let cells = [
-            (p, on(8)),
-            (at(500, 1022, 500), off(6)),
-            (at(500, 1024, 500), off(6)),
-        ];
-        expect_cells(&rt, &tree, &cells, &mut steps);
-        expect_count(&rt, &tree, 1, &mut steps);
-    }
-    Turn::Dilate.make(&rt, &mut tree, 2, &mut steps);
-    expect_count(&rt, &tree, 25, &mut steps);
+    let start = Start {
+        kind: Kind::Tree433,
+        background: 6,
+        limit: 1,
+        case: 0,
+    };
+    let acts = [
+        Act::Write(p, Write::On(8)),
+        Act::Refused(3),
+        Act::Cell(p, on(8)),
+        Act::Cell(at(500, 1022, 500), off(6)),
+        Act::Cell(at(500, 1024, 500), off(6)),
+        Act::Count(1),
+        Act::Refused(4),
+        Act::Cell(p, on(8)),
+        Act::Cell(at(500, 1022, 500), off(6)),
+        Act::Cell(at(500, 1024, 500), off(6)),
+        Act::Count(1),
+        Act::Refused(16),
+        Act::Cell(p, on(8)),
+        Act::Cell(at(500, 1022, 500), off(6)),
+        Act::Cell(at(500, 1024, 500), off(6)),
+        Act::Count(1),
+        Act::Turns(Turn::Dilate, 2),
+        Act::Count(25),
+    ];
+    play(&rt, rt.alloc(), start, &acts, &mut steps);
 }
 
 // Blocks of the background alone don't count, though they may have an entry in the table.
 #[test]
 fn a_background_block_gives_way(rt: HostRuntime) {
     let mut steps = Steps::new(&rt);
-    let mut tree = Tree::new(rt.alloc(), 0i32, 2);
-    write(&rt, &mut tree, all(0), Write::On(1), &mut steps);
-    write(&rt, &mut tree, at(0, 0, 4096), Write::On(0), &mut steps);
-    expect_refused(&rt, &mut tree, 1, &mut steps);
-    // by erosion the second block becomes background
-    Turn::Erode.make(&rt, &mut tree, 1, &mut steps);
-    let cells: [(Coord, _); 2] = [(all(0), off(1)), (at(0, 0, 4096), off(0))];
-    expect_cells(&rt, &tree, &cells, &mut steps);
-    write(&rt, &mut tree, at(0, 9, 9), Write::On(0), &mut steps);
-    Turn::Dilate.make(&rt, &mut tree, 1, &mut steps);
-    expect_count(&rt, &tree, 7, &mut steps);
-    let cells = [
-        (at(-1, 9, 9), on(0)),
-        (at(0, 9, 9), on(0)),
-        (all(0), off(1)),
+    let acts = [
+        Act::Write(all(0), Write::On(1)),
+        Act::Write(at(0, 0, 4096), Write::On(0)),
+        Act::Refused(1),
+        // by erosion the second block becomes background
+        Act::Turns(Turn::Erode, 1),
+        Act::Cell(all(0), off(1)),
+        Act::Cell(at(0, 0, 4096), off(0)),
+        Act::Write(at(0, 9, 9), Write::On(0)),
+        Act::Turns(Turn::Dilate, 1),
+        Act::Count(7),
+        Act::Cell(at(-1, 9, 9), on(0)),
+        Act::Cell(at(0, 9, 9), on(0)),
+        Act::Cell(all(0), off(1)),
     ];
-    expect_cells(&rt, &tree, &cells, &mut steps);
+    play(&rt, rt.alloc(), start(2, 0), &acts, &mut steps);
 }
 
 #[test]
 fn the_end_of_the_range_needs_no_block(rt: HostRuntime) {
     let mut steps = Steps::new(&rt);
-    for (p, wanted) in [
+    let voxels = [
         (at(i32::MAX, 2147480000, 2147480000), 6u128),
         (at(2147480000, 2147480000, i32::MAX), 6),
         (all(i32::MAX), 4),
-    ] {
-        let mut tree = Tree::new(rt.alloc(), 0i32, 1);
-        write(&rt, &mut tree, p, Write::On(1), &mut steps);
-        Turn::Dilate.make(&rt, &mut tree, 1, &mut steps);
-        expect_count(&rt, &tree, wanted, &mut steps);
+    ];
+    for (case, (p, wanted)) in voxels.into_iter().enumerate() {
+        let acts = [
+            Act::Write(p, Write::On(1)),
+            Act::Turns(Turn::Dilate, 1),
+            Act::Count(wanted),
+        ];
+        play(&rt, rt.alloc(), start(1, case), &acts, &mut steps);
     }
 }

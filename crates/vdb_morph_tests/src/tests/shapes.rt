@@ -1,14 +1,15 @@
 //! Random shapes with tiles of each level, in the middle of the range and at its eight corners, beside a map of their voxels.
 
-ghost use Rattle.std.specs.Prelude.{◌<◌, ◌≤◌};
+ghost use Rattle.std.specs.Prelude.{◌<◌};
 
-use super::voxel_map::{Cube, expect_turns};
-use super::{Leaves8, Tiny, Turn, all, at, fill};
+use super::acts::Act;
+use super::trees::{Kind, Start, play};
+use super::voxel_map::Cube;
+use super::{Turn, all, at};
+use std::alloc::{AllocError, Global};
 use std::process::Abort;
 use vdb_coord::{Bounds, Coord};
-use vdb_node::Stored;
 use vdb_pool::Steps;
-use vdb_tree::{Tree, TreeOf};
 use vdb_value::Cell;
 
 /// Knuth's generator of 64 bits.
@@ -108,47 +109,28 @@ fn places(extent: i32, blocks: [i32; 3]) -> [Place; 9] {
 }
 
 // Fills a box with a cell, and prunes the tree or makes leaves in the box at times.
-fn fill_some<
-    V: Stored<WU> + Stored<WL> + Stored<WF>,
-    const U: u32,
-    const L: u32,
-    const F: u32,
-    const WU: usize,
-    const WL: usize,
-    const WF: usize,
->(
-    rt: &impl Abort,
-    tree: &mut TreeOf<V, U, L, F, WU, WL, WF>,
+fn fill_some(
+    acts: &mut Vec<Act>,
     part: Bounds,
-    cell: Cell<V>,
+    cell: Cell<i32>,
     draws: &mut Draws,
-    steps: &mut Steps,
-) {
-    fill(rt, tree, part.min(), part.max(), cell, steps);
+) -> Result<(), AllocError> {
+    acts.push(Act::Fill(part.min(), part.max(), cell))?;
     match draws.below(6) {
-        0 => tree.prune(steps),
-        1 => tree.voxelise(part, steps).expect(rt, "leaves"),
+        0 => acts.push(Act::Prune)?,
+        1 => acts.push(Act::Voxelise(part.min(), part.max()))?,
         _ => {}
     }
+    Ok(())
 }
 
 // Fills some boxes with these values, active or not, the whole cube before them at times.
-fn draw<
-    V: Stored<WU> + Stored<WL> + Stored<WF>,
-    const U: u32,
-    const L: u32,
-    const F: u32,
-    const WU: usize,
-    const WL: usize,
-    const WF: usize,
->(
-    rt: &impl Abort,
-    tree: &mut TreeOf<V, U, L, F, WU, WL, WF>,
-    values: [V; 2],
+fn draw(
+    acts: &mut Vec<Act>,
+    values: [i32; 2],
     place: Place,
     draws: &mut Draws,
-    steps: &mut Steps,
-) {
+) -> Result<(), AllocError> {
     let mut bounds = if draws.below(2) == 0 {
         place.whole()
     } else {
@@ -162,133 +144,91 @@ fn draw<
             } else {
                 values[1]
             };
-            fill_some(rt, tree, part, Cell { value, on }, draws, steps);
+            fill_some(acts, part, Cell { value, on }, draws)?;
         }
         bounds = place.bounds(draws);
         on = draws.below(2) == 0;
     }
+    Ok(())
 }
 
-// Turns of a copy of a tree, beside the tree itself.
-fn expect_shape<
-    V: Stored<WU> + Stored<WL> + Stored<WF>,
-    const U: u32,
-    const L: u32,
-    const F: u32,
-    const WU: usize,
-    const WL: usize,
-    const WF: usize,
->(
-    rt: &(impl Abort + AllocGlobal),
-    tree: &TreeOf<V, U, L, F, WU, WL, WF>,
-    copy: &mut TreeOf<V, U, L, F, WU, WL, WF>,
+// A random shape of the background's value and another one, and turns of copies of it.
+fn shape(
+    alloc: Global,
+    values: [i32; 2],
     place: Place,
-    what: (Turn, u32),
-    steps: &mut Steps,
-)
-    requires some { 1 ≤ what.1 }
-    requires few { what.1 ≤ 16 }
-{
-    what.0.make(rt, copy, what.1, steps);
-    let trees = (tree, &*copy);
-    expect_turns(rt, rt.alloc(), trees, what, place.cube(), steps);
+    (turn, turns): (Turn, u32),
+    draws: &mut Draws,
+) -> Result<Vec<Act>, AllocError> {
+    let mut acts = Vec::new(alloc);
+    draw(&mut acts, values, place, draws)?;
+    acts.push(Act::Copies(turn, turns, place.cube().grown(turns)))?;
+    Ok(acts)
 }
 
-// Turns of a random shape in small nodes.
+// Turns of random shapes in small nodes, at each place.
 fn try_small_nodes(
-    rt: &(impl Abort + AllocGlobal),
-    place: Place,
+    rt: &impl Abort,
+    alloc: Global,
     what: (Turn, u32),
     draws: &mut Draws,
     steps: &mut Steps,
-)
-    requires some { 1 ≤ what.1 }
-    requires few { what.1 ≤ 16 }
-{
-    let mut tree = Tiny::new(rt.alloc(), 3i32, 4096);
-    draw(rt, &mut tree, [3, 4], place, draws, steps);
-    let mut copy = tree.try_copy().expect(rt, "a copy");
-    expect_shape(rt, &tree, &mut copy, place, what, steps);
-}
-
-// Turns of a random shape in leaves of three bits.
-fn try_leaves(
-    rt: &(impl Abort + AllocGlobal),
-    place: Place,
-    what: (Turn, u32),
-    draws: &mut Draws,
-    steps: &mut Steps,
-)
-    requires some { 1 ≤ what.1 }
-    requires few { what.1 ≤ 16 }
-{
-    let mut tree = Leaves8::new(rt.alloc(), -1i64, 4096);
-    draw(rt, &mut tree, [-1, 9], place, draws, steps);
-    let mut copy = tree.try_copy().expect(rt, "a copy");
-    expect_shape(rt, &tree, &mut copy, place, what, steps);
-}
-
-// Turns of a random shape in the nodes of a grid.
-fn try_whole_numbers(
-    rt: &(impl Abort + AllocGlobal),
-    place: Place,
-    what: (Turn, u32),
-    draws: &mut Draws,
-    steps: &mut Steps,
-)
-    requires some { 1 ≤ what.1 }
-    requires few { what.1 ≤ 16 }
-{
-    let mut tree = Tree::new(rt.alloc(), 0i32, 4096);
-    draw(rt, &mut tree, [0, -7], place, draws, steps);
-    let mut copy = tree.try_copy().expect(rt, "a copy");
-    expect_shape(rt, &tree, &mut copy, place, what, steps);
+) -> Result<(), AllocError> {
+    for (case, place) in places(15, [1, 3, 7]).into_iter().enumerate() {
+        let acts = shape(alloc, [3, 4], place, what, draws)?;
+        play(rt, alloc, Start::roomy(Kind::Tiny, 3, case), &acts, steps);
+    }
+    Ok(())
 }
 
 #[test]
-fn shapes_in_small_nodes_grow(rt: HostRuntime) {
+fn shapes_in_small_nodes_grow(rt: HostRuntime) -> Result<(), AllocError> {
     let mut steps = Steps::new(&rt);
     let mut draws = Draws { state: 1 };
     for turns in 1..=16u32 {
-        for place in places(15, [1, 3, 7]) {
-            let what = (Turn::Dilate, turns);
-            try_small_nodes(&rt, place, what, &mut draws, &mut steps);
-        }
+        let what = (Turn::Dilate, turns);
+        try_small_nodes(&rt, rt.alloc(), what, &mut draws, &mut steps)?;
     }
+    Ok(())
 }
 
 #[test]
-fn shapes_in_small_nodes_shrink(rt: HostRuntime) {
+fn shapes_in_small_nodes_shrink(rt: HostRuntime) -> Result<(), AllocError> {
     let mut steps = Steps::new(&rt);
     let mut draws = Draws { state: 6 };
     for turns in 1..=16u32 {
-        for place in places(15, [1, 3, 7]) {
-            let what = (Turn::Erode, turns);
-            try_small_nodes(&rt, place, what, &mut draws, &mut steps);
-        }
+        let what = (Turn::Erode, turns);
+        try_small_nodes(&rt, rt.alloc(), what, &mut draws, &mut steps)?;
     }
+    Ok(())
 }
 
 // Tiles span 8, 16 and 32 voxels.
 #[test]
-fn shapes_in_leaves_of_three_bits(rt: HostRuntime) {
+fn shapes_in_leaves_of_three_bits(rt: HostRuntime) -> Result<(), AllocError> {
     let mut steps = Steps::new(&rt);
     let mut draws = Draws { state: 2 };
-    for (i, place) in places(63, [7, 15, 31]).into_iter().enumerate() {
-        let what = (draws.turn(), 1 + (i.wrapping_mul(7) % 16) as u32);
-        try_leaves(&rt, place, what, &mut draws, &mut steps);
+    for (case, place) in places(63, [7, 15, 31]).into_iter().enumerate() {
+        let what = (draws.turn(), 1 + (case.wrapping_mul(7) % 16) as u32);
+        let acts = shape(rt.alloc(), [-1, 9], place, what, &mut draws)?;
+        let start = Start::roomy(Kind::Leaves8, -1, case);
+        play(&rt, rt.alloc(), start, &acts, &mut steps);
     }
+    Ok(())
 }
 
 #[test]
-fn shapes_of_whole_numbers(rt: HostRuntime) {
+fn shapes_of_whole_numbers(rt: HostRuntime) -> Result<(), AllocError> {
     let mut steps = Steps::new(&rt);
     let mut draws = Draws { state: 4 };
     let places = places(31, [7, 7, 15]);
     for turns in 1..=16u32 {
         let place = places[1 + (turns % 8) as usize];
         for turn in [Turn::Dilate, Turn::Erode] {
-            try_whole_numbers(&rt, place, (turn, turns), &mut draws, &mut steps);
+            let acts = shape(rt.alloc(), [0, -7], place, (turn, turns), &mut draws)?;
+            let start = Start::roomy(Kind::Tree, 0, turns as usize);
+            play(&rt, rt.alloc(), start, &acts, &mut steps);
         }
     }
+    Ok(())
 }

@@ -1,90 +1,84 @@
 //! Tiles of each level.
 
-use super::{Leaves8, Turn, all, at, expect_cells, expect_turn, fill, off, on, write};
-use std::process::Abort;
+use super::acts::Act;
+use super::trees::{Kind, Start, play};
+use super::{Turn, all, at, off, on};
 use vdb_pool::Steps;
-use vdb_tree::{Tree, Tree433, Write};
+use vdb_tree::Write;
 
 // A tile of a leaf's block, of 8 voxels along each axis, a box of 16, and a tile of a lower block, of 128.
 #[test]
-fn a_tile_grows_by_its_faces(rt: HostRuntime) {
+fn a_tile_grows_or_shrinks_by_its_faces(rt: HostRuntime) {
     let mut steps = Steps::new(&rt);
-    for (low, high, wanted) in [
-        (0i32, 7i32, 512 + 6 * 64),
-        (-16, -1, 4096 + 6 * 256),
-        (0, 127, 2_097_152 + 6 * 16_384),
-        (-128, -1, 2_097_152 + 6 * 16_384),
-    ] {
-        let mut tree = Tree::new(rt.alloc(), 4i32, 4096);
-        fill(&rt, &mut tree, all(low), all(high), on(1), &mut steps);
-        expect_turn(&rt, Turn::Dilate, &mut tree, wanted, &mut steps);
+    let tiles = [
+        (Turn::Dilate, 0i32, 7i32, 512 + 6 * 64),
+        (Turn::Dilate, -16, -1, 4096 + 6 * 256),
+        (Turn::Dilate, 0, 127, 2_097_152 + 6 * 16_384),
+        (Turn::Dilate, -128, -1, 2_097_152 + 6 * 16_384),
+        (Turn::Erode, 0, 7, 216),
+        (Turn::Erode, -16, -1, 14 * 14 * 14),
+        (Turn::Erode, 0, 127, 126 * 126 * 126),
+        (Turn::Erode, -128, -1, 126 * 126 * 126),
+    ];
+    for (case, (turn, low, high, wanted)) in tiles.into_iter().enumerate() {
+        let acts = [
+            Act::Fill(all(low), all(high), on(1)),
+            Act::Turns(turn, 1),
+            Act::Count(wanted),
+        ];
+        let start = Start::roomy(Kind::Tree, 4, case);
+        play(&rt, rt.alloc(), start, &acts, &mut steps);
     }
 }
 
+// Two root blocks side by side, of 32 voxels along each axis, as tiles. Neither of the two erodes the other.
 #[test]
-fn a_tile_shrinks_by_its_faces(rt: HostRuntime) {
+fn tiles_in_a_root_table_grow_or_shrink(rt: HostRuntime) {
     let mut steps = Steps::new(&rt);
-    for (low, high, wanted) in [
-        (0i32, 7i32, 216),
-        (-16, -1, 14 * 14 * 14),
-        (0, 127, 126 * 126 * 126),
-        (-128, -1, 126 * 126 * 126),
-    ] {
-        let mut tree = Tree::new(rt.alloc(), 4i32, 4096);
-        fill(&rt, &mut tree, all(low), all(high), on(1), &mut steps);
-        expect_turn(&rt, Turn::Erode, &mut tree, wanted, &mut steps);
+    let turns = [
+        (Turn::Dilate, 64 * 32 * 32 + 2 * 32 * 32 + 4 * 64 * 32),
+        (Turn::Erode, 62 * 30 * 30),
+    ];
+    for (case, (turn, wanted)) in turns.into_iter().enumerate() {
+        let acts = [
+            Act::Fill(all(-32), all(-1), on(1)),
+            Act::Fill(at(0, -32, -32), at(31, -1, -1), on(2)),
+            Act::NoUpper,
+            Act::Turns(turn, 1),
+            Act::Count(wanted),
+        ];
+        let start = Start::roomy(Kind::Leaves8, 0, case);
+        play(&rt, rt.alloc(), start, &acts, &mut steps);
     }
-}
-
-// Two root blocks side by side, of 32 voxels along each axis, as tiles.
-fn fill_two(rt: &impl Abort, tree: &mut Leaves8<i32>, steps: &mut Steps) {
-    fill(rt, tree, all(-32), all(-1), on(1), steps);
-    fill(rt, tree, at(0, -32, -32), at(31, -1, -1), on(2), steps);
-    assert_eq!(rt; tree.node_counts().upper, 0);
-}
-
-#[test]
-fn tiles_in_a_root_table_grow(rt: HostRuntime) {
-    let mut steps = Steps::new(&rt);
-    let mut tree = Leaves8::new(rt.alloc(), 0i32, 4096);
-    fill_two(&rt, &mut tree, &mut steps);
-    let wanted = 64 * 32 * 32 + 2 * 32 * 32 + 4 * 64 * 32;
-    expect_turn(&rt, Turn::Dilate, &mut tree, wanted, &mut steps);
-}
-
-// Neither of the two erodes the other.
-#[test]
-fn tiles_in_a_root_table_shrink(rt: HostRuntime) {
-    let mut steps = Steps::new(&rt);
-    let mut tree = Leaves8::new(rt.alloc(), 0i32, 4096);
-    fill_two(&rt, &mut tree, &mut steps);
-    expect_turn(&rt, Turn::Erode, &mut tree, 62 * 30 * 30, &mut steps);
 }
 
 // A root block of 1,024 voxels along each axis.
 #[test]
 fn a_root_block_grows(rt: HostRuntime) {
     let mut steps = Steps::new(&rt);
-    let mut tree = Tree433::new(rt.alloc(), false, 4096);
-    fill(&rt, &mut tree, all(0), all(1023), on(true), &mut steps);
-    let wanted = 1_073_741_824 + 6 * 1_048_576;
-    expect_turn(&rt, Turn::Dilate, &mut tree, wanted, &mut steps);
+    let acts = [
+        Act::Fill(all(0), all(1023), on(1)),
+        Act::Turns(Turn::Dilate, 1),
+        Act::Count(1_073_741_824 + 6 * 1_048_576),
+    ];
+    let start = Start::roomy(Kind::Tree433OfTruths, 0, 0);
+    play(&rt, rt.alloc(), start, &acts, &mut steps);
 }
 
 #[test]
 fn a_root_block_shrinks(rt: HostRuntime) {
     let mut steps = Steps::new(&rt);
-    let mut tree = Tree433::new(rt.alloc(), false, 4096);
-    fill(&rt, &mut tree, all(0), all(1023), on(true), &mut steps);
-    let wanted = 1022 * 1022 * 1022;
-    expect_turn(&rt, Turn::Erode, &mut tree, wanted, &mut steps);
-    let cells = [
-        (all(0), off(true)),
-        (all(1), on(true)),
-        (all(1022), on(true)),
-        (all(1023), off(true)),
+    let acts = [
+        Act::Fill(all(0), all(1023), on(1)),
+        Act::Turns(Turn::Erode, 1),
+        Act::Count(1022 * 1022 * 1022),
+        Act::Cell(all(0), off(1)),
+        Act::Cell(all(1), on(1)),
+        Act::Cell(all(1022), on(1)),
+        Act::Cell(all(1023), off(1)),
     ];
-    expect_cells(&rt, &tree, &cells, &mut steps);
+    let start = Start::roomy(Kind::Tree433OfTruths, 0, 0);
+    play(&rt, rt.alloc(), start, &acts, &mut steps);
 }
 
 // A root block at a corner of the range grows and shrinks by three of its faces.
@@ -92,41 +86,44 @@ fn a_root_block_shrinks(rt: HostRuntime) {
 fn a_root_block_at_a_corner_of_the_range(rt: HostRuntime) {
     let mut steps = Steps::new(&rt);
     let (low, high) = (i32::MIN, i32::MAX);
-    for (turn, min, max, wanted) in [
+    let blocks = [
         (Turn::Dilate, low, low.wrapping_add(31), 32_768 + 3 * 1024),
         (Turn::Dilate, high.wrapping_sub(31), high, 32_768 + 3 * 1024),
         (Turn::Erode, low, low.wrapping_add(31), 31 * 31 * 31),
         (Turn::Erode, high.wrapping_sub(31), high, 31 * 31 * 31),
-    ] {
-        let mut tree = Leaves8::new(rt.alloc(), 0i32, 4096);
-        fill(&rt, &mut tree, all(min), all(max), on(1), &mut steps);
-        expect_turn(&rt, turn, &mut tree, wanted, &mut steps);
+    ];
+    for (case, (turn, min, max, wanted)) in blocks.into_iter().enumerate() {
+        let acts = [
+            Act::Fill(all(min), all(max), on(1)),
+            Act::Turns(turn, 1),
+            Act::Count(wanted),
+        ];
+        let start = Start::roomy(Kind::Leaves8, 0, case);
+        play(&rt, rt.alloc(), start, &acts, &mut steps);
     }
 }
 
-// A hole of one voxel in a tile of 128 takes its six neighbours with it.
+// A hole of one voxel in a tile of 128 takes its six neighbours with it. It is filled by a turn of dilation, and keeps its value.
 #[test]
-fn a_hole_grows(rt: HostRuntime) {
+fn a_hole_grows_or_is_filled(rt: HostRuntime) {
     let mut steps = Steps::new(&rt);
-    for p in [at(60, 60, 60), at(63, 64, 8), at(71, 56, 55)] {
-        let mut tree = Tree::new(rt.alloc(), 0i32, 4096);
-        fill(&rt, &mut tree, all(0), all(127), on(1), &mut steps);
-        write(&rt, &mut tree, p, Write::Off(2), &mut steps);
-        let wanted = 126 * 126 * 126 - 7;
-        expect_turn(&rt, Turn::Erode, &mut tree, wanted, &mut steps);
-    }
-}
-
-// It is filled by a turn of dilation, and keeps its value.
-#[test]
-fn a_hole_is_filled(rt: HostRuntime) {
-    let mut steps = Steps::new(&rt);
-    for p in [at(60, 60, 60), at(63, 64, 8), at(71, 56, 55)] {
-        let mut tree = Tree::new(rt.alloc(), 0i32, 4096);
-        fill(&rt, &mut tree, all(0), all(127), on(1), &mut steps);
-        write(&rt, &mut tree, p, Write::Off(2), &mut steps);
-        let wanted = 2_097_152 + 6 * 16_384;
-        expect_turn(&rt, Turn::Dilate, &mut tree, wanted, &mut steps);
-        expect_cells(&rt, &tree, &[(p, on(2))], &mut steps);
+    let holes = [at(60, 60, 60), at(63, 64, 8), at(71, 56, 55)];
+    for (case, p) in holes.into_iter().enumerate() {
+        let eroded = [
+            Act::Fill(all(0), all(127), on(1)),
+            Act::Write(p, Write::Off(2)),
+            Act::Turns(Turn::Erode, 1),
+            Act::Count(126 * 126 * 126 - 7),
+        ];
+        let dilated = [
+            Act::Fill(all(0), all(127), on(1)),
+            Act::Write(p, Write::Off(2)),
+            Act::Turns(Turn::Dilate, 1),
+            Act::Count(2_097_152 + 6 * 16_384),
+            Act::Cell(p, on(2)),
+        ];
+        let start = Start::roomy(Kind::Tree, 0, case);
+        play(&rt, rt.alloc(), start, &eroded, &mut steps);
+        play(&rt, rt.alloc(), start, &dilated, &mut steps);
     }
 }

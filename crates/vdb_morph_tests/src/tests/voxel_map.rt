@@ -1,12 +1,10 @@
 //! The states of the voxels of a cube, and what the definition makes of them.
 
-use super::{Turn, expect_count};
+use super::Turn;
+use super::trees::Spot;
 use std::alloc::{AllocError, Global};
 use std::process::Abort;
 use vdb_coord::Coord;
-use vdb_node::Stored;
-use vdb_pool::Steps;
-use vdb_tree::TreeOf;
 use vdb_value::Cell;
 
 /// A cube of coordinates, of which the range may hold a part alone.
@@ -27,8 +25,8 @@ impl Cube {
         }
     }
 
-    // The cube with so many voxels more on each side.
-    fn grown(self, margin: u32) -> Cube {
+    /// The cube with so many voxels more on each side.
+    pub fn grown(self, margin: u32) -> Cube {
         let [x, y, z] = self.low;
         let margin_along = i64::from(margin);
         Cube {
@@ -41,14 +39,43 @@ impl Cube {
         }
     }
 
-    // The coordinate at this place in the cube: `None` past the range.
-    fn coordinate(self, x: u32, y: u32, z: u32) -> Option<Coord> {
+    /// The coordinate at this place in the cube: `None` past the range.
+    pub fn coordinate(self, x: u32, y: u32, z: u32) -> Option<Coord> {
         let component = |low: i64, place: u32| i32::try_from(low.wrapping_add(i64::from(place)));
         Some(Coord {
             x: component(self.low[0], x).ok()?,
             y: component(self.low[1], y).ok()?,
             z: component(self.low[2], z).ok()?,
         })
+    }
+
+    // The index of this place among all: `None` past the cube.
+    fn index(self, x: u32, y: u32, z: u32) -> Option<usize> {
+        let span = self.span;
+        if x >= span || y >= span || z >= span {
+            return None;
+        }
+        let (row, span) = (x as usize, span as usize);
+        let line = row.wrapping_mul(span).wrapping_add(y as usize);
+        Some(line.wrapping_mul(span).wrapping_add(z as usize))
+    }
+}
+
+/// What a tree looks like: the cells of a cube, each value as a number, and how many voxels are active in all. Past the range of
+/// coordinates there is no voxel, and `None` stands.
+#[derive(Drop)]
+pub struct Seen {
+    pub cube: Cube,
+    pub cells: Vec<Option<Cell<i64>>>,
+    pub active: u128,
+}
+
+impl Seen {
+    fn cell(&self, x: u32, y: u32, z: u32) -> Option<Cell<i64>> {
+        match self.cells.get(self.cube.index(x, y, z)?) {
+            Some(cell) => *cell,
+            None => None,
+        }
     }
 }
 
@@ -62,46 +89,25 @@ struct VoxelMap {
 }
 
 impl VoxelMap {
-    fn of<
-        V: Stored<WU> + Stored<WL> + Stored<WF>,
-        const U: u32,
-        const L: u32,
-        const F: u32,
-        const WU: usize,
-        const WL: usize,
-        const WF: usize,
-    >(
-        alloc: Global,
-        tree: &TreeOf<V, U, L, F, WU, WL, WF>,
-        cube: Cube,
-        steps: &mut Steps,
-    ) -> Result<VoxelMap, AllocError> {
+    fn of(alloc: Global, seen: &Seen) -> Result<VoxelMap, AllocError> {
         let mut states = Vec::new(alloc);
-        for x in 0..cube.span {
-            for y in 0..cube.span {
-                for z in 0..cube.span {
-                    states.push(match cube.coordinate(x, y, z) {
-                        Some(p) => Some(tree.get(p, steps).on),
-                        None => None,
-                    })?;
-                }
-            }
+        for cell in &seen.cells {
+            states.push(match cell {
+                Some(cell) => Some(cell.on),
+                None => None,
+            })?;
         }
         Ok(VoxelMap {
             alloc,
-            cube,
+            cube: seen.cube,
             states,
         })
     }
 
     fn state(&self, x: u32, y: u32, z: u32) -> Option<bool> {
-        let span = self.cube.span;
-        if x >= span || y >= span || z >= span {
+        let Some(place) = self.cube.index(x, y, z) else {
             return Some(false);
-        }
-        let (row, span) = (x as usize, span as usize);
-        let line = row.wrapping_mul(span).wrapping_add(y as usize);
-        let place = line.wrapping_mul(span).wrapping_add(z as usize);
+        };
         match self.states.get(place) {
             Some(state) => *state,
             None => None,
@@ -153,80 +159,67 @@ impl VoxelMap {
     }
 }
 
-// A cell of the cube has the map's state, and the value that it had before.
-fn expect_cell<
-    V: Stored<WU> + Stored<WL> + Stored<WF>,
-    const U: u32,
-    const L: u32,
-    const F: u32,
-    const WU: usize,
-    const WL: usize,
-    const WF: usize,
->(
+// A cell of the cube has the map's state, and the value that it had before, after turns in one call and in many.
+fn expect_cell(
     rt: &impl Abort,
     map: &VoxelMap,
-    before: &TreeOf<V, U, L, F, WU, WL, WF>,
-    after: &TreeOf<V, U, L, F, WU, WL, WF>,
+    before: &Seen,
+    (once, often): (&Seen, &Seen),
     (x, y, z): (u32, u32, u32),
-    steps: &mut Steps,
+    what: (Turn, u32),
+    spot: Spot,
 ) {
     if let (Some(p), Some(on)) = (map.cube.coordinate(x, y, z), map.state(x, y, z)) {
-        let value = before.get(p, steps).value;
-        assert!(rt; after.get(p, steps) == Cell { value, on }, "at {p:?}");
+        let value = match before.cell(x, y, z) {
+            Some(cell) => cell.value,
+            None => 0,
+        };
+        let wanted = Some(Cell { value, on });
+        assert!(rt;
+            once.cell(x, y, z) == wanted,
+            "at {p:?} by {what:?}, {spot:?}"
+        );
+        assert!(rt;
+            often.cell(x, y, z) == wanted,
+            "at {p:?} by {what:?} in many calls, {spot:?}"
+        );
     }
 }
 
 // So do all. No voxel past the cube is active.
-fn expect_map<
-    V: Stored<WU> + Stored<WL> + Stored<WF>,
-    const U: u32,
-    const L: u32,
-    const F: u32,
-    const WU: usize,
-    const WL: usize,
-    const WF: usize,
->(
+fn expect_map(
     rt: &impl Abort,
     map: &VoxelMap,
-    before: &TreeOf<V, U, L, F, WU, WL, WF>,
-    after: &TreeOf<V, U, L, F, WU, WL, WF>,
-    steps: &mut Steps,
+    before: &Seen,
+    (once, often): (&Seen, &Seen),
+    what: (Turn, u32),
+    spot: Spot,
 ) {
     for x in 0..map.cube.span {
         for y in 0..map.cube.span {
             for z in 0..map.cube.span {
-                expect_cell(rt, map, before, after, (x, y, z), steps);
+                expect_cell(rt, map, before, (once, often), (x, y, z), what, spot);
             }
         }
     }
-    expect_count(rt, after, map.active(), steps);
+    let active = map.active();
+    assert_eq!(rt; once.active, active, "by {what:?}, {spot:?}");
+    assert_eq!(rt; often.active, active, "by {what:?} in many calls, {spot:?}");
 }
 
-/// Turns made one tree of the other, whose active voxels lie in the cube.
-pub fn expect_turns<
-    V: Stored<WU> + Stored<WL> + Stored<WF>,
-    const U: u32,
-    const L: u32,
-    const F: u32,
-    const WU: usize,
-    const WL: usize,
-    const WF: usize,
->(
+/// Turns made one tree of another, in one call and in as many calls. All active voxels lie in the cube, before and after.
+pub fn expect_turns(
     rt: &impl Abort,
     alloc: Global,
-    (before, after): (
-        &TreeOf<V, U, L, F, WU, WL, WF>,
-        &TreeOf<V, U, L, F, WU, WL, WF>,
-    ),
-    (turn, turns): (Turn, u32),
-    cube: Cube,
-    steps: &mut Steps,
+    before: &Seen,
+    (once, often): (&Seen, &Seen),
+    what: (Turn, u32),
+    spot: Spot,
 ) {
-    let grown = cube.grown(turns);
-    let mut map = VoxelMap::of(alloc, before, grown, steps).expect(rt, "memory for a map");
-    expect_count(rt, before, map.active(), steps);
-    for _ in 0..turns {
-        map = map.turned(turn).expect(rt, "memory for a map");
+    let mut map = VoxelMap::of(alloc, before).expect(rt, "memory for a map");
+    assert_eq!(rt; before.active, map.active(), "before, {spot:?}");
+    for _ in 0..what.1 {
+        map = map.turned(what.0).expect(rt, "memory for a map");
     }
-    expect_map(rt, &map, before, after, steps);
+    expect_map(rt, &map, before, (once, often), what, spot);
 }
