@@ -9,17 +9,15 @@ mod leaves;
 mod limits;
 mod paths;
 mod pieces;
+mod play;
 mod random;
 mod sweeps;
 mod union;
 mod voxels;
 mod writes;
 
-use std::process::Abort;
 use vdb_coord::Coord;
-use vdb_node::Stored;
-use vdb_pool::Steps;
-use vdb_tree::{NodeCounts, TreeOf, Write};
+use vdb_tree::{NodeCounts, TreeOf};
 use vdb_value::Cell;
 
 /// A tree whose blocks span 2, 4 and 8 voxels along each axis, so that a few writes fill one.
@@ -47,43 +45,5 @@ fn nodes(entries: u64, upper: u64, lower: u64, leaf: u64) -> NodeCounts {
         upper,
         lower,
         leaf,
-    }
-}
-
-// Writes a voxel, which is accepted.
-fn write<
-    V: Stored<WU> + Stored<WL> + Stored<WF>,
-    const U: u32,
-    const L: u32,
-    const F: u32,
-    const WU: usize,
-    const WL: usize,
-    const WF: usize,
->(
-    rt: &impl Abort,
-    tree: &mut TreeOf<V, U, L, F, WU, WL, WF>,
-    p: Coord,
-    change: Write<V>,
-    steps: &mut Steps,
-) {
-    tree.write(p, change, steps).expect(rt, "a write");
-}
-
-fn expect_cells<
-    V: Stored<WU> + Stored<WL> + Stored<WF>,
-    const U: u32,
-    const L: u32,
-    const F: u32,
-    const WU: usize,
-    const WL: usize,
-    const WF: usize,
->(
-    rt: &impl Abort,
-    tree: &TreeOf<V, U, L, F, WU, WL, WF>,
-    cells: &[(Coord, Cell<V>)],
-    steps: &mut Steps,
-) {
-    for (p, cell) in cells {
-        assert!(rt; tree.get(*p, steps) == *cell, "at {p:?}");
     }
 }

@@ -1,21 +1,22 @@
 //! Tests as lists of acts: what is done to a tree, and what is then expected of it. A list costs the proof next to nothing,
-//! where as many calls in a row cost much.
+//! where as many calls in a row cost much. `play` has the lists carried out.
 
-use super::{at, nodes, write};
+use super::{at, nodes, off};
 use std::process::Abort;
-use vdb_coord::{Bounds, Coord};
+use vdb_coord::{Bounds, Coord, Level};
 use vdb_node::Stored;
 use vdb_pool::Steps;
-use vdb_tree::{TreeOf, TreeRefusal, Write};
+use vdb_tree::{NodeCounts, TreeOf, TreeRefusal, Write};
 use vdb_value::Cell;
 
-/// One thing done to a tree, or expected of it. A box is given by its first voxel and its last one.
-#[derive(Clone, Copy)]
+/// One thing done to a tree, or expected of it. A box is given by its first voxel and its last one, and a cube by its first
+/// voxel and how many it has along each axis.
+#[derive(Drop)]
 pub(super) enum Act<V> {
     Write(Coord, Write<V>),
     /// A write that the root limit refuses.
     Refused(Coord, Write<V>),
-    /// A write of each voxel of a cube: its first voxel, and how many it has along each axis.
+    /// A write of each voxel of a cube.
     Fill(Coord, i32, Write<V>),
     Prune,
     Split(Coord, Coord, Cell<V>),
@@ -24,45 +25,52 @@ pub(super) enum Act<V> {
     /// A box split, and then painted.
     Paint(Coord, Coord, Cell<V>),
     Voxelise(Coord, Coord),
+    /// The tree gives way to a copy of it.
+    Copy,
+    Background(V),
     /// The entries of the root table and the upper, lower and leaf nodes.
     Counts([u64; 4]),
+    /// The entries of the root table alone.
+    Entries(u64),
     RootBlocks(u64),
     Limit(u32),
     Cell(Coord, Cell<V>),
+    /// How many voxels of a cube have a cell.
+    Cells(Coord, i32, Cell<V>, u32),
+    /// How many nodes were visited by the act before.
+    Visits(u64),
     /// Whether a leaf is there.
     Leaf(Coord, bool),
+    /// How many voxels of a leaf are active.
+    Active(Coord, Option<u32>),
     /// The leaf block past a coordinate, or the first of all.
     NextLeaf(Option<Coord>, Option<Coord>),
     /// The root block past one, or the first of all.
     NextKey(Option<Coord>, Option<Coord>),
+    /// The one cell of a block, or that it has several.
+    Constant(Level, Coord, Option<Cell<V>>),
+    /// The same of the blocks of all three levels.
+    Constants(Coord, Option<Cell<V>>),
+    /// The first and the last voxel of the piece around a coordinate, and its cell.
+    Piece(Coord, Coord, Coord, Cell<V>),
 }
 
 fn bounds(rt: &impl Abort, min: Coord, max: Coord) -> Bounds {
     Bounds::new(min, max).expect(rt, "a box")
 }
 
-fn write_refused<
-    V: Stored<WU> + Stored<WL> + Stored<WF>,
-    const U: u32,
-    const L: u32,
-    const F: u32,
-    const WU: usize,
-    const WL: usize,
-    const WF: usize,
->(
-    rt: &impl Abort,
-    number: usize,
-    tree: &mut TreeOf<V, U, L, F, WU, WL, WF>,
-    p: Coord,
-    change: Write<V>,
-    steps: &mut Steps,
-) {
-    let refused = tree.write(p, change, steps);
-    assert_eq!(rt;
-        refused,
-        Err(TreeRefusal::RootLimit),
-        "act {number}, at {p:?}"
-    );
+fn counts_of(counts: [u64; 4]) -> NodeCounts {
+    let [entries, upper, lower, leaf] = counts;
+    nodes(entries, upper, lower, leaf)
+}
+
+// A voxel of the cube that begins at a corner.
+fn beyond(corner: Coord, x: i32, y: i32, z: i32) -> Coord {
+    at(
+        corner.x.wrapping_add(x),
+        corner.y.wrapping_add(y),
+        corner.z.wrapping_add(z),
+    )
 }
 
 fn fill<
@@ -74,63 +82,20 @@ fn fill<
     const WL: usize,
     const WF: usize,
 >(
-    rt: &impl Abort,
     tree: &mut TreeOf<V, U, L, F, WU, WL, WF>,
     corner: Coord,
     span: i32,
     change: Write<V>,
     steps: &mut Steps,
-) {
+) -> Result<(), TreeRefusal> {
     for x in 0..span {
         for y in 0..span {
             for z in 0..span {
-                let p = at(
-                    corner.x.wrapping_add(x),
-                    corner.y.wrapping_add(y),
-                    corner.z.wrapping_add(z),
-                );
-                write(rt, tree, p, change, steps);
+                tree.write(beyond(corner, x, y, z), change, steps)?;
             }
         }
     }
-}
-
-fn split<
-    V: Stored<WU> + Stored<WL> + Stored<WF>,
-    const U: u32,
-    const L: u32,
-    const F: u32,
-    const WU: usize,
-    const WL: usize,
-    const WF: usize,
->(
-    rt: &impl Abort,
-    tree: &mut TreeOf<V, U, L, F, WU, WL, WF>,
-    bounds: Bounds,
-    cell: Cell<V>,
-    steps: &mut Steps,
-) {
-    tree.split(bounds, cell, steps).expect(rt, "a split");
-}
-
-fn split_refused<
-    V: Stored<WU> + Stored<WL> + Stored<WF>,
-    const U: u32,
-    const L: u32,
-    const F: u32,
-    const WU: usize,
-    const WL: usize,
-    const WF: usize,
->(
-    rt: &impl Abort,
-    number: usize,
-    tree: &mut TreeOf<V, U, L, F, WU, WL, WF>,
-    bounds: Bounds,
-    cell: Cell<V>,
-    steps: &mut Steps,
-) {
-    let refused = tree.split(bounds, cell, steps);
-    assert_eq!(rt; refused, Err(TreeRefusal::RootLimit), "act {number}");
+    Ok(())
 }
 
 fn paint<
@@ -142,43 +107,18 @@ fn paint<
     const WL: usize,
     const WF: usize,
 >(
-    rt: &impl Abort,
     tree: &mut TreeOf<V, U, L, F, WU, WL, WF>,
     bounds: Bounds,
     cell: Cell<V>,
     steps: &mut Steps,
-) {
-    tree.split(bounds, cell, steps).expect(rt, "a split");
+) -> Result<(), TreeRefusal> {
+    tree.split(bounds, cell, steps)?;
     tree.paint(bounds, cell, steps);
+    Ok(())
 }
 
-fn voxelise<
-    V: Stored<WU> + Stored<WL> + Stored<WF>,
-    const U: u32,
-    const L: u32,
-    const F: u32,
-    const WU: usize,
-    const WL: usize,
-    const WF: usize,
->(rt: &impl Abort, tree: &mut TreeOf<V, U, L, F, WU, WL, WF>, bounds: Bounds, steps: &mut Steps) {
-    tree.voxelise(bounds, steps).expect(rt, "leaves");
-}
-
-fn expect_counts<
-    V: Stored<WU> + Stored<WL> + Stored<WF>,
-    const U: u32,
-    const L: u32,
-    const F: u32,
-    const WU: usize,
-    const WL: usize,
-    const WF: usize,
->(rt: &impl Abort, number: usize, tree: &TreeOf<V, U, L, F, WU, WL, WF>, counts: [u64; 4]) {
-    let [entries, upper, lower, leaf] = counts;
-    let wanted = nodes(entries, upper, lower, leaf);
-    assert_eq!(rt; tree.node_counts(), wanted, "act {number}");
-}
-
-fn expect_cell<
+// What an act that changes the tree gives; one that doesn't succeeds.
+fn change<
     V: Stored<WU> + Stored<WL> + Stored<WF>,
     const U: u32,
     const L: u32,
@@ -188,166 +128,150 @@ fn expect_cell<
     const WF: usize,
 >(
     rt: &impl Abort,
-    number: usize,
-    tree: &TreeOf<V, U, L, F, WU, WL, WF>,
-    p: Coord,
-    cell: Cell<V>,
-    steps: &mut Steps,
-) {
-    assert!(rt; tree.get(p, steps) == cell, "act {number}, at {p:?}");
-}
-
-fn expect_leaf<
-    V: Stored<WU> + Stored<WL> + Stored<WF>,
-    const U: u32,
-    const L: u32,
-    const F: u32,
-    const WU: usize,
-    const WL: usize,
-    const WF: usize,
->(
-    rt: &impl Abort,
-    number: usize,
-    tree: &TreeOf<V, U, L, F, WU, WL, WF>,
-    p: Coord,
-    there: bool,
-    steps: &mut Steps,
-) {
-    assert_eq!(rt; tree.leaf_at(p, steps), there, "act {number}, at {p:?}");
-}
-
-fn expect_next_leaf<
-    V: Stored<WU> + Stored<WL> + Stored<WF>,
-    const U: u32,
-    const L: u32,
-    const F: u32,
-    const WU: usize,
-    const WL: usize,
-    const WF: usize,
->(
-    rt: &impl Abort,
-    number: usize,
-    tree: &TreeOf<V, U, L, F, WU, WL, WF>,
-    after: Option<Coord>,
-    corner: Option<Coord>,
-    steps: &mut Steps,
-) {
-    assert_eq!(rt;
-        tree.next_leaf(after, steps),
-        corner,
-        "act {number}, past {after:?}"
-    );
-}
-
-fn expect_next_key<
-    V: Stored<WU> + Stored<WL> + Stored<WF>,
-    const U: u32,
-    const L: u32,
-    const F: u32,
-    const WU: usize,
-    const WL: usize,
-    const WF: usize,
->(
-    rt: &impl Abort,
-    number: usize,
-    tree: &TreeOf<V, U, L, F, WU, WL, WF>,
-    after: Option<Coord>,
-    key: Option<Coord>,
-) {
-    assert_eq!(rt; tree.next_key(after), key, "act {number}, past {after:?}");
-}
-
-fn expect_root_blocks<
-    V: Stored<WU> + Stored<WL> + Stored<WF>,
-    const U: u32,
-    const L: u32,
-    const F: u32,
-    const WU: usize,
-    const WL: usize,
-    const WF: usize,
->(
-    rt: &impl Abort,
-    number: usize,
-    tree: &TreeOf<V, U, L, F, WU, WL, WF>,
-    count: u64,
-    steps: &mut Steps,
-) {
-    assert_eq!(rt; tree.root_blocks(steps), count, "act {number}");
-}
-
-fn expect_limit<
-    V: Stored<WU> + Stored<WL> + Stored<WF>,
-    const U: u32,
-    const L: u32,
-    const F: u32,
-    const WU: usize,
-    const WL: usize,
-    const WF: usize,
->(rt: &impl Abort, number: usize, tree: &TreeOf<V, U, L, F, WU, WL, WF>, limit: u32) {
-    assert_eq!(rt; tree.limit(), limit, "act {number}");
-}
-
-// What is expected of a tree; an act that changes it expects nothing.
-fn expect_act<
-    V: Stored<WU> + Stored<WL> + Stored<WF>,
-    const U: u32,
-    const L: u32,
-    const F: u32,
-    const WU: usize,
-    const WL: usize,
-    const WF: usize,
->(
-    rt: &impl Abort,
-    number: usize,
-    tree: &TreeOf<V, U, L, F, WU, WL, WF>,
-    act: &Act<V>,
-    steps: &mut Steps,
-) {
-    match *act {
-        Act::Counts(counts) => expect_counts(rt, number, tree, counts),
-        Act::RootBlocks(count) => expect_root_blocks(rt, number, tree, count, steps),
-        Act::Limit(limit) => expect_limit(rt, number, tree, limit),
-        Act::Cell(p, cell) => expect_cell(rt, number, tree, p, cell, steps),
-        Act::Leaf(p, there) => expect_leaf(rt, number, tree, p, there, steps),
-        Act::NextLeaf(after, corner) => expect_next_leaf(rt, number, tree, after, corner, steps),
-        Act::NextKey(after, key) => expect_next_key(rt, number, tree, after, key),
-        _ => {}
-    }
-}
-
-fn act_once<
-    V: Stored<WU> + Stored<WL> + Stored<WF>,
-    const U: u32,
-    const L: u32,
-    const F: u32,
-    const WU: usize,
-    const WL: usize,
-    const WF: usize,
->(
-    rt: &impl Abort,
-    number: usize,
     tree: &mut TreeOf<V, U, L, F, WU, WL, WF>,
     act: &Act<V>,
     steps: &mut Steps,
-) {
-    match *act {
-        Act::Write(p, change) => write(rt, tree, p, change, steps),
-        Act::Refused(p, change) => write_refused(rt, number, tree, p, change, steps),
-        Act::Fill(corner, span, change) => fill(rt, tree, corner, span, change, steps),
-        Act::Prune => tree.prune(steps),
-        Act::Split(min, max, cell) => split(rt, tree, bounds(rt, min, max), cell, steps),
-        Act::RefusedSplit(min, max, cell) => split_refused(
-            rt,
-            number,
-            tree,
-            bounds(rt, min, max),
-            cell,
-            steps,
-        ),
-        Act::Paint(min, max, cell) => paint(rt, tree, bounds(rt, min, max), cell, steps),
-        Act::Voxelise(min, max) => voxelise(rt, tree, bounds(rt, min, max), steps),
-        _ => expect_act(rt, number, tree, act, steps),
+) -> Result<(), TreeRefusal> {
+    match act {
+        Act::Write(p, change) | Act::Refused(p, change) => tree.write(*p, *change, steps),
+        Act::Fill(corner, span, change) => fill(tree, *corner, *span, *change, steps),
+        Act::Prune => {
+            tree.prune(steps);
+            Ok(())
+        }
+        Act::Split(min, max, cell) | Act::RefusedSplit(min, max, cell) => {
+            tree.split(bounds(rt, *min, *max), *cell, steps)
+        }
+        Act::Paint(min, max, cell) => paint(tree, bounds(rt, *min, *max), *cell, steps),
+        Act::Voxelise(min, max) => tree.voxelise(bounds(rt, *min, *max), steps),
+        Act::Copy => {
+            *tree = tree.try_copy()?;
+            Ok(())
+        }
+        _ => Ok(()),
     }
+}
+
+// What `change` is to give.
+fn outcome<V>(act: &Act<V>) -> Result<(), TreeRefusal> {
+    match act {
+        Act::Refused(..) | Act::RefusedSplit(..) => Err(TreeRefusal::RootLimit),
+        _ => Ok(()),
+    }
+}
+
+fn count_cells<
+    V: Stored<WU> + Stored<WL> + Stored<WF>,
+    const U: u32,
+    const L: u32,
+    const F: u32,
+    const WU: usize,
+    const WL: usize,
+    const WF: usize,
+>(
+    tree: &TreeOf<V, U, L, F, WU, WL, WF>,
+    corner: Coord,
+    span: i32,
+    cell: Cell<V>,
+    steps: &mut Steps,
+) -> u32 {
+    let mut count = 0u32;
+    for x in 0..span {
+        for y in 0..span {
+            for z in 0..span {
+                if tree.get(beyond(corner, x, y, z), steps) == cell {
+                    count = count.wrapping_add(1);
+                }
+            }
+        }
+    }
+    count
+}
+
+// Whether the block around p of each of these levels has the one cell that is wanted, or several where none is.
+fn are_constant<
+    V: Stored<WU> + Stored<WL> + Stored<WF>,
+    const U: u32,
+    const L: u32,
+    const F: u32,
+    const WU: usize,
+    const WL: usize,
+    const WF: usize,
+>(
+    tree: &TreeOf<V, U, L, F, WU, WL, WF>,
+    levels: &[Level],
+    p: Coord,
+    wanted: Option<Cell<V>>,
+    steps: &mut Steps,
+) -> bool {
+    for level in levels {
+        if tree.constant(*level, p, steps) != wanted {
+            return false;
+        }
+    }
+    true
+}
+
+// Whether what an act expects of leaves, blocks and pieces holds.
+fn is_met_by_blocks<
+    V: Stored<WU> + Stored<WL> + Stored<WF>,
+    const U: u32,
+    const L: u32,
+    const F: u32,
+    const WU: usize,
+    const WL: usize,
+    const WF: usize,
+>(tree: &TreeOf<V, U, L, F, WU, WL, WF>, act: &Act<V>, steps: &mut Steps) -> bool {
+    let levels = [Level::Leaf, Level::Lower, Level::Upper];
+    match act {
+        Act::Leaf(p, there) => tree.leaf_at(*p, steps) == *there,
+        Act::Active(p, active) => tree.leaf_count(*p, steps) == *active,
+        Act::NextLeaf(after, corner) => tree.next_leaf(*after, steps) == *corner,
+        Act::Constant(level, p, wanted) => are_constant(tree, &[*level], *p, *wanted, steps),
+        Act::Constants(p, wanted) => are_constant(tree, &levels, *p, *wanted, steps),
+        Act::Piece(p, min, max, cell) => {
+            let piece = tree.piece(*p, steps);
+            Some(piece.bounds) == Bounds::new(*min, *max) && piece.cell == *cell
+        }
+        _ => true,
+    }
+}
+
+// Whether what an act expects holds; one that changes the tree expects nothing. The act before it took so many visits.
+fn is_met<
+    V: Stored<WU> + Stored<WL> + Stored<WF>,
+    const U: u32,
+    const L: u32,
+    const F: u32,
+    const WU: usize,
+    const WL: usize,
+    const WF: usize,
+>(tree: &mut TreeOf<V, U, L, F, WU, WL, WF>, act: &Act<V>, visits: u64, steps: &mut Steps) -> bool {
+    match act {
+        Act::Background(value) => tree.background() == *value,
+        Act::Counts(counts) => tree.node_counts() == counts_of(*counts),
+        Act::Entries(count) => tree.node_counts().entries == *count,
+        Act::RootBlocks(count) => tree.root_blocks(steps) == *count,
+        Act::Limit(limit) => tree.limit() == *limit,
+        Act::Cell(p, cell) => tree.get(*p, steps) == *cell,
+        Act::Cells(corner, span, cell, count) => {
+            count_cells(tree, *corner, *span, *cell, steps) == *count
+        }
+        Act::Visits(count) => visits == *count,
+        Act::NextKey(after, key) => tree.next_key(*after) == *key,
+        _ => is_met_by_blocks(tree, act, steps),
+    }
+}
+
+fn expect(
+    rt: &impl Abort,
+    number: usize,
+    found: Result<(), TreeRefusal>,
+    wanted: Result<(), TreeRefusal>,
+    is_met: bool,
+) {
+    assert_eq!(rt; found, wanted, "act {number}");
+    assert!(rt; is_met, "act {number}");
 }
 
 /// Each act in turn. They are numbered from 0 in the texts of what fails.
@@ -360,8 +284,13 @@ pub(super) fn run<
     const WL: usize,
     const WF: usize,
 >(rt: &impl Abort, tree: &mut TreeOf<V, U, L, F, WU, WL, WF>, acts: &[Act<V>], steps: &mut Steps) {
+    let mut visits = 0;
     for (number, act) in acts.iter().enumerate() {
-        act_once(rt, number, tree, act, steps);
+        let before = steps.count();
+        let found = change(rt, tree, act, steps);
+        let is_met = is_met(tree, act, visits, steps);
+        expect(rt, number, found, outcome(act), is_met);
+        visits = steps.count().wrapping_sub(before);
     }
 }
 
@@ -376,4 +305,9 @@ pub(super) fn try_acts<
     const WF: usize,
 >(rt: &impl Abort, mut tree: TreeOf<V, U, L, F, WU, WL, WF>, acts: &[Act<V>], steps: &mut Steps) {
     run(rt, &mut tree, acts, steps);
+}
+
+/// Puts an act at the end of a list.
+pub(super) fn add<V>(rt: &impl Abort, acts: &mut Vec<Act<V>>, act: Act<V>) {
+    acts.push(act).expect(rt, "memory for an act");
 }

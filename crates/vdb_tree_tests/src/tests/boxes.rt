@@ -1,53 +1,31 @@
 //! Boxes split and painted.
 
-use super::acts::{Act, run, try_acts};
-use super::{Tiny, all, at, nodes, off, on};
+use super::acts::Act;
+use super::{all, at, off, on, play};
 use std::process::Abort;
-use vdb_coord::Bounds;
+use vdb_coord::{Bounds, Coord};
 use vdb_pool::Steps;
-use vdb_tree::{Tree, Tree433, Write};
+use vdb_tree::{Tree, Write};
 use vdb_value::Cell;
 
-// How many of the 2,197 voxels from -2 to 10 along each axis have this cell.
-fn count_near(tree: &Tree<i32>, cell: Cell<i32>, steps: &mut Steps) -> u32 {
-    let mut count = 0u32;
-    for x in -2..=10 {
-        for y in -2..=10 {
-            for z in -2..=10 {
-                if tree.get(at(x, y, z), steps) == cell {
-                    count = count.wrapping_add(1);
-                }
-            }
-        }
-    }
-    count
-}
-
-// All voxels near a box of 9 along each axis have the background before it is painted, and those beside it also after that.
-fn split_and_paint(rt: &impl Abort, tree: &mut Tree<i32>, bounds: Bounds, steps: &mut Steps) {
-    let cell = on(2);
-    tree.split(bounds, cell, steps).expect(rt, "a split");
-    assert_eq!(rt; tree.node_counts(), nodes(1, 1, 1, 7));
-    assert_eq!(rt; count_near(tree, off(0), steps), 2197);
-    tree.paint(bounds, cell, steps);
-    assert_eq!(rt; count_near(tree, cell, steps), 729);
-    assert_eq!(rt; count_near(tree, off(0), steps), 1468);
-}
-
-// The box takes in one leaf block and a voxel's breadth of the seven behind it.
+// The box takes in one leaf block and a voxel's breadth of the seven behind it. All of the 2,197 voxels near it have the
+// background before it is painted, and those beside it also after that.
 #[test]
 fn a_split_keeps_every_cell(rt: HostRuntime) {
     let mut steps = Steps::new(&rt);
-    let mut tree = Tree::new(rt.alloc(), 0i32, 4096);
-    let bounds = Bounds::new(all(0), all(8)).expect(&rt, "a box");
-    split_and_paint(&rt, &mut tree, bounds, &mut steps);
     let acts = [
+        Act::Split(all(0), all(8), on(2)),
+        Act::Counts([1, 1, 1, 7]),
+        Act::Cells(all(-2), 13, off(0), 2197),
+        Act::Paint(all(0), all(8), on(2)),
+        Act::Cells(all(-2), 13, on(2), 729),
+        Act::Cells(all(-2), 13, off(0), 1468),
         Act::Counts([1, 1, 1, 7]),
         Act::Cell(all(0), on(2)),
         Act::Cell(all(8), on(2)),
         Act::Cell(at(8, 8, 9), off(0)),
     ];
-    run(&rt, &mut tree, &acts, &mut steps);
+    play::numbers(&rt, 0, 4096, &acts, &mut steps);
 }
 
 #[test]
@@ -58,7 +36,7 @@ fn background_voxels_of_an_empty_tree(rt: HostRuntime) {
         Act::Counts([0, 0, 0, 0]),
         Act::Cell(all(0), off(7)),
     ];
-    try_acts(&rt, Tree::new(rt.alloc(), 7i32, 0), &acts, &mut steps);
+    play::numbers(&rt, 7, 0, &acts, &mut steps);
 }
 
 #[test]
@@ -76,7 +54,7 @@ fn a_part_of_a_leaf(rt: HostRuntime) {
         Act::Cell(at(5, 7, 7), off(0)),
         Act::Cell(all(3), on(1)),
     ];
-    try_acts(&rt, Tree::new(rt.alloc(), 0i32, 4096), &acts, &mut steps);
+    play::numbers(&rt, 0, 4096, &acts, &mut steps);
 }
 
 // Of each level's nodes, those that the box covers.
@@ -101,7 +79,7 @@ fn covered_nodes_are_given_back(rt: HostRuntime) {
         Act::Cell(all(8), off(false)),
         Act::Cell(all(-1), on(false)),
     ];
-    try_acts(&rt, Tiny::new(rt.alloc(), false, 16), &acts, &mut steps);
+    play::truths_tiny(&rt, false, 16, &acts, &mut steps);
 }
 
 // A tile across the edge of the box that has its cell already stays one.
@@ -118,7 +96,7 @@ fn a_tile_of_the_same_cell_stays(rt: HostRuntime) {
         Act::Cell(at(0, 0, 1024), on(-4)),
         Act::Cell(at(0, 1, 1024), off(0)),
     ];
-    try_acts(&rt, Tree433::new(rt.alloc(), 0i64, 4096), &acts, &mut steps);
+    play::large_numbers_433(&rt, 0, 4096, &acts, &mut steps);
 }
 
 #[test]
@@ -133,34 +111,51 @@ fn a_leaf_block_filled_voxelised_and_pruned(rt: HostRuntime) {
         Act::Leaf(all(0), false),
         Act::Counts([1, 1, 1, 0]),
     ];
-    try_acts(&rt, Tree::new(rt.alloc(), 0i32, 4096), &acts, &mut steps);
+    play::numbers(&rt, 0, 4096, &acts, &mut steps);
+}
+
+fn cell_of(tree: &Tree<i32>, p: Coord, steps: &mut Steps) -> Cell<i32> {
+    tree.get(p, steps)
+}
+
+fn expect_cells(
+    rt: &impl Abort,
+    tree: &Tree<i32>,
+    cells: &[(Coord, Cell<i32>)],
+    steps: &mut Steps,
+) {
+    for (p, cell) in cells {
+        assert_eq!(rt; cell_of(tree, *p, steps), *cell, "at {p:?}");
+    }
+}
+
+// A box split, and painted once these cells are seen.
+fn paint_after(
+    rt: &impl Abort,
+    tree: &mut Tree<i32>,
+    bounds: Bounds,
+    cell: Cell<i32>,
+    seen: &[(Coord, Cell<i32>)],
+    steps: &mut Steps,
+) {
+    tree.split(bounds, cell, steps).expect(rt, "a split");
+    expect_cells(rt, tree, seen, steps);
+    tree.paint(bounds, cell, steps);
 }
 
 // Boxes apart that are split for the background cell stay so while others are split and painted.
-fn split_twice(
-    rt: &impl Abort,
-    tree: &mut Tree<i32>,
-    low: Bounds,
-    high: Bounds,
-    steps: &mut Steps,
-) {
-    let plain = off(tree.background());
-    tree.split(low, plain, steps).expect(rt, "a split");
-    tree.split(high, plain, steps).expect(rt, "a split");
-    assert_eq!(rt; tree.get(all(0), steps), on(1));
-    assert_eq!(rt; tree.get(all(200), steps), on(1));
-    tree.paint(high, plain, steps);
-}
-
 #[test]
 fn two_boxes_split_before_either_is_painted(rt: HostRuntime) {
     let mut steps = Steps::new(&rt);
-    let mut tree = Tree::new(rt.alloc(), 0i32, 4096);
-    let acts = [Act::Paint(all(0), all(4095), on(1))];
-    run(&rt, &mut tree, &acts, &mut steps);
-    let low = Bounds::new(all(-3), all(100)).expect(&rt, "a box");
+    let mut tree = play::new_numbers(rt.alloc(), 0, 4096);
+    let acts = [
+        Act::Paint(all(0), all(4095), on(1)),
+        Act::Split(all(-3), all(100), off(0)),
+    ];
+    play::run_numbers(&rt, &mut tree, &acts, &mut steps);
     let high = Bounds::new(all(200), all(5000)).expect(&rt, "a box");
-    split_twice(&rt, &mut tree, low, high, &mut steps);
+    let seen = [(all(0), on(1)), (all(200), on(1))];
+    paint_after(&rt, &mut tree, high, off(0), &seen, &mut steps);
     let acts = [
         Act::Cell(all(100), on(1)),
         Act::Cell(all(101), on(1)),
@@ -168,5 +163,5 @@ fn two_boxes_split_before_either_is_painted(rt: HostRuntime) {
         Act::Cell(all(200), off(0)),
         Act::Cell(all(4095), off(0)),
     ];
-    run(&rt, &mut tree, &acts, &mut steps);
+    play::run_numbers(&rt, &mut tree, &acts, &mut steps);
 }

@@ -1,9 +1,9 @@
 //! Entries for the root blocks that meet a box, which `split` makes before it makes nodes.
 
-use super::acts::{Act, run, try_acts};
-use super::{Tiny, all, at, off, on};
+use super::acts::Act;
+use super::{all, at, off, on, play};
 use vdb_pool::Steps;
-use vdb_tree::{Tree, Tree433, Write};
+use vdb_tree::Write;
 
 // The blocks at 0 and 4,096 are in use, so of a limit of 3 one entry is left.
 #[test]
@@ -26,7 +26,7 @@ fn as_many_root_blocks_as_the_limit(rt: HostRuntime) {
         Act::Cell(at(4096, 0, 0), on(2)),
         Act::Cell(at(8192, 5, 5), off(0)),
     ];
-    try_acts(&rt, Tree::new(rt.alloc(), 0i32, 3), &acts, &mut steps);
+    play::numbers(&rt, 0, 3, &acts, &mut steps);
 }
 
 // An entry whose block is all background gives way to those of a box.
@@ -47,7 +47,7 @@ fn a_background_entry_gives_way(rt: HostRuntime) {
         Act::Cell(at(1024, 0, 0), off(7)),
         Act::Cell(all(-1), off(7)),
     ];
-    try_acts(&rt, Tree433::new(rt.alloc(), 7i64, 2), &acts, &mut steps);
+    play::large_numbers_433(&rt, 7, 2, &acts, &mut steps);
 }
 
 // Nodes whose cells are all one stay where that cell isn't the background.
@@ -70,7 +70,7 @@ fn other_nodes_stay(rt: HostRuntime) {
         Act::Cell(all(8), on(4)),
         Act::Cell(all(-1), off(0)),
     ];
-    try_acts(&rt, Tiny::new(rt.alloc(), 0i32, 2), &acts, &mut steps);
+    play::numbers_tiny(&rt, 0, 2, &acts, &mut steps);
 }
 
 // A background cell needs no entry, and more root blocks than any limit are refused without a look at one of them.
@@ -87,8 +87,7 @@ fn the_whole_space(rt: HostRuntime) {
         Act::Counts([0, 0, 0, 0]),
     ];
     for limit in [0, 1, u32::MAX] {
-        let mut tree = Tree::new(rt.alloc(), 0i32, limit);
-        run(&rt, &mut tree, &acts, &mut steps);
+        play::numbers(&rt, 0, limit, &acts, &mut steps);
     }
     assert_eq!(rt; steps.count(), 0);
 }

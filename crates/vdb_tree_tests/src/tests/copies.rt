@@ -1,14 +1,35 @@
 //! Copies of trees, and what a write to one leaves of the other.
 
 use super::acts::{Act, run};
-use super::{Tiny, all, at, off, on};
+use super::{Tiny, all, at, off, on, play};
+use std::alloc::Global;
 use std::process::Abort;
 use vdb_pool::Steps;
-use vdb_tree::{Tree, Tree433, Write};
+use vdb_tree::Write;
 
-// Two lower nodes in a root block, one with a leaf and one with a tile in place of a leaf, whose slot is vacant; and a leaf in
-// each of two other root blocks.
-fn with_each_level(rt: &impl Abort, tree: &mut Tiny<i32>, steps: &mut Steps) {
+fn new_tiny(alloc: Global, background: i32, limit: u32) -> Tiny<i32> {
+    Tiny::new(alloc, background, limit)
+}
+
+fn run_tiny(rt: &impl Abort, tree: &mut Tiny<i32>, acts: &[Act<i32>], steps: &mut Steps) {
+    run(rt, tree, acts, steps);
+}
+
+fn copied(rt: &impl Abort, tree: &Tiny<i32>) -> Tiny<i32> {
+    tree.try_copy().expect(rt, "a copy")
+}
+
+// Acts on a copy of a tree, on the tree, and on the copy again. The tree has two lower nodes in a root block, one with a leaf
+// and one with a tile in place of a leaf, whose slot is vacant; and a leaf in each of two other root blocks.
+fn run_by_turns(
+    rt: &(impl Abort + AllocGlobal),
+    limit: u32,
+    of_copy: &[Act<i32>],
+    of_tree: &[Act<i32>],
+    at_end: &[Act<i32>],
+    steps: &mut Steps,
+) {
+    let mut tree = new_tiny(rt.alloc(), -2, limit);
     let acts = [
         Act::Fill(at(2, 4, 6), 2, Write::On(8)),
         Act::Write(all(0), Write::On(5)),
@@ -16,30 +37,17 @@ fn with_each_level(rt: &impl Abort, tree: &mut Tiny<i32>, steps: &mut Steps) {
         Act::Write(at(8, 0, 0), Write::State(true)),
         Act::Prune,
     ];
-    run(rt, tree, &acts, steps);
-}
-
-// Acts on a copy of the tree, on the tree, and on the copy again.
-fn run_by_turns(
-    rt: &impl Abort,
-    tree: &mut Tiny<i32>,
-    of_copy: &[Act<i32>],
-    of_tree: &[Act<i32>],
-    at_end: &[Act<i32>],
-    steps: &mut Steps,
-) {
-    let mut copy = tree.try_copy().expect(rt, "a copy");
-    assert_eq!(rt; copy.background(), -2);
-    run(rt, &mut copy, of_copy, steps);
-    run(rt, tree, of_tree, steps);
-    run(rt, &mut copy, at_end, steps);
+    run_tiny(rt, &mut tree, &acts, steps);
+    let mut copy = copied(rt, &tree);
+    run_tiny(rt, &mut copy, &[Act::Background(-2)], steps);
+    run_tiny(rt, &mut copy, of_copy, steps);
+    run_tiny(rt, &mut tree, of_tree, steps);
+    run_tiny(rt, &mut copy, at_end, steps);
 }
 
 #[test]
 fn a_copy_has_each_level(rt: HostRuntime) {
     let mut steps = Steps::new(&rt);
-    let mut tree = Tiny::new(rt.alloc(), -2, 3);
-    with_each_level(&rt, &mut tree, &mut steps);
     let both = [
         Act::Counts([3, 3, 4, 3]),
         Act::Cell(all(0), on(5)),
@@ -62,14 +70,12 @@ fn a_copy_has_each_level(rt: HostRuntime) {
         Act::Leaf(at(2, 4, 6), false),
         Act::Refused(at(0, 8, 0), Write::On(1)),
     ];
-    run_by_turns(&rt, &mut tree, &both, &both, &at_end, &mut steps);
+    run_by_turns(&rt, 3, &both, &both, &at_end, &mut steps);
 }
 
 #[test]
 fn a_write_to_one_leaves_the_other(rt: HostRuntime) {
     let mut steps = Steps::new(&rt);
-    let mut tree = Tiny::new(rt.alloc(), -2, 4);
-    with_each_level(&rt, &mut tree, &mut steps);
     // In a leaf, in a tile, and in a root block without an entry.
     let of_copy = [
         Act::Write(all(0), Write::Off(6)),
@@ -97,48 +103,39 @@ fn a_write_to_one_leaves_the_other(rt: HostRuntime) {
         Act::Cell(all(-1), off(1)),
         Act::Cell(at(8, 0, 0), on(-2)),
     ];
-    run_by_turns(&rt, &mut tree, &of_copy, &of_tree, &at_end, &mut steps);
+    run_by_turns(&rt, 4, &of_copy, &of_tree, &at_end, &mut steps);
 }
 
 #[test]
 fn a_copy_of_an_empty_tree(rt: HostRuntime) {
     let mut steps = Steps::new(&rt);
-    let tree = Tree::new(rt.alloc(), true, 0);
-    let mut copy = tree.try_copy().expect(&rt, "a copy");
-    assert_eq!(rt; copy.background(), true);
     let acts = [
+        Act::Copy,
+        Act::Background(true),
         Act::Limit(0),
         Act::Counts([0, 0, 0, 0]),
         Act::Cell(all(0), off(true)),
         Act::Refused(all(0), Write::On(true)),
     ];
-    run(&rt, &mut copy, &acts, &mut steps);
-}
-
-// A copy of a copy, once the tree and its copy are gone.
-fn copied_twice(rt: &impl Abort, tree: Tree433<i64>) -> Tree433<i64> {
-    let copy = tree.try_copy().expect(rt, "a copy");
-    copy.try_copy().expect(rt, "a copy")
+    play::truths(&rt, true, 0, &acts, &mut steps);
 }
 
 // A copy of a copy has what the first tree has, once that is gone; a background entry and its nodes are copied with the others.
 #[test]
 fn a_copy_of_a_copy(rt: HostRuntime) {
     let mut steps = Steps::new(&rt);
-    let mut tree = Tree433::new(rt.alloc(), 0i64, 4096);
     let acts = [
         Act::Write(all(i32::MIN), Write::On(i64::MIN)),
         Act::Write(all(i32::MAX), Write::On(i64::MAX)),
         Act::Write(all(0), Write::On(1)),
         Act::Write(all(0), Write::Off(0)),
-    ];
-    run(&rt, &mut tree, &acts, &mut steps);
-    let acts = [
+        Act::Copy,
+        Act::Copy,
         Act::Counts([3, 3, 3, 3]),
         Act::RootBlocks(2),
         Act::Cell(all(i32::MIN), on(i64::MIN)),
         Act::Cell(all(i32::MAX), on(i64::MAX)),
         Act::Cell(all(0), off(0)),
     ];
-    run(&rt, &mut copied_twice(&rt, tree), &acts, &mut steps);
+    play::large_numbers_433(&rt, 0, 4096, &acts, &mut steps);
 }

@@ -1,11 +1,11 @@
 //! Trees whose root table may get few entries.
 
-use super::acts::{Act, run, try_acts};
-use super::{all, at, off, on};
+use super::acts::{Act, add};
+use super::{all, at, off, on, play};
 use std::process::Abort;
 use vdb_coord::Coord;
 use vdb_pool::Steps;
-use vdb_tree::{Tree, Tree433, Write};
+use vdb_tree::Write;
 
 #[test]
 fn a_second_root_block_is_refused(rt: HostRuntime) {
@@ -27,7 +27,7 @@ fn a_second_root_block_is_refused(rt: HostRuntime) {
         Act::Counts([1, 1, 2, 2]),
         Act::Limit(1),
     ];
-    try_acts(&rt, Tree::new(rt.alloc(), 0i32, 1), &acts, &mut steps);
+    play::numbers(&rt, 0, 1, &acts, &mut steps);
 }
 
 #[test]
@@ -46,16 +46,16 @@ fn no_root_block_at_all(rt: HostRuntime) {
         Act::Cell(all(-1), off(true)),
         Act::Counts([0, 0, 0, 0]),
     ];
-    try_acts(&rt, Tree433::new(rt.alloc(), true, 0), &acts, &mut steps);
+    play::truths_433(&rt, true, 0, &acts, &mut steps);
 }
 
 // Entries whose blocks hold the background alone give way to a write elsewhere.
 #[test]
 fn background_entries_are_swept_out(rt: HostRuntime) {
     let mut steps = Steps::new(&rt);
-    let mut tree = Tree::new(rt.alloc(), 7i64, 1);
+    let mut acts = Vec::new(rt.alloc());
     for (p, value) in [(all(0), 1), (at(4096, 0, 0), 2), (all(-1), 3)] {
-        let acts = [
+        let of_one = [
             Act::Write(p, Write::Value(value)),
             Act::Cell(p, off(value)),
             Act::Counts([1, 1, 1, 1]),
@@ -64,18 +64,15 @@ fn background_entries_are_swept_out(rt: HostRuntime) {
             Act::Counts([1, 1, 1, 1]),
             Act::RootBlocks(0),
         ];
-        run(&rt, &mut tree, &acts, &mut steps);
+        for act in of_one {
+            add(&rt, &mut acts, act);
+        }
     }
+    play::large_numbers(&rt, 7, 1, &acts, &mut steps);
 }
 
 // Of two entries one becomes all background, and gives way to a third.
-fn give_up(
-    rt: &impl Abort,
-    tree: &mut Tree433<i32>,
-    kept: Coord,
-    given_up: Coord,
-    steps: &mut Steps,
-) {
+fn give_up(rt: &(impl Abort + AllocGlobal), kept: Coord, given_up: Coord, steps: &mut Steps) {
     let third = at(-1, 0, 0);
     let fourth = at(0, 0, -1);
     let acts = [
@@ -94,7 +91,7 @@ fn give_up(
         Act::Cell(fourth, off(0)),
         Act::Counts([2, 2, 2, 2]),
     ];
-    run(rt, tree, &acts, steps);
+    play::numbers_433(rt, 0, 2, &acts, steps);
 }
 
 // The entry that isn't all background stays, whichever of the two it is.
@@ -102,7 +99,6 @@ fn give_up(
 fn others_are_kept(rt: HostRuntime) {
     let mut steps = Steps::new(&rt);
     for (kept, given_up) in [(at(0, 0, 0), at(0, 0, 1024)), (at(0, 0, 1024), at(0, 0, 0))] {
-        let mut tree = Tree433::new(rt.alloc(), 0i32, 2);
-        give_up(&rt, &mut tree, kept, given_up, &mut steps);
+        give_up(&rt, kept, given_up, &mut steps);
     }
 }

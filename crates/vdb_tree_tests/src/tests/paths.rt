@@ -1,67 +1,31 @@
 //! Paths of nodes, and what a descent from one costs.
 
-use super::{all, at, off, on, write};
+use super::acts::Act;
+use super::{all, at, off, on, play};
 use std::process::Abort;
 use vdb_coord::{Bounds, Coord, Level};
 use vdb_pool::Steps;
 use vdb_tree::{PathOf, Skip, Tree, Write};
 use vdb_value::Cell;
 
-// In a tree of one root block: leaves around 0 and 9 of one lower node, and around 200 of another.
-fn write_leaves(rt: &impl Abort, tree: &mut Tree<i32>, steps: &mut Steps) {
-    for x in [0, 9, 200] {
-        write(rt, tree, at(x, 0, 0), Write::On(5), steps);
-    }
+/// What is tried at a coordinate of the tree, and the answer.
+#[derive(Drop)]
+enum Trial {
+    /// The cell at the end of a descent from another coordinate's path.
+    Descent(Coord, Cell<i32>),
+    /// How many nodes a path has.
+    Length(u32),
+    /// Whether a write of the value 9 is done near another coordinate's path, and the voxel's cell then.
+    Near(Coord, bool, Cell<i32>),
+    /// The value in the leaf around it, after a walk has yielded the first leaf, and how many nodes are visited for it.
+    NearFirst(Option<i32>, u64),
 }
 
-// The cell at the end of a descent from another coordinate's path.
 fn descended(tree: &Tree<i32>, from: Coord, to: Coord, steps: &mut Steps) -> Cell<i32> {
     let mut path = tree.trace(from, steps);
     tree.descend(&mut path, from, to, steps)
 }
 
-fn expect_descent(
-    rt: &impl Abort,
-    tree: &Tree<i32>,
-    ends: (Coord, Coord),
-    cell: Cell<i32>,
-    visits: u64,
-    steps: &mut Steps,
-) {
-    let (from, to) = ends;
-    let before = steps.count();
-    assert_eq!(rt; descended(tree, from, to, steps), cell, "to {to:?}");
-    assert_eq!(rt; steps.count().wrapping_sub(before), visits, "to {to:?}");
-}
-
-// As many visits as the first path has nodes, and then as there are on the way down from the lowest that both have.
-#[test]
-fn descents_from_what_is_shared(rt: HostRuntime) {
-    let mut steps = Steps::new(&rt);
-    let mut tree = Tree::new(rt.alloc(), 0i32, 1);
-    write_leaves(&rt, &mut tree, &mut steps);
-    let absent = at(4096, 0, 0);
-    let empty = at(16, 0, 0);
-    let bare = at(0, 200, 0);
-    let turns = [
-        (absent, all(0), on(5), 0 + 3),
-        (all(0), at(1, 2, 3), off(0), 3 + 1),
-        (all(0), at(9, 0, 0), on(5), 3 + 2),
-        (at(9, 0, 0), at(200, 0, 0), on(5), 3 + 3),
-        (at(200, 0, 0), empty, off(0), 3 + 2),
-        (empty, at(17, 0, 0), off(0), 2 + 1),
-        (empty, all(0), on(5), 2 + 2),
-        (all(0), bare, off(0), 3 + 1),
-        (bare, at(0, 201, 0), off(0), 1 + 1),
-        (all(0), absent, off(0), 3 + 0),
-        (absent, at(4096, 1, 0), off(0), 0 + 0),
-    ];
-    for (from, to, cell, visits) in turns {
-        expect_descent(&rt, &tree, (from, to), cell, visits, &mut steps);
-    }
-}
-
-// How many nodes a path has.
 fn length<A, B, C>(path: PathOf<A, B, C>) -> u32 {
     match path {
         PathOf::Empty => 0,
@@ -71,69 +35,15 @@ fn length<A, B, C>(path: PathOf<A, B, C>) -> u32 {
     }
 }
 
-fn expect_length(rt: &impl Abort, tree: &Tree<i32>, p: Coord, nodes: u32, steps: &mut Steps) {
-    assert_eq!(rt; length(tree.trace(p, steps)), nodes, "at {p:?}");
+fn traced(tree: &Tree<i32>, p: Coord, steps: &mut Steps) -> u32 {
+    length(tree.trace(p, steps))
 }
 
-#[test]
-fn traces_end_where_the_nodes_end(rt: HostRuntime) {
-    let mut steps = Steps::new(&rt);
-    let mut tree = Tree::new(rt.alloc(), 0i32, 1);
-    write_leaves(&rt, &mut tree, &mut steps);
-    let cases = [
-        (all(7), 3),
-        (at(15, 7, 7), 3),
-        (at(16, 0, 0), 2),
-        (at(0, 200, 0), 1),
-        (at(4096, 0, 0), 0),
-        (all(-1), 0),
-    ];
-    for (p, nodes) in cases {
-        expect_length(&rt, &tree, p, nodes, &mut steps);
-    }
-}
-
-// Whether a write of the value 9 is done near another coordinate's path.
 fn is_written_near(tree: &mut Tree<i32>, from: Coord, to: Coord, steps: &mut Steps) -> bool {
     let path = tree.trace(from, steps);
     tree.write_near(&path, from, to, Write::Value(9), steps)
 }
 
-fn expect_near(
-    rt: &impl Abort,
-    tree: &mut Tree<i32>,
-    ends: (Coord, Coord),
-    near: bool,
-    cell: Cell<i32>,
-    steps: &mut Steps,
-) {
-    let (from, to) = ends;
-    assert_eq!(rt; is_written_near(tree, from, to, steps), near, "to {to:?}");
-    assert_eq!(rt; tree.get(to, steps), cell, "to {to:?}");
-}
-
-#[test]
-fn writes_in_the_leaf_of_a_path(rt: HostRuntime) {
-    let mut steps = Steps::new(&rt);
-    let mut tree = Tree::new(rt.alloc(), 0i32, 1);
-    write_leaves(&rt, &mut tree, &mut steps);
-    let cases = [
-        (all(0), all(7), true, off(9)),
-        (all(0), at(9, 0, 0), false, on(5)),
-        (all(0), at(16, 0, 0), false, off(0)),
-        (at(16, 0, 0), at(16, 0, 0), false, off(0)),
-        (at(16, 0, 0), all(0), false, on(5)),
-        (at(4096, 0, 0), all(0), false, on(5)),
-        (at(15, 7, 7), at(9, 0, 0), true, on(9)),
-        (all(7), all(0), true, on(9)),
-        (all(0), all(6), true, off(9)),
-    ];
-    for (from, to, near, cell) in cases {
-        expect_near(&rt, &mut tree, (from, to), near, cell, &mut steps);
-    }
-}
-
-// The value of a voxel in the leaf around it, after a walk has yielded the first leaf, and how many nodes are visited for it.
 fn value_near_first(tree: &Tree<i32>, p: Coord, steps: &mut Steps) -> (Option<i32>, u64) {
     let mut walk = tree.parts(Bounds::all(), Skip::Inactive);
     let _ = tree.next_part(&mut walk, steps);
@@ -145,32 +55,115 @@ fn value_near_first(tree: &Tree<i32>, p: Coord, steps: &mut Steps) -> (Option<i3
     (value, steps.count().wrapping_sub(before))
 }
 
-fn expect_near_first(
-    rt: &impl Abort,
-    tree: &Tree<i32>,
-    p: Coord,
-    answer: (Option<i32>, u64),
+fn expect_trial(rt: &impl Abort, tree: &mut Tree<i32>, p: Coord, trial: &Trial, steps: &mut Steps) {
+    match trial {
+        Trial::Descent(from, cell) => {
+            assert_eq!(rt; descended(tree, *from, p, steps), *cell, "to {p:?}");
+        }
+        Trial::Length(nodes) => assert_eq!(rt; traced(tree, p, steps), *nodes, "at {p:?}"),
+        Trial::Near(from, near, cell) => {
+            assert_eq!(rt; is_written_near(tree, *from, p, steps), *near, "to {p:?}");
+            play::run_numbers(rt, tree, &[Act::Cell(p, *cell)], steps);
+        }
+        Trial::NearFirst(value, visits) => {
+            let answer = value_near_first(tree, p, steps);
+            assert_eq!(rt; answer, (*value, *visits), "at {p:?}");
+        }
+    }
+}
+
+// Trials in turn, and how many nodes each visits, if that is told. The tree has one root block, with leaves around 0 and 9 of
+// one lower node, and around 200 of another.
+fn try_paths(
+    rt: &(impl Abort + AllocGlobal),
+    trials: &[(Coord, Trial, Option<u64>)],
     steps: &mut Steps,
 ) {
-    assert_eq!(rt; value_near_first(tree, p, steps), answer, "at {p:?}");
+    let mut tree = play::new_numbers(rt.alloc(), 0, 1);
+    let acts = [
+        Act::Write(at(0, 0, 0), Write::On(5)),
+        Act::Write(at(9, 0, 0), Write::On(5)),
+        Act::Write(at(200, 0, 0), Write::On(5)),
+    ];
+    play::run_numbers(rt, &mut tree, &acts, steps);
+    for (p, trial, visits) in trials {
+        let before = steps.count();
+        expect_trial(rt, &mut tree, *p, trial, steps);
+        let visited = steps.count().wrapping_sub(before);
+        assert_eq!(rt; visited, visits.unwrap_or(visited), "at {p:?}");
+    }
+}
+
+// As many visits as the first path has nodes, and then as there are on the way down from the lowest that both have.
+#[test]
+fn descents_from_what_is_shared(rt: HostRuntime) {
+    let mut steps = Steps::new(&rt);
+    let absent = at(4096, 0, 0);
+    let empty = at(16, 0, 0);
+    let bare = at(0, 200, 0);
+    let nine = at(9, 0, 0);
+    let trials = [
+        (all(0), Trial::Descent(absent, on(5)), Some(0 + 3)),
+        (at(1, 2, 3), Trial::Descent(all(0), off(0)), Some(3 + 1)),
+        (nine, Trial::Descent(all(0), on(5)), Some(3 + 2)),
+        (at(200, 0, 0), Trial::Descent(nine, on(5)), Some(3 + 3)),
+        (empty, Trial::Descent(at(200, 0, 0), off(0)), Some(3 + 2)),
+        (at(17, 0, 0), Trial::Descent(empty, off(0)), Some(2 + 1)),
+        (all(0), Trial::Descent(empty, on(5)), Some(2 + 2)),
+        (bare, Trial::Descent(all(0), off(0)), Some(3 + 1)),
+        (at(0, 201, 0), Trial::Descent(bare, off(0)), Some(1 + 1)),
+        (absent, Trial::Descent(all(0), off(0)), Some(3 + 0)),
+        (at(4096, 1, 0), Trial::Descent(absent, off(0)), Some(0 + 0)),
+    ];
+    try_paths(&rt, &trials, &mut steps);
+}
+
+#[test]
+fn traces_end_where_the_nodes_end(rt: HostRuntime) {
+    let mut steps = Steps::new(&rt);
+    let trials = [
+        (all(7), Trial::Length(3), None),
+        (at(15, 7, 7), Trial::Length(3), None),
+        (at(16, 0, 0), Trial::Length(2), None),
+        (at(0, 200, 0), Trial::Length(1), None),
+        (at(4096, 0, 0), Trial::Length(0), None),
+        (all(-1), Trial::Length(0), None),
+    ];
+    try_paths(&rt, &trials, &mut steps);
+}
+
+#[test]
+fn writes_in_the_leaf_of_a_path(rt: HostRuntime) {
+    let mut steps = Steps::new(&rt);
+    let nine = at(9, 0, 0);
+    let empty = at(16, 0, 0);
+    let absent = at(4096, 0, 0);
+    let trials = [
+        (all(7), Trial::Near(all(0), true, off(9)), None),
+        (nine, Trial::Near(all(0), false, on(5)), None),
+        (empty, Trial::Near(all(0), false, off(0)), None),
+        (empty, Trial::Near(empty, false, off(0)), None),
+        (all(0), Trial::Near(empty, false, on(5)), None),
+        (all(0), Trial::Near(absent, false, on(5)), None),
+        (nine, Trial::Near(at(15, 7, 7), true, on(9)), None),
+        (all(0), Trial::Near(all(7), true, on(9)), None),
+        (all(6), Trial::Near(all(0), true, off(9)), None),
+    ];
+    try_paths(&rt, &trials, &mut steps);
 }
 
 // The leaf that a walk has yielded is had by one visit, and another by the descent to it.
 #[test]
 fn leaves_near_a_walk(rt: HostRuntime) {
     let mut steps = Steps::new(&rt);
-    let mut tree = Tree::new(rt.alloc(), 0i32, 1);
-    write_leaves(&rt, &mut tree, &mut steps);
-    let cases = [
-        (all(0), (Some(5), 1)),
-        (all(7), (Some(0), 1)),
-        (at(9, 0, 0), (Some(5), 3)),
-        (at(200, 0, 0), (Some(5), 3)),
-        (at(16, 0, 0), (None, 2)),
-        (at(0, 200, 0), (None, 1)),
-        (at(4096, 0, 0), (None, 0)),
+    let trials = [
+        (all(0), Trial::NearFirst(Some(5), 1), None),
+        (all(7), Trial::NearFirst(Some(0), 1), None),
+        (at(9, 0, 0), Trial::NearFirst(Some(5), 3), None),
+        (at(200, 0, 0), Trial::NearFirst(Some(5), 3), None),
+        (at(16, 0, 0), Trial::NearFirst(None, 2), None),
+        (at(0, 200, 0), Trial::NearFirst(None, 1), None),
+        (at(4096, 0, 0), Trial::NearFirst(None, 0), None),
     ];
-    for (p, answer) in cases {
-        expect_near_first(&rt, &tree, p, answer, &mut steps);
-    }
+    try_paths(&rt, &trials, &mut steps);
 }

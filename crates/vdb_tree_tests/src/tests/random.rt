@@ -2,13 +2,14 @@
 
 ghost use Rattle.std.specs.Prelude.{◌<◌};
 
-use super::{Tiny, at, off};
+use super::acts::{Act, add};
+use super::{at, off, play};
 use std::alloc::Global;
 use std::collections::BTreeMap;
 use std::process::Abort;
 use vdb_coord::Coord;
 use vdb_pool::Steps;
-use vdb_tree::{Tree, Tree433, TreeOf, TreeRefusal, Write};
+use vdb_tree::Write;
 use vdb_value::Cell;
 
 /// Knuth's generator of 64 bits, and the components that coordinates are drawn from.
@@ -93,57 +94,36 @@ impl Wanted {
     }
 }
 
-// The root limit refuses a cell where there would be a root block too many.
-fn expect_too_many(rt: &impl Abort, wanted: &mut Wanted, p: Coord, new: Cell<i32>, limit: u32) {
-    let old = wanted.cell(p);
-    wanted.put(rt, p, new);
-    assert!(rt; wanted.root_blocks(rt) > u64::from(limit));
-    wanted.put(rt, p, old);
-}
-
-fn change_one<
-    const U: u32,
-    const L: u32,
-    const F: u32,
-    const WU: usize,
-    const WL: usize,
-    const WF: usize,
->(
+// A change, and the voxel's cell then. The root limit refuses it where there would be a root block too many.
+fn change_one(
     rt: &impl Abort,
-    tree: &mut TreeOf<i32, U, L, F, WU, WL, WF>,
     wanted: &mut Wanted,
     p: Coord,
     change: Write<i32>,
-    steps: &mut Steps,
+    limit: u32,
+    acts: &mut Vec<Act<i32>>,
 ) {
-    let new = change.applied(wanted.cell(p));
-    match tree.write(p, change, steps) {
-        Ok(()) => {
-            wanted.put(rt, p, new);
-            expect_cell(rt, tree, wanted, p, steps);
-        }
-        Err(refusal) => {
-            assert_eq!(rt; refusal, TreeRefusal::RootLimit);
-            expect_too_many(rt, wanted, p, new, tree.limit());
-        }
+    let old = wanted.cell(p);
+    let new = change.applied(old);
+    wanted.put(rt, p, new);
+    if wanted.root_blocks(rt) > u64::from(limit) {
+        wanted.put(rt, p, old);
+        add(rt, acts, Act::Refused(p, change));
+        add(rt, acts, Act::Cell(p, old));
+    } else {
+        add(rt, acts, Act::Write(p, change));
+        add(rt, acts, Act::Cell(p, new));
     }
 }
 
 // The aligned cube of eight voxels around p.
-fn change_eight<
-    const U: u32,
-    const L: u32,
-    const F: u32,
-    const WU: usize,
-    const WL: usize,
-    const WF: usize,
->(
+fn change_eight(
     rt: &impl Abort,
-    tree: &mut TreeOf<i32, U, L, F, WU, WL, WF>,
     wanted: &mut Wanted,
     p: Coord,
     change: Write<i32>,
-    steps: &mut Steps,
+    limit: u32,
+    acts: &mut Vec<Act<i32>>,
 ) {
     for i in 0..8 {
         let q = at(
@@ -151,138 +131,84 @@ fn change_eight<
             (p.y & !1) | ((i >> 1) & 1),
             (p.z & !1) | (i >> 2),
         );
-        change_one(rt, tree, wanted, q, change, steps);
+        change_one(rt, wanted, q, change, limit, acts);
     }
-}
-
-fn expect_cell<
-    const U: u32,
-    const L: u32,
-    const F: u32,
-    const WU: usize,
-    const WL: usize,
-    const WF: usize,
->(
-    rt: &impl Abort,
-    tree: &TreeOf<i32, U, L, F, WU, WL, WF>,
-    wanted: &Wanted,
-    p: Coord,
-    steps: &mut Steps,
-) {
-    assert_eq!(rt; tree.get(p, steps), wanted.cell(p), "at {p:?}");
-}
-
-fn expect_wanted<
-    const U: u32,
-    const L: u32,
-    const F: u32,
-    const WU: usize,
-    const WL: usize,
-    const WF: usize,
->(
-    rt: &impl Abort,
-    tree: &TreeOf<i32, U, L, F, WU, WL, WF>,
-    wanted: &Wanted,
-    components: &[i32; 8],
-    steps: &mut Steps,
-) {
-    for x in components {
-        for y in components {
-            for z in components {
-                expect_cell(rt, tree, wanted, at(*x, *y, *z), steps);
-            }
-        }
-    }
-    assert_eq!(rt; tree.root_blocks(steps), wanted.root_blocks(rt));
 }
 
 // A change of a single voxel or of an aligned cube of eight, with a prune now and then.
-fn change_some<
-    const U: u32,
-    const L: u32,
-    const F: u32,
-    const WU: usize,
-    const WL: usize,
-    const WF: usize,
->(
+fn change_some(
     rt: &impl Abort,
-    tree: &mut TreeOf<i32, U, L, F, WU, WL, WF>,
     wanted: &mut Wanted,
     draws: &mut Draws,
-    steps: &mut Steps,
+    limit: u32,
+    acts: &mut Vec<Act<i32>>,
 ) {
     let p = draws.coordinate();
     let change = draws.change();
     if draws.below(2) == 0 {
-        change_one(rt, tree, wanted, p, change, steps);
+        change_one(rt, wanted, p, change, limit, acts);
     } else {
-        change_eight(rt, tree, wanted, p, change, steps);
+        change_eight(rt, wanted, p, change, limit, acts);
     }
     if draws.below(10) == 0 {
-        tree.prune(steps);
+        add(rt, acts, Act::Prune);
     }
 }
 
-fn try_changes<
-    const U: u32,
-    const L: u32,
-    const F: u32,
-    const WU: usize,
-    const WL: usize,
-    const WF: usize,
->(
+fn expect_wanted(
     rt: &impl Abort,
-    tree: &mut TreeOf<i32, U, L, F, WU, WL, WF>,
-    wanted: &mut Wanted,
-    draws: &mut Draws,
-    steps: &mut Steps,
+    wanted: &Wanted,
+    components: &[i32; 8],
+    acts: &mut Vec<Act<i32>>,
 ) {
-    for _ in 0..100 {
-        change_some(rt, tree, wanted, draws, steps);
+    for x in components {
+        for y in components {
+            for z in components {
+                let p = at(*x, *y, *z);
+                add(rt, acts, Act::Cell(p, wanted.cell(p)));
+            }
+        }
     }
-    let components = draws.components;
-    expect_wanted(rt, tree, wanted, &components, steps);
-    tree.prune(steps);
-    expect_wanted(rt, tree, wanted, &components, steps);
-    assert_eq!(rt; tree.node_counts().entries, wanted.root_blocks(rt));
+    add(rt, acts, Act::RootBlocks(wanted.root_blocks(rt)));
 }
 
-// Changes of an empty tree whose root blocks span 2 to the power of `block_bits` voxels along each axis.
-fn try_tree<
-    const U: u32,
-    const L: u32,
-    const F: u32,
-    const WU: usize,
-    const WL: usize,
-    const WF: usize,
->(
+// Changes of an empty tree whose root blocks span 2 to the power of `block_bits` voxels along each axis, and what is expected
+// of it then.
+fn drawn_acts(
     rt: &(impl Abort + AllocGlobal),
-    tree: &mut TreeOf<i32, U, L, F, WU, WL, WF>,
     block_bits: u32,
     draws: &mut Draws,
-    steps: &mut Steps,
-) {
+    limit: u32,
+) -> Vec<Act<i32>> {
     let mut wanted = Wanted {
         alloc: rt.alloc(),
         cells: BTreeMap::new(rt.alloc()),
         block_bits,
     };
-    try_changes(rt, tree, &mut wanted, draws, steps);
+    let mut acts = Vec::new(rt.alloc());
+    for _ in 0..100 {
+        change_some(rt, &mut wanted, draws, limit, &mut acts);
+    }
+    let components = draws.components;
+    expect_wanted(rt, &wanted, &components, &mut acts);
+    add(rt, &mut acts, Act::Prune);
+    expect_wanted(rt, &wanted, &components, &mut acts);
+    add(rt, &mut acts, Act::Entries(wanted.root_blocks(rt)));
+    acts
 }
 
 #[test]
 fn changes_beside_a_map(rt: HostRuntime) {
     let mut steps = Steps::new(&rt);
-    let alloc = rt.alloc();
     let far = [-70, -10, -1, 0, 1, 7, 64, 1030];
     let near = [-4, -3, -2, -1, 0, 1, 2, 3];
     for (components, limit, state) in [(far, 4096, 1), (near, 3, 2)] {
         let mut draws = Draws { state, components };
-        let mut tree = Tree::new(alloc, 0, limit);
-        try_tree(&rt, &mut tree, 12, &mut draws, &mut steps);
-        let mut tree = Tree433::new(alloc, 0, limit);
-        try_tree(&rt, &mut tree, 10, &mut draws, &mut steps);
-        let mut tree = Tiny::new(alloc, 0, limit);
-        try_tree(&rt, &mut tree, 3, &mut draws, &mut steps);
+        let acts = drawn_acts(&rt, 12, &mut draws, limit);
+        play::numbers(&rt, 0, limit, &acts, &mut steps);
+        let acts = drawn_acts(&rt, 10, &mut draws, limit);
+        play::numbers_433(&rt, 0, limit, &acts, &mut steps);
+        let acts = drawn_acts(&rt, 3, &mut draws, limit);
+        play::numbers_tiny(&rt, 0, limit, &acts, &mut steps);
     }
 }

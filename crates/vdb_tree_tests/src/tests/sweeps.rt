@@ -1,11 +1,11 @@
 //! How many nodes a tree has, and which it gives back.
 
-use super::acts::{Act, run, try_acts};
-use super::{Tiny, all, at, off, on};
+use super::acts::Act;
+use super::{all, at, off, on, play};
 use std::process::Abort;
 use vdb_coord::Coord;
 use vdb_pool::Steps;
-use vdb_tree::{PathOf, Tree, Tree433, TreeOf, Write};
+use vdb_tree::{PathOf, Tree, Write};
 use vdb_value::Cell;
 
 #[test]
@@ -28,24 +28,12 @@ fn a_tree_of_one_voxel(rt: HostRuntime) {
         Act::Cell(all(1), off(0)),
         Act::Limit(4096),
     ];
-    try_acts(&rt, Tree::new(rt.alloc(), 0i32, 4096), &acts, &mut steps);
+    play::numbers(&rt, 0, 4096, &acts, &mut steps);
 }
 
 // Three voxels in two root blocks. The last two share a block of 128 along each axis, but none of 64.
-fn write_three<
-    const U: u32,
-    const L: u32,
-    const F: u32,
-    const WU: usize,
-    const WL: usize,
-    const WF: usize,
->(
-    rt: &impl Abort,
-    tree: &mut TreeOf<i32, U, L, F, WU, WL, WF>,
-    counts: [u64; 4],
-    steps: &mut Steps,
-) {
-    let acts = [
+fn three_voxels(counts: [u64; 4]) -> [Act<i32>; 14] {
+    [
         Act::Write(all(-1), Write::On(7)),
         Act::Write(at(63, 0, 0), Write::On(1)),
         Act::Write(at(64, 0, 0), Write::On(1)),
@@ -60,25 +48,14 @@ fn write_three<
         Act::Cell(at(62, 0, 0), off(0)),
         Act::Cell(at(65, 0, 0), off(0)),
         Act::Cell(at(63, 0, 1), off(0)),
-    ];
-    run(rt, tree, &acts, steps);
+    ]
 }
 
 #[test]
 fn counts_by_layout(rt: HostRuntime) {
     let mut steps = Steps::new(&rt);
-    write_three(
-        &rt,
-        &mut Tree::new(rt.alloc(), 0, 4096),
-        [2, 2, 2, 3],
-        &mut steps,
-    );
-    write_three(
-        &rt,
-        &mut Tree433::new(rt.alloc(), 0, 4096),
-        [2, 2, 3, 3],
-        &mut steps,
-    );
+    play::numbers(&rt, 0, 4096, &three_voxels([2, 2, 2, 3]), &mut steps);
+    play::numbers_433(&rt, 0, 4096, &three_voxels([2, 2, 3, 3]), &mut steps);
 }
 
 // The slot of the leaf around a coordinate.
@@ -98,7 +75,7 @@ fn expect_slot(
     slot: Option<u32>,
     steps: &mut Steps,
 ) {
-    run(rt, tree, acts, steps);
+    play::run_numbers(rt, tree, acts, steps);
     assert_eq!(rt; leaf_slot(tree, p, steps), slot, "at {p:?}");
 }
 
@@ -112,7 +89,7 @@ fn expect_one_block(rt: &impl Abort, tree: &mut Tree<i32>, steps: &mut Steps) {
         Act::Cell(at(8, 24, 24), off(0)),
         Act::Cell(at(8, 16, 32), off(0)),
     ];
-    run(rt, tree, &acts, steps);
+    play::run_numbers(rt, tree, &acts, steps);
 }
 
 // That block filled, and its leaf pruned.
@@ -128,7 +105,7 @@ fn prune_one_block(rt: &impl Abort, tree: &mut Tree<i32>, steps: &mut Steps) {
 #[test]
 fn a_leaf_of_one_cell_becomes_a_tile(rt: HostRuntime) {
     let mut steps = Steps::new(&rt);
-    let mut tree = Tree::new(rt.alloc(), 0i32, 4096);
+    let mut tree = play::new_numbers(rt.alloc(), 0, 4096);
     prune_one_block(&rt, &mut tree, &mut steps);
     expect_one_block(&rt, &mut tree, &mut steps);
     let q = at(500, 0, 0);
@@ -141,7 +118,7 @@ fn a_leaf_of_one_cell_becomes_a_tile(rt: HostRuntime) {
 #[test]
 fn a_voxel_of_a_tile_is_written(rt: HostRuntime) {
     let mut steps = Steps::new(&rt);
-    let mut tree = Tree::new(rt.alloc(), 0i32, 4096);
+    let mut tree = play::new_numbers(rt.alloc(), 0, 4096);
     prune_one_block(&rt, &mut tree, &mut steps);
     let acts = [
         Act::Write(at(8, 16, 24), Write::Value(6)),
@@ -149,13 +126,12 @@ fn a_voxel_of_a_tile_is_written(rt: HostRuntime) {
         Act::Cell(at(8, 16, 24), on(6)),
         Act::Cell(at(8, 16, 25), on(5)),
     ];
-    run(&rt, &mut tree, &acts, &mut steps);
+    play::run_numbers(&rt, &mut tree, &acts, &mut steps);
 }
 
 // One cell over a block of `span` along each axis, and a voxel of it changed. The states count, too.
 fn try_block(
-    rt: &impl Abort,
-    tree: &mut Tiny<i32>,
+    rt: &(impl Abort + AllocGlobal),
     span: i32,
     pruned: [u64; 4],
     at_end: Cell<i32>,
@@ -184,7 +160,7 @@ fn try_block(
         Act::Prune,
         Act::Counts([0, 0, 0, 0]),
     ];
-    run(rt, tree, &acts, steps);
+    play::numbers_tiny(rt, 0, 1, &acts, steps);
 }
 
 // A leaf's block, a lower node's and a whole root block in turn.
@@ -197,8 +173,7 @@ fn blocks_of_one_cell_at_each_level(rt: HostRuntime) {
         (8, [1, 0, 0, 0], on(3)),
     ];
     for (span, pruned, at_end) in cases {
-        let mut tree = Tiny::new(rt.alloc(), 0i32, 1);
-        try_block(&rt, &mut tree, span, pruned, at_end, &mut steps);
+        try_block(&rt, span, pruned, at_end, &mut steps);
     }
 }
 
@@ -220,5 +195,5 @@ fn a_tile_of_the_root_table_is_kept(rt: HostRuntime) {
         Act::Cell(all(8), on(true)),
         Act::Counts([1, 1, 1, 1]),
     ];
-    try_acts(&rt, Tiny::new(rt.alloc(), false, 1), &acts, &mut steps);
+    play::truths_tiny(&rt, false, 1, &acts, &mut steps);
 }

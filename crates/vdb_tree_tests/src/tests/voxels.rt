@@ -1,9 +1,9 @@
 //! Leaves in place of active tiles.
 
-use super::acts::{Act, run, try_acts};
-use super::{all, off, on};
+use super::acts::Act;
+use super::{all, off, on, play};
 use vdb_pool::Steps;
-use vdb_tree::{Tree, Tree433, Write};
+use vdb_tree::Write;
 
 #[test]
 fn an_active_tile_becomes_a_leaf_and_a_tile_again(rt: HostRuntime) {
@@ -28,7 +28,7 @@ fn an_active_tile_becomes_a_leaf_and_a_tile_again(rt: HostRuntime) {
         Act::Cell(all(7), on(3)),
         Act::Cell(all(8), off(0)),
     ];
-    try_acts(&rt, Tree::new(rt.alloc(), 0i32, 4096), &acts, &mut steps);
+    play::numbers(&rt, 0, 4096, &acts, &mut steps);
 }
 
 #[test]
@@ -43,20 +43,23 @@ fn an_inactive_tile_stays(rt: HostRuntime) {
         Act::Cell(all(0), off(false)),
         Act::Cell(all(-1), off(true)),
     ];
-    try_acts(&rt, Tree433::new(rt.alloc(), true, 4096), &acts, &mut steps);
+    play::truths_433(&rt, true, 4096, &acts, &mut steps);
 }
 
 #[test]
 fn boxes_at_both_ends_of_the_range(rt: HostRuntime) {
     let mut steps = Steps::new(&rt);
-    let mut tree = Tree::new(rt.alloc(), 0i64, 4096);
-    for corner in [all(i32::MIN), all(i32::MAX)] {
-        let acts = [
-            Act::Write(corner, Write::On(1)),
-            Act::Voxelise(corner, corner),
-            Act::Leaf(corner, true),
-            Act::Cell(corner, on(1)),
-        ];
-        run(&rt, &mut tree, &acts, &mut steps);
-    }
+    let first = all(i32::MIN);
+    let last = all(i32::MAX);
+    let acts = [
+        Act::Write(first, Write::On(1)),
+        Act::Voxelise(first, first),
+        Act::Leaf(first, true),
+        Act::Cell(first, on(1)),
+        Act::Write(last, Write::On(1)),
+        Act::Voxelise(last, last),
+        Act::Leaf(last, true),
+        Act::Cell(last, on(1)),
+    ];
+    play::large_numbers(&rt, 0, 4096, &acts, &mut steps);
 }

@@ -1,163 +1,89 @@
 //! What each write makes of a cell.
 
-use super::acts::{Act, run};
-use super::{Tiny, all, at, expect_cells, nodes, off, on, write};
+use super::acts::{Act, add};
+use super::{all, at, off, on, play};
 use std::process::Abort;
 use std::test::Fail;
 use vdb_coord::Coord;
-use vdb_node::Stored;
 use vdb_pool::Steps;
-use vdb_tree::{Tree, Tree433, TreeOf, TreeRefusal, Write};
+use vdb_tree::{Tree, TreeRefusal, Write};
 use vdb_value::Cell;
 
-// Writes of the background to a fresh tree, which needs nothing for them.
-fn try_background_writes<
-    V: Stored<WU> + Stored<WL> + Stored<WF>,
-    const U: u32,
-    const L: u32,
-    const F: u32,
-    const WU: usize,
-    const WL: usize,
-    const WF: usize,
->(
-    rt: &impl Abort,
-    tree: &mut TreeOf<V, U, L, F, WU, WL, WF>,
-    p: Coord,
-    zero: V,
-    steps: &mut Steps,
-) {
-    let fresh = steps.count();
-    assert!(rt; tree.background() == zero);
-    write(rt, tree, p, Write::State(false), steps);
-    write(rt, tree, p, Write::Value(zero), steps);
-    write(rt, tree, p, Write::Off(zero), steps);
-    assert_eq!(rt; tree.node_counts(), nodes(0, 0, 0, 0));
-    assert_eq!(rt; steps.count(), fresh);
-}
-
 // A write, and again when the voxel has that cell already. A voxel beside keeps the background.
-fn try_write<
-    V: Stored<WU> + Stored<WL> + Stored<WF>,
-    const U: u32,
-    const L: u32,
-    const F: u32,
-    const WU: usize,
-    const WL: usize,
-    const WF: usize,
->(
+fn add_write<V: Copy>(
     rt: &impl Abort,
-    tree: &mut TreeOf<V, U, L, F, WU, WL, WF>,
-    p: Coord,
+    acts: &mut Vec<Act<V>>,
+    zero: V,
     change: Write<V>,
     cell: Cell<V>,
-    steps: &mut Steps,
 ) {
-    let beside = at(p.x, p.y, p.z ^ 1);
-    let cells = [(p, cell), (beside, off(tree.background()))];
     for _ in 0..2 {
-        write(rt, tree, p, change, steps);
-        expect_cells(rt, tree, &cells, steps);
-        assert_eq!(rt; tree.node_counts(), nodes(1, 1, 1, 1));
+        add(rt, acts, Act::Write(at(-9, 4100, 64), change));
+        add(rt, acts, Act::Cell(at(-9, 4100, 64), cell));
+        add(rt, acts, Act::Cell(at(-9, 4100, 65), off(zero)));
+        add(rt, acts, Act::Counts([1, 1, 1, 1]));
     }
 }
 
-// The four writes in turn, after one that leaves the cell `on(one)`.
-fn try_each_write<
-    V: Stored<WU> + Stored<WL> + Stored<WF>,
-    const U: u32,
-    const L: u32,
-    const F: u32,
-    const WU: usize,
-    const WL: usize,
-    const WF: usize,
->(
-    rt: &impl Abort,
-    tree: &mut TreeOf<V, U, L, F, WU, WL, WF>,
-    p: Coord,
-    zero: V,
-    one: V,
-    steps: &mut Steps,
-) {
-    try_write(rt, tree, p, Write::Off(one), off(one), steps);
-    try_write(rt, tree, p, Write::State(true), on(one), steps);
-    try_write(rt, tree, p, Write::Value(zero), on(zero), steps);
-    try_write(rt, tree, p, Write::State(false), off(zero), steps);
+// A write that visits no node.
+fn add_still_write<V: Copy>(rt: &impl Abort, acts: &mut Vec<Act<V>>, change: Write<V>) {
+    add(rt, acts, Act::Write(at(-9, 4100, 64), change));
+    add(rt, acts, Act::Visits(0));
+}
+
+// Writes of the background to a fresh tree, which needs nothing for them.
+fn add_background_writes<V: Copy>(rt: &impl Abort, acts: &mut Vec<Act<V>>, zero: V) {
+    add(rt, acts, Act::Background(zero));
+    add_still_write(rt, acts, Write::State(false));
+    add_still_write(rt, acts, Write::Value(zero));
+    add_still_write(rt, acts, Write::Off(zero));
+    add(rt, acts, Act::Counts([0, 0, 0, 0]));
 }
 
 // Writes to a fresh tree with the background `zero`.
-fn try_writes<
-    V: Stored<WU> + Stored<WL> + Stored<WF>,
-    const U: u32,
-    const L: u32,
-    const F: u32,
-    const WU: usize,
-    const WL: usize,
-    const WF: usize,
->(rt: &impl Abort, tree: &mut TreeOf<V, U, L, F, WU, WL, WF>, zero: V, one: V, steps: &mut Steps) {
-    let p = at(-9, 4100, 64);
-    try_background_writes(rt, tree, p, zero, steps);
-    try_write(rt, tree, p, Write::On(one), on(one), steps);
-    try_each_write(rt, tree, p, zero, one, steps);
-    try_write(rt, tree, p, Write::Value(one), off(one), steps);
-    try_write(rt, tree, p, Write::On(zero), on(zero), steps);
+fn writes<V: Copy + Drop>(rt: &(impl Abort + AllocGlobal), zero: V, one: V) -> Vec<Act<V>> {
+    let mut acts = Vec::new(rt.alloc());
+    add_background_writes(rt, &mut acts, zero);
+    add_write(rt, &mut acts, zero, Write::On(one), on(one));
+    // The four writes in turn, after one that leaves the cell `on(one)`.
+    add_write(rt, &mut acts, zero, Write::Off(one), off(one));
+    add_write(rt, &mut acts, zero, Write::State(true), on(one));
+    add_write(rt, &mut acts, zero, Write::Value(zero), on(zero));
+    add_write(rt, &mut acts, zero, Write::State(false), off(zero));
+    add_write(rt, &mut acts, zero, Write::Value(one), off(one));
+    add_write(rt, &mut acts, zero, Write::On(zero), on(zero));
+    acts
 }
 
 #[test]
 fn writes_of_truth_values(rt: HostRuntime) {
     let mut steps = Steps::new(&rt);
-    let alloc = rt.alloc();
-    try_writes(
-        &rt,
-        &mut Tree::new(alloc, false, 4096),
-        false,
-        true,
-        &mut steps,
-    );
-    try_writes(
-        &rt,
-        &mut Tree433::new(alloc, true, 1),
-        true,
-        false,
-        &mut steps,
-    );
+    let acts = writes(&rt, false, true);
+    play::truths(&rt, false, 4096, &acts, &mut steps);
+    let acts = writes(&rt, true, false);
+    play::truths_433(&rt, true, 1, &acts, &mut steps);
 }
 
 #[test]
 fn writes_of_numbers(rt: HostRuntime) {
     let mut steps = Steps::new(&rt);
-    let alloc = rt.alloc();
-    try_writes(
-        &rt,
-        &mut Tree::new(alloc, 3i32, 4096),
-        3,
-        i32::MIN,
-        &mut steps,
-    );
-    try_writes(&rt, &mut Tiny::new(alloc, 3i32, 1), 3, i32::MAX, &mut steps);
+    let acts = writes(&rt, 3, i32::MIN);
+    play::numbers(&rt, 3, 4096, &acts, &mut steps);
+    let acts = writes(&rt, 3, i32::MAX);
+    play::numbers_tiny(&rt, 3, 1, &acts, &mut steps);
 }
 
 #[test]
 fn writes_of_large_numbers(rt: HostRuntime) {
     let mut steps = Steps::new(&rt);
-    let alloc = rt.alloc();
-    try_writes(
-        &rt,
-        &mut Tree::new(alloc, -1i64, 4096),
-        -1,
-        i64::MIN,
-        &mut steps,
-    );
-    try_writes(
-        &rt,
-        &mut Tree433::new(alloc, -1i64, 1),
-        -1,
-        i64::MAX,
-        &mut steps,
-    );
+    let acts = writes(&rt, -1, i64::MIN);
+    play::large_numbers(&rt, -1, 4096, &acts, &mut steps);
+    let acts = writes(&rt, -1, i64::MAX);
+    play::large_numbers_433(&rt, -1, 1, &acts, &mut steps);
 }
 
 // Writes, and then reads, the first and the last coordinate along each axis: eight root blocks.
-fn write_corners(rt: &impl Abort, tree: &mut Tree<i32>, steps: &mut Steps) {
+fn add_corners(rt: &impl Abort, acts: &mut Vec<Act<i32>>) {
     let corners = [
         all(i32::MIN),
         at(i32::MIN, i32::MIN, i32::MAX),
@@ -169,28 +95,25 @@ fn write_corners(rt: &impl Abort, tree: &mut Tree<i32>, steps: &mut Steps) {
         all(i32::MAX),
     ];
     for p in corners {
-        let acts = [
-            Act::Write(p, Write::On(p.x)),
-            Act::Write(p, Write::State(p.y == i32::MIN)),
-        ];
-        run(rt, tree, &acts, steps);
+        add(rt, acts, Act::Write(p, Write::On(p.x)));
+        add(rt, acts, Act::Write(p, Write::State(p.y == i32::MIN)));
     }
     for p in corners {
         let cell = Cell {
             value: p.x,
             on: p.y == i32::MIN,
         };
-        run(rt, tree, &[Act::Cell(p, cell)], steps);
+        add(rt, acts, Act::Cell(p, cell));
     }
 }
 
 #[test]
 fn cells_at_both_ends(rt: HostRuntime) {
     let mut steps = Steps::new(&rt);
-    let mut tree = Tree::new(rt.alloc(), 0i32, 8);
-    write_corners(&rt, &mut tree, &mut steps);
+    let mut acts = Vec::new(rt.alloc());
+    add_corners(&rt, &mut acts);
     let last = all(2147483640);
-    let acts = [
+    let then = [
         Act::Cell(at(i32::MIN, i32::MIN, 0), off(0)),
         Act::Cell(all(i32::MAX - 1), off(0)),
         Act::Counts([8, 8, 8, 8]),
@@ -204,17 +127,25 @@ fn cells_at_both_ends(rt: HostRuntime) {
         Act::NextLeaf(Some(last), None),
         Act::Refused(all(0), Write::On(1)),
     ];
-    run(&rt, &mut tree, &acts, &mut steps);
+    for act in then {
+        add(&rt, &mut acts, act);
+    }
+    play::numbers(&rt, 0, 8, &acts, &mut steps);
+}
+
+// Whether a voxel could be written.
+fn is_written(tree: &mut Tree<i32>, p: Coord, steps: &mut Steps) -> bool {
+    tree.write(p, Write::On(5), steps).is_ok()
 }
 
 // Refused for lack of memory at a run with refused allocations.
 #[test]
 fn a_refused_write_keeps_every_cell(rt: HostRuntime) {
     let mut steps = Steps::new(&rt);
-    let mut tree = Tree::new(rt.alloc(), 0i64, 4096);
+    let mut tree = play::new_numbers(rt.alloc(), 0, 4096);
     let mut wanted = [off(0); 3];
     for (i, p) in [all(0), all(1), all(64)].iter().enumerate() {
-        if tree.write(*p, Write::On(5), &mut steps).is_ok() {
+        if is_written(&mut tree, *p, &mut steps) {
             wanted[i] = on(5);
         }
     }
@@ -225,7 +156,7 @@ fn a_refused_write_keeps_every_cell(rt: HostRuntime) {
         Act::Cell(all(64), third),
         Act::Cell(all(2), off(0)),
     ];
-    run(&rt, &mut tree, &acts, &mut steps);
+    play::run_numbers(&rt, &mut tree, &acts, &mut steps);
 }
 
 #[test]
