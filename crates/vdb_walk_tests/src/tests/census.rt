@@ -2,221 +2,144 @@
 
 ghost use Rattle.std.specs.Prelude.{◌<◌};
 
-use super::{Tiny, all, at, expect_visits, fill, off, on, voxelise, write};
+use super::acts::{Act, play_433, play_standard, play_tiny, play_truths};
+use super::{all, at, off, on};
 use std::alloc::{AllocError, Global};
 use std::collections::BTreeMap;
-use std::process::Abort;
 use vdb_coord::{Bounds, Coord};
-use vdb_node::Stored;
 use vdb_pool::Steps;
-use vdb_tree::{NodeCounts, Tree, Tree433, TreeOf, Write};
+use vdb_tree::Write;
 use vdb_value::Cell;
-use vdb_walk::{Census, census, uniform};
-
-// The root blocks that hold anything but the background, and the upper, lower and leaf blocks whose cells differ.
-fn expect_census<
-    V: Stored<WU> + Stored<WL> + Stored<WF>,
-    const U: u32,
-    const L: u32,
-    const F: u32,
-    const WU: usize,
-    const WL: usize,
-    const WF: usize,
->(rt: &impl Abort, tree: &TreeOf<V, U, L, F, WU, WL, WF>, wanted: [u64; 4], steps: &mut Steps) {
-    let [roots, upper, lower, leaf] = wanted;
-    let wanted = Census {
-        roots,
-        upper,
-        lower,
-        leaf,
-    };
-    assert_eq!(rt; census(tree, steps), wanted);
-}
-
-// How many entries the root table has, and how many upper, lower and leaf nodes there are.
-fn expect_nodes<
-    V: Stored<WU> + Stored<WL> + Stored<WF>,
-    const U: u32,
-    const L: u32,
-    const F: u32,
-    const WU: usize,
-    const WL: usize,
-    const WF: usize,
->(rt: &impl Abort, tree: &TreeOf<V, U, L, F, WU, WL, WF>, wanted: [u64; 4]) {
-    let [entries, upper, lower, leaf] = wanted;
-    let wanted = NodeCounts {
-        entries,
-        upper,
-        lower,
-        leaf,
-    };
-    assert_eq!(rt; tree.node_counts(), wanted);
-}
-
-// Each case: the corners of a box, and the one cell that it has.
-fn expect_uniform<
-    const U: u32,
-    const L: u32,
-    const F: u32,
-    const WU: usize,
-    const WL: usize,
-    const WF: usize,
->(
-    rt: &impl Abort,
-    tree: &TreeOf<i32, U, L, F, WU, WL, WF>,
-    cases: &[(Coord, Coord, Option<Cell<i32>>)],
-    steps: &mut Steps,
-) {
-    for (min, max, wanted) in cases {
-        let bounds = Bounds::new(*min, *max).expect(rt, "a box");
-        assert_eq!(rt;
-            uniform(tree, bounds, steps),
-            *wanted,
-            "from {min:?} to {max:?}"
-        );
-    }
-}
 
 #[test]
 fn tiles_of_each_level_need_the_nodes_above_them(rt: HostRuntime) {
-    let mut steps = Steps::new(&rt);
-    let mut tree = Tree::new(rt.alloc(), 0i32, 4096);
-    expect_census(&rt, &tree, [0, 0, 0, 0], &mut steps);
-    fill(&rt, &mut tree, all(0), all(7), on(3), &mut steps);
-    expect_census(&rt, &tree, [1, 1, 1, 0], &mut steps);
-    fill(&rt, &mut tree, all(0), all(127), on(3), &mut steps);
-    expect_census(&rt, &tree, [1, 1, 0, 0], &mut steps);
-    voxelise(&rt, &mut tree, all(0), all(127), &mut steps);
-    expect_nodes(&rt, &tree, [1, 1, 1, 4096]);
-    expect_census(&rt, &tree, [1, 1, 0, 0], &mut steps);
-    fill(&rt, &mut tree, all(0), all(4095), on(3), &mut steps);
-    expect_census(&rt, &tree, [1, 0, 0, 0], &mut steps);
-    fill(&rt, &mut tree, all(0), all(4095), off(0), &mut steps);
-    expect_census(&rt, &tree, [0, 0, 0, 0], &mut steps);
+    let acts = [
+        Act::Census([0, 0, 0, 0]),
+        Act::Fill(all(0), all(7), on(3)),
+        Act::Census([1, 1, 1, 0]),
+        Act::Fill(all(0), all(127), on(3)),
+        Act::Census([1, 1, 0, 0]),
+        Act::Voxelise(all(0), all(127)),
+        Act::Nodes([1, 1, 1, 4096]),
+        Act::Census([1, 1, 0, 0]),
+        Act::Fill(all(0), all(4095), on(3)),
+        Act::Census([1, 0, 0, 0]),
+        Act::Fill(all(0), all(4095), off(0)),
+        Act::Census([0, 0, 0, 0]),
+    ];
+    play_standard(&rt, rt.alloc(), 0, &acts, &mut Steps::new(&rt));
 }
 
 #[test]
 fn single_voxels(rt: HostRuntime) {
-    let mut steps = Steps::new(&rt);
-    let mut tree = Tree433::new(rt.alloc(), 5i64, 4096);
-    write(&rt, &mut tree, all(-1), Write::On(5), &mut steps);
-    expect_census(&rt, &tree, [1, 1, 1, 1], &mut steps);
-    write(&rt, &mut tree, all(-1), Write::State(false), &mut steps);
-    expect_nodes(&rt, &tree, [1, 1, 1, 1]);
-    expect_census(&rt, &tree, [0, 0, 0, 0], &mut steps);
-    // two leaves of a lower block of 64, and one of the next lower block
-    write(&rt, &mut tree, at(0, 0, 7), Write::Off(1), &mut steps);
-    write(&rt, &mut tree, at(0, 63, 8), Write::Off(1), &mut steps);
-    expect_census(&rt, &tree, [1, 1, 1, 2], &mut steps);
-    write(&rt, &mut tree, at(0, 64, 8), Write::Off(1), &mut steps);
-    expect_census(&rt, &tree, [1, 1, 2, 3], &mut steps);
-    write(&rt, &mut tree, all(i32::MIN), Write::On(1), &mut steps);
-    write(&rt, &mut tree, all(i32::MAX), Write::Value(1), &mut steps);
-    expect_census(&rt, &tree, [3, 3, 4, 5], &mut steps);
+    let acts = [
+        Act::Write(all(-1), Write::On(5)),
+        Act::Census([1, 1, 1, 1]),
+        Act::Write(all(-1), Write::State(false)),
+        Act::Nodes([1, 1, 1, 1]),
+        Act::Census([0, 0, 0, 0]),
+        // two leaves of a lower block of 64, and one of the next lower block
+        Act::Write(at(0, 0, 7), Write::Off(1)),
+        Act::Write(at(0, 63, 8), Write::Off(1)),
+        Act::Census([1, 1, 1, 2]),
+        Act::Write(at(0, 64, 8), Write::Off(1)),
+        Act::Census([1, 1, 2, 3]),
+        Act::Write(all(i32::MIN), Write::On(1)),
+        Act::Write(all(i32::MAX), Write::Value(1)),
+        Act::Census([3, 3, 4, 5]),
+    ];
+    play_433(&rt, rt.alloc(), 5, &acts, &mut Steps::new(&rt));
 }
 
 #[test]
 fn an_inactive_root_block_is_counted(rt: HostRuntime) {
-    let mut steps = Steps::new(&rt);
-    let mut tree = Tree::new(rt.alloc(), 0i32, 4096);
-    fill(&rt, &mut tree, all(-4096), all(-1), off(1), &mut steps);
-    expect_census(&rt, &tree, [1, 0, 0, 0], &mut steps);
-    fill(&rt, &mut tree, all(-4096), all(4095), on(0), &mut steps);
-    expect_census(&rt, &tree, [8, 0, 0, 0], &mut steps);
-    write(&rt, &mut tree, at(0, 0, -1), Write::Off(0), &mut steps);
-    expect_census(&rt, &tree, [8, 1, 1, 1], &mut steps);
-    write(&rt, &mut tree, at(0, 0, -1), Write::On(0), &mut steps);
-    expect_nodes(&rt, &tree, [8, 1, 1, 1]);
-    expect_census(&rt, &tree, [8, 0, 0, 0], &mut steps);
+    let acts = [
+        Act::Fill(all(-4096), all(-1), off(1)),
+        Act::Census([1, 0, 0, 0]),
+        Act::Fill(all(-4096), all(4095), on(0)),
+        Act::Census([8, 0, 0, 0]),
+        Act::Write(at(0, 0, -1), Write::Off(0)),
+        Act::Census([8, 1, 1, 1]),
+        Act::Write(at(0, 0, -1), Write::On(0)),
+        Act::Nodes([8, 1, 1, 1]),
+        Act::Census([8, 0, 0, 0]),
+    ];
+    play_standard(&rt, rt.alloc(), 0, &acts, &mut Steps::new(&rt));
 }
 
 // A sheet of one voxel's height through a root block: 32 by 32 lower blocks, of 16 by 16 leaves each.
 #[test]
 fn a_sheet(rt: HostRuntime) {
-    let mut steps = Steps::new(&rt);
-    let mut tree = Tree::new(rt.alloc(), false, 4096);
-    fill(
-        &rt,
-        &mut tree,
-        all(0),
-        at(0, 4095, 4095),
-        on(true),
-        &mut steps,
-    );
-    expect_census(&rt, &tree, [1, 1, 1024, 262_144], &mut steps);
+    let acts = [
+        Act::Fill(all(0), at(0, 4095, 4095), on(true)),
+        Act::Census([1, 1, 1024, 262_144]),
+    ];
+    play_truths(&rt, rt.alloc(), false, &acts, &mut Steps::new(&rt));
 }
 
 // 65,536 voxels along each axis, in 4,096 tiles of the root table: no node is visited.
 #[test]
 fn tiles_count_at_once(rt: HostRuntime) {
-    let mut steps = Steps::new(&rt);
-    let mut tree = Tree::new(rt.alloc(), 0i32, 4096);
-    fill(&rt, &mut tree, all(-32768), all(32767), on(1), &mut steps);
-    let before = steps.count();
-    expect_census(&rt, &tree, [4096, 0, 0, 0], &mut steps);
-    let cases = [
-        (all(-32768), all(32767), Some(on(1))),
-        (all(-32768), at(32767, 32767, 32768), None),
-        (all(32768), all(i32::MAX), Some(off(0))),
-        (all(i32::MIN), at(i32::MAX, i32::MAX, -32769), Some(off(0))),
-        (all(i32::MIN), all(i32::MAX), None),
+    let (min, max) = (all(i32::MIN), all(i32::MAX));
+    let acts = [
+        Act::Fill(all(-32768), all(32767), on(1)),
+        Act::Mark,
+        Act::Census([4096, 0, 0, 0]),
+        Act::Uniform(all(-32768), all(32767), Some(on(1))),
+        Act::Uniform(all(-32768), at(32767, 32767, 32768), None),
+        Act::Uniform(all(32768), max, Some(off(0))),
+        Act::Uniform(min, at(i32::MAX, i32::MAX, -32769), Some(off(0))),
+        Act::Uniform(min, max, None),
+        Act::Visits(0),
     ];
-    expect_uniform(&rt, &tree, &cases, &mut steps);
-    expect_visits(&rt, &steps, before, 0);
+    play_standard(&rt, rt.alloc(), 0, &acts, &mut Steps::new(&rt));
 }
 
 #[test]
 fn boxes_of_one_cell(rt: HostRuntime) {
-    let mut steps = Steps::new(&rt);
-    let mut tree = Tree::new(rt.alloc(), 0i32, 4096);
-    let mut tiny = Tiny::new(rt.alloc(), 0i32, 4096);
-    let whole = [(all(i32::MIN), all(i32::MAX), Some(off(0)))];
-    expect_uniform(&rt, &tree, &whole, &mut steps);
-    fill(&rt, &mut tree, all(3), all(12), on(1), &mut steps);
-    fill(&rt, &mut tiny, all(3), all(12), on(1), &mut steps);
-    let cases = [
-        (all(3), all(12), Some(on(1))),
-        (all(3), at(12, 12, 13), None),
-        (all(2), all(12), None),
-        (all(5), all(9), Some(on(1))),
-        (all(8), all(11), Some(on(1))),
-        (all(0), all(7), None),
-        (all(0), at(7, 7, 2), Some(off(0))),
-        (all(13), all(i32::MAX), Some(off(0))),
-        (all(i32::MIN), all(2), Some(off(0))),
-        (all(i32::MIN), all(3), None),
+    let acts = [
+        Act::Uniform(all(i32::MIN), all(i32::MAX), Some(off(0))),
+        Act::Fill(all(3), all(12), on(1)),
+        Act::Uniform(all(3), all(12), Some(on(1))),
+        Act::Uniform(all(3), at(12, 12, 13), None),
+        Act::Uniform(all(2), all(12), None),
+        Act::Uniform(all(5), all(9), Some(on(1))),
+        Act::Uniform(all(8), all(11), Some(on(1))),
+        Act::Uniform(all(0), all(7), None),
+        Act::Uniform(all(0), at(7, 7, 2), Some(off(0))),
+        Act::Uniform(all(13), all(i32::MAX), Some(off(0))),
+        Act::Uniform(all(i32::MIN), all(2), Some(off(0))),
+        Act::Uniform(all(i32::MIN), all(3), None),
+        // a state alone, then a value alone
+        Act::Write(all(7), Write::State(false)),
+        Act::Uniform(all(3), all(12), None),
+        Act::Uniform(all(7), all(7), Some(off(1))),
+        Act::Uniform(at(3, 3, 8), all(12), Some(on(1))),
+        Act::Write(all(7), Write::On(2)),
+        Act::Uniform(all(3), all(12), None),
+        Act::Uniform(all(7), all(7), Some(on(2))),
+        Act::Write(all(7), Write::On(1)),
+        Act::Uniform(all(3), all(12), Some(on(1))),
     ];
-    expect_uniform(&rt, &tree, &cases, &mut steps);
-    expect_uniform(&rt, &tiny, &cases, &mut steps);
-    // a state alone, then a value alone
-    write(&rt, &mut tree, all(7), Write::State(false), &mut steps);
-    let cases = [
-        (all(3), all(12), None),
-        (all(7), all(7), Some(off(1))),
-        (at(3, 3, 8), all(12), Some(on(1))),
-    ];
-    expect_uniform(&rt, &tree, &cases, &mut steps);
-    write(&rt, &mut tree, all(7), Write::On(2), &mut steps);
-    let cases = [(all(3), all(12), None), (all(7), all(7), Some(on(2)))];
-    expect_uniform(&rt, &tree, &cases, &mut steps);
-    write(&rt, &mut tree, all(7), Write::On(1), &mut steps);
-    expect_uniform(&rt, &tree, &[(all(3), all(12), Some(on(1)))], &mut steps);
+    play_standard(&rt, rt.alloc(), 0, &acts, &mut Steps::new(&rt));
+    play_tiny(&rt, rt.alloc(), 0, &acts, &mut Steps::new(&rt));
 }
 
 // A leaf is decided by itself: three visits find its first voxel, twice, and three the leaf.
 #[test]
 fn leaves_are_decided_at_once(rt: HostRuntime) {
-    let mut steps = Steps::new(&rt);
-    let mut tree = Tree::new(rt.alloc(), 0i32, 4096);
-    fill(&rt, &mut tree, all(0), all(127), on(1), &mut steps);
-    voxelise(&rt, &mut tree, all(8), all(15), &mut steps);
-    let before = steps.count();
-    expect_uniform(&rt, &tree, &[(all(8), all(15), Some(on(1)))], &mut steps);
-    expect_visits(&rt, &steps, before, 9);
-    write(&rt, &mut tree, all(15), Write::On(2), &mut steps);
-    let before = steps.count();
-    expect_uniform(&rt, &tree, &[(all(8), all(15), None)], &mut steps);
-    expect_visits(&rt, &steps, before, 9);
+    let acts = [
+        Act::Fill(all(0), all(127), on(1)),
+        Act::Voxelise(all(8), all(15)),
+        Act::Mark,
+        Act::Uniform(all(8), all(15), Some(on(1))),
+        Act::Visits(9),
+        Act::Write(all(15), Write::On(2)),
+        Act::Mark,
+        Act::Uniform(all(8), all(15), None),
+        Act::Visits(9),
+    ];
+    play_standard(&rt, rt.alloc(), 0, &acts, &mut Steps::new(&rt));
 }
 
 /// Knuth's generator of 64 bits.
@@ -342,60 +265,59 @@ impl Wanted {
     }
 }
 
-// Whether boxes that are drawn are of one cell.
-fn expect_parts(
-    rt: &impl Abort,
-    tree: &Tiny<i32>,
+// Adds whether boxes that are drawn are of one cell.
+fn add_parts(
+    acts: &mut Vec<Act<'static, i32>>,
     wanted: &Wanted,
     draws: &mut Draws,
-    steps: &mut Steps,
-) {
+) -> Result<(), AllocError> {
     for _ in 0..20 {
         if let Some(part) = draws.bounds() {
-            let found = uniform(tree, part, steps);
-            assert_eq!(rt; found, wanted.uniform(part), "{part:?}");
+            let cell = wanted.uniform(part);
+            acts.push(Act::Uniform(part.min(), part.max(), cell))?;
         }
     }
+    Ok(())
 }
 
-// Gives a box that is drawn a cell, and now and then leaves. Every fourth time the tree is pruned.
-fn try_box(
-    rt: &impl Abort,
-    tree: &mut Tiny<i32>,
+// Adds a box that is drawn and a cell for it, and now and then leaves. Every fourth time the tree is pruned.
+fn add_box(
+    acts: &mut Vec<Act<'static, i32>>,
     wanted: &mut Wanted,
     draws: &mut Draws,
     turn: u32,
-    steps: &mut Steps,
-) {
+) -> Result<(), AllocError> {
     let Some(bounds) = draws.bounds() else {
-        return;
+        return Ok(());
     };
     let (min, max) = (bounds.min(), bounds.max());
     let cell = draws.cell();
-    fill(rt, tree, min, max, cell, steps);
-    wanted.put(bounds, cell).expect(rt, "memory for a map");
+    acts.push(Act::Fill(min, max, cell))?;
+    wanted.put(bounds, cell)?;
     if turn % 8 == 3 {
-        voxelise(rt, tree, min, max, steps);
+        acts.push(Act::Voxelise(min, max))?;
     }
-    expect_census(rt, tree, wanted.census(), steps);
-    expect_parts(rt, tree, wanted, draws, steps);
+    let census = wanted.census();
+    acts.push(Act::Census(census))?;
+    add_parts(acts, wanted, draws)?;
     if turn % 4 == 1 {
-        tree.prune(steps);
-        expect_nodes(rt, tree, wanted.census());
-        expect_census(rt, tree, wanted.census(), steps);
+        acts.push(Act::Prune)?;
+        acts.push(Act::Nodes(census))?;
+        acts.push(Act::Census(census))?;
     }
+    Ok(())
 }
 
 #[test]
 fn random_boxes(rt: HostRuntime) {
-    let mut steps = Steps::new(&rt);
     let mut draws = Draws { state: 5 };
-    let mut tree = Tiny::new(rt.alloc(), 0i32, 4096);
+    let mut acts = Vec::new(rt.alloc());
     let mut wanted = Wanted {
         alloc: rt.alloc(),
         cells: BTreeMap::new(rt.alloc()),
     };
     for turn in 0..40u32 {
-        try_box(&rt, &mut tree, &mut wanted, &mut draws, turn, &mut steps);
+        add_box(&mut acts, &mut wanted, &mut draws, turn).expect(&rt, "memory");
     }
+    play_tiny(&rt, rt.alloc(), 0, &acts, &mut Steps::new(&rt));
 }

@@ -1,40 +1,15 @@
 //! The pieces of a tree, one after another.
 
-use super::{Tiny, all, at, fill, off, on, write};
+use super::acts::{Act, bounds, play_tiny};
+use super::{all, at, off, on};
+use std::alloc::AllocError;
 use std::process::Abort;
-use vdb_coord::{Bounds, Coord};
 use vdb_pool::Steps;
 use vdb_tree::{Piece, Write};
-use vdb_value::Cell;
-use vdb_walk::Pieces;
 
-// The next piece is this box.
-fn expect_piece(
-    rt: &impl Abort,
-    pieces: &mut Pieces<i32, 1, 1, 1, 1, 1, 1>,
-    min: Coord,
-    max: Coord,
-    cell: Cell<i32>,
-    steps: &mut Steps,
-) {
-    let bounds = Bounds::new(min, max).expect(rt, "a box");
-    assert_eq!(rt; pieces.next(steps), Some(Piece { bounds, cell }));
-}
-
-// There is no piece more.
-fn expect_end(rt: &impl Abort, pieces: &mut Pieces<i32, 1, 1, 1, 1, 1, 1>, steps: &mut Steps) {
-    assert_eq!(rt; pieces.next(steps), None);
-    assert_eq!(rt; pieces.next(steps), None);
-}
-
-// The next pieces are the blocks of so many voxels along each axis, in a block of twice as many at `all(0)`: the first of them,
-// if that is one piece, and the other seven.
-fn expect_blocks(
-    rt: &impl Abort,
-    pieces: &mut Pieces<i32, 1, 1, 1, 1, 1, 1>,
-    span: i32,
-    steps: &mut Steps,
-) {
+// Adds the blocks of so many voxels along each axis, in a block of twice as many at `all(0)`: the first of them, if that is one
+// piece, and the other seven.
+fn add_blocks(rt: &impl Abort, pieces: &mut Vec<Piece<i32>>, span: i32) -> Result<(), AllocError> {
     let first = if span == 1 { 0 } else { 1 };
     for number in first..8i32 {
         let (x, y, z) = (number >> 2, number >> 1 & 1, number & 1);
@@ -50,29 +25,41 @@ fn expect_blocks(
             min.z.wrapping_add(last),
         );
         let cell = if number == 0 { on(5) } else { off(0) };
-        expect_piece(rt, pieces, min, max, cell, steps);
+        let bounds = bounds(rt, min, max);
+        pieces.push(Piece { bounds, cell })?;
     }
+    Ok(())
 }
 
 #[test]
 fn no_entries(rt: HostRuntime) {
-    let mut steps = Steps::new(&rt);
-    let tree = Tiny::new(rt.alloc(), 5i32, 4096);
-    expect_end(&rt, &mut Pieces::new(&tree), &mut steps);
+    play_tiny(
+        &rt,
+        rt.alloc(),
+        5,
+        &[Act::Pieces(&[])],
+        &mut Steps::new(&rt),
+    );
 }
 
 // A tile of a whole root block, and then one leaf with its tiles of each level: the leaf's eight voxels, seven blocks of two
 // voxels along each axis, and seven of four.
 #[test]
 fn one_leaf(rt: HostRuntime) {
-    let mut steps = Steps::new(&rt);
-    let mut tree = Tiny::new(rt.alloc(), 0i32, 4096);
-    write(&rt, &mut tree, all(0), Write::On(5), &mut steps);
-    fill(&rt, &mut tree, all(-8), all(-1), on(3), &mut steps);
-    let mut pieces = Pieces::new(&tree);
-    expect_piece(&rt, &mut pieces, all(-8), all(-1), on(3), &mut steps);
-    expect_blocks(&rt, &mut pieces, 1, &mut steps);
-    expect_blocks(&rt, &mut pieces, 2, &mut steps);
-    expect_blocks(&rt, &mut pieces, 4, &mut steps);
-    expect_end(&rt, &mut pieces, &mut steps);
+    let mut pieces = Vec::new(rt.alloc());
+    let tile = Piece {
+        bounds: bounds(&rt, all(-8), all(-1)),
+        cell: on(3),
+    };
+    let pushed: Result<_, _> = pieces.push(tile);
+    pushed.expect(&rt, "memory");
+    for span in [1, 2, 4] {
+        add_blocks(&rt, &mut pieces, span).expect(&rt, "memory");
+    }
+    let acts = [
+        Act::Write(all(0), Write::On(5)),
+        Act::Fill(all(-8), all(-1), on(3)),
+        Act::Pieces(&pieces),
+    ];
+    play_tiny(&rt, rt.alloc(), 0, &acts, &mut Steps::new(&rt));
 }
