@@ -135,18 +135,30 @@ fn between(min: Point, max: Point) -> Corners {
     Corners { min, max }
 }
 
+/// Whether the answer to a command is this cell of a 32-bit number.
+fn shows(
+    scene: &mut Scene,
+    command: &Command,
+    (value, on): (i32, bool),
+    steps: &mut Steps,
+) -> bool {
+    is_value(&scene.apply(command, steps), Scalar::I32(value), on)
+}
+
 /// A look-up near what accessor 3 was last given, by at most one visit.
 fn expect_near(
     rt: &impl Abort,
     scene: &mut Scene,
     name: Name,
     at: Point,
-    (value, on): (i32, bool),
+    cell: (i32, bool),
     steps: &mut Steps,
 ) {
     let before = steps.count();
-    let seen = scene.apply(&get_by(name, 3, at), steps);
-    assert!(rt; is_value(&seen, Scalar::I32(value), on), "at {at:?}");
+    assert!(rt;
+        shows(scene, &get_by(name, 3, at), cell, steps),
+        "at {at:?}"
+    );
     assert!(rt; steps.count().wrapping_sub(before) <= 1, "at {at:?}");
 }
 
