@@ -1,6 +1,7 @@
 //! Scenes with ample memory, and names.
 
 mod accessors;
+mod acts;
 mod boxes;
 mod metas;
 mod reports;
@@ -8,6 +9,7 @@ mod scattered;
 mod slices;
 mod turns;
 
+use acts::{Act, done, play, refused, run, shows};
 use std::process::Abort;
 use vdb_pool::Steps;
 use vdb_scene::{
@@ -79,59 +81,6 @@ fn copy(from: Name, to: Name) -> Command {
     Command::Copy { from, to }
 }
 
-/// Whether an answer is `ok`.
-fn is_done(answer: &Answer) -> bool {
-    matches!(answer, Answer::Done)
-}
-
-/// Whether an answer is this refusal.
-fn is_refused(answer: &Answer, refusal: Refusal) -> bool {
-    match answer {
-        Answer::Refused(given) => *given == refusal,
-        _ => false,
-    }
-}
-
-/// Whether an answer is this cell.
-fn is_value(answer: &Answer, value: Scalar, on: bool) -> bool {
-    match answer {
-        Answer::Value(given, state) => *given == value && *state == on,
-        _ => false,
-    }
-}
-
-/// Plays a command whose answer is `ok`.
-fn expect_done(rt: &impl Abort, scene: &mut Scene, command: &Command, steps: &mut Steps) {
-    assert!(rt; is_done(&scene.apply(command, steps)));
-}
-
-/// Plays a command that is refused so.
-fn expect_refused(
-    rt: &impl Abort,
-    scene: &mut Scene,
-    command: &Command,
-    refusal: Refusal,
-    steps: &mut Steps,
-) {
-    assert!(rt;
-        is_refused(&scene.apply(command, steps), refusal),
-        "{refusal:?}"
-    );
-}
-
-/// Plays a command whose answer is this cell.
-fn expect_value(
-    rt: &impl Abort,
-    scene: &mut Scene,
-    command: &Command,
-    value: Scalar,
-    on: bool,
-    steps: &mut Steps,
-) {
-    let answer = scene.apply(command, steps);
-    assert!(rt; is_value(&answer, value, on), "{value:?}");
-}
-
 #[test]
 fn a_name_has_its_form(rt: HostRuntime) {
     for (bytes, valid) in [
@@ -157,40 +106,26 @@ fn a_name_has_its_form(rt: HostRuntime) {
 fn grids_of_each_kind_hold_their_cells(rt: HostRuntime) {
     let mut steps = Steps::new(&rt);
     let mut scene = Scene::new(rt.alloc());
-    let minus = point(-1, -1, -1);
-    for (byte, kind, background, value) in [
-        (
-            b'b',
-            Kind::Bool,
-            Literal::Truth(false),
-            Literal::Truth(true),
-        ),
-        (b'i', Kind::I32, near(0), near(-2147483648)),
-        (b'l', Kind::I64, near(-3), near(9223372036854775807)),
-    ] {
-        let name = letter(&rt, byte);
-        expect_done(&rt, &mut scene, &grid(name, kind, background), &mut steps);
-        expect_done(&rt, &mut scene, &set(name, minus, value), &mut steps);
-    }
-    for (byte, there, elsewhere) in [
-        (b'b', Scalar::Bool(true), Scalar::Bool(false)),
-        (b'i', Scalar::I32(-2147483648), Scalar::I32(0)),
-        (b'l', Scalar::I64(9223372036854775807), Scalar::I64(-3)),
-    ] {
-        let name = letter(&rt, byte);
-        expect_value(&rt, &mut scene, &get(name, minus), there, true, &mut steps);
-        expect_value(
-            &rt,
-            &mut scene,
-            &get(name, point(0, 0, 0)),
-            elsewhere,
-            false,
-            &mut steps,
-        );
-    }
+    let [b, i, l] = [letter(&rt, b'b'), letter(&rt, b'i'), letter(&rt, b'l')];
+    let (minus, zero) = (point(-1, -1, -1), point(0, 0, 0));
+    let acts = [
+        done(grid(l, Kind::I64, near(-3))),
+        done(grid(b, Kind::Bool, Literal::Truth(false))),
+        done(grid(i, Kind::I32, near(0))),
+        done(set(b, minus, Literal::Truth(true))),
+        done(set(i, minus, near(-2147483648))),
+        done(set(l, minus, near(9223372036854775807))),
+        shows(get(b, minus), Scalar::Bool(true), true),
+        shows(get(b, zero), Scalar::Bool(false), false),
+        shows(get(i, minus), Scalar::I32(-2147483648), true),
+        shows(get(i, zero), Scalar::I32(0), false),
+        shows(get(l, minus), Scalar::I64(9223372036854775807), true),
+        shows(get(l, zero), Scalar::I64(-3), false),
+    ];
+    run(&rt, &mut scene, &acts, &mut steps);
     let mut names = scene.names();
-    for byte in [b'b', b'i', b'l'] {
-        assert!(rt; names.next() == Some(&letter(&rt, byte)));
+    for name in [b, i, l] {
+        assert!(rt; names.next() == Some(&name));
     }
     assert!(rt; names.next().is_none());
 }
@@ -198,51 +133,34 @@ fn grids_of_each_kind_hold_their_cells(rt: HostRuntime) {
 #[test]
 fn refusals_come_in_their_order(rt: HostRuntime) {
     let mut steps = Steps::new(&rt);
-    let mut scene = Scene::new(rt.alloc());
     let a = letter(&rt, b'a');
+    let truth = Literal::Truth(true);
+    let (zero, past) = (point(0, 0, 0), point(0, 0, 2147483648));
     let far = Point {
         x: Num::Far,
         y: Num::Near(0),
         z: Num::Near(0),
     };
-    for (command, refusal) in [
-        (grid(a, Kind::I32, near(2147483648)), Refusal::ValueRange),
-        (grid(a, Kind::I32, Literal::Truth(true)), Refusal::Kind),
-        (set(a, far, Literal::Truth(true)), Refusal::NoGrid),
-    ] {
-        expect_refused(&rt, &mut scene, &command, refusal, &mut steps);
-    }
-    expect_done(&rt, &mut scene, &grid(a, Kind::I32, near(0)), &mut steps);
     let eighth = Command::Set {
         name: a,
         accessor: Some(Num::Near(8)),
-        at: point(0, 0, 0),
+        at: zero,
         value: near(1),
     };
-    for (command, refusal) in [
-        (grid(a, Kind::Bool, near(0)), Refusal::NameTaken),
-        (set(a, far, Literal::Truth(true)), Refusal::Kind),
-        (
-            set(a, point(0, 0, 2147483648), near(1)),
-            Refusal::ValueRange,
-        ),
-        (
-            set(a, point(0, 0, 0), near(2147483648)),
-            Refusal::ValueRange,
-        ),
-        (eighth, Refusal::NoAccessor),
-        (get(letter(&rt, b'b'), far), Refusal::NoGrid),
-    ] {
-        expect_refused(&rt, &mut scene, &command, refusal, &mut steps);
-    }
-    expect_value(
-        &rt,
-        &mut scene,
-        &get(a, point(0, 0, 0)),
-        Scalar::I32(0),
-        false,
-        &mut steps,
-    );
+    let acts = [
+        refused(grid(a, Kind::I32, near(2147483648)), Refusal::ValueRange),
+        refused(grid(a, Kind::I32, truth), Refusal::Kind),
+        refused(set(a, far, truth), Refusal::NoGrid),
+        done(grid(a, Kind::I32, near(0))),
+        refused(grid(a, Kind::Bool, near(0)), Refusal::NameTaken),
+        refused(set(a, far, truth), Refusal::Kind),
+        refused(set(a, past, near(1)), Refusal::ValueRange),
+        refused(set(a, zero, near(2147483648)), Refusal::ValueRange),
+        refused(eighth, Refusal::NoAccessor),
+        refused(get(letter(&rt, b'b'), far), Refusal::NoGrid),
+        shows(get(a, zero), Scalar::I32(0), false),
+    ];
+    play(&rt, &acts, &mut steps);
 }
 
 #[test]
@@ -257,25 +175,18 @@ fn a_scene_has_at_most_64_grids(rt: HostRuntime) {
         }
     }
     let a = letter(&rt, b'a');
-    expect_refused(
-        &rt,
-        &mut scene,
-        &grid(a, Kind::I32, near(0)),
-        Refusal::GridLimit,
-        &mut steps,
-    );
-    let again = AnyGrid::new(rt.alloc(), Scalar::Bool(true), ROOT_LIMIT);
-    assert!(rt; scene.insert(a, again) == Err(Refusal::GridLimit));
     let first = Name::new(b"aa").expect(&rt, "two letters are a name");
-    for (command, refusal) in [
-        (copy(a, first), Refusal::NoGrid),
-        (copy(first, first), Refusal::NameTaken),
-        (copy(first, a), Refusal::GridLimit),
-    ] {
-        expect_refused(&rt, &mut scene, &command, refusal, &mut steps);
+    let acts = [
+        refused(grid(a, Kind::I32, near(0)), Refusal::GridLimit),
+        refused(copy(a, first), Refusal::NoGrid),
+        refused(copy(first, first), Refusal::NameTaken),
+        refused(copy(first, a), Refusal::GridLimit),
+    ];
+    run(&rt, &mut scene, &acts, &mut steps);
+    for (name, refusal) in [(a, Refusal::GridLimit), (first, Refusal::NameTaken)] {
+        let further = AnyGrid::new(rt.alloc(), Scalar::Bool(true), ROOT_LIMIT);
+        assert!(rt; scene.insert(name, further) == Err(refusal));
     }
-    let taken = AnyGrid::new(rt.alloc(), Scalar::Bool(true), ROOT_LIMIT);
-    assert!(rt; scene.insert(first, taken) == Err(Refusal::NameTaken));
     assert!(rt;
         scene
             .get(&first)
@@ -287,10 +198,8 @@ fn a_scene_has_at_most_64_grids(rt: HostRuntime) {
 #[test]
 fn each_write_changes_its_part_of_a_cell(rt: HostRuntime) {
     let mut steps = Steps::new(&rt);
-    let mut scene = Scene::new(rt.alloc());
-    let a = letter(&rt, b'a');
+    let [a, b] = [letter(&rt, b'a'), letter(&rt, b'b')];
     let at = point(7, -8, 4096);
-    expect_done(&rt, &mut scene, &grid(a, Kind::I64, near(-3)), &mut steps);
     let only = Command::Only {
         name: a,
         accessor: None,
@@ -303,107 +212,84 @@ fn each_write_changes_its_part_of_a_cell(rt: HostRuntime) {
         at,
         value: near(i64::MIN),
     };
-    for (command, value, on) in [
-        (only, i64::MAX, false),
-        (state(a, at, true), i64::MAX, true),
-        (Command::Prune { name: a }, i64::MAX, true),
-        (unset, i64::MIN, false),
-        (set(a, at, near(4)), 4, true),
-        (state(a, at, false), 4, false),
-        (Command::Prune { name: a }, 4, false),
-    ] {
-        expect_done(&rt, &mut scene, &command, &mut steps);
-        expect_value(
-            &rt,
-            &mut scene,
-            &get(a, at),
-            Scalar::I64(value),
-            on,
-            &mut steps,
-        );
-    }
-    let prune = Command::Prune {
-        name: letter(&rt, b'b'),
-    };
-    expect_refused(&rt, &mut scene, &prune, Refusal::NoGrid, &mut steps);
-    expect_refused(
-        &rt,
-        &mut scene,
-        &state(letter(&rt, b'b'), at, true),
-        Refusal::NoGrid,
-        &mut steps,
-    );
+    let acts = [
+        done(grid(a, Kind::I64, near(-3))),
+        done(only),
+        shows(get(a, at), Scalar::I64(i64::MAX), false),
+        done(state(a, at, true)),
+        shows(get(a, at), Scalar::I64(i64::MAX), true),
+        done(Command::Prune { name: a }),
+        shows(get(a, at), Scalar::I64(i64::MAX), true),
+        done(unset),
+        shows(get(a, at), Scalar::I64(i64::MIN), false),
+        done(set(a, at, near(4))),
+        shows(get(a, at), Scalar::I64(4), true),
+        done(state(a, at, false)),
+        shows(get(a, at), Scalar::I64(4), false),
+        done(Command::Prune { name: a }),
+        shows(get(a, at), Scalar::I64(4), false),
+        refused(Command::Prune { name: b }, Refusal::NoGrid),
+        refused(state(b, at, true), Refusal::NoGrid),
+    ];
+    play(&rt, &acts, &mut steps);
+}
+
+/// A kind, a literal for the background and another one, and their values.
+type Values = (Kind, Literal, Literal, Scalar, Scalar);
+
+/// Values of each kind.
+const VALUES: [Values; 3] = [
+    (
+        Kind::Bool,
+        Literal::Truth(true),
+        Literal::Truth(false),
+        Scalar::Bool(true),
+        Scalar::Bool(false),
+    ),
+    (
+        Kind::I32,
+        Literal::Number(Num::Near(5)),
+        Literal::Number(Num::Near(-2147483648)),
+        Scalar::I32(5),
+        Scalar::I32(-2147483648),
+    ),
+    (
+        Kind::I64,
+        Literal::Number(Num::Near(-9223372036854775808)),
+        Literal::Number(Num::Near(9223372036854775807)),
+        Scalar::I64(-9223372036854775808),
+        Scalar::I64(9223372036854775807),
+    ),
+];
+
+/// A grid `a`, changed beside its copy `z`, and then taken away.
+fn copied(rt: &impl Abort, (kind, background, value, off, on): Values) -> [Act; 14] {
+    let (from, to) = (letter(rt, b'a'), letter(rt, b'z'));
+    let (here, there) = (point(-1, 4095, 4096), point(0, 0, 0));
+    [
+        done(grid(from, kind, background)),
+        done(set(from, here, value)),
+        done(copy(from, to)),
+        done(state(from, here, false)),
+        done(set(to, there, value)),
+        shows(get(from, here), on, false),
+        shows(get(from, there), off, false),
+        shows(get(to, here), on, true),
+        shows(get(to, there), on, true),
+        shows(get(to, point(0, 0, 1)), off, false),
+        done(Command::Drop { name: from }),
+        shows(get(to, here), on, true),
+        refused(copy(from, to), Refusal::NoGrid),
+        refused(copy(to, to), Refusal::NameTaken),
+    ]
 }
 
 #[test]
 fn a_copy_is_a_grid_of_its_own(rt: HostRuntime) {
     let mut steps = Steps::new(&rt);
-    let mut scene = Scene::new(rt.alloc());
-    let to = letter(&rt, b'z');
-    let here = point(-1, 4095, 4096);
-    let there = point(0, 0, 0);
-    for (byte, kind, background, value, off, on) in [
-        (
-            b'b',
-            Kind::Bool,
-            Literal::Truth(true),
-            Literal::Truth(false),
-            Scalar::Bool(true),
-            Scalar::Bool(false),
-        ),
-        (
-            b'i',
-            Kind::I32,
-            near(5),
-            near(1),
-            Scalar::I32(5),
-            Scalar::I32(1),
-        ),
-        (
-            b'l',
-            Kind::I64,
-            near(i64::MIN),
-            near(i64::MAX),
-            Scalar::I64(i64::MIN),
-            Scalar::I64(i64::MAX),
-        ),
-    ] {
-        let from = letter(&rt, byte);
-        for command in [
-            grid(from, kind, background),
-            set(from, here, value),
-            copy(from, to),
-            state(from, here, false),
-            set(to, there, value),
-        ] {
-            expect_done(&rt, &mut scene, &command, &mut steps);
-        }
-        for (name, at, value, is_on) in [
-            (from, here, on, false),
-            (from, there, off, false),
-            (to, here, on, true),
-            (to, there, on, true),
-            (to, point(0, 0, 1), off, false),
-        ] {
-            expect_value(&rt, &mut scene, &get(name, at), value, is_on, &mut steps);
-        }
-        expect_done(&rt, &mut scene, &Command::Drop { name: from }, &mut steps);
-        expect_value(&rt, &mut scene, &get(to, here), on, true, &mut steps);
-        expect_refused(
-            &rt,
-            &mut scene,
-            &copy(from, to),
-            Refusal::NoGrid,
-            &mut steps,
-        );
-        expect_refused(
-            &rt,
-            &mut scene,
-            &copy(to, to),
-            Refusal::NameTaken,
-            &mut steps,
-        );
-        expect_done(&rt, &mut scene, &Command::Drop { name: to }, &mut steps);
+    for values in VALUES {
+        let acts = copied(&rt, values);
+        play(&rt, &acts, &mut steps);
     }
 }
 
@@ -412,47 +298,23 @@ fn a_grid_has_at_most_4096_root_blocks(rt: HostRuntime) {
     let mut steps = Steps::new(&rt);
     let mut scene = Scene::new(rt.alloc());
     let a = letter(&rt, b'a');
-    expect_done(
-        &rt,
-        &mut scene,
-        &grid(a, Kind::Bool, Literal::Truth(false)),
-        &mut steps,
-    );
+    let made = [done(grid(a, Kind::Bool, Literal::Truth(false)))];
+    run(&rt, &mut scene, &made, &mut steps);
     for x in 0..64i64 {
         for y in 0..64i64 {
             let at = point(x.wrapping_mul(4096), y.wrapping_mul(-4096), 0);
-            expect_done(&rt, &mut scene, &state(a, at, true), &mut steps);
+            let act = [done(state(a, at, true))];
+            run(&rt, &mut scene, &act, &mut steps);
         }
     }
-    let further = point(-1, 0, 0);
-    expect_refused(
-        &rt,
-        &mut scene,
-        &state(a, further, true),
-        Refusal::RootLimit,
-        &mut steps,
-    );
-    expect_value(
-        &rt,
-        &mut scene,
-        &get(a, further),
-        Scalar::Bool(false),
-        false,
-        &mut steps,
-    );
-    expect_done(&rt, &mut scene, &state(a, further, false), &mut steps);
-    expect_done(
-        &rt,
-        &mut scene,
-        &state(a, point(0, 0, 0), false),
-        &mut steps,
-    );
-    expect_done(&rt, &mut scene, &state(a, further, true), &mut steps);
-    expect_refused(
-        &rt,
-        &mut scene,
-        &state(a, point(0, 0, 0), true),
-        Refusal::RootLimit,
-        &mut steps,
-    );
+    let (first, further) = (point(0, 0, 0), point(-1, 0, 0));
+    let acts = [
+        refused(state(a, further, true), Refusal::RootLimit),
+        shows(get(a, further), Scalar::Bool(false), false),
+        done(state(a, further, false)),
+        done(state(a, first, false)),
+        done(state(a, further, true)),
+        refused(state(a, first, true), Refusal::RootLimit),
+    ];
+    run(&rt, &mut scene, &acts, &mut steps);
 }

@@ -1,6 +1,4 @@
 //! Sessions over memory, over readers and writers that fail, and over readers that never end.
-ghost use Rattle.std.specs.Prelude.{◌≡◌, Some, false};
-ghost use Rattle.vdb_scene.specs.Watched.{has_failed};
 
 mod command_lines;
 mod faults;
@@ -11,124 +9,24 @@ mod limits;
 mod lists;
 mod metas;
 mod random;
+mod sessions;
 mod slices;
+mod streams;
 mod turns;
 mod two_grids;
 
+use sessions::{Given, expect, play};
 use std::alloc::AllocError;
-use std::io::{self, Read, Write};
 use std::process::Abort;
+use streams::{Sink, Source};
 use vdb_pool::Steps;
-use vdb_scene::Watched;
 use vdb_script::ScriptFault;
-use vdb_shell::{Fault, Outcome, session, status};
+use vdb_shell::{Fault, status};
 
-/// A reader over memory that gives at most `step` bytes at once, and fails at its call numbered `fails_at`.
-#[derive(Drop)]
-struct Slow<'a> {
-    bytes: &'a [u8],
-    step: usize,
-    calls: u64,
-    fails_at: u64,
-}
-
-impl<'a> Read for Slow<'a> {
-    ghost remaining = { λ s. Some s.bytes.now };
-
-    fn read(&mut self, buf: &mut [u8]) -> io::Result<usize> {
-        self.calls = self.calls.saturating_add(1);
-        if self.calls == self.fails_at {
-            return Err(io::Error::from(io::ErrorKind::Other));
-        }
-        let room = buf.len().min(self.step.max(1));
-        self.bytes.read(&mut buf[..room])
-    }
-}
-
-/// A reader that gives its bytes, and then one byte for ever.
-#[derive(Drop)]
-struct Endless<'a> {
-    bytes: &'a [u8],
-    then: u8,
-}
-
-impl<'a> Read for Endless<'a> {
-    fn read(&mut self, buf: &mut [u8]) -> io::Result<usize> {
-        if self.bytes.is_empty() {
-            buf.fill(self.then);
-            return Ok(buf.len());
-        }
-        self.bytes.read(buf)
-    }
-}
-
-/// A writer that takes at most `step` bytes at once, and at its call numbered `fails_at` fails, or takes none.
-#[derive(Drop)]
-struct Picky {
-    taken: Vec<u8>,
-    step: usize,
-    calls: u64,
-    fails_at: u64,
-    fails: bool,
-}
-
-impl Write for Picky {
-    fn write(&mut self, buf: &[u8]) -> io::Result<usize> {
-        self.calls = self.calls.saturating_add(1);
-        if self.calls == self.fails_at {
-            if self.fails {
-                return Err(io::Error::from(io::ErrorKind::Other));
-            }
-            return Ok(0);
-        }
-        let taken = buf.len().min(self.step);
-        self.taken.extend_from_slice(&buf[..taken])?;
-        Ok(taken)
-    }
-
-    fn flush(&mut self) -> io::Result<()> {
-        Ok(())
-    }
-}
-
-/// A session that neither loads nor saves.
-fn play_alone<R: Read, W: Write>(
-    rt: &impl AllocGlobal,
-    script: &mut Watched<R>,
-    answers: &mut Watched<W>,
-    steps: &mut Steps,
-) -> Outcome
-    requires script_fresh { has_failed script.old ≡ false }
-    requires answers_fresh { has_failed answers.old ≡ false }
-{
-    let mut load: Option<Watched<&[u8]>> = None;
-    let mut save: Option<Watched<Vec<u8>>> = None;
-    session(rt.alloc(), &mut load, script, answers, &mut save, steps)
-}
-
-/// Plays a script that is given in pieces of `step` bytes, and checks its answers and its status.
-fn expect(
-    rt: &(impl Abort + AllocGlobal),
-    script: &[u8],
-    step: usize,
-    answers: &[u8],
-    status: u8,
-    steps: &mut Steps,
-) {
-    let mut reader = Watched::new(Slow {
-        bytes: script,
-        step,
-        calls: 0,
-        fails_at: 0,
-    });
-    let mut writer = Watched::new(Vec::new(rt.alloc()));
-    let outcome = play_alone(rt, &mut reader, &mut writer, steps);
-    assert_eq!(rt; outcome.status, status);
-    assert!(rt; outcome.fault.is_none());
-    assert_eq!(rt; writer.get_ref().as_slice(), answers);
-}
-
+/// A script of three lines, the last without a newline.
 const FIRST: &[u8] = b"grid a i32 0\nset a - -1 -1 -1 7\nget a - -1 -1 -1";
+
+const ANSWERED: &[u8] = b"ok\nok\nvalue 7 on\n";
 
 /// Counts, bounds and the census of a few voxels, and those that are refused.
 const REPORTS: &[u8] =
@@ -143,7 +41,7 @@ fn scripts_are_answered(rt: HostRuntime) {
     for (script, answers, status) in [
         (b"".as_slice(), b"".as_slice(), 0),
         (REPORTS, REPORTED, 1),
-        (FIRST, b"ok\nok\nvalue 7 on\n".as_slice(), 0),
+        (FIRST, ANSWERED, 0),
         (
             b"grid a i32 0\nget a - 5 5 5\n".as_slice(),
             b"ok\nvalue 0 off\n".as_slice(),
@@ -357,74 +255,77 @@ fn a_sixty_fifth_grid_is_refused(rt: HostRuntime) {
 fn pieces_of_any_size_give_the_same_answers(rt: HostRuntime) {
     let mut steps = Steps::new(&rt);
     for step in 1..301usize {
-        expect(&rt, FIRST, step, b"ok\nok\nvalue 7 on\n", 0, &mut steps);
+        expect(&rt, FIRST, step, ANSWERED, 0, &mut steps);
     }
+}
+
+/// Checks how a session ends whose script's reader fails at its call of this number.
+fn expect_read_until(
+    rt: &(impl Abort + AllocGlobal),
+    fails_at: u64,
+    fault: Option<Fault>,
+    answers: &[u8],
+    steps: &mut Steps,
+) {
+    let script = Source::new(FIRST).by(5).failing(fails_at);
+    let left = play(rt, Given::script(rt.alloc(), script), steps);
+    assert_eq!(rt;
+        left.answers.bytes.as_slice(),
+        answers,
+        "at call {fails_at}"
+    );
+    assert!(rt; left.outcome.fault == fault, "at call {fails_at}");
+    assert_eq!(rt; left.outcome.status, status(false, fault.as_ref()));
 }
 
 #[test]
 fn a_reader_that_fails_ends_the_script(rt: HostRuntime) {
     let mut steps = Steps::new(&rt);
+    let read = Some(Fault::Script(ScriptFault::Read));
     // pieces of five bytes: 13 bytes end the first line, 32 the second, and the third needs the end at the eleventh call
     for fails_at in 1..13u64 {
-        let mut reader = Watched::new(Slow {
-            bytes: FIRST,
-            step: 5,
-            calls: 0,
-            fails_at,
-        });
-        let mut writer = Watched::new(Vec::new(rt.alloc()));
-        let outcome = play_alone(&rt, &mut reader, &mut writer, &mut steps);
-        let answers = if fails_at <= 3 {
-            b"".as_slice()
-        } else if fails_at <= 7 {
-            b"ok\n".as_slice()
-        } else if fails_at <= 11 {
-            b"ok\nok\n".as_slice()
-        } else {
-            b"ok\nok\nvalue 7 on\n".as_slice()
+        let (fault, answers) = match fails_at {
+            1..=3 => (read, b"".as_slice()),
+            4..=7 => (read, b"ok\n".as_slice()),
+            8..=11 => (read, b"ok\nok\n".as_slice()),
+            _ => (None, ANSWERED),
         };
-        assert_eq!(rt; writer.get_ref().as_slice(), answers, "at call {fails_at}");
-        if fails_at < 12 {
-            assert_eq!(rt; outcome.status, 4);
-            assert!(rt; outcome.fault == Some(Fault::Script(ScriptFault::Read)));
-        } else {
-            assert_eq!(rt; outcome.status, 0);
-        }
+        expect_read_until(&rt, fails_at, fault, answers, &mut steps);
     }
+}
+
+/// Checks how a session ends of which the writer of the answers is this one.
+fn expect_written(
+    rt: &(impl Abort + AllocGlobal),
+    writer: Sink,
+    fault: Option<Fault>,
+    answers: &[u8],
+    steps: &mut Steps,
+) {
+    let given = Given {
+        load: None,
+        script: Source::new(FIRST),
+        answers: writer,
+        save: None,
+    };
+    let left = play(rt, given, steps);
+    assert_eq!(rt; left.answers.bytes.as_slice(), answers);
+    assert!(rt; left.outcome.fault == fault);
+    assert_eq!(rt; left.outcome.status, status(false, fault.as_ref()));
 }
 
 #[test]
 fn a_writer_that_fails_ends_the_script(rt: HostRuntime) {
     let mut steps = Steps::new(&rt);
-    let all = b"ok\nok\nvalue 7 on\n".as_slice();
     for fails in [true, false] {
-        for fails_at in 1..5u64 {
-            let mut reader = Watched::new(FIRST);
-            let mut writer = Watched::new(Picky {
-                taken: Vec::new(rt.alloc()),
-                step: 64,
-                calls: 0,
-                fails_at,
-                fails,
-            });
-            let outcome = play_alone(&rt, &mut reader, &mut writer, &mut steps);
-            let went_out = match fails_at {
-                1 => 0,
-                2 => 3,
-                3 => 6,
-                _ => all.len(),
-            };
-            assert_eq!(rt;
-                writer.get_ref().taken.as_slice(),
-                &all[..went_out],
-                "at call {fails_at}"
-            );
-            if fails_at < 4 {
-                assert_eq!(rt; outcome.status, 4);
-                assert!(rt; outcome.fault == Some(Fault::Answers));
-            } else {
-                assert_eq!(rt; outcome.status, 0);
-            }
+        for (fails_at, fault, answers) in [
+            (1, Some(Fault::Answers), b"".as_slice()),
+            (2, Some(Fault::Answers), b"ok\n".as_slice()),
+            (3, Some(Fault::Answers), b"ok\nok\n".as_slice()),
+            (4, None, ANSWERED),
+        ] {
+            let writer = Sink::new(rt.alloc()).failing(fails_at, fails);
+            expect_written(&rt, writer, fault, answers, &mut steps);
         }
     }
 }
@@ -432,20 +333,8 @@ fn a_writer_that_fails_ends_the_script(rt: HostRuntime) {
 #[test]
 fn a_writer_may_take_one_byte_at_once(rt: HostRuntime) {
     let mut steps = Steps::new(&rt);
-    let mut reader = Watched::new(FIRST);
-    let mut writer = Watched::new(Picky {
-        taken: Vec::new(rt.alloc()),
-        step: 1,
-        calls: 0,
-        fails_at: 0,
-        fails: true,
-    });
-    let outcome = play_alone(&rt, &mut reader, &mut writer, &mut steps);
-    assert_eq!(rt; outcome.status, 0);
-    assert_eq!(rt;
-        writer.get_ref().taken.as_slice(),
-        b"ok\nok\nvalue 7 on\n".as_slice()
-    );
+    let writer = Sink::new(rt.alloc()).by(1);
+    expect_written(&rt, writer, None, ANSWERED, &mut steps);
 }
 
 #[test]
@@ -455,11 +344,10 @@ fn a_script_without_end_is_stopped(rt: HostRuntime) {
         (b"".as_slice(), b'#', b"".as_slice()),
         (b"grid a i32 0\n".as_slice(), b'\n', b"ok\n".as_slice()),
     ] {
-        let mut reader = Watched::new(Endless { bytes, then });
-        let mut writer = Watched::new(Vec::new(rt.alloc()));
-        let outcome = play_alone(&rt, &mut reader, &mut writer, &mut steps);
-        assert_eq!(rt; outcome.status, 4);
-        assert!(rt; outcome.fault == Some(Fault::Script(ScriptFault::TooLong)));
-        assert_eq!(rt; writer.get_ref().as_slice(), answers);
+        let script = Source::new(bytes).endless(then);
+        let left = play(&rt, Given::script(rt.alloc(), script), &mut steps);
+        assert_eq!(rt; left.outcome.status, 4);
+        assert!(rt; left.outcome.fault == Some(Fault::Script(ScriptFault::TooLong)));
+        assert_eq!(rt; left.answers.bytes.as_slice(), answers);
     }
 }

@@ -9,16 +9,16 @@ use vdb_value::Cell;
 
 /// A cube of coordinates, of which the range may hold a part alone.
 #[derive(Clone, Copy, Debug)]
-pub struct Cube {
+pub(super) struct Cube {
     /// The least corner.
-    pub low: [i64; 3],
+    low: [i64; 3],
     /// How many voxels it spans along each axis.
-    pub span: u32,
+    pub(super) span: u32,
 }
 
 impl Cube {
     /// The cube from this corner on.
-    pub fn from(p: Coord, span: u32) -> Cube {
+    pub(super) fn from(p: Coord, span: u32) -> Cube {
         Cube {
             low: [i64::from(p.x), i64::from(p.y), i64::from(p.z)],
             span,
@@ -26,7 +26,7 @@ impl Cube {
     }
 
     /// The cube with so many voxels more on each side.
-    pub fn grown(self, margin: u32) -> Cube {
+    pub(super) fn grown(self, margin: u32) -> Cube {
         let [x, y, z] = self.low;
         let margin_along = i64::from(margin);
         Cube {
@@ -40,7 +40,7 @@ impl Cube {
     }
 
     /// The coordinate at this place in the cube: `None` past the range.
-    pub fn coordinate(self, x: u32, y: u32, z: u32) -> Option<Coord> {
+    pub(super) fn coordinate(self, x: u32, y: u32, z: u32) -> Option<Coord> {
         let component = |low: i64, place: u32| i32::try_from(low.wrapping_add(i64::from(place)));
         Some(Coord {
             x: component(self.low[0], x).ok()?,
@@ -64,10 +64,10 @@ impl Cube {
 /// What a tree looks like: the cells of a cube, each value as a number, and how many voxels are active in all. Past the range of
 /// coordinates there is no voxel, and `None` stands.
 #[derive(Drop)]
-pub struct Seen {
-    pub cube: Cube,
-    pub cells: Vec<Option<Cell<i64>>>,
-    pub active: u128,
+pub(super) struct Seen {
+    pub(super) cube: Cube,
+    pub(super) cells: Vec<Option<Cell<i64>>>,
+    pub(super) active: u128,
 }
 
 impl Seen {
@@ -208,7 +208,7 @@ fn expect_map(
 }
 
 /// Turns made one tree of another, in one call and in as many calls. All active voxels lie in the cube, before and after.
-pub fn expect_turns(
+pub(super) fn expect_turns(
     rt: &impl Abort,
     alloc: Global,
     before: &Seen,

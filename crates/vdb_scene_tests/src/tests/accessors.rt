@@ -1,5 +1,6 @@
 //! Commands that name an accessor.
 
+use super::acts::shows_near;
 use super::*;
 use vdb_coord::Coord;
 
@@ -41,61 +42,43 @@ fn a_command_moves_the_accessor_that_it_names(rt: HostRuntime) {
     let mut steps = Steps::new(&rt);
     let mut scene = Scene::new(rt.alloc());
     let a = letter(&rt, b'a');
-    expect_done(&rt, &mut scene, &grid(a, Kind::I32, near(0)), &mut steps);
-    expect_done(
-        &rt,
-        &mut scene,
-        &set_by(a, 2, point(1, 2, 3), 7),
-        &mut steps,
-    );
-    let seen = scene.apply(&get_by(a, 5, point(-1, -2, -3)), &mut steps);
-    assert!(rt; is_value(&seen, Scalar::I32(0), false));
-    assert_eq!(rt; cached(&scene, a, 2), Some(Coord { x: 1, y: 2, z: 3 }));
-    assert_eq!(rt;
-        cached(&scene, a, 5),
-        Some(Coord {
+    let (set_at, got_at) = (
+        Coord { x: 1, y: 2, z: 3 },
+        Coord {
             x: -1,
             y: -2,
-            z: -3
-        })
+            z: -3,
+        },
     );
+    let acts = [
+        done(grid(a, Kind::I32, near(0))),
+        done(set_by(a, 2, point(1, 2, 3), 7)),
+        shows(get_by(a, 5, point(-1, -2, -3)), Scalar::I32(0), false),
+    ];
+    run(&rt, &mut scene, &acts, &mut steps);
+    assert_eq!(rt; cached(&scene, a, 2), Some(set_at));
+    assert_eq!(rt; cached(&scene, a, 5), Some(got_at));
     assert_eq!(rt; cached(&scene, a, 0), None);
-    let none = scene.apply(&get_by(a, 8, point(0, 0, 0)), &mut steps);
-    assert!(rt; is_refused(&none, Refusal::NoAccessor));
-    assert_eq!(rt;
-        cached(&scene, a, 5),
-        Some(Coord {
-            x: -1,
-            y: -2,
-            z: -3
-        })
-    );
+    let none = [refused(get_by(a, 8, point(0, 0, 0)), Refusal::NoAccessor)];
+    run(&rt, &mut scene, &none, &mut steps);
+    assert_eq!(rt; cached(&scene, a, 5), Some(got_at));
 }
 
 #[test]
-fn a_get_near_the_last_one_visits_one_node(rt: HostRuntime) {
+fn a_command_near_the_last_one_visits_one_node(rt: HostRuntime) {
     let mut steps = Steps::new(&rt);
     let mut scene = Scene::new(rt.alloc());
     let a = letter(&rt, b'a');
-    expect_done(&rt, &mut scene, &grid(a, Kind::I32, near(0)), &mut steps);
-    expect_done(
-        &rt,
-        &mut scene,
-        &set_by(a, 0, point(8, 8, 8), 1),
-        &mut steps,
-    );
-    expect_done(&rt, &mut scene, &Command::Prune { name: a }, &mut steps);
+    let acts = [
+        done(grid(a, Kind::I32, near(0))),
+        done(set_by(a, 0, point(8, 8, 8), 1)),
+        done(Command::Prune { name: a }),
+        shows_near(get_by(a, 0, point(8, 8, 15)), Scalar::I32(0), false),
+    ];
+    run(&rt, &mut scene, &acts, &mut steps);
     let before = steps.count();
-    let seen = scene.apply(&get_by(a, 0, point(8, 8, 15)), &mut steps);
-    assert!(rt; is_value(&seen, Scalar::I32(0), false));
-    assert!(rt; steps.count().wrapping_sub(before) <= 1);
-    let before = steps.count();
-    expect_done(
-        &rt,
-        &mut scene,
-        &set_by(a, 0, point(15, 8, 8), 2),
-        &mut steps,
-    );
+    let write = [done(set_by(a, 0, point(15, 8, 8), 2))];
+    run(&rt, &mut scene, &write, &mut steps);
     assert!(rt; steps.count().wrapping_sub(before) <= 1);
 }
 
@@ -135,56 +118,53 @@ fn between(min: Point, max: Point) -> Corners {
     Corners { min, max }
 }
 
-/// Whether the answer to a command is this cell of a 32-bit number.
-fn shows(
-    scene: &mut Scene,
-    command: &Command,
-    (value, on): (i32, bool),
-    steps: &mut Steps,
-) -> bool {
-    is_value(&scene.apply(command, steps), Scalar::I32(value), on)
+/// A command, and then look-ups by accessor 3 in the leaf block of the coordinate that it was last given, by at most one visit each.
+type Turn = [Act; 3];
+
+/// A look-up of a 32-bit number by accessor 3, in the leaf block of the coordinate that it was last given.
+fn looks(name: Name, at: Point, (value, on): (i32, bool)) -> Act {
+    shows_near(get_by(name, 3, at), Scalar::I32(value), on)
 }
 
-/// A look-up near what accessor 3 was last given, by at most one visit.
-fn expect_near(
-    rt: &impl Abort,
-    scene: &mut Scene,
-    name: Name,
-    at: Point,
-    cell: (i32, bool),
-    steps: &mut Steps,
-) {
-    let before = steps.count();
-    assert!(rt;
-        shows(scene, &get_by(name, 3, at), cell, steps),
-        "at {at:?}"
-    );
-    assert!(rt; steps.count().wrapping_sub(before) <= 1, "at {at:?}");
-}
-
-/// Grids of 32-bit numbers: `a` with a voxel that accessor 3 was given, `b` with a line through its leaf block, and `e`, which holds
-/// its background.
-fn with_line(rt: &(impl Abort + AllocGlobal), steps: &mut Steps) -> Scene {
+/// Carries out acts, and then turns, on a scene of their own.
+fn play_turns(rt: &(impl Abort + AllocGlobal), acts: &[Act], turns: &[Turn], steps: &mut Steps) {
     let mut scene = Scene::new(rt.alloc());
-    let (a, b, e) = (letter(rt, b'a'), letter(rt, b'b'), letter(rt, b'e'));
-    let line = between(point(8, 8, 0), point(8, 8, 23));
-    for command in [
-        grid(a, Kind::I32, near(0)),
-        grid(b, Kind::I32, near(0)),
-        grid(e, Kind::I32, near(0)),
-        fill(b, line, 4),
-        set_by(a, 3, point(8, 8, 8), 1),
-    ] {
-        expect_done(rt, &mut scene, &command, steps);
+    run(rt, &mut scene, acts, steps);
+    for turn in turns {
+        run(rt, &mut scene, turn, steps);
     }
-    scene
 }
 
-/// A change of a grid, and what the voxels at (8, 8, 15) and at (8, 8, 8) are then.
-type Change = (Command, (i32, bool), (i32, bool));
+/// Grids of 32-bit numbers: `a` with a voxel that accessor 3 was given, `b` with a line through its leaf block, `e`, which holds its
+/// background, and `x`, whose background is too great for a sum. The grid `m` has truth values.
+fn with_line(rt: &impl Abort) -> [Act; 7] {
+    let (a, b, e) = (letter(rt, b'a'), letter(rt, b'b'), letter(rt, b'e'));
+    let (m, x) = (letter(rt, b'm'), letter(rt, b'x'));
+    let line = between(point(8, 8, 0), point(8, 8, 23));
+    [
+        done(grid(a, Kind::I32, near(0))),
+        done(grid(b, Kind::I32, near(0))),
+        done(grid(e, Kind::I32, near(0))),
+        done(grid(m, Kind::Bool, Literal::Truth(false))),
+        done(grid(x, Kind::I32, near(2147483647))),
+        done(fill(b, line, 4)),
+        done(set_by(a, 3, point(8, 8, 8), 1)),
+    ]
+}
 
-/// Changes of the grid's tree and of its values by those of two others.
-fn changes(name: Name, other: Name, empty: Name) -> [Change; 17] {
+/// A change of the grid `a`, and what the voxels at (8, 8, 15) and at (8, 8, 8) are then.
+fn changes(rt: &impl Abort, command: Command, far: (i32, bool), last: (i32, bool)) -> Turn {
+    let a = letter(rt, b'a');
+    [
+        done(command),
+        looks(a, point(8, 8, 15), far),
+        looks(a, point(8, 8, 8), last),
+    ]
+}
+
+/// Changes of the tree of `a`, and of its values by those of two others.
+fn all_changes(rt: &impl Abort) -> [Turn; 17] {
+    let (name, other, empty) = (letter(rt, b'a'), letter(rt, b'b'), letter(rt, b'e'));
     let far = point(8, 8, 15);
     let block = between(point(8, 8, 8), point(15, 15, 15));
     let below = between(point(0, 0, 0), point(100, 100, 14));
@@ -201,41 +181,48 @@ fn changes(name: Name, other: Name, empty: Name) -> [Change; 17] {
         value: near(-9),
     };
     let intersect = Command::Intersect { name, other: empty };
+    let difference = Command::Difference { name, other };
     [
-        (fill(name, block, 3), (3, true), (3, true)),
-        (Command::Prune { name }, (3, true), (3, true)),
-        (voxelise(name, block), (3, true), (3, true)),
-        (clip(name, below), (0, false), (3, true)),
-        (Command::Union { name, other }, (0, true), (3, true)),
-        (Command::Difference { name, other }, (0, false), (3, false)),
-        (set_by(name, 5, far, 7), (7, true), (3, false)),
-        (intersect, (7, false), (3, false)),
-        (Command::Max { name, other }, (7, true), (4, true)),
-        (Command::Min { name, other }, (4, true), (4, true)),
-        (Command::Sum { name, other }, (8, true), (8, true)),
-        (Command::Replace { name, other }, (4, true), (4, true)),
-        (through_none, (5, false), (4, true)),
-        (dilate(name, 1), (5, true), (4, true)),
-        (erode(name, 1), (5, false), (4, true)),
-        (state(name, far, true), (5, true), (4, true)),
-        (through_another, (-9, true), (4, true)),
+        changes(rt, fill(name, block, 3), (3, true), (3, true)),
+        changes(rt, Command::Prune { name }, (3, true), (3, true)),
+        changes(rt, voxelise(name, block), (3, true), (3, true)),
+        changes(rt, clip(name, below), (0, false), (3, true)),
+        changes(rt, Command::Union { name, other }, (0, true), (3, true)),
+        changes(rt, difference, (0, false), (3, false)),
+        changes(rt, set_by(name, 5, far, 7), (7, true), (3, false)),
+        changes(rt, intersect, (7, false), (3, false)),
+        changes(rt, Command::Max { name, other }, (7, true), (4, true)),
+        changes(rt, Command::Min { name, other }, (4, true), (4, true)),
+        changes(rt, Command::Sum { name, other }, (8, true), (8, true)),
+        changes(rt, Command::Replace { name, other }, (4, true), (4, true)),
+        changes(rt, through_none, (5, false), (4, true)),
+        changes(rt, dilate(name, 1), (5, true), (4, true)),
+        changes(rt, erode(name, 1), (5, false), (4, true)),
+        changes(rt, state(name, far, true), (5, true), (4, true)),
+        changes(rt, through_another, (-9, true), (4, true)),
     ]
 }
 
 #[test]
 fn no_change_of_a_grid_makes_an_accessor_forget(rt: HostRuntime) {
     let mut steps = Steps::new(&rt);
-    let mut scene = with_line(&rt, &mut steps);
-    let (a, b, e) = (letter(&rt, b'a'), letter(&rt, b'b'), letter(&rt, b'e'));
-    for (i, (command, far, last)) in changes(a, b, e).into_iter().enumerate() {
-        assert!(rt; is_done(&scene.apply(&command, &mut steps)), "change {i}");
-        expect_near(&rt, &mut scene, a, point(8, 8, 15), far, &mut steps);
-        expect_near(&rt, &mut scene, a, point(8, 8, 8), last, &mut steps);
-    }
+    let (acts, turns) = (with_line(&rt), all_changes(&rt));
+    play_turns(&rt, &acts, &turns, &mut steps);
 }
 
-/// What is refused on a grid, with one of truth values and one whose values are too great for a sum.
-fn refused(name: Name, truths: Name, great: Name) -> [(Command, Refusal); 14] {
+/// What is refused on the grid `a`, which stays as it is.
+fn refuses(rt: &impl Abort, command: Command, refusal: Refusal) -> Turn {
+    let a = letter(rt, b'a');
+    [
+        refused(command, refusal),
+        looks(a, point(8, 8, 15), (0, false)),
+        looks(a, point(8, 8, 8), (1, true)),
+    ]
+}
+
+/// What is refused on `a`, also with `m` of truth values and `x`, whose values are too great for a sum.
+fn all_refusals(rt: &impl Abort) -> [Turn; 14] {
+    let (name, truths, great) = (letter(rt, b'a'), letter(rt, b'm'), letter(rt, b'x'));
     let (low, high) = (point(0, 0, 0), point(128, 127, 127));
     let (least, greatest) = (i64::from(i32::MIN), i64::from(i32::MAX));
     let everywhere = between(
@@ -250,49 +237,36 @@ fn refused(name: Name, truths: Name, great: Name) -> [(Command, Refusal); 14] {
     };
     let too_great = Command::Sum { name, other: great };
     let past = 2147483648;
+    let outside = set_by(name, 3, point(8, past, 8), 1);
+    let truth = set(name, high, Literal::Truth(true));
     [
-        (fill(name, everywhere, 1), Refusal::RootLimit),
-        (fill(name, reversed, 1), Refusal::Box),
-        (clip(name, reversed), Refusal::Box),
-        (voxelise(name, large), Refusal::TooLarge),
-        (itself, Refusal::SameGrid),
-        (of_truths, Refusal::Kind),
-        (too_great, Refusal::SumRange),
-        (dilate(name, 17), Refusal::ValueRange),
-        (erode(name, 0), Refusal::ValueRange),
-        (get_by(name, 8, high), Refusal::NoAccessor),
-        (set_by(name, 8, high, 1), Refusal::NoAccessor),
-        (set_by(name, 3, point(8, past, 8), 1), Refusal::ValueRange),
-        (set_by(name, 3, high, past), Refusal::ValueRange),
-        (set(name, high, Literal::Truth(true)), Refusal::Kind),
+        refuses(rt, fill(name, everywhere, 1), Refusal::RootLimit),
+        refuses(rt, fill(name, reversed, 1), Refusal::Box),
+        refuses(rt, clip(name, reversed), Refusal::Box),
+        refuses(rt, voxelise(name, large), Refusal::TooLarge),
+        refuses(rt, itself, Refusal::SameGrid),
+        refuses(rt, of_truths, Refusal::Kind),
+        refuses(rt, too_great, Refusal::SumRange),
+        refuses(rt, dilate(name, 17), Refusal::ValueRange),
+        refuses(rt, erode(name, 0), Refusal::ValueRange),
+        refuses(rt, get_by(name, 8, high), Refusal::NoAccessor),
+        refuses(rt, set_by(name, 8, high, 1), Refusal::NoAccessor),
+        refuses(rt, outside, Refusal::ValueRange),
+        refuses(rt, set_by(name, 3, high, past), Refusal::ValueRange),
+        refuses(rt, truth, Refusal::Kind),
     ]
 }
 
 #[test]
 fn no_refused_command_makes_an_accessor_forget(rt: HostRuntime) {
     let mut steps = Steps::new(&rt);
-    let mut scene = with_line(&rt, &mut steps);
-    let (a, m, x) = (letter(&rt, b'a'), letter(&rt, b'm'), letter(&rt, b'x'));
-    for command in [
-        grid(m, Kind::Bool, Literal::Truth(false)),
-        grid(x, Kind::I32, near(2147483647)),
-    ] {
-        expect_done(&rt, &mut scene, &command, &mut steps);
-    }
-    for (i, (command, refusal)) in refused(a, m, x).into_iter().enumerate() {
-        assert!(rt;
-            is_refused(&scene.apply(&command, &mut steps), refusal),
-            "command {i}"
-        );
-        expect_near(&rt, &mut scene, a, point(8, 8, 15), (0, false), &mut steps);
-        expect_near(&rt, &mut scene, a, point(8, 8, 8), (1, true), &mut steps);
-    }
+    let (acts, turns) = (with_line(&rt), all_refusals(&rt));
+    play_turns(&rt, &acts, &turns, &mut steps);
 }
 
 /// A grid `s` of at most one root block, which is full of inactive cells but for a voxel at its end that accessor 3 was given, and `b`
 /// with a voxel in another root block.
-fn with_full_table(rt: &(impl Abort + AllocGlobal), steps: &mut Steps) -> Scene {
-    let mut scene = Scene::new(rt.alloc());
+fn with_full_table(rt: &impl Abort) -> [Act; 5] {
     let (s, b) = (letter(rt, b's'), letter(rt, b'b'));
     let small = Command::Grid {
         name: s,
@@ -306,56 +280,42 @@ fn with_full_table(rt: &(impl Abort + AllocGlobal), steps: &mut Steps) -> Scene 
         value: near(1),
         on: false,
     };
-    for command in [
-        small,
-        inactive,
-        grid(b, Kind::I32, near(0)),
-        set(b, point(-1, 0, 0), near(6)),
-        set_by(s, 3, point(4095, 0, 0), 5),
-    ] {
-        expect_done(rt, &mut scene, &command, steps);
-    }
-    scene
+    [
+        done(small),
+        done(inactive),
+        done(grid(b, Kind::I32, near(0))),
+        done(set(b, point(-1, 0, 0), near(6))),
+        done(set_by(s, 3, point(4095, 0, 0), 5)),
+    ]
+}
+
+/// What would take the grid `s` a second root block.
+fn overflows(rt: &impl Abort, command: Command) -> Turn {
+    let s = letter(rt, b's');
+    [
+        refused(command, Refusal::RootLimit),
+        looks(s, point(4088, 7, 7), (1, false)),
+        looks(s, point(4095, 0, 0), (5, true)),
+    ]
 }
 
 #[test]
 fn no_full_root_table_makes_an_accessor_forget(rt: HostRuntime) {
     let mut steps = Steps::new(&rt);
-    let mut scene = with_full_table(&rt, &mut steps);
     let (name, other) = (letter(&rt, b's'), letter(&rt, b'b'));
     let beyond = point(4096, 0, 0);
-    for (i, command) in [
-        fill(name, between(point(0, 0, 0), beyond), 1),
-        set(name, beyond, near(1)),
-        set_by(name, 5, beyond, 1),
-        state(name, beyond, true),
-        Command::Union { name, other },
-        Command::Max { name, other },
-        Command::Min { name, other },
-        Command::Sum { name, other },
-        Command::Replace { name, other },
-        dilate(name, 1),
-    ]
-    .into_iter()
-    .enumerate()
-    {
-        let answer = scene.apply(&command, &mut steps);
-        assert!(rt; is_refused(&answer, Refusal::RootLimit), "command {i}");
-        expect_near(
-            &rt,
-            &mut scene,
-            name,
-            point(4088, 7, 7),
-            (1, false),
-            &mut steps,
-        );
-        expect_near(
-            &rt,
-            &mut scene,
-            name,
-            point(4095, 0, 0),
-            (5, true),
-            &mut steps,
-        );
-    }
+    let turns = [
+        overflows(&rt, fill(name, between(point(0, 0, 0), beyond), 1)),
+        overflows(&rt, set(name, beyond, near(1))),
+        overflows(&rt, set_by(name, 5, beyond, 1)),
+        overflows(&rt, state(name, beyond, true)),
+        overflows(&rt, Command::Union { name, other }),
+        overflows(&rt, Command::Max { name, other }),
+        overflows(&rt, Command::Min { name, other }),
+        overflows(&rt, Command::Sum { name, other }),
+        overflows(&rt, Command::Replace { name, other }),
+        overflows(&rt, dilate(name, 1)),
+    ];
+    let acts = with_full_table(&rt);
+    play_turns(&rt, &acts, &turns, &mut steps);
 }

@@ -23,11 +23,12 @@ fn a_row_goes_on_along_its_path(rt: HostRuntime) {
     let mut steps = Steps::new(&rt);
     let mut scene = Scene::new(rt.alloc());
     let a = letter(&rt, b'a');
-    expect_done(&rt, &mut scene, &grid(a, Kind::I32, near(0)), &mut steps);
-    for (x, value) in [(0, 5), (9, 6)] {
-        let at = point(x, 0, 0);
-        expect_done(&rt, &mut scene, &set(a, at, near(value)), &mut steps);
-    }
+    let acts = [
+        done(grid(a, Kind::I32, near(0))),
+        done(set(a, point(0, 0, 0), near(5))),
+        done(set(a, point(9, 0, 0), near(6))),
+    ];
+    run(&rt, &mut scene, &acts, &mut steps);
     let mut visits = Steps::new(&rt);
     match scene.apply(&row(a, 15), &mut steps) {
         Answer::Slice(mut slice) => {

@@ -1,12 +1,12 @@
 //! The line on standard error and the exit status of each end that a session can have, and what a session asks for after a
 //! fault.
 
-use super::{Endless, FIRST, Picky, Slow, play_alone};
+use super::FIRST;
+use super::sessions::{Given, play};
+use super::streams::{Sink, Source};
 use std::alloc::AllocError;
-use std::io::{Read, Write};
 use std::process::Abort;
 use vdb_pool::Steps;
-use vdb_scene::Watched;
 use vdb_script::ScriptFault;
 use vdb_shell::{Fault, status};
 
@@ -46,82 +46,49 @@ fn each_end_has_its_status(rt: HostRuntime) {
 }
 
 /// Plays a script, and checks the line that the program then writes to standard error and its exit status.
-fn expect_end<R: Read + Drop, W: Write + Drop>(
+fn expect_end(
     rt: &(impl Abort + AllocGlobal),
-    script: R,
-    answers: W,
+    script: Source<'_>,
+    answers: Sink,
     line: &str,
     status: u8,
     steps: &mut Steps,
 ) -> Result<(), AllocError> {
-    let mut reader = Watched::new(script);
-    let mut writer = Watched::new(answers);
-    let outcome = play_alone(rt, &mut reader, &mut writer, steps);
-    let text = match outcome.fault {
+    let given = Given {
+        load: None,
+        script,
+        answers,
+        save: None,
+    };
+    let left = play(rt, given, steps);
+    let text = match left.outcome.fault {
         Some(fault) => format!(in rt.alloc(); "{}", fault)?,
         None => String::new(rt.alloc()),
     };
     assert_eq!(rt; text.as_str(), line);
-    assert_eq!(rt; outcome.status, status);
+    assert_eq!(rt; left.outcome.status, status);
     Ok(())
-}
-
-/// A reader that gives these bytes at once, and then fails at its call of this number.
-fn slow(bytes: &[u8], fails_at: u64) -> Slow<'_> {
-    Slow {
-        bytes,
-        step: 4096,
-        calls: 0,
-        fails_at,
-    }
-}
-
-/// A writer that takes what it is given, and fails, or takes nothing, at its call of this number.
-fn picky(rt: &impl AllocGlobal, fails_at: u64, fails: bool) -> Picky {
-    Picky {
-        taken: Vec::new(rt.alloc()),
-        step: 4096,
-        calls: 0,
-        fails_at,
-        fails,
-    }
 }
 
 #[test]
 fn each_end_is_told(rt: HostRuntime) -> Result<(), AllocError> {
     let mut steps = Steps::new(&rt);
     let refused = b"drop a\ndrop a\n".as_slice();
-    let none = picky(&rt, 0, false);
-    expect_end(&rt, slow(FIRST, 0), none, "", 0, &mut steps)?;
-    let none = picky(&rt, 0, false);
-    expect_end(&rt, slow(refused, 0), none, "", 1, &mut steps)?;
-    // a fault comes before a refusal
-    let none = picky(&rt, 0, false);
-    let endless = Endless {
-        bytes: refused,
-        then: b'#',
-    };
-    expect_end(&rt, endless, none, "vdb: script: too-long", 4, &mut steps)?;
-    for bytes in [FIRST, refused] {
-        let none = picky(&rt, 0, false);
-        expect_end(
-            &rt,
-            slow(bytes, 2),
-            none,
-            "vdb: script: read",
-            4,
-            &mut steps,
-        )?;
+    for (bytes, status) in [(FIRST, 0), (refused, 1)] {
+        let (script, answers) = (Source::new(bytes), Sink::new(rt.alloc()));
+        expect_end(&rt, script, answers, "", status, &mut steps)?;
+        // a fault comes before a refusal
+        let script = Source::new(bytes).endless(b'#');
+        let answers = Sink::new(rt.alloc());
+        let line = "vdb: script: too-long";
+        expect_end(&rt, script, answers, line, 4, &mut steps)?;
+        let script = Source::new(bytes).failing(2);
+        let answers = Sink::new(rt.alloc());
+        expect_end(&rt, script, answers, "vdb: script: read", 4, &mut steps)?;
         for fails in [true, false] {
-            let second = picky(&rt, 2, fails);
-            expect_end(
-                &rt,
-                slow(bytes, 0),
-                second,
-                "vdb: answers: write",
-                4,
-                &mut steps,
-            )?;
+            let script = Source::new(bytes);
+            let answers = Sink::new(rt.alloc()).failing(2, fails);
+            expect_end(&rt, script, answers, "vdb: answers: write", 4, &mut steps)?;
         }
     }
     Ok(())
@@ -132,16 +99,10 @@ fn a_failed_reader_is_not_asked_again(rt: HostRuntime) {
     let mut steps = Steps::new(&rt);
     // each call after the one that fails would succeed
     for fails_at in 1..=11u64 {
-        let mut reader = Watched::new(Slow {
-            bytes: FIRST,
-            step: 5,
-            calls: 0,
-            fails_at,
-        });
-        let mut writer = Watched::new(Vec::new(rt.alloc()));
-        let outcome = play_alone(&rt, &mut reader, &mut writer, &mut steps);
-        assert!(rt; outcome.fault == READ);
-        assert_eq!(rt; reader.get_ref().calls, fails_at);
+        let script = Source::new(FIRST).by(5).failing(fails_at);
+        let left = play(&rt, Given::script(rt.alloc(), script), &mut steps);
+        assert!(rt; left.outcome.fault == READ);
+        assert_eq!(rt; left.reads, fails_at);
     }
 }
 
@@ -155,11 +116,15 @@ fn a_failed_writer_is_not_asked_again(rt: HostRuntime) {
     // each call after the one that fails, or takes nothing, would take all that it is given
     for fails in [true, false] {
         for fails_at in 1..=9u64 {
-            let mut reader = Watched::new(LISTED);
-            let mut writer = Watched::new(picky(&rt, fails_at, fails));
-            let outcome = play_alone(&rt, &mut reader, &mut writer, &mut steps);
-            assert!(rt; outcome.fault == WRITE);
-            assert_eq!(rt; writer.get_ref().calls, fails_at);
+            let given = Given {
+                load: None,
+                script: Source::new(LISTED),
+                answers: Sink::new(rt.alloc()).by(4096).failing(fails_at, fails),
+                save: None,
+            };
+            let left = play(&rt, given, &mut steps);
+            assert!(rt; left.outcome.fault == WRITE);
+            assert_eq!(rt; left.answers.calls, fails_at);
         }
     }
 }

@@ -1,15 +1,13 @@
 //! Sessions that load a scene and save one, and the line and the status of each fault of a file.
 
-ghost use Rattle.std.specs.Prelude.{◌≡◌, false};
-ghost use Rattle.vdb_shell.specs.Files.{any_failed};
-
-use super::{Endless, FIRST, Picky, Slow};
+use super::FIRST;
+use super::sessions::{Given, Left, play};
+use super::streams::{Sink, Source};
 use std::process::Abort;
 use vdb_file::{LoadFault, SaveFault};
 use vdb_pool::Steps;
-use vdb_scene::Watched;
 use vdb_script::ScriptFault;
-use vdb_shell::{Fault, Outcome, session, status};
+use vdb_shell::{Fault, status};
 
 /// Grid `a` of i32 with background 0, in which (1, 2, 3) is 5, active, in version 1.
 const OLD_VOXEL: &[u8] =
@@ -59,56 +57,8 @@ fn each_fault_of_a_file_has_its_line_and_its_status(rt: HostRuntime) {
     }
 }
 
-/// What a session leaves: how it ended, its answers and what was saved.
-#[derive(Drop)]
-pub(super) struct Left {
-    pub(super) outcome: Outcome,
-    pub(super) answers: Vec<u8>,
-    pub(super) saved: Vec<u8>,
-}
-
-/// A reader over memory that gives pieces of `step` bytes, and fails at its call numbered `fails_at`.
-fn slow(bytes: &[u8], step: usize, fails_at: u64) -> Slow<'_> {
-    Slow {
-        bytes,
-        step,
-        calls: 0,
-        fails_at,
-    }
-}
-
-/// The bytes that a writer took, where it was there.
-fn taken(rt: &(impl Abort + AllocGlobal), writer: Option<&[u8]>) -> Vec<u8> {
-    let mut bytes = Vec::new(rt.alloc());
-    bytes
-        .extend_from_slice(writer.unwrap_or(&[]))
-        .expect(rt, "memory");
-    bytes
-}
-
-/// The reader of a scene file, if there is one.
-fn reader_of(file: Option<&[u8]>, step: usize) -> Option<Watched<Slow<'_>>>
-    ensures { any_failed result ≡ false }
-{
-    match file {
-        Some(bytes) => Some(Watched::new(slow(bytes, step, 0))),
-        None => None,
-    }
-}
-
-/// A place for what is saved, if anything is to be.
-fn writer_for(rt: &impl AllocGlobal, saves: bool) -> Option<Watched<Vec<u8>>>
-    ensures { any_failed result ≡ false }
-{
-    if saves {
-        Some(Watched::new(Vec::new(rt.alloc())))
-    } else {
-        None
-    }
-}
-
-/// Carries out a session over memory, with pieces of `step` bytes.
-pub(super) fn carry_out(
+/// Carries out a session with pieces of `step` bytes.
+fn carry_out(
     rt: &(impl Abort + AllocGlobal),
     file: Option<&[u8]>,
     script: &[u8],
@@ -116,25 +66,8 @@ pub(super) fn carry_out(
     step: usize,
     steps: &mut Steps,
 ) -> Left {
-    let mut load = reader_of(file, step);
-    let mut reader = Watched::new(slow(script, step, 0));
-    let mut writer = Watched::new(Vec::new(rt.alloc()));
-    let mut save = writer_for(rt, saves);
-    let outcome = session(
-        rt.alloc(),
-        &mut load,
-        &mut reader,
-        &mut writer,
-        &mut save,
-        steps,
-    );
-    let saved = taken(rt, save.as_ref().map(|kept| kept.get_ref().as_slice()));
-    let answers = taken(rt, Some(writer.get_ref().as_slice()));
-    Left {
-        outcome,
-        answers,
-        saved,
-    }
+    let given = Given::files(rt.alloc(), file, script, saves, step);
+    play(rt, given, steps)
 }
 
 /// What a session left: its status and its fault, its answers and what was saved.
@@ -148,8 +81,8 @@ fn expect_left(
 ) {
     assert_eq!(rt; left.outcome.status, status);
     assert!(rt; left.outcome.fault == fault, "{:?}", left.outcome.fault);
-    assert_eq!(rt; left.answers.as_slice(), answers);
-    assert_eq!(rt; left.saved.as_slice(), saved);
+    assert_eq!(rt; left.answers.bytes.as_slice(), answers);
+    assert_eq!(rt; left.saved.bytes.as_slice(), saved);
 }
 
 #[test]
@@ -199,7 +132,8 @@ fn of_a_file_that_spells_no_scene_no_line_is_read(rt: HostRuntime) {
         expect_left(&rt, &left, 3, truncated, b"", b"");
     }
     let trailing = Some(Fault::Load(LoadFault::Trailing));
-    let mut longer = taken(&rt, Some(VOXEL));
+    let mut longer = Vec::new(rt.alloc());
+    longer.extend_from_slice(VOXEL).expect(&rt, "memory");
     longer.push(0).expect(&rt, "memory");
     let left = carry_out(&rt, Some(longer.as_slice()), FIRST, true, 4096, &mut steps);
     expect_left(&rt, &left, 3, trailing, b"", b"");
@@ -210,120 +144,68 @@ fn a_scene_file_that_cannot_be_read_stops_the_session(rt: HostRuntime) {
     let mut steps = Steps::new(&rt);
     // pieces of five bytes: 56 bytes take twelve calls, and the end one more
     for fails_at in 1..14u64 {
-        let mut load = Some(Watched::new(slow(VOXEL, 5, fails_at)));
-        let mut reader = Watched::new(slow(FIRST, 4096, 0));
-        let mut writer = Watched::new(Vec::new(rt.alloc()));
-        let mut save = Some(Watched::new(Vec::new(rt.alloc())));
-        let outcome = session(
-            rt.alloc(),
-            &mut load,
-            &mut reader,
-            &mut writer,
-            &mut save,
-            &mut steps,
-        );
-        // a reader may be asked for more than the last field, but never after a failed call
-        if outcome.fault.is_some() {
-            assert_eq!(rt; outcome.status, 3);
-            assert!(rt;
-                outcome.fault == Some(Fault::Load(LoadFault::Read)),
-                "at call {fails_at}"
-            );
-            assert!(rt; load.as_ref().map(|file| file.failed()) == Some(true));
-            assert_eq!(rt; reader.get_ref().calls, 0);
-            assert_eq!(rt; writer.get_ref().as_slice(), b"".as_slice());
-            assert!(rt; save.as_ref().map(|file| file.get_ref().is_empty()) == Some(true));
-        } else {
-            assert!(rt; fails_at > 13, "at call {fails_at}");
-        }
+        let given = Given {
+            load: Some(Source::new(VOXEL).by(5).failing(fails_at)),
+            script: Source::new(FIRST),
+            answers: Sink::new(rt.alloc()),
+            save: Some(Sink::new(rt.alloc())),
+        };
+        let left = play(&rt, given, &mut steps);
+        let fault = Some(Fault::Load(LoadFault::Read));
+        expect_left(&rt, &left, 3, fault, b"", b"");
+        assert!(rt; left.load_failed, "at call {fails_at}");
+        assert_eq!(rt; left.reads, 0);
     }
+}
+
+/// Checks that nothing is saved after this fault of the script or of its answers.
+fn expect_unsaved(
+    rt: &(impl Abort + AllocGlobal),
+    script: Source<'_>,
+    answers: Sink,
+    fault: Fault,
+    answered: &[u8],
+    steps: &mut Steps,
+) {
+    let given = Given {
+        load: Some(Source::new(EMPTY)),
+        script,
+        answers,
+        save: Some(Sink::new(rt.alloc())),
+    };
+    let left = play(rt, given, steps);
+    expect_left(rt, &left, 4, Some(fault), answered, b"");
+    assert_eq!(rt; left.saved.calls, 0);
+    assert_eq!(rt; left.answers.failed, fault == Fault::Answers);
 }
 
 #[test]
 fn after_a_fault_of_the_script_nothing_is_saved(rt: HostRuntime) {
     let mut steps = Steps::new(&rt);
-    let mut load: Option<Watched<&[u8]>> = None;
-    let mut reader = Watched::new(slow(FIRST, 5, 5));
-    let mut writer = Watched::new(Vec::new(rt.alloc()));
-    let mut save = Some(Watched::new(Picky {
-        taken: Vec::new(rt.alloc()),
-        step: 64,
-        calls: 0,
-        fails_at: 0,
-        fails: true,
-    }));
-    let outcome = session(
-        rt.alloc(),
-        &mut load,
-        &mut reader,
-        &mut writer,
-        &mut save,
-        &mut steps,
-    );
-    assert_eq!(rt; outcome.status, 4);
-    assert!(rt; outcome.fault == Some(Fault::Script(ScriptFault::Read)));
-    assert_eq!(rt; writer.get_ref().as_slice(), b"ok\n".as_slice());
-    assert!(rt; save.as_ref().map(|file| file.get_ref().calls) == Some(0));
-}
-
-/// A writer that fails, or takes nothing, at its call of this number.
-fn picky(rt: &impl AllocGlobal, fails_at: u64, fails: bool) -> Picky {
-    Picky {
-        taken: Vec::new(rt.alloc()),
-        step: 64,
-        calls: 0,
-        fails_at,
-        fails,
-    }
+    let read = Fault::Script(ScriptFault::Read);
+    let script = Source::new(FIRST).by(5).failing(5);
+    let answers = Sink::new(rt.alloc());
+    expect_unsaved(&rt, script, answers, read, b"ok\n", &mut steps);
+    let too_long = Fault::Script(ScriptFault::TooLong);
+    let script = Source::new(b"grid a i32 0\n").endless(b'\n');
+    let answers = Sink::new(rt.alloc());
+    expect_unsaved(&rt, script, answers, too_long, b"ok\n", &mut steps);
 }
 
 #[test]
 fn after_a_fault_of_the_answers_nothing_is_saved(rt: HostRuntime) {
     let mut steps = Steps::new(&rt);
     for fails in [true, false] {
-        for fails_at in 1..4u64 {
-            let mut load: Option<Watched<&[u8]>> = None;
-            let mut reader = Watched::new(FIRST);
-            let mut writer = Watched::new(picky(&rt, fails_at, fails));
-            let mut save = Some(Watched::new(picky(&rt, 0, true)));
-            let outcome = session(
-                rt.alloc(),
-                &mut load,
-                &mut reader,
-                &mut writer,
-                &mut save,
-                &mut steps,
-            );
-            assert_eq!(rt; outcome.status, 4);
-            assert!(rt; outcome.fault == Some(Fault::Answers), "at call {fails_at}");
-            assert!(rt; writer.failed());
-            assert!(rt; save.as_ref().map(|file| file.get_ref().calls) == Some(0));
+        for (fails_at, answered) in [
+            (1, b"".as_slice()),
+            (2, b"ok\n".as_slice()),
+            (3, b"ok\nok\n".as_slice()),
+        ] {
+            let script = Source::new(FIRST);
+            let answers = Sink::new(rt.alloc()).failing(fails_at, fails);
+            expect_unsaved(&rt, script, answers, Fault::Answers, answered, &mut steps);
         }
     }
-}
-
-#[test]
-fn after_a_script_without_end_nothing_is_saved(rt: HostRuntime) {
-    let mut steps = Steps::new(&rt);
-    let mut load = Some(Watched::new(VOXEL));
-    let mut reader = Watched::new(Endless {
-        bytes: b"drop a\n".as_slice(),
-        then: b'\n',
-    });
-    let mut writer = Watched::new(Vec::new(rt.alloc()));
-    let mut save = Some(Watched::new(picky(&rt, 0, true)));
-    let outcome = session(
-        rt.alloc(),
-        &mut load,
-        &mut reader,
-        &mut writer,
-        &mut save,
-        &mut steps,
-    );
-    assert_eq!(rt; outcome.status, 4);
-    assert!(rt; outcome.fault == Some(Fault::Script(ScriptFault::TooLong)));
-    assert_eq!(rt; writer.get_ref().as_slice(), b"ok\n".as_slice());
-    assert!(rt; save.as_ref().map(|file| file.get_ref().calls) == Some(0));
 }
 
 /// The line of a fault.
@@ -383,28 +265,16 @@ fn a_fault_of_the_file_is_that_of_the_session(rt: HostRuntime) {
 fn a_writer_of_the_file_that_fails_is_a_save_fault(rt: HostRuntime) {
     let mut steps = Steps::new(&rt);
     for fails in [true, false] {
-        let mut load = Some(Watched::new(VOXEL));
-        let mut reader = Watched::new(b"get a - 1 2 3".as_slice());
-        let mut writer = Watched::new(Vec::new(rt.alloc()));
-        let mut save = Some(Watched::new(Picky {
-            taken: Vec::new(rt.alloc()),
-            step: 9,
-            calls: 0,
-            fails_at: 3,
-            fails,
-        }));
-        let outcome = session(
-            rt.alloc(),
-            &mut load,
-            &mut reader,
-            &mut writer,
-            &mut save,
-            &mut steps,
-        );
-        assert_eq!(rt; outcome.status, 4);
-        assert!(rt; outcome.fault == Some(Fault::Save(SaveFault::Write)));
-        assert_eq!(rt; writer.get_ref().as_slice(), b"value 5 on\n".as_slice());
-        assert!(rt; save.as_ref().map(|file| file.failed()) == Some(true));
+        let given = Given {
+            load: Some(Source::new(VOXEL)),
+            script: Source::new(b"get a - 1 2 3"),
+            answers: Sink::new(rt.alloc()),
+            save: Some(Sink::new(rt.alloc()).by(9).failing(3, fails)),
+        };
+        let left = play(&rt, given, &mut steps);
+        let fault = Some(Fault::Save(SaveFault::Write));
+        expect_left(&rt, &left, 4, fault, b"value 5 on\n", &VOXEL[..18]);
+        assert!(rt; left.saved.failed);
     }
 }
 

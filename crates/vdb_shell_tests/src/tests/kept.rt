@@ -1,7 +1,7 @@
 //! Scenes that are saved after one part of a script, and loaded before the next.
 
-use super::files::{Left, carry_out};
 use super::random::{Draws, Trial, kinds};
+use super::sessions::{Given, Left, play};
 use std::alloc::AllocError;
 use std::mem;
 use std::process::Abort;
@@ -33,7 +33,8 @@ fn carried_out(
     script: &[u8],
     steps: &mut Steps,
 ) -> Left {
-    let left = carry_out(rt, file, script, true, 300, steps);
+    let given = Given::files(rt.alloc(), file, script, true, 300);
+    let left = play(rt, given, steps);
     assert!(rt; left.outcome.fault.is_none());
     left
 }
@@ -47,14 +48,21 @@ fn kept_between(
     steps: &mut Steps,
 ) -> Vec<u8> {
     let before = carried_out(rt, None, first, steps);
-    let again = carried_out(rt, Some(before.saved.as_slice()), b"", steps);
-    assert_eq!(rt; again.saved.as_slice(), before.saved.as_slice());
-    let after = carried_out(rt, Some(before.saved.as_slice()), second, steps);
+    let again = carried_out(rt, Some(before.saved.bytes.as_slice()), b"", steps);
+    assert_eq!(rt; again.saved.bytes.as_slice(), before.saved.bytes.as_slice());
+    let after = carried_out(rt, Some(before.saved.bytes.as_slice()), second, steps);
     let whole = joined(rt, first, second);
     let at_once = carried_out(rt, None, whole.as_slice(), steps);
-    let answers = joined(rt, before.answers.as_slice(), after.answers.as_slice());
-    assert_eq!(rt; answers.as_slice(), at_once.answers.as_slice());
-    assert_eq!(rt; after.saved.as_slice(), at_once.saved.as_slice());
+    let answers = joined(
+        rt,
+        before.answers.bytes.as_slice(),
+        after.answers.bytes.as_slice(),
+    );
+    assert_eq!(rt; answers.as_slice(), at_once.answers.bytes.as_slice());
+    assert_eq!(rt;
+        after.saved.bytes.as_slice(),
+        at_once.saved.bytes.as_slice()
+    );
     answers
 }
 
@@ -79,13 +87,16 @@ fn a_limit_and_a_full_root_table_are_kept(rt: HostRuntime) {
     let mut steps = Steps::new(&rt);
     let left = carried_out(&rt, None, LIMITS, &mut steps);
     assert_eq!(rt; left.outcome.status, 1);
-    assert_eq!(rt; left.answers.as_slice(), LIMITS_ANSWERED);
+    assert_eq!(rt; left.answers.bytes.as_slice(), LIMITS_ANSWERED);
     // 65,536 root blocks of 17 bytes each behind 24 bytes
-    assert_eq!(rt; left.saved.len(), 1_114_136);
+    assert_eq!(rt; left.saved.bytes.len(), 1_114_136);
     let one_more = b"set c - -1 0 0 1\n";
-    let left = carried_out(&rt, Some(left.saved.as_slice()), one_more, &mut steps);
+    let left = carried_out(&rt, Some(left.saved.bytes.as_slice()), one_more, &mut steps);
     assert_eq!(rt; left.outcome.status, 1);
-    assert_eq!(rt; left.answers.as_slice(), b"error root-limit\n".as_slice());
+    assert_eq!(rt;
+        left.answers.bytes.as_slice(),
+        b"error root-limit\n".as_slice()
+    );
 }
 
 #[test]
@@ -93,7 +104,7 @@ fn a_voxelised_grid_is_saved_as_before(rt: HostRuntime) {
     let mut steps = Steps::new(&rt);
     let filled = b"grid a i32 0\nfill a 0 0 0 127 127 127 3 on\n".as_slice();
     let left = carried_out(&rt, None, filled, &mut steps);
-    assert_eq!(rt; left.saved.as_slice(), BLOCK);
+    assert_eq!(rt; left.saved.bytes.as_slice(), BLOCK);
     let voxelised = joined(
         &rt,
         filled,
@@ -101,10 +112,10 @@ fn a_voxelised_grid_is_saved_as_before(rt: HostRuntime) {
     );
     let left = carried_out(&rt, None, voxelised.as_slice(), &mut steps);
     assert_eq!(rt;
-        left.answers.as_slice(),
+        left.answers.bytes.as_slice(),
         b"ok\nok\nok\ncensus 1 1 0 0\n".as_slice()
     );
-    assert_eq!(rt; left.saved.as_slice(), BLOCK);
+    assert_eq!(rt; left.saved.bytes.as_slice(), BLOCK);
 }
 
 #[test]

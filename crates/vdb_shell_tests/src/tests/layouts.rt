@@ -1,11 +1,11 @@
 //! Random scripts with prunes and voxelisings put in anywhere, which must not change an answer.
 
-use super::play_alone;
 use super::random::Draws;
+use super::sessions::{Given, play};
+use super::streams::Source;
 use std::alloc::AllocError;
 use std::process::Abort;
 use vdb_pool::Steps;
-use vdb_scene::Watched;
 
 /// Adds a number, drawn from -9 to 16.
 fn add_component(text: &mut Vec<u8>, draws: &mut Draws) -> Result<i32, AllocError> {
@@ -102,13 +102,10 @@ fn played(
 ) -> Result<Vec<u8>, AllocError> {
     let mut lines = Vec::new(rt.alloc());
     script(&mut lines, grid, seed)?;
-    let mut reader = Watched::new(lines.as_slice());
-    let mut writer = Watched::new(Vec::new(rt.alloc()));
-    let outcome = play_alone(rt, &mut reader, &mut writer, steps);
-    assert!(rt; outcome.fault.is_none());
-    let mut answers = Vec::new(rt.alloc());
-    answers.extend_from_slice(writer.get_ref().as_slice())?;
-    Ok(answers)
+    let given = Given::script(rt.alloc(), Source::new(lines.as_slice()));
+    let left = play(rt, given, steps);
+    assert!(rt; left.outcome.fault.is_none());
+    Ok(left.answers.bytes)
 }
 
 #[test]

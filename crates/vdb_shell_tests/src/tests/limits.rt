@@ -1,6 +1,6 @@
 //! Grids with limits of their own.
 
-use super::expect;
+use super::sessions::expect;
 use vdb_pool::Steps;
 
 /// A limit of two root blocks, which a copy keeps; a root block that is background again makes room.

@@ -1,6 +1,6 @@
 //! Metadata pairs of grids.
 
-use super::expect;
+use super::sessions::expect;
 use vdb_pool::Steps;
 
 /// Pairs that are put, replaced, copied, taken away and listed.

@@ -2,7 +2,8 @@
 
 ghost use Rattle.std.specs.Prelude.{◌<◌};
 
-use super::{add_line, expect};
+use super::add_line;
+use super::sessions::expect;
 use std::alloc::{AllocError, Global};
 use vdb_pool::Steps;
 

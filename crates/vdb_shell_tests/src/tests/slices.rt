@@ -1,6 +1,6 @@
 //! Slices as scripts are answered.
 
-use super::expect;
+use super::sessions::expect;
 use std::alloc::AllocError;
 use vdb_pool::Steps;
 

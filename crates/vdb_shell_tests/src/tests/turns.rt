@@ -1,6 +1,6 @@
 //! Turns of dilation and of erosion.
 
-use super::expect;
+use super::sessions::expect;
 use vdb_pool::Steps;
 
 /// A filled leaf block that loses its outermost voxels.

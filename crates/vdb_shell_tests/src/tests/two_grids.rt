@@ -1,6 +1,6 @@
 //! Commands on two grids.
 
-use super::expect;
+use super::sessions::expect;
 use vdb_pool::Steps;
 
 /// States of two grids of two kinds, which keep the values, and then commands that are refused there.

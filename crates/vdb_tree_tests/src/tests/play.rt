@@ -8,6 +8,7 @@ use std::process::Abort;
 use vdb_pool::Steps;
 use vdb_tree::{Tree, Tree433};
 
+/// Acts of a tree of 32-bit numbers, of the standard layout.
 pub(super) fn numbers(
     rt: &(impl Abort + AllocGlobal),
     background: i32,
@@ -18,6 +19,7 @@ pub(super) fn numbers(
     try_acts(rt, Tree::new(rt.alloc(), background, limit), acts, steps);
 }
 
+/// Acts of a tree of 32-bit numbers, of the layout of 4, 3 and 3 bits.
 pub(super) fn numbers_433(
     rt: &(impl Abort + AllocGlobal),
     background: i32,
@@ -28,6 +30,7 @@ pub(super) fn numbers_433(
     try_acts(rt, Tree433::new(rt.alloc(), background, limit), acts, steps);
 }
 
+/// Acts of a tree of 32-bit numbers, of the smallest nodes.
 pub(super) fn numbers_tiny(
     rt: &(impl Abort + AllocGlobal),
     background: i32,
@@ -38,6 +41,7 @@ pub(super) fn numbers_tiny(
     try_acts(rt, Tiny::new(rt.alloc(), background, limit), acts, steps);
 }
 
+/// Acts of a tree of 64-bit numbers, of the standard layout.
 pub(super) fn large_numbers(
     rt: &(impl Abort + AllocGlobal),
     background: i64,
@@ -48,6 +52,7 @@ pub(super) fn large_numbers(
     try_acts(rt, Tree::new(rt.alloc(), background, limit), acts, steps);
 }
 
+/// Acts of a tree of 64-bit numbers, of the layout of 4, 3 and 3 bits.
 pub(super) fn large_numbers_433(
     rt: &(impl Abort + AllocGlobal),
     background: i64,
@@ -58,6 +63,7 @@ pub(super) fn large_numbers_433(
     try_acts(rt, Tree433::new(rt.alloc(), background, limit), acts, steps);
 }
 
+/// Acts of a tree of truth values, of the standard layout.
 pub(super) fn truths(
     rt: &(impl Abort + AllocGlobal),
     background: bool,
@@ -68,6 +74,7 @@ pub(super) fn truths(
     try_acts(rt, Tree::new(rt.alloc(), background, limit), acts, steps);
 }
 
+/// Acts of a tree of truth values, of the layout of 4, 3 and 3 bits.
 pub(super) fn truths_433(
     rt: &(impl Abort + AllocGlobal),
     background: bool,
@@ -78,6 +85,7 @@ pub(super) fn truths_433(
     try_acts(rt, Tree433::new(rt.alloc(), background, limit), acts, steps);
 }
 
+/// Acts of a tree of truth values, of the smallest nodes.
 pub(super) fn truths_tiny(
     rt: &(impl Abort + AllocGlobal),
     background: bool,
@@ -88,7 +96,7 @@ pub(super) fn truths_tiny(
     try_acts(rt, Tiny::new(rt.alloc(), background, limit), acts, steps);
 }
 
-/// A tree of numbers, for a test that needs more than acts.
+/// A tree of 32-bit numbers, of the standard layout, for a test that needs more than acts.
 pub(super) fn new_numbers(alloc: Global, background: i32, limit: u32) -> Tree<i32> {
     Tree::new(alloc, background, limit)
 }
