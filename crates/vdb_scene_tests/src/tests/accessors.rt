@@ -1,6 +1,6 @@
 //! Commands that name an accessor.
 
-use super::acts::shows_near;
+use super::acts::{run_from, shows_near};
 use super::*;
 use vdb_coord::Coord;
 
@@ -126,12 +126,12 @@ fn looks(name: Name, at: Point, (value, on): (i32, bool)) -> Act {
     shows_near(get_by(name, 3, at), Scalar::I32(value), on)
 }
 
-/// Carries out acts, and then turns, on a scene of their own.
+/// Carries out acts, and then turns, on a scene of their own. The acts of all turns are counted through.
 fn play_turns(rt: &(impl Abort + AllocGlobal), acts: &[Act], turns: &[Turn], steps: &mut Steps) {
     let mut scene = Scene::new(rt.alloc());
     run(rt, &mut scene, acts, steps);
-    for turn in turns {
-        run(rt, &mut scene, turn, steps);
+    for (i, turn) in turns.iter().enumerate() {
+        run_from(rt, &mut scene, i.wrapping_mul(3), turn, steps);
     }
 }
 

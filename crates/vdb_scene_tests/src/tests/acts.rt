@@ -113,11 +113,23 @@ fn holds(scene: &mut Scene, act: &Act, steps: &mut Steps) -> bool {
     is_expected(&answer, visits, &act.expected)
 }
 
+/// Carries out acts on a scene. One that fails is told by its number, counted from `first` on.
+pub(super) fn run_from(
+    rt: &impl Abort,
+    scene: &mut Scene,
+    first: usize,
+    acts: &[Act],
+    steps: &mut Steps,
+) {
+    for (i, act) in acts.iter().enumerate() {
+        let number = first.wrapping_add(i);
+        assert!(rt; holds(scene, act, steps), "act {number}");
+    }
+}
+
 /// Carries out acts on a scene.
 pub(super) fn run(rt: &impl Abort, scene: &mut Scene, acts: &[Act], steps: &mut Steps) {
-    for (i, act) in acts.iter().enumerate() {
-        assert!(rt; holds(scene, act, steps), "act {i}");
-    }
+    run_from(rt, scene, 0, acts, steps);
 }
 
 /// Carries out acts on a scene of their own.
