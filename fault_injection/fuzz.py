@@ -5,17 +5,17 @@ scripts: each random script is played as it is; with prunes, voxelises and look-
 sessions, the second of which loads what the first saved. Answers and saved bytes must be the same, and must be those that
 cells.py, a model apart from the program, gives for single voxels. memory: one growth of a random script is refused, or one
 and all after it; the other lines must answer, and the scene must save, as if the refused lines weren't there. files: what a
-random script saved is changed, and the program must answer the fault, or save the bytes, that spelling.py says."""
+random script saved is changed, and the program must answer the fault, or save the bytes, that encoding.py says."""
 import random
 import sys
-import spelling
+import encoding
 from cells import Cells
 from growths import is_either, shared_out
 from planted import planted
 from program import Tally, Workplace
 from random_scripts import Script
 
-# a file of fewer bytes is changed, and one of five times as many read by spelling.py: it reads some 2,000 bytes a millisecond
+# a file of fewer bytes is changed, and one of five times as many read by encoding.py: it reads some 2,000 bytes a millisecond
 SHORT = 4000
 MEMORY = ["error memory"]
 
@@ -71,7 +71,7 @@ class Fuzz:
         self.tally.check(plain.status in (0, 1) and plain.errors == b"", f"{what}: {plain.status}, {plain.errors!r}")
         self.tally.check(MEMORY not in answers and len(answers) == len(lines), f"{what}: wrong answers")
         if len(plain.saved or b"") < 5 * SHORT:
-            self.tally.check(spelling.verdict(plain.saved or b"") == plain.saved, f"{what}: the file is no spelling")
+            self.tally.check(encoding.verdict(plain.saved or b"") == plain.saved, f"{what}: the file is no spelling")
         self.with_more(what, maker, lines, answers, plain.saved)
         self.in_two(what, maker, lines, answers, plain.saved)
 
@@ -106,7 +106,7 @@ class Fuzz:
             maker = Script(random.Random(number))
             lines = maker.lines(maker.chance.randint(5, 40))
             plain = self.run(lines, counted=True)
-            growths = plain.counts.get("growths", 0)
+            growths = plain.counts.get("allocations", 0)
             if growths > 0:
                 turn, whole = maker.chance.randint(1, growths), answers_of(lines, plain.answers)
                 self.short_of_memory(f"script {number}", lines, whole, turn, number % 2)
@@ -114,7 +114,7 @@ class Fuzz:
 
     def short_of_memory(self, what, lines, whole, turn, for_good):
         """The run in which this growth is refused, or it and all after it, of lines that are answered so with memory."""
-        run = self.run(lines, counted=True, refuse_growth=turn, refuse_all_from_there=for_good)
+        run = self.run(lines, counted=True, fail_allocation=turn, fail_all_after=for_good)
         answers = answers_of(lines, run.answers)
         kept = [(line, answer) for line, answer in zip(lines, answers) if answer != MEMORY]
         short = self.run([line for line, _ in kept])
@@ -142,7 +142,7 @@ class Fuzz:
             number += 1
 
     def file(self, what, text):
-        wanted = spelling.verdict(text)
+        wanted = encoding.verdict(text)
         run = self.run([], load=text)
         if isinstance(wanted, str):
             end = run.status, run.answers, run.errors, run.saved

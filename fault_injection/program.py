@@ -36,10 +36,10 @@ class Workplace:
             crate = f"crates/{Path(program).name}"
             sys.exit(f"there is no program {program}: build it first by 'rt run < /dev/null' in {crate}, or name one in {variable}")
         self.program = program
-        self.holder = tempfile.TemporaryDirectory(prefix="hostile-")
+        self.holder = tempfile.TemporaryDirectory(prefix="faults-")
         self.folder = Path(self.holder.name)
-        self.shim = self.folder / "refuse.so"
-        subprocess.run(["gcc", "-O2", "-shared", "-fPIC", "-o", self.shim, HERE / "refuse.c"], check=True)
+        self.shim = self.folder / "faults.so"
+        subprocess.run(["gcc", "-O2", "-shared", "-fPIC", "-o", self.shim, HERE / "faults.c"], check=True)
 
     def run(self, script, load=None, save_as=None, seconds=PATIENCE, named=False, more=(), **wrong):
         """Plays a script (bytes, or the path of a file) from standard input or `named` as a word, on what `load` holds
@@ -57,7 +57,7 @@ class Workplace:
         return replace(run, saved=content(saved)) if os.path.exists(saved) else run
 
     def played(self, words, path, seconds=PATIENCE, counted=True, **wrong):
-        """Runs the program with these words and the file at `path` as standard input. What is to go wrong is named as in refuse.c,
+        """Runs the program with these words and the file at `path` as standard input. What is to go wrong is named as in faults.c,
         in small letters. Where a run isn't `counted` nothing can go wrong, and it is quicker."""
         report, answers, errors = (str(self.folder / name) for name in ("report", "answers", "errors"))
         without(report)

@@ -1,5 +1,5 @@
 #!/usr/bin/env python3
-"""Refuses each growth of each row in turn: growths.py [ROW..]. A row is a script with its answers, in rows/.
+"""Refuses each growth of each row in turn: allocations.py [ROW..]. A row is a script with its answers, in rows/.
 
 A growth is a call of malloc or realloc (or of another that gets memory) from the first read on. In each run one growth is
 refused, the first, then the second, until a run meets none; where a row has more than 120 growths the first 60 are refused
@@ -98,14 +98,14 @@ class Row:
         self.tally.check(holds, f"{self.name}: {what}")
 
     def run(self, lines, **wrong) -> Run:
-        return planted("growths", self.place.run(script_of(lines), **wrong), wrong)
+        return planted("allocations", self.place.run(script_of(lines), **wrong), wrong)
 
     def all(self):
         """Every growth of the row, in turn."""
         whole = self.run(self.lines)
         self.check(whole.answers == b"".join(self.answers), "the answers are not the row's")
-        self.check(whole.saved is not None and "growths" in whole.counts, "the run didn't end by itself")
-        growths = whole.counts.get("growths", 0)
+        self.check(whole.saved is not None and "allocations" in whole.counts, "the run didn't end by itself")
+        growths = whole.counts.get("allocations", 0)
         self.check(growths > 0, "no growth was met")
         for turn in turns(growths):
             self.one(turn, turn > growths)
@@ -114,7 +114,7 @@ class Row:
 
     def one(self, turn, beyond):
         """The run in which this growth is refused."""
-        run = self.run(self.lines, refuse_growth=turn)
+        run = self.run(self.lines, fail_allocation=turn)
         if "refused-after" not in run.counts:
             self.check(beyond, f"growth {turn} was never met")
             self.check(MEMORY not in run.answers, "lack of memory is answered where no growth was refused")
@@ -127,7 +127,7 @@ class Row:
 
     def for_good(self, turn):
         """The run in which this growth and all after it are refused."""
-        run = self.run(self.lines, refuse_growth=turn, refuse_all_from_there=1)
+        run = self.run(self.lines, fail_allocation=turn, fail_all_after=1)
         answers = shared_out(self.lines, run.answers)
         kept = [(line, answer) for line, answer in zip(self.lines, answers) if answer != MEMORY]
         short = self.run([line for line, _ in kept])
@@ -155,7 +155,7 @@ class Row:
         asked = probes(self.lines[: place + 1], [*self.answers[:place], MEMORY])
         saved, given = self.stood_before(place, asked)
         lines = [*self.lines[: place + 1], *asked]
-        then = self.run(lines, refuse_growth=turn)
+        then = self.run(lines, fail_allocation=turn)
         before = b"".join(self.answers[:place])
         refusal = self.answers[place] if self.answers[place].startswith(b"error ") else MEMORY
         if is_either(line, refusal) and then.answers.startswith(before + MEMORY):
@@ -163,7 +163,7 @@ class Row:
         wanted = before + refusal + given
         self.check(then.answers == wanted, f"{what}: the refused command and the probes after it answer otherwise")
         self.check(then.saved == saved, f"{what}: the scene is not the one before")
-        again = self.run([*lines, *self.lines[place:]], refuse_growth=turn)
+        again = self.run([*lines, *self.lines[place:]], fail_allocation=turn)
         self.check(again.answers == wanted + b"".join(self.answers[place:]), f"{what}: given again, it answers otherwise")
         self.check(again.status == 1 and again.errors == b"", f"{what}: the status is {again.status}")
 
@@ -176,7 +176,7 @@ class Row:
 
 
 def main():
-    tally, place = Tally("growths"), Workplace()
+    tally, place = Tally("allocations"), Workplace()
     names = sys.argv[1:] or sorted(path.stem for path in (HERE / "rows").glob("*.txt"))
     for name in names:
         Row(name, place, tally).all()

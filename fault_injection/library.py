@@ -21,7 +21,7 @@ def main():
     calls, refused, nth = done.splitlines(keepends=True), set(), 0
     while True:
         nth += 1
-        wrong = {"count_from_start": 1, "refuse_growth": nth}
+        wrong = {"count_from_start": 1, "fail_allocation": nth}
         run = planted("library", place.played([], "/dev/null", **wrong), wrong)
         met = run.counts.get("refused-after")
         tally.check(run.status == 0 and run.errors == b"", f"growth {nth}: status {run.status}, {run.errors!r}")

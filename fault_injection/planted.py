@@ -13,7 +13,7 @@ NAME = os.environ.get("PLANTED", "")
 
 def memory_unasked(run, wrong):
     """Lack of memory is answered where no growth was refused."""
-    return run if "refuse_growth" in wrong else replace(run, answers=run.answers.replace(b"ok\n", b"error memory\n", 1))
+    return run if "fail_allocation" in wrong else replace(run, answers=run.answers.replace(b"ok\n", b"error memory\n", 1))
 
 
 def memory_hidden(run, wrong):
@@ -23,12 +23,12 @@ def memory_hidden(run, wrong):
 
 def scene_lost(run, wrong):
     """A refused command changes the scene."""
-    return replace(run, saved=run.saved[:-1] + b"\x7f") if "refuse_growth" in wrong and run.saved else run
+    return replace(run, saved=run.saved[:-1] + b"\x7f") if "fail_allocation" in wrong and run.saved else run
 
 
 def answer_lost(run, wrong):
     """After a refusal the last answer is another."""
-    return replace(run, answers=run.answers[:-2] + b"~\n") if "refuse_growth" in wrong else run
+    return replace(run, answers=run.answers[:-2] + b"~\n") if "fail_allocation" in wrong else run
 
 
 def memory_for_limit(run, wrong):
@@ -45,7 +45,7 @@ def refused_later(run, wrong):
 
 def scene_lost_for_good(run, wrong):
     """Where memory runs out for good, a refused command changes the scene."""
-    return scene_lost(run, wrong) if "refuse_all_from_there" in wrong else run
+    return scene_lost(run, wrong) if "fail_all_after" in wrong else run
 
 
 def growth_unmet(run, wrong):
@@ -130,14 +130,14 @@ def library_unasked(run, wrong):
 
 # each planted fault with the check that must fail: its name, the check's words, the fault
 FAULTS = [
-    ("memory-unasked", ["growths", "dilate-and-erode"], memory_unasked),
-    ("memory-hidden", ["growths", "dilate-and-erode"], memory_hidden),
-    ("scene-lost", ["growths", "dilate-and-erode"], scene_lost),
-    ("answer-lost", ["growths", "dilate-and-erode"], answer_lost),
-    ("memory-in-place-of-root-limit", ["growths", "refused-with-memory-too"], memory_for_limit),
-    ("memory-taken-by-a-line-that-takes-none", ["growths", "no-memory"], refused_later),
-    ("scene-lost-for-good", ["growths", "dilate-and-erode"], scene_lost_for_good),
-    ("growth-unmet", ["growths", "metadata"], growth_unmet),
+    ("memory-unasked", ["allocations", "dilate-and-erode"], memory_unasked),
+    ("memory-hidden", ["allocations", "dilate-and-erode"], memory_hidden),
+    ("scene-lost", ["allocations", "dilate-and-erode"], scene_lost),
+    ("answer-lost", ["allocations", "dilate-and-erode"], answer_lost),
+    ("memory-in-place-of-root-limit", ["allocations", "refused-with-memory-too"], memory_for_limit),
+    ("memory-taken-by-a-line-that-takes-none", ["allocations", "no-memory"], refused_later),
+    ("scene-lost-for-good", ["allocations", "dilate-and-erode"], scene_lost_for_good),
+    ("growth-unmet", ["allocations", "metadata"], growth_unmet),
     ("library-unrefused", ["library"], library_unrefused),
     ("library-changed", ["library"], library_changed),
     ("library-unasked", ["library"], library_unasked),
@@ -150,7 +150,7 @@ FAULTS = [
     ("saved-after-load-fault", ["files", "faults"], saved_after_fault),
     ("file-read-error-is-its-end", ["files", "readers"], word(b"load: read", b"load: truncated")),
     ("save-fault-hidden", ["files", "writers"], taken(b"vdb: save: write\n")),
-    ("load-memory-hidden", ["files", "growths"], taken(b"vdb: load: memory\n")),
+    ("load-memory-hidden", ["files", "allocations"], taken(b"vdb: load: memory\n")),
     ("start-memory-hidden", ["files", "start"], taken(b"error: out of memory\n")),
     ("long-file-taken", ["files", "endless"], taken(b"vdb: load: too-long\n")),
     ("long-file-read-on", ["files", "endless"], read_too_far),

@@ -2,7 +2,7 @@
 """Scene files that are cut, longer, changed, endless or read and written by calls that fail: files.py [PART..]"""
 import sys
 from itertools import chain
-import spelling
+import encoding
 import vectors
 from feeding import feeding
 from planted import planted
@@ -32,8 +32,8 @@ def accepted(done, saved, what):
 
 
 def loaded_as(text, what, script=NO_SCRIPT):
-    """What the program must make of these bytes, by the reader and writer of spelling.py."""
-    wanted = spelling.verdict(text)
+    """What the program must make of these bytes, by the reader and writer of encoding.py."""
+    wanted = encoding.verdict(text)
     done = run(script, load=text)
     if isinstance(wanted, str):
         refused(done, wanted, what)
@@ -77,13 +77,13 @@ def faults():
     """Each kind of fault by name."""
     for name, word, text in vectors.REFUSED:
         refused(run(PLAIN, load=text), word, name)
-        TALLY.check(spelling.verdict(text) == word, f"{name}: the reader here answers {spelling.verdict(text)!r}")
+        TALLY.check(encoding.verdict(text) == word, f"{name}: the reader here answers {encoding.verdict(text)!r}")
 
 
 def readers():
     """A reader of few bytes a call, one that fails at each of its calls, and one that ends there."""
     for name, text in vectors.CUT.items():
-        newer = spelling.verdict(text)
+        newer = encoding.verdict(text)
         for most in (1, 2, 3, 7, len(text)):
             accepted(run(NO_SCRIPT, load=text, read_of_file=1, read_most=most), newer, f"{name} by {most} bytes a call")
         refused(run(PLAIN, load=text, read_of_file=1, read_after=20), "read", f"{name}, failing after 20 bytes")
@@ -119,12 +119,12 @@ def writers():
 def growths():
     """Each growth refused in turn while a file is loaded: `memory` and no scene, exactly where a growth was refused."""
     for name, text in {**vectors.CUT, **vectors.LARGER}.items():
-        newer = spelling.verdict(text)
-        turn, done = 1, run(PLAIN, load=text, refuse_growth=1)
+        newer = encoding.verdict(text)
+        turn, done = 1, run(PLAIN, load=text, fail_allocation=1)
         while "refused-after" in done.counts and turn < 5000 and done.counts.get("script-reads") == 0:
             refused(done, "memory", f"{name}, growth {turn}")
             turn += 1
-            done = run(NO_SCRIPT, load=text, refuse_growth=turn)
+            done = run(NO_SCRIPT, load=text, fail_allocation=turn)
         TALLY.check(turn > 1, f"{name}: no growth was met")
         accepted(done, newer, f"{name}, no growth refused")
 
@@ -135,7 +135,7 @@ def start():
     turn, refusals = 0, 1
     while refusals > 0:
         turn += 1
-        done = run(NO_SCRIPT, load=vectors.ACTIVE, refuse_growth=turn, count_from_start=1)
+        done = run(NO_SCRIPT, load=vectors.ACTIVE, fail_allocation=turn, count_from_start=1)
         refusals = done.counts.get("refused-after", -1) + 1
         end = done.status, done.answers, done.saved
         given_up = end in ((2, b"", None), (3, b"", None)) and done.errors.count(b"\n") == 1

@@ -46,8 +46,8 @@ static enum kind kind_of(const char *name)
 
 __attribute__((constructor)) static void begin(void)
 {
-    refuse_at = number("REFUSE_GROWTH", 0);
-    refuse_on = number("REFUSE_ALL_FROM_THERE", 0) != 0;
+    refuse_at = number("FAIL_ALLOCATION", 0);
+    refuse_on = number("FAIL_ALL_AFTER", 0) != 0;
     counting = number("COUNT_FROM_START", 0) != 0;
     report = getenv("REPORT");
     reading = (struct fault){number("READ_OF_FILE", 0), number("READ_AT", 0), kind_of("READ_KIND"), number("READ_MOST", 0),
@@ -89,7 +89,7 @@ static void tell(const char *word, long value)
 
 __attribute__((destructor)) static void end(void)
 {
-    tell("growths", growths);
+    tell("allocations", growths);
     tell("script-reads", script.calls);
     tell("script-furthest", script.furthest);
     tell("script-read-after-end", script.after_end);
