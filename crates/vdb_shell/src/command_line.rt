@@ -7,37 +7,71 @@ use crate::Words;
 use clap::{Arg, ArgAction, Command, Error};
 use std::alloc::{AllocError, Global};
 
-/// What `--help` says at its end.
+/// The end of the text of `--help`: commands, arguments, limits, an example and the exit statuses.
 const COMMANDS: &str = "\
-A script is lines, each a command that is answered by a line, or by several:
+A script is one command a line. Each command is answered before the next line is read.
 
-  grid NAME KIND BACKGROUND [ROOTS]   make a grid; KIND is bool, i32 or i64, ROOTS its root limit
-  drop NAME, copy FROM TO             take a grid away, or make one with the cells of another
-  get NAME ACCESSOR X Y Z             look a voxel up; ACCESSOR is - or 0 to 7
-  set NAME ACCESSOR X Y Z VALUE       give a voxel a value and make it active
-  unset NAME ACCESSOR X Y Z VALUE     give a voxel a value and make it inactive
-  only NAME ACCESSOR X Y Z VALUE      give a voxel a value and keep its state
-  state NAME ACCESSOR X Y Z STATE     make a voxel active or inactive; STATE is on or off
-  fill NAME BOX VALUE STATE           fill a box; BOX is X0 Y0 Z0 X1 Y1 Z1
-  clip NAME BOX                       make all outside a box the background, inactive
-  prune NAME, voxelise NAME BOX       change the nodes of a grid, and no cell
-  count NAME BOX, count NAME all      count the active voxels
-  bounds NAME                         find the least box that holds the active voxels
-  list NAME BOX LIMIT                 list the first active voxels of a box
-  slice NAME Z X0 Y0 X1 Y1            show the cells of a part of a plane
-  census NAME                         tell how large the smallest tree of the cells is
-  union, difference, intersect        NAME OTHER: change which voxels of NAME are active
-  max, min, sum, replace              NAME OTHER: change the values of NAME as well
-  dilate NAME TURNS, erode NAME TURNS grow or shrink what is active by the faces of voxels
-  meta NAME KEY TEXT, unmeta NAME KEY put a text under a key of a grid, or take it away
-  metas NAME                          list the texts of a grid with their keys
+Grids:
+  grid NAME KIND BACKGROUND [ROOTS]  create a grid; KIND is bool, i32 or i64
+  drop NAME                          delete a grid
+  copy FROM TO                       copy grid FROM to the new grid TO
+Voxels:
+  get NAME ACCESSOR X Y Z            print the value and the state of a voxel
+  set NAME ACCESSOR X Y Z VALUE      set the value and activate the voxel
+  unset NAME ACCESSOR X Y Z VALUE    set the value and deactivate the voxel
+  only NAME ACCESSOR X Y Z VALUE     set the value and keep the state
+  state NAME ACCESSOR X Y Z STATE    set the state and keep the value
+Boxes and nodes:
+  fill NAME BOX VALUE STATE          set the value and the state of every voxel in a box
+  clip NAME BOX                      reset every voxel outside a box to the background, inactive
+  prune NAME                         collapse nodes of equal cells into tiles; no cell changes
+  voxelise NAME BOX                  store the active voxels of a box in leaves; no cell changes
+Reports:
+  count NAME BOX                     count the active voxels of a box
+  count NAME all                     count all active voxels of the grid
+  bounds NAME                        print the bounding box of the active voxels
+  list NAME BOX LIMIT                list the first LIMIT active voxels of a box
+  slice NAME Z X0 Y0 X1 Y1           print the cells of a rectangle in the plane Z
+  census NAME                        count the nodes of the smallest tree with these cells
+Two grids (OTHER keeps its cells):
+  union NAME OTHER                   activate every voxel that is active in OTHER
+  difference NAME OTHER              deactivate every voxel that is active in OTHER
+  intersect NAME OTHER               deactivate every voxel that is inactive in OTHER
+  max NAME OTHER                     keep the greater value, active if either voxel is
+  min NAME OTHER                     keep the lesser value, active if either voxel is
+  sum NAME OTHER                     add the values, active if either voxel is
+  replace NAME OTHER                 copy every active voxel of OTHER
+Morphology:
+  dilate NAME ITERATIONS             activate the face neighbours of active voxels
+  erode NAME ITERATIONS              deactivate the voxels with an inactive face neighbour
+Metadata:
+  meta NAME KEY TEXT                 store a text under a key
+  unmeta NAME KEY                    delete a key and its text
+  metas NAME                         list all keys with their texts
 
-A line that begins with # is a comment. A line that can't be carried out is answered 'error WORD',
-and changes nothing.
+  NAME, FROM, TO, OTHER, KEY  a letter a to z, then up to 15 of a to z, 0 to 9 and _
+  BACKGROUND, VALUE           true or false in a bool grid, else a decimal number
+  X, Y, Z                     voxel coordinates, -2147483648 to 2147483647
+  BOX                         X0 Y0 Z0 X1 Y1 Z1, in voxels; the box includes both corners
+  STATE                       on or off
+  ACCESSOR                    - for none, or 0 to 7
+  ROOTS                       root limit: how many 4096-voxel cubes may hold data, 1 to 65536
+                              (default 4096)
+  LIMIT                       1 to 4096 voxels
+  ITERATIONS                  1 to 16
+  TEXT                        1 to 64 printable ASCII characters, no space
 
-Status: 0; 1 after a refused line; 2 for a wrong command line; 3 where nothing was loaded; 4 after
-another fault. docs/LANGUAGE.md shows each command at work and has the words of the refusals;
-docs/FORMAT.md has the scene file.";
+A slice has at most 64 by 64 cells, a voxelised box 2097152 voxels, a line 256 bytes, a script
+16 MiB, a scene 64 grids, a scene file 256 MiB. A line that begins with # is a comment.
+A command that fails is answered 'error WORD' and changes no cell.
+
+Example:
+  printf 'grid a i32 0\\nfill a 0 0 0 9 9 9 5 on\\ncount a all\\n' | vdb --save a.vdbs
+prints 'ok', 'ok' and 'count 1000', and saves the grid in a.vdbs.
+
+Exit status: 0 success; 1 some command failed; 2 wrong command line; 3 the scene file was not
+loaded; 4 another fault. The scene is saved only with status 0 or 1.
+docs/LANGUAGE.md describes every command and error, docs/FORMAT.md the scene file.";
 
 /// An option that takes a file.
 fn file_option<'a>(alloc: Global, name: &'a str, help: &'a str) -> Arg<'a>
@@ -59,7 +93,7 @@ fn script_word<'a>(alloc: Global) -> Arg<'a>
     Arg::new(alloc, "script")
         .action(ArgAction::Set)
         .value_name("SCRIPT")
-        .help("The script to play; without it standard input")
+        .help("Script to run (default: standard input)")
 }
 
 /// The command line, as `clap` reads it.
@@ -69,12 +103,16 @@ fn command<'a>(alloc: Global) -> Result<Command<'a>, AllocError>
     let load = file_option(
         alloc,
         "load",
-        "The scene file to begin with; without it the scene is empty",
+        "Scene file to load first (default: an empty scene)",
     );
-    let save = file_option(alloc, "save", "The scene file to write in the end");
+    let save = file_option(
+        alloc,
+        "save",
+        "Scene file to write at the end; an existing file is overwritten",
+    );
     let command = Command::new(alloc, "vdb")
         .version("1.0")
-        .about("Plays a script on sparse voxel grids, and writes its answers to standard output.")
+        .about("Runs a script on sparse voxel grids and prints one answer a command.")
         .after_help(COMMANDS);
     let command = command.arg(load)?.arg(save)?.arg(script_word(alloc))?;
     Ok(command)
