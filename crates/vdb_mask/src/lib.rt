@@ -15,8 +15,8 @@ mod runs;
 mod tests;
 mod words;
 
-/// `64 * W` booleans in `W` words of 64 bits: the value at index `i` is bit `i % 64` of word `i /
-/// 64`, and it is on if that bit is 1. A mask takes no memory beside its words.
+/// `64 * W` booleans in `W` words of 64 bits: the value at index `i` is bit `i % 64` of word
+/// `i / 64`, and it is on if that bit is 1. A mask takes no memory beside its words.
 ///
 /// A contract sees the list of the values. It reads the value at index `i` by `is_on mask i`, which
 /// is off for every `i` past the end. OpenVDB's class `NodeMask`.

@@ -18,8 +18,8 @@ use vdb_value::Cell;
 /// children, a mask of active states, a row of values and a row of slots. The masks' bits past the
 /// last entry are off; with the least `W` only a node of 1 bit has such bits.
 ///
-/// A contract sees the list of the entries. It reads the entry at index `i` by `slice_index_or node
-/// i d`, which below the entry count is the same for every `d`. OpenVDB's class
+/// A contract sees the list of the entries. It reads the entry at index `i` by
+/// `slice_index_or node i d`, which below the entry count is the same for every `d`. OpenVDB's class
 /// `InternalNode<ChildT, LOG2>`.
 #[derive(Drop)]
 pub struct Internal<V: Stored<W>, const LOG2: u32, const W: usize> {
@@ -47,8 +47,8 @@ impl<V: Stored<W>, const LOG2: u32, const W: usize> Model for Internal<V, LOG2, 
 
 impl<V: Stored<W>, const LOG2: u32, const W: usize> Internal<V, LOG2, W> {
     /// Returns a node with a tile of this cell at every entry. Returns an error if the memory for
-    /// the values or the slots cannot be allocated. The constructor `InternalNode(Coord, ValueType,
-    /// bool)`.
+    /// the values or the slots cannot be allocated. The constructor
+    /// `InternalNode(Coord, ValueType, bool)`.
     pub fn new_constant(alloc: Global, cell: Cell<V>) -> Result<Internal<V, LOG2, W>, AllocError>
         requires bits { LOG2 ≤ 5 }
         requires capacity { entry_count LOG2 ≤ 64 * W }

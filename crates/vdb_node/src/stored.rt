@@ -13,8 +13,8 @@ use vdb_mask::Mask;
 use vdb_value::{Blend, Voxel};
 
 /// A type of voxel values with the row in which a node keeps them: a vector for the integers, a
-/// mask of `W` words for booleans (OpenVDB's `LeafBuffer<ValueT, LOG2>` and `LeafBuffer<bool,
-/// LOG2>`).
+/// mask of `W` words for booleans (OpenVDB's `LeafBuffer<ValueT, LOG2>` and
+/// `LeafBuffer<bool, LOG2>`).
 pub trait Stored<const W: usize>: Voxel {
     /// A row of values.
     type Row: Drop;
