@@ -13,7 +13,7 @@ use itoa::Buffer;
 
 /// A type of voxel values: `bool`, `i32` or `i64`.
 pub trait Voxel: Copy + Ord + Drop {
-    /// Returns the type's kind.
+    /// The type's kind.
     ghost KIND: { Kind };
 
     const KIND: Kind;
@@ -59,8 +59,8 @@ pub trait Voxel: Copy + Ord + Drop {
         ensures rest { drop result bytes.new ≡ drop result bytes.old }
         ensures value { is_value self };
 
-    /// Returns the value that has these bytes. Returns `None` exactly if their number is not that of the type's
-    /// values, or if the byte of a boolean is above 1.
+    /// Returns the value that has these bytes. Returns `None` exactly if the type's values have another number of
+    /// bytes, or if the byte of a boolean is above 1.
     fn from_bytes(bytes: &[u8]) -> Option<Self>
         ensures same { IfSome result (λ x. bytes_of x ≡ bytes.now) }
         ensures value { IfSome result is_value }
