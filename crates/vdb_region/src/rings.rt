@@ -10,9 +10,9 @@ ghost use Rattle.vdb_region.specs.internal.Rings.{hull as hull_of, inner as inne
 use crate::beyond::half;
 use vdb_coord::{Bits, Bounds, Coord, Face, Level};
 
-/// One of the rings around a box: from the box out to the blocks that meet it, level by level, and on to the end of the
-/// range. A tree that is split for the box and the background cell is split for each side of each ring, too, since no
-/// block that the edge of the box crosses is a tile.
+/// One of the rings around a box: from the box out to the blocks that meet it, level by level, and on to the end of
+/// the range. A tree that is split for the box and the background cell is split for each side of each ring, too: a
+/// block that the edge of the box crosses is no tile, or a tile of the background cell.
 #[derive(Clone, Copy, Debug, PartialEq, Eq)]
 pub(crate) enum Ring {
     /// Around all upper extents that meet the box.
