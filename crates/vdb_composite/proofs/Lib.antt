@@ -1,4 +1,4 @@
--- Lemmas on the cells that two trees become together.
+-- Lemmas on the combined cells of two trees.
 pub mod Mixed
 pub mod MixWalks
 pub mod MixLeaves

@@ -1,4 +1,4 @@
--- What one block becomes: a tile painted, or a leaf written whole.
+-- The combination in one block: a tile painted, or a leaf written whole.
 use Rattle.std.proofs.Common.{◌≡◌, refl, sym, ap, subst, ◌∙◌, ℕ, ◌+◌, ◌<◌, Bool, true, false, ◌||◌, arith, IsTrue}
 use Rattle.std.specs.Prelude.{Option, Some, if◌then◌else◌}
 use Rattle.std.specs.Option.{option_map}
@@ -28,7 +28,7 @@ use Rattle.vdb_tree.proofs.Constants.{one_cell}
 use Rattle.vdb_tree.proofs.Levels.{unlike_coords}
 use Rattle.vdb_composite.proofs.Mixed.{cell_of}
 
--- a box that is one lies within the range, and has its corner
+-- a box of coordinates lies within the range, and has its least corner
 pub bounds_within : (box : Box) → IsTrue (is_bounds box) → (q : Coord) → IsTrue (is_inside box q) → IsTrue (is_inside everywhere q)
 bounds_within box is q i = within_each box everywhere q (both (is_box box) (is_within box everywhere) is).1 i
 
@@ -65,7 +65,7 @@ module _ {V : Type 0} (blend : Blend → V → V → Option V) where
   replaced_cell c d e on same = ap (λ (b : Bool). Some (if b then d else c)) on ∙ ap (λ (x : Cell V). Some x) (sym same)
 
   module _ (mix : Mix) (box : Box) (is : IsTrue (is_bounds box)) (f g h k : Field V) where
-    -- a box painted with what both become
+    -- a box painted with the combination of both
     pub tile_adds : (cell : Cell V) → ((q : Coord) → IsTrue (is_inside box q) → mixed_cell blend mix (f.cell q) (g.cell q) ≡ Some cell) → k ≡ fill box cell h → Adds blend mix box f g h k
     tile_adds cell mixes same = record {
       background = ap (λ (a : Field V). a.background) same;
@@ -79,7 +79,7 @@ module _ {V : Type 0} (blend : Blend → V → V → Option V) where
         kept : (q : Coord) → IsTrue (is_inside everywhere q) → is_inside box q ≡ false → (fill box cell h).cell q ≡ h.cell q
         kept q inside beside = rw (inside, beside) refl
 
-    -- a leaf block written with what both become
+    -- a leaf extent written with the combination of both
     pub leaf_adds : (bits : Bits) → box ≡ block_around bits Leaf box.min → (leaf : LeafOf V)
         → ((d : Cell V) (q : Coord) → IsTrue (is_inside box q) → mixed_cell blend mix (f.cell q) (g.cell q) ≡ Some (cell_in d leaf (offset bits Leaf q)))
         → k ≡ with_leaf bits box.min leaf h → Adds blend mix box f g h k

@@ -110,17 +110,17 @@ module _ {V : Type 0} (eq : V → V → Bool) (exact : (x y : V) → eq x y ≡ 
         all = passed_next bits t u (IsFlatBut bits h had.keys) (flat_but had.keys) old new box yields had.all cells;
       }
 
-      -- a pair of the root block that was found last
+      -- the pair lies in the root block that was found last
       pub found_again : last ≡ Some (key bits box.min) → HasFound eq bits t u h new.at last count
       found_again e =
           let member : is_member coord_eq had.keys (key bits box.min) ≡ true = subst (λ (o : Option Coord). IfSome o (λ k. is_member coord_eq had.keys k ≡ true)) e had.here in
           found_no_more (λ q i none. absurd (never none (subst (λ (k : Coord). is_member coord_eq had.keys k ≡ true) (one_root box.min q corner i) member)))
 
-      -- a pair that becomes the background
+      -- the pair combines to the background
       pub found_flat : ((q : Coord) → IsTrue (is_inside box q) → h.cell q ≡ off h.background) → HasFound eq bits t u h new.at last count
       found_flat cells = found_no_more (λ q i _. cells q i)
 
-      -- a pair of another root block that becomes something else
+      -- the pair lies in another root block and combines to something else than the background
       module _ (other : last ≢ Some (key bits box.min)) (q : Coord) (i : IsTrue (is_inside box q)) (unlike : h.cell q ≡ off h.background → ⊥) where
         fresh : is_member coord_eq had.keys (key bits box.min) ≡ false
         fresh = not_true _ (λ m. elim (had.behind (key bits box.min) m) [ inl e ↦ other e | inr past ↦ past box.min (yields.left box.min corner) refl ])
@@ -135,7 +135,7 @@ module _ {V : Type 0} (eq : V → V → Bool) (exact : (x y : V) → eq x y ≡ 
               | inr s ↦ had.each k s
             ]
 
-        -- they are more than were found before
+        -- the found root blocks are more than before
         pub found_many : count < roots eq bits h
         found_many =
             let many = roots_at_least eq bits h (key bits box.min ∷ had.keys) (one_more (key bits box.min) had.keys had.apart fresh) more_each in
@@ -176,7 +176,7 @@ module _ {V : Type 0} (eq : V → V → Bool) (exact : (x y : V) → eq x y ≡ 
           all = more_all;
         }
 
-    -- at the end all are found
+    -- at the end all such root blocks are found
     pub found_all : (old new : TreePairWalk V) (last : Option Coord) (count : ℕ) → HasFound eq bits t u h old.at last count → PassesPairs bits t u old new (λ q. false) → new.at ≡ None → roots eq bits h ≤ count
     found_all old new last count had passes none =
         let all = passed_end bits t u (IsFlatBut bits h had.keys) (flat_but had.keys) old new passes none had.all in

@@ -1,4 +1,4 @@
--- What is sought in a block, by its tiles or voxel by voxel.
+-- A search in a block, by its tiles or voxel by voxel.
 use Rattle.std.proofs.Common.{◌≡◌, ◌≢◌, ◌⊎◌, inl, inr, refl, sym, ap, ◌∙◌, ℕ, ◌+◌, ◌<◌, ◌≤◌, Bool, true, false, not, arith, IsTrue}
 use Rattle.std.specs.Prelude.{Option, Some, None, IsSome, is_none}
 use Rattle.vdb_coord.specs.Blocks.{block_around, entries, offset}
@@ -48,7 +48,7 @@ earlier_or_here : (a i : ℕ) → a < i + 1 → (a < i) ⊎ (a ≡ i)
 earlier_or_here a i h = grind arith
 
 module _ {V : Type 0} (blend : Blend → V → V → Option V) (bits : Bits) (box : Box) (mix : Mix) (sought : Sought V) (f g : Field V) where
-  -- no voxel of the box at an index below this becomes what is sought
+  -- no voxel of the box at an index below this combines to what the search looks for
   abbrev pub MissesBelow : ℕ → Type 0
   MissesBelow n = (q : Coord) → IsTrue (is_inside box q) → offset bits Leaf q < n → Misses sought (mixed_cell blend mix (f.cell q) (g.cell q))
 

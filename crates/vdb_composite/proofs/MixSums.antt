@@ -25,7 +25,7 @@ use Rattle.vdb_tree.proofs.Rooted.{or_first, or_second}
 
 -- ---- values without a sum
 
--- one passes the test where not all fail it
+-- one passes the test exactly if not all fail it
 any_unless_all : {A : Type 0} (test : A → Bool) (xs : List A) → list_any test xs ≡ not (list_all (λ x. not (test x)) xs)
 any_unless_all test [] = refl
 any_unless_all test (x ∷ xs) = by (test x) (list_any test xs) (list_all (λ y. not (test y)) xs) (any_unless_all test xs)
@@ -59,7 +59,7 @@ none_from_map make None h = refl
 
 -- ---- root blocks that are background in both
 
--- where two tests together pass fewer than there are, some one passes neither
+-- if two tests together pass fewer than the list has, some element passes neither
 neither : (s t : Coord → Bool) (xs : List Coord) → length (filter s xs) + length (filter t xs) < length xs → (x : Coord) × (is_member coord_eq xs x ≡ true) × (s x ≡ false) × (t x ≡ false)
 neither s t [] h = absurd (nothing h)
   where
@@ -86,7 +86,7 @@ neither s t (x ∷ xs) h = by (s x) (t x) refl refl (neither s t xs)
 
 -- ---- there are many root blocks
 
--- how many root blocks there are along an axis
+-- how many root blocks lie along an axis
 abbrev along : ℕ → ℕ
 along n = extent (number_at n (negsuc 2147483647)) (number_at n (pos 2147483647))
 
@@ -147,7 +147,7 @@ module _ {V : Type 0} (eq : V → V → Bool) (exact : (x y : V) → eq x y ≡ 
       allowed true h = refl
       allowed false h = cc
 
-  -- so backgrounds without a sum lack one somewhere
+  -- if the backgrounds have no sum, some coordinate has none
   pub backgrounds_lack : (plus : V → V → Option V) (l m : ℕ) → roots eq bits f ≤ l → l < 4294967296 → roots eq bits g ≤ m → m < 4294967296 → plus f.background g.background ≡ None → lacks_sum plus f g ≡ true
   backgrounds_lack plus l m a b c d none =
       let found = background_in_both l m a b c d in

@@ -1,4 +1,4 @@
--- What a walk over the pairs of two trees tells of the tree that is made of them, and of each coordinate.
+-- What a walk over the pairs of two trees says of the combined tree, and of each coordinate.
 use Rattle.std.proofs.Common.{◌≡◌, inl, inr, refl, sym, ap, ◌∙◌, Bool, true, false, not, IsTrue}
 use Rattle.std.specs.Prelude.{Option, Some, None}
 use Rattle.std.specs.Ordering.{is_lt}
@@ -37,7 +37,7 @@ pub none_left : (bits : Bits) (at : Option Coord) → at ≡ None → (q : Coord
 none_left bits at none q = ap (λ (o : Option Coord). is_left bits o q) none
 
 module _ {V : Type 0} (bits : Bits) (t u : Layout V) where
-  -- ---- what holds of each coordinate that isn't left any more, where it holds of those that are background in both
+  -- ---- what holds of each coordinate that isn't left any more, if it holds of those that are background in both
 
   abbrev pub IsPassed : (Coord → Type 0) → Option Coord → Type 0
   IsPassed P at = (q : Coord) → IsTrue (is_inside everywhere q) → is_left bits at q ≡ false → P q
@@ -63,10 +63,10 @@ module _ {V : Type 0} (bits : Bits) (t u : Layout V) where
           | inr before ↦ had q i before
         ]
 
-  -- ---- the tree that is made
+  -- ---- the combined tree
 
   module _ (blend : Blend → V → V → Option V) (mix : Mix) (x : V) where
-    -- what isn't left has what both become, and what is left is background
+    -- what isn't left has the combination of both, and what is left is background
     pub record IsBuilt (h : Field V) (at : Option Coord) : Type 0 where
       pub background : h.background ≡ x
       pub done : (q : Coord) → IsTrue (is_inside everywhere q) → is_left bits at q ≡ false → mixed_cell blend mix ((field_of bits t).cell q) ((field_of bits u).cell q) ≡ Some (h.cell q)
@@ -107,7 +107,7 @@ module _ {V : Type 0} (bits : Bits) (t u : Layout V) where
             | inr before ↦ had.done q i before
           ]
 
--- ---- the tree that was made stands for the field that two become
+-- ---- the combined tree's field is the combination of the two fields
 
 module _ {V : Type 0} (bits : Bits) (blend : Blend → V → V → Option V) (mix : Mix) (f g : Field V) (x : V) (made : Layout V) where
   pub is_made : mixed_value blend mix f.background g.background ≡ Some x → made.background ≡ x → IsMixIn blend mix everywhere f g (field_of bits made) → field_of bits made ≡ mixed blend mix f g

@@ -1,4 +1,4 @@
--- What two fields become: their cells, and when another field is that.
+-- The combination of two fields: its cells, and when another field equals it.
 use Rattle.std.proofs.Common.{◌≡◌, refl, sym, ap, subst, ◌∙◌, Bool, ◌||◌, IsTrue}
 use Rattle.std.specs.Prelude.{Option, Some, None, IsSome, if◌then◌else◌}
 use Rattle.std.specs.Option.{option_map, unwrap_or}
@@ -32,7 +32,7 @@ map_some (Some x) h = refl
 map_some None h = h
 
 module _ {V : Type 0} (blend : Blend → V → V → Option V) where
-  -- two backgrounds become a background
+  -- two backgrounds combine to a background
   pub off_mix : (mix : Mix) (v w x : V) → mixed_value blend mix v w ≡ Some x → mixed_cell blend mix (off v) (off w) ≡ Some (off x)
   off_mix (Values how) v w x h = ap (option_map off) h
   off_mix Replace v w x h = ap (option_map off) h
@@ -40,7 +40,7 @@ module _ {V : Type 0} (blend : Blend → V → V → Option V) where
   pub off_mixed : (mix : Mix) (v w x : V) → mixed_value blend mix v w ≡ Some x → (c d : Cell V) → c ≡ off v → d ≡ off w → mixed_cell blend mix c d ≡ Some (off x)
   off_mixed mix v w x h c d e k = rw (e, k) (off_mix mix v w x h)
 
-  -- so where the backgrounds become one, what both have as background does
+  -- if the backgrounds combine, what both fields have as background combines to it
   pub flat_some : (mix : Mix) (v w : V) → IsSome (mixed_value blend mix v w) → (c d : Cell V) → c ≡ off v → d ≡ off w → IsSome (mixed_cell blend mix c d)
   flat_some (Values how) v w h c d e k = rw (e, k) (map_some (blend how v w) h)
   flat_some Replace v w h c d e k = refl
@@ -54,7 +54,7 @@ module _ {V : Type 0} (blend : Blend → V → V → Option V) where
   unwrapped b (Some x) v h = refl
   unwrapped b None v h = absurd (never refl h)
 
-  -- the cells of the field that two become, where each two cells become one
+  -- the cells of the combination of two fields, if every two cells combine
   pub mixed_cells : (mix : Mix) (f g : Field V) → HasMix blend mix f g → IsMixIn blend mix everywhere f g (mixed blend mix f g)
   mixed_cells (Values how) f g h q inside =
       unwrapped ((f.cell q).on || (g.cell q).on) (blend how (f.cell q).value (g.cell q).value) (f.cell q).value (h q inside) ∙ (rw inside refl)
@@ -66,7 +66,7 @@ module _ {V : Type 0} (blend : Blend → V → V → Option V) where
   fields_same : (b e : V) (c d : Coord → Cell V) → b ≡ e → ((p : Coord) → IsTrue (is_inside everywhere p) → (field b c).cell p ≡ (field e d).cell p) → field b c ≡ field e d
   fields_same b e c d same h = subst (λ (x : V). field b c ≡ field x d) same (same_cells b c d (λ p i. sym (cell_inside b c p i) ∙ h p i ∙ cell_inside e d p i))
 
-  -- a field with those cells and that background is the one
+  -- a field with the cells and the background of the combination equals it
   pub is_mixed : (mix : Mix) (f g : Field V) (b : V) (c : Coord → Cell V) → mixed_value blend mix f.background g.background ≡ Some b → IsMixIn blend mix everywhere f g (field b c)
       → field b c ≡ mixed blend mix f g
   is_mixed (Values how) f g b c value is =
@@ -79,7 +79,7 @@ module _ {V : Type 0} (blend : Blend → V → V → Option V) where
       (sym (mixed_background Replace f g b value))
       (λ p i. some_same ((field b c).cell p) ((mixed blend Replace f g).cell p) (sym (is p i) ∙ mixed_cells Replace f g (has_mix Replace f g (field b c) is) p i))
 
-  -- ---- the background of the field that two become
+  -- ---- the background of the combination of two fields
 
   module _ (mix : Mix) (f g : Field V) (x : V) (value : mixed_value blend mix f.background g.background ≡ Some x) (has : HasMix blend mix f g) (q : Coord) (inside : IsTrue (is_inside everywhere q)) where
     pub mixed_flat : mixed_cell blend mix (f.cell q) (g.cell q) ≡ Some (off x) → (mixed blend mix f g).cell q ≡ off (mixed blend mix f g).background

@@ -1,3 +1,3 @@
--- Two trees made one, coordinate by coordinate.
+-- Two trees combined, coordinate by coordinate.
 pub mod Mixes
 pub mod SumOutcome

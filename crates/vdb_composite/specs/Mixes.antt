@@ -1,4 +1,4 @@
--- What two fields become, cell by cell: their values blended, or the second's active cells in place of the first's.
+-- How two fields combine, cell by cell: their values blended, or the second's active cells in place of the first's.
 use Rattle.std.specs.Prelude.{◌≡◌, ◌≢◌, false, ◌||◌, if◌then◌else◌, Option, Some, None, IsSome, IsTrue}
 use Rattle.std.specs.Option.{option_map, unwrap_or}
 use Rattle.vdb_coord.specs.Space.{Box, everywhere, is_inside}
@@ -11,41 +11,41 @@ use Rattle.vdb_composite.specs.declared.mix.Mix.TheVariants.{Values, Replace}
 use Rattle.vdb_composite.specs.declared.search.Sought.{Sought}
 use Rattle.vdb_composite.specs.declared.search.Sought.TheVariants.{Nothing, OtherThan}
 
--- what two cells become, if they become one, is what is sought
+-- the combination of two cells, if they have one, is what the search looks for
 abbrev pub Meets : {V : Type 0} → Sought V → Option (Cell V) → Type 0
 Meets Nothing mixed = mixed ≡ None
 Meets (OtherThan cell) mixed = mixed ≢ Some cell
 
--- it isn't what is sought
+-- the combination of two cells isn't what the search looks for
 abbrev pub Misses : {V : Type 0} → Sought V → Option (Cell V) → Type 0
 Misses Nothing mixed = IsSome mixed
 Misses (OtherThan cell) mixed = mixed ≡ Some cell
 
 module _ {V : Type 0} (blend : Blend → V → V → Option V) where
-  -- what two background values become, if they become one
+  -- the combination of two background values, if they have one
   abbrev pub mixed_value : Mix → V → V → Option V
   mixed_value (Values how) v w = blend how v w
   mixed_value Replace v w = Some v
 
-  -- what two cells become, if they become one
+  -- the combination of two cells, if they have one
   abbrev pub mixed_cell : Mix → Cell V → Cell V → Option (Cell V)
   mixed_cell (Values how) c d = option_map (λ v. record { value = v; on = c.on || d.on }) (blend how c.value d.value)
   mixed_cell Replace c d = Some (if d.on then d else c)
 
-  -- the field that two become; where two values become none it has the first
+  -- the combination of two fields; if two values do not combine it has the first
   abbrev pub mixed : Mix → Field V → Field V → Field V
   mixed (Values how) f g = combine (λ v w. unwrap_or (blend how v w) v) f g
   mixed Replace f g = replace f g
 
-  -- each cell of the box is what those of the two fields become
+  -- each cell of the box combines those of the two fields
   abbrev pub IsMixIn : Mix → Box → Field V → Field V → Field V → Type 0
   IsMixIn mix box f g h = (q : Coord) → IsTrue (is_inside box q) → mixed_cell mix (f.cell q) (g.cell q) ≡ Some (h.cell q)
 
-  -- each two cells become one
+  -- every two cells combine
   abbrev pub HasMix : Mix → Field V → Field V → Type 0
   HasMix mix f g = (q : Coord) → IsTrue (is_inside everywhere q) → IsSome (mixed_cell mix (f.cell q) (g.cell q))
 
-  -- a box of the new field has what the two become, and all else is as before
+  -- a box of the new field has the combination of the two, and all else is as before
   pub record Adds (mix : Mix) (box : Box) (f g old new : Field V) : Type 0 where
     pub background : new.background ≡ old.background
     pub here : IsMixIn mix box f g new

@@ -1,4 +1,4 @@
-//! The tree that two become, made beside them.
+//! The combination of two trees, built beside them.
 
 ghost use Rattle.std.specs.Prelude.{◌≡◌, IfNone, IfSome, IsTrue, Some};
 ghost use Rattle.vdb_coord.specs.Blocks.{block_around};
@@ -19,8 +19,8 @@ use vdb_pool::Steps;
 use vdb_tree::{Content, Pair, TreeOf};
 use vdb_value::Cell;
 
-/// The tree that two become, whose background is this; `None` where two values have no sum, or where a new tree of the first's limit
-/// refuses a write.
+/// Returns the combination of two trees, with this background. Returns `None` if two values have no sum, or if a
+/// write fails in a new tree with the first one's limit.
 pub(crate) fn built<
     V: Stored<WU> + Stored<WL> + Stored<WF>,
     const U: u32,
@@ -55,8 +55,8 @@ pub(crate) fn built<
     }
 }
 
-/// Makes of a tree with nothing but a background what two others become: false where two values have no sum, or where a write is
-/// refused.
+/// Writes the combination of two other trees into a tree that has nothing but a background. Returns false if two
+/// values have no sum, or if a write fails.
 fn add_pairs<
     V: Stored<WU> + Stored<WL> + Stored<WF>,
     const U: u32,
@@ -98,7 +98,8 @@ fn add_pairs<
     true
 }
 
-/// Gives the block of a pair what both trees become: false where two values have no sum, or where a write is refused.
+/// Writes the combination of both trees into the block of a pair. Returns false if two values have no sum, or if a
+/// write fails.
 fn add_pair<
     V: Stored<WU> + Stored<WL> + Stored<WF>,
     const U: u32,
@@ -163,8 +164,8 @@ fn add_pair<
     }
 }
 
-/// Gives a leaf block what both trees become, where each has a tile or, where that is `None`, a leaf: false where two values have no
-/// sum, or where the write is refused.
+/// Writes the combination of both trees into a leaf extent. Each tree has a tile there or, if the tile is `None`, a
+/// leaf. Returns false if two values have no sum, or if the write fails.
 fn add_leaf<
     V: Stored<WU> + Stored<WL> + Stored<WF>,
     const U: u32,
@@ -205,7 +206,7 @@ fn add_leaf<
     }
 }
 
-/// Gives a block what two tiles become: false where two values have no sum, or where the write is refused.
+/// Writes the combination of two tiles into a block. Returns false if two values have no sum, or if the write fails.
 fn add_tile<
     V: Stored<WU> + Stored<WL> + Stored<WF>,
     const U: u32,

@@ -1,7 +1,8 @@
-//! The values of two grids made one: the maximum, the minimum and the sum of both, and the cells of one where they are active.
+//! Two grids' values combined: the maximum, the minimum and the sum of both, and the cells of one where they are
+//! active.
 //!
-//! The result is built beside the first tree and then takes its place. So a refused call changes nothing, and a full root table is
-//! no hindrance where blocks of the first tree become background while blocks of the second come in.
+//! The result is built beside the first tree and then replaces it. So a failed call changes nothing, and a full root
+//! table is no hindrance if blocks of the first tree become background while blocks of the second come in.
 #![tactic(auto)]
 
 mod build;

@@ -1,4 +1,4 @@
-//! What two cells become.
+//! How two cells combine.
 
 ghost use Rattle.std.specs.Prelude.{◌≡◌};
 ghost use Rattle.vdb_value.specs.Blends.{blended};
@@ -6,17 +6,17 @@ ghost use Rattle.vdb_composite.specs.Mixes.{mixed_cell};
 
 use vdb_value::{Blend, Cell, Voxel};
 
-/// How two trees become one.
+/// How two trees combine.
 #[derive(Clone, Copy)]
 pub(crate) enum Mix {
-    /// Their values become one, active where either is.
+    /// Their values combine, active if either is.
     Values(Blend),
     /// The second's cells where they are active, and the first's elsewhere.
     Replace,
 }
 
 impl Mix {
-    /// The cell that two become; `None` exactly where their values have no sum.
+    /// Combines two cells. Returns `None` exactly if their values have no sum.
     pub(crate) fn of<V: Voxel>(self, first: Cell<V>, second: Cell<V>) -> Option<Cell<V>>
         ensures { result ≡ mixed_cell (blended V.greater V.lesser V.sum_of) self first second }
     {

@@ -15,11 +15,12 @@ use vdb_pool::Steps;
 use vdb_tree::{TreeOf, TreeRefusal};
 use vdb_value::Blend;
 
-/// Gives each coordinate the greater of its two values, active where either was; the background too becomes the greater (OpenVDB's
-/// `tools::compMax`). For truth values it is the union.
+/// Sets each coordinate to the greater of its two values, active if either was. The background becomes the greater of
+/// the two, too (OpenVDB's `tools::compMax`). For booleans the result is the union.
 ///
-/// The tree is made anew beside the old one, with tiles where both have tiles. `RootLimit` says that there would be more root blocks
-/// with a cell that isn't the background than the limit, `Memory` that a growth was refused; both leave the tree as it was.
+/// The new tree is built beside the old one, with tiles where both have tiles. The call fails with `RootLimit` if
+/// more upper extents than the root limit would hold a cell other than the background, and with `Memory` after an
+/// allocation failure. Both leave the tree as it was.
 pub fn maximum<
     V: Stored<WU> + Stored<WL> + Stored<WF>,
     const U: u32,
@@ -42,11 +43,12 @@ pub fn maximum<
     become_mix(tree, other, Mix::Values(Blend::Greatest), background, steps)
 }
 
-/// Gives each coordinate the lesser of its two values, active where either was; the background too becomes the lesser (OpenVDB's
-/// `tools::compMin`).
+/// Sets each coordinate to the lesser of its two values, active if either was. The background becomes the lesser of
+/// the two, too (OpenVDB's `tools::compMin`).
 ///
-/// The tree is made anew beside the old one, with tiles where both have tiles. `RootLimit` says that there would be more root blocks
-/// with a cell that isn't the background than the limit, `Memory` that a growth was refused; both leave the tree as it was.
+/// The new tree is built beside the old one, with tiles where both have tiles. The call fails with `RootLimit` if
+/// more upper extents than the root limit would hold a cell other than the background, and with `Memory` after an
+/// allocation failure. Both leave the tree as it was.
 pub fn minimum<
     V: Stored<WU> + Stored<WL> + Stored<WF>,
     const U: u32,
@@ -69,10 +71,11 @@ pub fn minimum<
     become_mix(tree, other, Mix::Values(Blend::Least), background, steps)
 }
 
-/// Takes the other's cells where they are active (OpenVDB's `tools::compReplace`); the background stays.
+/// Copies the other's cells where they are active (OpenVDB's `tools::compReplace`); the background stays.
 ///
-/// The tree is made anew beside the old one, with tiles where both have tiles. `RootLimit` says that there would be more root blocks
-/// with a cell that isn't the background than the limit, `Memory` that a growth was refused; both leave the tree as it was.
+/// The new tree is built beside the old one, with tiles where both have tiles. The call fails with `RootLimit` if
+/// more upper extents than the root limit would hold a cell other than the background, and with `Memory` after an
+/// allocation failure. Both leave the tree as it was.
 pub fn replace<
     V: Stored<WU> + Stored<WL> + Stored<WF>,
     const U: u32,
@@ -95,7 +98,7 @@ pub fn replace<
     become_mix(tree, other, Mix::Replace, background, steps)
 }
 
-/// Makes of a tree what it becomes with another, where each two cells become one.
+/// Replaces a tree by its combination with another one, if every two cells combine.
 fn become_mix<
     V: Stored<WU> + Stored<WL> + Stored<WF>,
     const U: u32,
@@ -128,7 +131,7 @@ fn become_mix<
     }
 }
 
-/// Why the tree that two become can't be made.
+/// Returns why the combination of two trees can't be built.
 pub(crate) fn refusal<
     V: Stored<WU> + Stored<WL> + Stored<WF>,
     const U: u32,

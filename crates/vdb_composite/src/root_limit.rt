@@ -1,4 +1,4 @@
-//! Whether the tree that two become has too many root blocks.
+//! Whether the combination of two trees has too many upper extents.
 
 ghost use Rattle.std.specs.Prelude.{◌≡◌, ◌≢◌, ◌<◌, ◌≤◌, false, Some, IsTrue};
 ghost use Rattle.vdb_tree.specs.ConstantBlocks.{roots};
@@ -14,8 +14,8 @@ use vdb_pool::Steps;
 use vdb_tree::{Pair, TreeOf};
 use vdb_value::Cell;
 
-/// Whether more root blocks than the first tree's limit get a cell that isn't the background, where each two cells become one. It
-/// takes no memory.
+/// Returns whether more upper extents than the first tree's limit hold a cell other than the background in the
+/// combination of two trees, all of whose cells combine. It takes no memory.
 pub(crate) fn exceeds<
     V: Stored<WU> + Stored<WL> + Stored<WF>,
     const U: u32,
@@ -67,7 +67,7 @@ pub(crate) fn exceeds<
     false
 }
 
-/// Whether a key isn't the last one.
+/// Returns whether a key isn't the last one.
 fn is_other(last: Option<Coord>, key: Coord) -> bool
     ensures other { IsTrue result → last ≢ Some key }
     ensures same { result ≡ false → last ≡ Some key }

@@ -1,4 +1,4 @@
-//! One leaf that takes the cells of a tree's block, and then what they become with another's.
+//! One leaf that copies the cells of a tree's block, and then combines them with another tree's.
 
 ghost use Rattle.std.specs.Prelude.{◌≡◌, IfNone, IfSome, IsTrue, Some};
 ghost use Rattle.vdb_coord.specs.Blocks.{offset};
@@ -18,7 +18,8 @@ use vdb_node::{Leaf, Stored};
 use vdb_tree::TreeOf;
 use vdb_value::Cell;
 
-/// Gives the scratch leaf the cells that a tree has over a leaf block: those of a tile or, where that is `None`, of a leaf.
+/// Copies the cells that a tree has over a leaf extent to the scratch leaf: those of a tile or, if the tile is
+/// `None`, of a leaf.
 pub(crate) fn take_cells<
     V: Stored<WU> + Stored<WL> + Stored<WF>,
     const U: u32,
@@ -49,8 +50,8 @@ pub(crate) fn take_cells<
     }
 }
 
-/// Makes of the scratch leaf's cells what they become with those that a tree has over a leaf block, by a tile or, where that is
-/// `None`, a leaf: false where some two values have no sum.
+/// Combines the scratch leaf's cells with those that a tree has over a leaf extent: of a tile or, if the tile is
+/// `None`, of a leaf. Returns false if some two values have no sum.
 pub(crate) fn mix_cells<
     V: Stored<WU> + Stored<WL> + Stored<WF>,
     const U: u32,
@@ -78,7 +79,7 @@ pub(crate) fn mix_cells<
     }
 }
 
-/// Makes of the scratch leaf's cells what they become with that of a tile.
+/// Combines the scratch leaf's cells with a tile's.
 fn mix_tile<
     V: Stored<WU> + Stored<WL> + Stored<WF>,
     const U: u32,
@@ -111,7 +112,7 @@ fn mix_tile<
     }
 }
 
-/// Makes of the scratch leaf's cells what they become with those of a leaf.
+/// Combines the scratch leaf's cells with a leaf's.
 fn mix_leaf<
     V: Stored<WU> + Stored<WL> + Stored<WF>,
     const U: u32,

@@ -1,4 +1,4 @@
-//! Coordinates sought where two trees become one: block by block, and voxel by voxel in leaf blocks. It takes no memory.
+//! Searches in the combination of two trees: block by block, and voxel by voxel in leaf extents. They take no memory.
 
 ghost use Rattle.std.specs.Prelude.{◌≡◌, ◌<◌, false, None, IfNone, IfSome, IsSome, IsTrue};
 ghost use Rattle.vdb_coord.specs.Blocks.{block_around, entries, offset};
@@ -17,7 +17,7 @@ use vdb_pool::Steps;
 use vdb_tree::{Content, Pair, TreeOf};
 use vdb_value::{Cell, Voxel};
 
-/// What is sought among the cells that two trees become.
+/// What a search looks for among the combined cells of two trees.
 #[derive(Clone, Copy)]
 pub(crate) enum Sought<V> {
     /// Two values that have no sum.
@@ -27,7 +27,7 @@ pub(crate) enum Sought<V> {
 }
 
 impl<V: Voxel> Sought<V> {
-    /// Whether what two cells become is sought.
+    /// Returns whether the combination of two cells is what the search looks for.
     pub(crate) fn is_met(self, mixed: Option<Cell<V>>) -> bool
         ensures met { IsTrue result → Meets self mixed }
         ensures missed { result ≡ false → Misses self mixed }
@@ -42,7 +42,7 @@ impl<V: Voxel> Sought<V> {
     }
 }
 
-/// Whether some two values have no sum, the backgrounds aside.
+/// Returns whether some two values have no sum, the backgrounds aside.
 pub(crate) fn lacks<
     V: Stored<WU> + Stored<WL> + Stored<WF>,
     const U: u32,
@@ -76,7 +76,7 @@ pub(crate) fn lacks<
     false
 }
 
-/// Whether a coordinate of a pair's block becomes what is sought.
+/// Returns whether a coordinate of a pair's block combines to what the search looks for.
 pub(crate) fn pair_meets<
     V: Stored<WU> + Stored<WL> + Stored<WF>,
     const U: u32,
@@ -113,7 +113,7 @@ pub(crate) fn pair_meets<
     }
 }
 
-/// Whether what two tiles become over a block is sought.
+/// Returns whether two tiles over a block combine to what the search looks for.
 fn tiles_meet<
     V: Stored<WU> + Stored<WL> + Stored<WF>,
     const U: u32,
@@ -142,7 +142,8 @@ fn tiles_meet<
     sought.is_met(mix.of(first, second))
 }
 
-/// Whether a voxel of a leaf block becomes what is sought, where each tree has a tile or, where that is `None`, a leaf.
+/// Returns whether a voxel of a leaf extent combines to what the search looks for. Each tree has a tile there or, if
+/// the tile is `None`, a leaf.
 fn voxels_meet<
     V: Stored<WU> + Stored<WL> + Stored<WF>,
     const U: u32,
@@ -180,7 +181,7 @@ fn voxels_meet<
     false
 }
 
-/// The cell that a tree has at an index of a leaf block: that of a tile, or of a leaf's entry.
+/// Returns the cell that a tree has at an index of a leaf extent: the tile's, or that of the leaf's entry.
 fn voxel<
     V: Stored<WU> + Stored<WL> + Stored<WF>,
     const U: u32,

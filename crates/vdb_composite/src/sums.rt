@@ -13,13 +13,13 @@ use vdb_pool::Steps;
 use vdb_tree::{TreeOf, TreeRefusal};
 use vdb_value::Blend;
 
-/// Why a sum is refused. No cell changes then.
+/// Why a sum fails. No cell changes then.
 #[derive(Clone, Copy, Debug, PartialEq, Eq, thiserror::Error)]
 pub enum SumRefusal {
     /// Two values, active or not, have a sum outside their type.
     #[error("sum out of range")]
     SumRange,
-    /// More root blocks than the limit would have a cell that isn't the background.
+    /// More upper extents than the root limit would hold a cell other than the background.
     #[error("too many root blocks")]
     RootLimit,
     /// The allocator gave no memory, or a pool has no slot left.
@@ -27,12 +27,13 @@ pub enum SumRefusal {
     Memory,
 }
 
-/// Gives each coordinate the sum of its two values, active where either was; the background too becomes the sum (OpenVDB's
-/// `tools::compSum`). Truth values have no sums.
+/// Sets each coordinate to the sum of its two values, active if either was. The background becomes the sum of the
+/// two, too (OpenVDB's `tools::compSum`). Booleans have no sums.
 ///
-/// The tree is made anew beside the old one, with tiles where both have tiles. `SumRange` says that some two values, active or not,
-/// have a sum outside their type; else `RootLimit` that there would be more root blocks with a cell that isn't the background than
-/// the limit; else `Memory` that a growth was refused. Each leaves the tree as it was.
+/// The new tree is built beside the old one, with tiles where both have tiles. The call fails with `SumRange` if some
+/// two values, active or not, have a sum outside their type. Otherwise it fails with `RootLimit` if more upper
+/// extents than the root limit would hold a cell other than the background. Otherwise it fails with `Memory` after an
+/// allocation failure. Each error leaves the tree as it was.
 pub fn sum<
     V: Stored<WU> + Stored<WL> + Stored<WF>,
     const U: u32,
@@ -51,7 +52,7 @@ pub fn sum<
     ensures limit { tree.new.limit ≡ tree.old.limit }
     ensures kept { OnErr result (tree.new ≡ tree.old) }
 {
-    let _ = tree.bits(); // the proof learns from it and from the limits that some root block is background in both
+    let _ = tree.bits(); // the proof learns from it and from the limits that some upper extent is background in both
     let _ = tree.limit();
     let _ = other.limit();
     match tree.background().plus(other.background()) {
@@ -60,7 +61,7 @@ pub fn sum<
     }
 }
 
-/// Gives each coordinate the sum of its two values, where the backgrounds have one.
+/// Sets each coordinate to the sum of its two values, for backgrounds that have a sum.
 fn become_sum<
     V: Stored<WU> + Stored<WL> + Stored<WF>,
     const U: u32,
@@ -90,7 +91,7 @@ fn become_sum<
     }
 }
 
-/// Why the sum of two trees can't be made.
+/// Returns why the sum of two trees can't be built.
 fn sum_refusal<
     V: Stored<WU> + Stored<WL> + Stored<WF>,
     const U: u32,

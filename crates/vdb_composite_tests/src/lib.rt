@@ -1,4 +1,4 @@
-//! Tests of values of two trees made one, by public calls alone.
+//! Tests of two trees' values combined, by public calls alone.
 #![tactic(auto)]
 
 #[cfg(test)]

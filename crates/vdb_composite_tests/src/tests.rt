@@ -1,4 +1,4 @@
-//! Values of pairs of trees, beside what their cells were before.
+//! Values of pairs of trees, compared with their cells before.
 
 ghost use Rattle.std.specs.Prelude.{◌<◌};
 
@@ -12,12 +12,12 @@ use vdb_value::Cell;
 /// A tree whose blocks span 2, 4 and 8 voxels along each axis.
 type Tiny = TreeOf<i32, 1, 1, 1, 1, 1, 1>;
 
-/// Where the boxes lie along each axis.
+/// The range of the boxes along each axis.
 const LOW: i32 = -9;
 
 const HIGH: i32 = 12;
 
-/// What is made of two trees.
+/// The operations on two trees.
 #[derive(Clone, Copy)]
 enum Operation {
     Maximum,
@@ -41,7 +41,7 @@ struct Draws {
 }
 
 impl Draws {
-    // A number below `bound`, by the upper bits.
+    // Returns a number below `bound`, from the generator's upper bits.
     fn below(&mut self, bound: u64) -> u64
         requires { 0 < bound }
         ensures { result < bound }
@@ -53,7 +53,7 @@ impl Draws {
         (self.state >> 33) % bound
     }
 
-    // Where a box begins and ends along an axis.
+    // Returns where a box begins and ends along an axis.
     fn span(&mut self) -> (i32, i32) {
         let first = LOW.wrapping_add(self.below(22) as i32);
         let length = self.below(12) as i32;
@@ -66,7 +66,7 @@ impl Draws {
     }
 }
 
-// Gives the coordinates of a box this cell, which is accepted.
+// Sets the coordinates of a box to this cell, and expects no error.
 fn fill<
     const U: u32,
     const L: u32,
@@ -85,12 +85,12 @@ fn fill<
     tree.paint(bounds, cell, steps);
 }
 
-// Writes a voxel, which is accepted.
+// Writes a voxel, and expects no error.
 fn write(rt: &impl Abort, tree: &mut Tree<i32>, p: Coord, change: Write<i32>, steps: &mut Steps) {
     tree.write(p, change, steps).expect(rt, "a write");
 }
 
-// Fills a box that is drawn, and at times prunes the tree or makes leaves in the box.
+// Fills a random box, and at times prunes the tree or makes leaves in the box.
 fn draw_box(rt: &impl Abort, tree: &mut Tiny, draws: &mut Draws, steps: &mut Steps) {
     let Some(bounds) = draws.bounds() else {
         return;
@@ -105,7 +105,7 @@ fn draw_box(rt: &impl Abort, tree: &mut Tiny, draws: &mut Draws, steps: &mut Ste
     }
 }
 
-// Fills some boxes.
+// Fills some random boxes.
 fn draw(rt: &impl Abort, tree: &mut Tiny, draws: &mut Draws, steps: &mut Steps) {
     for _ in 0..5u32 {
         draw_box(rt, tree, draws, steps);
@@ -153,7 +153,7 @@ fn carry_out<
     }
 }
 
-// Each coordinate around the boxes, with one voxel more on each side.
+// Compares each coordinate around the boxes, with one voxel more on each side.
 fn expect_made(
     rt: &impl Abort,
     operation: Operation,
@@ -173,7 +173,7 @@ fn expect_made(
     }
 }
 
-// Makes of a copy of a tree what an operation makes of it, and compares each cell around the boxes and one far from them.
+// Applies an operation to a copy of a tree, and compares each cell around the boxes and one far from them.
 fn expect_operation(
     rt: &impl Abort,
     operation: Operation,
@@ -210,7 +210,7 @@ fn random_trees(rt: HostRuntime) {
     }
 }
 
-// Fills the first `count` root blocks from 0 on along z.
+// Fills the first `count` upper extents from 0 on along z.
 fn fill_roots(
     rt: &impl Abort,
     tree: &mut Tree<i32>,
@@ -223,7 +223,7 @@ fn fill_roots(
     fill(rt, tree, bounds, cell, steps);
 }
 
-// What an operation on two trees answers.
+// Expects this result of an operation on two trees.
 fn expect_answer(
     rt: &impl Abort,
     operation: Operation,
@@ -253,7 +253,7 @@ fn the_limit_is_that_of_the_first_tree(rt: HostRuntime) {
     }
     expect_cell(&rt, &tree, inside, off(1), &mut steps);
     expect_cell(&rt, &tree, outside, off(0), &mut steps);
-    // Its three blocks become background as the other's comes in.
+    // The tree's three upper extents become background as the other's comes in.
     expect_answer(
         &rt,
         Operation::Minimum,
@@ -277,7 +277,7 @@ fn backgrounds_outside_the_type(rt: HostRuntime) {
     expect_cell(&rt, &tree, at(0, 0, 0), off(i32::MAX), &mut steps);
 }
 
-// One inactive voxel is enough, and it comes before the root limit.
+// One inactive voxel is enough for `SumRange`, which comes before `RootLimit`.
 #[test]
 fn sums_outside_the_type(rt: HostRuntime) {
     let mut steps = Steps::new(&rt);

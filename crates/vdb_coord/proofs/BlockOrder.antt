@@ -34,7 +34,7 @@ either_way false = inr refl
 false_true : false ≡ true → ⊥
 false_true e = cc
 
--- where two orderings in turn say less
+-- if a chain of two orderings says less, the first says less, or it says equal and the second less
 then_less : (a b : Ordering) → is_lt (ordering_then a b) ≡ true → (a ≡ Less) ⊎ ((a ≡ Equal) × (is_lt b ≡ true))
 then_less Less b h = inl refl
 then_less Equal b h = inr (refl, h)
@@ -57,7 +57,7 @@ less_nat m n h = sym (nat_cmp_is m n Less h)
 equal_nat : (m n : ℕ) → m ≡ n → nat_cmp m n ≡ Equal
 equal_nat m n h = sym (nat_cmp_is m n Equal h)
 
--- keys that compare alike are one
+-- keys that compare alike are equal
 pub key_equal : (k l : Coord) → coord_cmp k l ≡ Equal → k ≡ l
 key_equal k l h = coord_exact k l (equal h)
   where
@@ -74,7 +74,7 @@ less_apart k l h e = never (sym h ∙ equal_key k l e)
     never : Less ≡ Equal → ⊥
     never e = cc
 
--- keys are past one another in one way only
+-- two keys cannot each be past the other
 pub less_once : (k l : Coord) → coord_cmp k l ≡ Less → coord_cmp l k ≡ Less → ⊥
 less_once k l h g = less_apart k k (coord_total.trans k l k h g) refl
 
@@ -119,7 +119,7 @@ module _ (bits : Bits) where
   pub not_before : (p q : Coord) → (Precedes p q → ⊥) → is_lt (block_cmp bits p q) ≡ false
   not_before p q h = elim (either_way (is_lt (block_cmp bits p q))) [ inl e ↦ absurd (h (precedes p q e)) | inr e ↦ e ]
 
-  -- coordinates of one lower block have one upper offset
+  -- coordinates of one lower extent have one upper offset
   pub same_upper_offset : (p q : Coord) → block_number bits Lower p ≡ block_number bits Lower q → offset bits Upper p ≡ offset bits Upper q
   same_upper_offset p q e = offset_from_entry bits Upper p q e
 
@@ -132,7 +132,7 @@ module _ (bits : Bits) where
   none_below : (m n : ℕ) → n ≡ 0 → m < n → ⊥
   none_below m n e h = omega (arith, h, e)
 
-  -- no coordinate of a lower block at a later offset precedes the first of a leaf
+  -- no coordinate of a lower extent at a later offset precedes the first of a leaf
   pub later_in_lower : (p q : Coord) → block_number bits Lower q ≡ block_number bits Lower p → offset bits Leaf p ≡ 0 → offset bits Lower p ≤ offset bits Lower q → is_lt (block_cmp bits q p) ≡ false
   later_in_lower p q b first from = not_before q p (λ h.
       elim h [
@@ -189,19 +189,19 @@ pub from_leaf : (bits : Bits) (p q : Coord) → key bits p ≡ key bits q → of
 from_leaf bits p q k u l f = let a = equal_key _ _ k in let b = equal_nat _ _ u in let c = equal_nat _ _ l in let d = less_nat _ _ f in rw (a, b, c, d) refl
 
 module _ (bits : Bits) where
-  -- p comes before q where its upper block does
+  -- p comes before q if its upper extent does
   pub by_upper : (p q : Coord) → IsBefore (block_number bits Upper p) (block_number bits Upper q) → ComesBefore bits p q
   by_upper p q h = from_key bits p q (key_less (key bits p) (key bits q) h)
 
-  -- or its lower block, in one upper block
+  -- p comes before q if its lower extent does, in one upper extent
   pub by_lower : (p q : Coord) → block_number bits Upper p ≡ block_number bits Upper q → IsBefore (block_number bits Lower p) (block_number bits Lower q) → ComesBefore bits p q
   by_lower p q e h = from_upper bits p q e (offset_less bits Upper p q e h)
 
-  -- or its leaf block, in one lower block
+  -- p comes before q if its leaf extent does, in one lower extent
   pub by_leaf : (p q : Coord) → block_number bits Lower p ≡ block_number bits Lower q → IsBefore (block_number bits Leaf p) (block_number bits Leaf q) → ComesBefore bits p q
   by_leaf p q e h = from_lower bits p q (upper_from_lower bits p q e) (offset_from_entry bits Upper p q e) (offset_less bits Lower p q e h)
 
-  -- or itself, in one leaf block
+  -- p comes before q if its coordinate does, in one leaf extent
   pub by_voxel : (p q : Coord) → block_number bits Leaf p ≡ block_number bits Leaf q → IsBefore p q → ComesBefore bits p q
   by_voxel p q e h =
       let l = lower_from_leaf bits p q e in
@@ -231,7 +231,7 @@ module _ (bits : Bits) where
   pub not_same : (p q : Coord) → ComesBefore bits p q → p ≡ q → ⊥
   not_same p q h e = not_itself q (subst (λ (c : Coord). ComesBefore bits c q) e h)
 
-  -- of two coordinates one comes before the other, or they are one
+  -- of two coordinates one comes before the other, or they are equal
   pub which_first : (p q : Coord) → ComesBefore bits p q ⊎ ((p ≡ q) ⊎ ComesBefore bits q p)
   which_first p q = by (block_cmp bits p q) refl
     where
@@ -240,17 +240,17 @@ module _ (bits : Bits) where
       by Equal e = inr (inl (block_exact bits p q e))
       by Greater e = inr (inr (ap is_lt ((block_total bits).antisymm q p ∙ ap ordering_reverse e)))
 
-  -- two coordinates of which neither comes before the other are one
+  -- two coordinates are equal if neither comes before the other
   pub same_from_neither : (p q : Coord) → (ComesBefore bits p q → ⊥) → (ComesBefore bits q p → ⊥) → p ≡ q
   same_from_neither p q h k = elim (which_first p q) [ inl a ↦ absurd (h a) | inr r ↦ elim r [ inl e ↦ e | inr b ↦ absurd (k b) ] ]
 
-  -- what doesn't come before p comes after it, or is it
+  -- what doesn't come before p comes after it, or equals it
   pub first_unless : (p q : Coord) → is_lt (block_cmp bits q p) ≡ false → ComesBefore bits p q ⊎ (p ≡ q)
   first_unless p q h = elim (which_first p q) [ inl a ↦ inl a | inr r ↦ elim r [ inl e ↦ inr e | inr b ↦ absurd (false_true (sym h ∙ b)) ] ]
 
   -- ---- along the axes
 
-  -- a coordinate that lies up to another along each axis comes before it, or is it
+  -- a coordinate that lies up to another along each axis comes before it, or equals it
   pub first_or_same : (p q : Coord) → p.x ≤ℤ q.x → p.y ≤ℤ q.y → p.z ≤ℤ q.z → ComesBefore bits p q ⊎ (p ≡ q)
   first_or_same p q x y z =
       elim (at (block_bits bits Upper)) [
@@ -274,7 +274,7 @@ module _ (bits : Bits) where
   pub not_before_min : (b : Box) (q : Coord) → is_inside b q ≡ true → ComesBefore bits q b.min → ⊥
   not_before_min b q i = let at = inside_parts b q i in not_before_lower b.min q at.0.0 at.1.0 at.2.0
 
-  -- nor past its greatest
+  -- no coordinate of a box comes past its greatest corner
   pub not_past_max : (b : Box) (q : Coord) → is_inside b q ≡ true → ComesBefore bits b.max q → ⊥
   not_past_max b q i = let at = inside_parts b q i in not_before_lower q b.max at.0.1 at.1.1 at.2.1
 
@@ -283,7 +283,7 @@ module _ (bits : Bits) where
 less_same_or_past : (x y : ℤ) → (x <ℤ y) ⊎ ((x ≡ y) ⊎ (y <ℤ x))
 less_same_or_past x y = grind (arith, ints)
 
--- of two numbers one comes before the other, or they are one
+-- of two numbers one comes before the other, or they are equal
 pub which_before : (m n : Coord) → IsBefore m n ⊎ ((m ≡ n) ⊎ IsBefore n m)
 which_before m n =
     elim (less_same_or_past m.x n.x) [
@@ -347,7 +347,7 @@ pub moved_past : (bits : Bits) (level : Level) (p q r : Coord) → IsBlockBefore
 moved_past bits level p q r h e = subst (λ (n : Coord). IsBefore (block_number bits level p) n) e h
 
 module _ (bits : Bits) where
-  -- upper blocks lie in one whole
+  -- all upper extents lie in one whole
   abbrev pub AreAll : Coord → Coord → Type 0
   AreAll p q = Unit {0}
 

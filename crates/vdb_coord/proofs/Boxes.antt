@@ -7,7 +7,7 @@ use Rattle.vdb_coord.specs.Boxes.{box_of, overlap}
 use Rattle.vdb_coord.specs.Space.{Box, is_between, is_box, is_inside}
 use Rattle.vdb_coord.specs.declared.Coord.{Coord}
 
--- ---- truth values
+-- ---- booleans
 
 pub both : (a b : Bool) → (a && b) ≡ true → (a ≡ true) × (b ≡ true)
 both true true h = (refl, refl)
@@ -26,7 +26,7 @@ three a b c h = let all = both (a && b) c h in let two = both a b all.0 in (two.
 pub together : (a b c : Bool) → a ≡ true → b ≡ true → c ≡ true → (a && b && c) ≡ true
 together a b c h k l = and_true (a && b) c (and_true a b h k) l
 
--- two tests that follow from each other are one
+-- two tests that follow from each other are equal
 pub same_truth : (a b : Bool) → (a ≡ true → b ≡ true) → (b ≡ true → a ≡ true) → a ≡ b
 same_truth true b h k = sym (h refl)
 same_truth false true h k = k refl
@@ -102,7 +102,7 @@ none_if false x P h = h refl
 pub overlap_both : (a b : Box) → IfSome (overlap a b) (λ c. (p : Coord) → is_inside c p ≡ (is_inside a p && is_inside b p))
 overlap_both a b = some_if (is_box (common a b)) (common a b) (λ c. (p : Coord) → is_inside c p ≡ (is_inside a p && is_inside b p)) (inside_common a b)
 
--- and where there is none, no coordinate is inside both
+-- if the overlap is none, no coordinate is inside both
 pub overlap_none : (a b : Box) → IfNone (overlap a b) ((p : Coord) → (is_inside a p && is_inside b p) ≡ false)
 overlap_none a b = none_if (is_box (common a b)) (common a b) ((p : Coord) → (is_inside a p && is_inside b p) ≡ false)
     (λ e p. not_true (is_inside a p && is_inside b p) (λ h.

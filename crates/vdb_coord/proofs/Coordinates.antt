@@ -7,7 +7,7 @@ use Rattle.std.proofs.lemmas.List.Folds.{list_all-append, list_all-map}
 use Rattle.vdb_coord.specs.Space.{Box, coord, coordinates, extent, is_between, is_inside, range}
 use Rattle.vdb_coord.specs.declared.Coord.{Coord}
 
--- ---- truth values
+-- ---- booleans
 
 both : (a b : Bool) → (a && b) ≡ true → (a ≡ true) × (b ≡ true)
 both true true h = (refl, refl)
@@ -94,7 +94,7 @@ all_coordinates t b h = by_axes t b ∙
     range_all _ b.min.x b.max.x (λ x hx. range_all _ b.min.y b.max.y (λ y hy. range_all _ b.min.z b.max.z (λ z hz.
     h (coord x y z) (together (is_between b.min.x b.max.x x && is_between b.min.y b.max.y y) _ (together _ _ hx hy) hz))))
 
--- and the other way round
+-- a test that each of the list passes is passed by each coordinate inside
 pub each_coordinate : (t : Coord → Bool) (b : Box) → list_all t (coordinates b) ≡ true → (p : Coord) → IsTrue (is_inside b p) → t p ≡ true
 each_coordinate t b h p inside =
     let hxy = both (is_between b.min.x b.max.x p.x && is_between b.min.y b.max.y p.y) (is_between b.min.z b.max.z p.z) inside in

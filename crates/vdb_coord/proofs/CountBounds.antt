@@ -15,13 +15,13 @@ module _ (b : Box) (t : Coord → Bool) where
   pub member_passing : (p : Coord) → is_member coord_eq (filter t (coordinates b)) p ≡ (is_inside b p && t p)
   member_passing p = is_member-filter coord_equiv t p (λ x e. ap t (coord_exact p x e)) (coordinates b) ∙ ap (λ i. i && t p) (member_coordinates b p)
 
-  -- they are at most as many as a list that has each of them
+  -- those coordinates are at most as many as a list that has each of them
   pub count_at_most : (keys : List Coord) → ((p : Coord) → IsTrue (is_inside b p) → t p ≡ true → is_member coord_eq keys p ≡ true) → length (filter t (coordinates b)) ≤ length keys
   count_at_most keys h =
       length-le_from_is_member coord_equiv (filter t (coordinates b)) keys (distinct_filter coord_eq t (coordinates b) (distinct_coordinates b))
       (λ p m. let hs = both (is_inside b p) (t p) (sym (member_passing p) ∙ m) in h p hs.0 hs.1)
 
-  -- and at least as many as a list of distinct ones
+  -- those coordinates are at least as many as a list of distinct ones
   pub count_at_least : (keys : List Coord) → IsDistinct coord_eq keys → ((p : Coord) → is_member coord_eq keys p ≡ true → IsTrue (is_inside b p) × (t p ≡ true)) → length keys ≤ length (filter t (coordinates b))
   count_at_least keys distinct h =
       length-le_from_is_member coord_equiv keys (filter t (coordinates b)) distinct

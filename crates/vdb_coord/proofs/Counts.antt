@@ -40,7 +40,7 @@ count_by_members b t keys distinct members =
     length-from_same_keys coord_equiv (filter t (coordinates b)) keys (distinct_filter coord_eq t (coordinates b) (distinct_coordinates b)) distinct
     (λ q. is_member-filter coord_equiv t q (λ x e. ap t (coord_exact q x e)) (coordinates b) ∙ ap (λ i. i && t q) (member_coordinates b q) ∙ sym (members q))
 
--- those that are inside another box too
+-- those coordinates that are inside another box too
 pub count_inside : (b c : Box) (t : Coord → Bool) → ((p : Coord) → t p ≡ is_inside c p) → ((p : Coord) → is_inside c p ≡ true → is_inside b p ≡ true) → length (filter t (coordinates b)) ≡ volume c
 count_inside b c t same within =
     count_by_members b t (coordinates c) (distinct_coordinates c)
@@ -72,7 +72,7 @@ numbers_within bits level b h n inside =
         (le_through (number_at k least) (number_at k low) x (number_le k least low ls.0) bs.0)
         (le_through x (number_at k high) (number_at k greatest) bs.1 (number_le k high greatest us.1))
 
--- how many of a level's blocks meet a box: as many as there are from its least corner's to its greatest corner's
+-- how many of a level's blocks meet a box: the numbers from its least corner's block to its greatest corner's
 pub blocks_meeting_is : (bits : Bits) (level : Level) (b : Box) → is_within b everywhere ≡ true → blocks_meeting bits level b ≡ volume (numbers_over bits level b)
 blocks_meeting_is bits level b h =
     count_inside (block_numbers bits level) (numbers_over bits level b) (λ n. meets (block bits level n) b) (λ n. meets_block bits level n b) (numbers_within bits level b h)

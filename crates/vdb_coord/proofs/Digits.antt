@@ -50,13 +50,13 @@ pub number_up : (low bits : ℕ) (x : ℤ) → number_at (low + bits) x ≡ numb
 number_up low bits x =
     sym (ap (number_at bits) (number_split low bits x) ∙ quotient_of (2 ^ bits) (number_at (low + bits) x) (digit low bits x) (digit_below low bits x))
 
--- two numbers in one block and in one position of it are in one entry
+-- two numbers in one block and in one position of that block are in one entry
 pub same_entry : (low bits : ℕ) (x y : ℤ) → number_at (low + bits) x ≡ number_at (low + bits) y → digit low bits x ≡ digit low bits y → number_at low x ≡ number_at low y
 same_entry low bits x y e d =
     number_split low bits x ∙ ap (λ n. n *ℤ pos (2 ^ bits) +ℤ pos (digit low bits x)) e ∙ ap (λ k. number_at (low + bits) y *ℤ pos (2 ^ bits) +ℤ pos k) d
     ∙ sym (number_split low bits y)
 
--- the entry d of block n lies in that block, in that position
+-- entry d of block n lies in that block, in that position
 pub number_of_entry : (bits : ℕ) (n : ℤ) (d : ℕ) → d < 2 ^ bits → number_at bits (n *ℤ pos (2 ^ bits) +ℤ pos d) ≡ n
 number_of_entry bits n d h = quotient_of (2 ^ bits) n d h
 
@@ -166,7 +166,7 @@ entry_first_fits low bits x d few most h f =
       omega (arith, e, small, p),
     )
 
--- its last number
+-- the last number of an entry
 pub entry_last_fits : (low bits : ℕ) (x : ℤ) (d : ℕ) → low ≤ 10 → bits ≤ 5 → d < 2 ^ bits → SFits w32 x
     → SFits w32 (first_of (low + bits) (number_at (low + bits) x) +ℤ pos (d * 2 ^ low) +ℤ pos (2 ^ low - 1))
 entry_last_fits low bits x d few most h f =

@@ -1,4 +1,4 @@
--- The coordinates of a box are there once each.
+-- The list of a box's coordinates has each of them once.
 use Rattle.std.proofs.Common.{◌≡◌, refl, sym, subst, ℕ, zero, suc, ◌+◌, ◌<◌, ℤ, pos, ◌+ℤ◌, Bool, false, List, [], ◌∷◌, ◌++◌, map, flat_map, nat_eq, arith}
 use Rattle.std.specs.List.{AllByRecursion, IsDistinct, range_with_len}
 use Rattle.std.specs.Ordering.{int_cmp, int_eq, is_eq, ordering_then}
@@ -43,7 +43,7 @@ unfolding IsDistinct
 distinct_map d e f h [] k = tt
 distinct_map d e f h (x ∷ xs) k = (all_map _ f xs (all_weaker _ _ (h x) xs k.0), distinct_map d e f h xs k.1)
 
--- parts whose elements have tags, of which each part has one
+-- parts whose elements have tags, one tag to a part
 distinct_flat : {X Y : Type 0} (d : X → X → Bool) (e : Y → Y → Bool) (tag : Y → X) (f : X → List Y)
     → ((a b : Y) → d (tag a) (tag b) ≡ false → e a b ≡ false) → ((x : X) → AllByRecursion (λ y. tag y ≡ x) (f x)) → ((x : X) → IsDistinct e (f x))
     → (xs : List X) → IsDistinct d xs → IsDistinct e (flat_map f xs)

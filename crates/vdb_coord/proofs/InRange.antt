@@ -34,7 +34,7 @@ component_in_range k x few h =
 pub number_in_range : (bits : Bits) (level : Level) (p : Coord) → IsTrue (is_inside everywhere p) → IsTrue (is_inside (block_numbers bits level) (block_number bits level p))
 number_in_range bits level p h = number_within bits level p h
 
--- and a coordinate whose block's number is one of the level's is in range
+-- a coordinate whose block's number is one of the level's is in range
 pub numbered_in_range : (bits : Bits) (level : Level) → AreBits bits → (p : Coord) → IsTrue (is_inside (block_numbers bits level) (block_number bits level p)) → IsTrue (is_inside everywhere p)
 numbered_in_range bits level few p h =
     let k = block_bits bits level in
@@ -46,7 +46,7 @@ numbered_in_range bits level few p h =
     together (is_between least greatest p.x) (is_between least greatest p.y) (is_between least greatest p.z)
     (component_in_range k p.x small hs.0) (component_in_range k p.y small hs.1) (component_in_range k p.z small hs.2)
 
--- a coordinate whose key is one of the root blocks' is in range
+-- a coordinate whose key is one of the upper extents' is in range
 pub key_in_range : (bits : Bits) → AreBits bits → (p : Coord) → IsTrue (is_inside (block_numbers bits Upper) (key bits p)) → IsTrue (is_inside everywhere p)
 key_in_range bits few p h = numbered_in_range bits Upper few p h
 
@@ -64,7 +64,7 @@ number_of_corner bits level n =
     let z = number_of_first k n.z in
     λ i. record { x = x i; y = y i; z = z i }
 
--- and is in range where the number is one of the level's
+-- the first coordinate of a block is in range if the number is one of the level's
 pub corner_in_range : (bits : Bits) (level : Level) → AreBits bits → (n : Coord) → IsTrue (is_inside (block_numbers bits level) n) → IsTrue (is_inside everywhere (block bits level n).min)
 corner_in_range bits level few n h =
     numbered_in_range bits level few (block bits level n).min (subst (λ (m : Coord). is_inside (block_numbers bits level) m ≡ true) (sym (number_of_corner bits level n)) h)

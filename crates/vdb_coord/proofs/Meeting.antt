@@ -67,14 +67,14 @@ number_of_first bits n =
 pub number_of_last : (bits : ℕ) (n : ℤ) → number_at bits (last_of bits n) ≡ n
 number_of_last bits n = let p = pow_pos bits in quotient_of (2 ^ bits) n (2 ^ bits - 1) (omega (arith, p))
 
--- a block begins at or before a number exactly where its number isn't above that of the number's block
+-- a block begins at or before a number exactly if its number isn't above that of the number's block
 pub begins_by : (bits : ℕ) (n x : ℤ) → int_le (first_of bits n) x ≡ int_le n (number_at bits x)
 begins_by bits n x = same_truth (int_le (first_of bits n) x) (int_le n (number_at bits x))
     (λ h. subst (λ t. int_le t (number_at bits x) ≡ true) (number_of_first bits n) (number_le bits (first_of bits n) x h))
     (λ h. le_through (first_of bits n) (first_of bits (number_at bits x)) x (first_le bits n (number_at bits x) h)
     (both (int_le (first_of bits (number_at bits x)) x) (int_le x (last_of bits (number_at bits x))) (inside_own bits x)).0)
 
--- and it ends at or after the number exactly where its number isn't below
+-- a block ends at or after a number exactly if its number isn't below that of the number's block
 pub ends_by : (bits : ℕ) (n x : ℤ) → int_le x (last_of bits n) ≡ int_le (number_at bits x) n
 ends_by bits n x = same_truth (int_le x (last_of bits n)) (int_le (number_at bits x) n)
     (λ h. subst (λ t. int_le (number_at bits x) t ≡ true) (number_of_last bits n) (number_le bits x (last_of bits n) h))
@@ -90,7 +90,7 @@ meets_block bits level n b =
     let k = block_bits bits level in
     rw (ends_by k n.x b.min.x, ends_by k n.y b.min.y, ends_by k n.z b.min.z, begins_by k n.x b.max.x, begins_by k n.y b.max.y, begins_by k n.z b.max.z) refl
 
--- their numbers make a box
+-- the numbers of the blocks that meet a box make a box
 pub numbers_are_box : (bits : Bits) (level : Level) (b : Box) → is_box b ≡ true → is_box (numbers_over bits level b) ≡ true
 numbers_are_box bits level b h =
     let k = block_bits bits level in
@@ -147,7 +147,7 @@ meets_from_common a b p h k =
     met : (low high least greatest x : ℤ) → is_between low high x ≡ true → is_between least greatest x ≡ true → (int_le least high && int_le low greatest) ≡ true
     met low high least greatest x u v = grind (arith, ints)
 
--- and boxes that meet have one: the greater of their least corners
+-- boxes that meet have a coordinate in common: the greater of their least corners
 pub common_from_meets : (a b : Box) → is_box a ≡ true → is_box b ≡ true → meets a b ≡ true → (p : Coord) × (is_inside a p ≡ true) × (is_inside b p ≡ true)
 common_from_meets a b ha hb h =
     let ordered_a = three (int_le a.min.x a.max.x) (int_le a.min.y a.max.y) (int_le a.min.z a.max.z) ha in

@@ -27,7 +27,7 @@ both_equal Less p h = cc
 both_equal Equal p h = (refl, h)
 both_equal Greater p h = cc
 
--- coordinates that compare alike are one
+-- coordinates that compare alike are equal
 pub coord_exact : (p q : Coord) → coord_eq p q ≡ true → p ≡ q
 coord_exact p q h =
     let hx = both_equal (int_cmp p.x q.x) _ h in
@@ -46,7 +46,7 @@ any_not_all t (x ∷ xs) = step (t x) _ _ (any_not_all t xs)
     step true b c h = refl
     step false b c h = h
 
--- a list of all the box has a coordinate exactly where the box does
+-- a list of all the box's coordinates has a coordinate exactly if the box does
 pub member_coordinates : (b : Box) (p : Coord) → is_member coord_eq (coordinates b) p ≡ is_inside b p
 member_coordinates b p = any_not_all (coord_eq p) (coordinates b) ∙ flipped _ _ there elsewhere
   where

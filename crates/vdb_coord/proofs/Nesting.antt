@@ -83,7 +83,7 @@ offset_from_entry bits level p q e =
     offset_is bits level p ∙ ap (λ (t : ℕ). joined (2 ^ b) t (digit low b p.y) (digit low b p.z)) dx ∙ ap (λ (t : ℕ). joined (2 ^ b) (digit low b q.x) t (digit low b p.z)) dy
     ∙ ap (λ (t : ℕ). joined (2 ^ b) (digit low b q.x) (digit low b q.y) t) dz ∙ sym (offset_is bits level q)
 
--- and are in one block
+-- coordinates in one entry are in one block
 pub block_from_entry : (bits : Bits) (level : Level) (p q : Coord) → entry_number bits level p ≡ entry_number bits level q → block_number bits level p ≡ block_number bits level q
 block_from_entry bits level p q e =
     let low = entry_bits bits level in
@@ -101,14 +101,14 @@ block_from_entry bits level p q e =
 pub entry_number_leaf : (bits : Bits) (p : Coord) → entry_number bits Leaf p ≡ p
 entry_number_leaf bits p = same_coord (entry_number bits Leaf p) p (number_zero p.x) (number_zero p.y) (number_zero p.z)
 
--- coordinates in one leaf block are in one lower block, and those in one lower block in one upper block
+-- coordinates in one leaf extent are in one lower extent, and those in one lower extent in one upper extent
 pub lower_from_leaf : (bits : Bits) (p q : Coord) → block_number bits Leaf p ≡ block_number bits Leaf q → block_number bits Lower p ≡ block_number bits Lower q
 lower_from_leaf bits p q e = block_from_entry bits Lower p q e
 
 pub upper_from_lower : (bits : Bits) (p q : Coord) → block_number bits Lower p ≡ block_number bits Lower q → block_number bits Upper p ≡ block_number bits Upper q
 upper_from_lower bits p q e = block_from_entry bits Upper p q e
 
--- and the other way down, by offsets
+-- coordinates in one upper extent with equal offsets are in one lower or leaf extent
 pub lower_from_upper : (bits : Bits) (p q : Coord) → block_number bits Upper p ≡ block_number bits Upper q → offset bits Upper p ≡ offset bits Upper q → block_number bits Lower p ≡ block_number bits Lower q
 lower_from_upper bits p q e d = entry_from_offset bits Upper p q e d
 
@@ -138,11 +138,11 @@ inside_around bits level p =
     let between : ℤ → Bool = λ x. is_between (first_of k (number_at k x)) (last_of k (number_at k x)) x in
     together (between p.x) (between p.y) (between p.z) (inside_own k p.x) (inside_own k p.y) (inside_own k p.z)
 
--- and inside each block that has its number
+-- a coordinate is inside each block that has its block's number
 pub inside_numbered : (bits : Bits) (level : Level) (n p : Coord) → block_number bits level p ≡ n → is_inside (block bits level n) p ≡ true
 inside_numbered bits level n p e = subst (λ (m : Coord). is_inside (block bits level m) p ≡ true) e (inside_around bits level p)
 
--- two blocks that hold one coordinate are one
+-- two blocks that hold one coordinate are equal
 pub same_block : (bits : Bits) (level : Level) (n m p : Coord) → is_inside (block bits level n) p ≡ true → is_inside (block bits level m) p ≡ true → n ≡ m
 same_block bits level n m p h k = sym (number_in_block bits level n p h) ∙ number_in_block bits level m p k
 
@@ -197,7 +197,7 @@ in_entry bits level p q i small h =
           ∙ ap (λ (t : ℕ). joined n (i / n / n) (i / n % n) t) z.1 ∙ index_joined n i,
     )
 
--- and a coordinate of the node at this offset is inside
+-- a coordinate of the node at this offset is inside the entry
 pub entry_holds : (bits : Bits) (level : Level) (p q : Coord) (i : ℕ) → i < entries bits level → block_number bits level q ≡ block_number bits level p → offset bits level q ≡ i → is_inside (sub_block bits level (block_around bits level p) i) q ≡ true
 entry_holds bits level p q i small e d =
     let low = entry_bits bits level in
@@ -224,7 +224,7 @@ corner_inside bits level b i =
     let c = (sub_block bits level b i).min in
     together (is_between c.x (c.x +ℤ pos k) c.x) (is_between c.y (c.y +ℤ pos k) c.y) (is_between c.z (c.z +ℤ pos k) c.z) (at_first c.x k) (at_first c.y k) (at_first c.z k)
 
--- so it lies in the node, at the entry's index
+-- the least corner of an entry lies in the node, at the entry's index
 pub corner_of_entry : (bits : Bits) (level : Level) (p : Coord) (i : ℕ) → i < entries bits level → let corner = (sub_block bits level (block_around bits level p) i).min in
     (block_number bits level corner ≡ block_number bits level p) × (offset bits level corner ≡ i)
 corner_of_entry bits level p i small =
@@ -238,7 +238,7 @@ entry_around bits level p =
     let last : ℤ → ℤ = λ x. last_of k (number_at k x) in
     record { min = coord (first p.x) (first p.y) (first p.z); max = coord (last p.x) (last p.y) (last p.z) }
 
--- it is the entry at p's offset
+-- the entry that holds p is the entry at p's offset
 pub entry_at_offset : (bits : Bits) (level : Level) (p : Coord) → sub_block bits level (block_around bits level p) (offset bits level p) ≡ entry_around bits level p
 entry_at_offset bits level p =
     let low = entry_bits bits level in
@@ -258,7 +258,7 @@ entry_at_offset bits level p =
       max = coord (x j +ℤ pos (2 ^ low - 1)) (y j +ℤ pos (2 ^ low - 1)) (z j +ℤ pos (2 ^ low - 1));
     })
 
--- which is the block of the level below
+-- the entry that holds p is the block of the level below
 pub lower_block_at_offset : (bits : Bits) (p : Coord) → sub_block bits Upper (block_around bits Upper p) (offset bits Upper p) ≡ block_around bits Lower p
 lower_block_at_offset bits p = entry_at_offset bits Upper p
 
@@ -272,7 +272,7 @@ pub block_total : (bits : Bits) → IsTotalOrder (block_cmp bits)
 block_total bits =
     then_total (on_total (key bits) coord_total) (then_total (on_total (offset bits Upper) nat_cmp_total) (then_total (on_total (offset bits Lower) nat_cmp_total) (on_total (offset bits Leaf) nat_cmp_total)))
 
--- coordinates that it finds equal are one
+-- coordinates that block order finds equal are equal
 pub block_exact : (bits : Bits) (p q : Coord) → block_cmp bits p q ≡ Equal → p ≡ q
 block_exact bits p q h =
     let by : Level → Ordering = λ level. nat_cmp (offset bits level p) (offset bits level q) in

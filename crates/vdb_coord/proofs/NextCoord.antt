@@ -50,7 +50,7 @@ module _ (bits : Bits) (level : Level) (Shares Earlier : Coord → Coord → Typ
           ];
         }
 
-    -- where the part has no further block, what comes up to its end comes up to the block
+    -- if the part has no further block, what comes up to its end comes up to the block
     narrowed : IsNextBlock bits level part p None → (q : Coord) → is_inside box q ≡ true → ComesBefore bits q p ⊎ Shares q p → IsUpToBlock bits level p q
     narrowed none q i h =
         elim h [
@@ -75,12 +75,12 @@ module _ (bits : Bits) (level : Level) (box : Box) (p : Coord) (part : Box) (par
   part_same q i = number_in_block bits level (block_number bits level p) q (both (is_inside box q) (is_inside (block_around bits level p) q) (sym (parts q) ∙ i)).1
 
 module _ (bits : Bits) (box part : Box) (p : Coord) where
-  -- past a leaf block, in the lower block around it
+  -- past a leaf extent, in the lower extent around it
   pub leaf_found : IsPart bits Lower box p part → (next first : Coord) → IsNextBlock bits Leaf part p (Some next) → IsFirstInBlock bits Leaf box next first → IsNextCoord bits Leaf box p (Some first)
   leaf_found parts next first found least =
       found_coord bits Leaf (InLower bits) (IsLowerEarlier bits) (leaf_nested bits) box part p (in_part bits Lower box p part parts) next first (part_same bits Lower box p part parts next found.0) found least
 
-  -- or past that lower block, where it has none
+  -- past the lower extent around a leaf extent, if that has no further coordinate
   pub leaf_none : IsPart bits Lower box p part → IsNextBlock bits Leaf part p None → (found : Option Coord) → IsNextCoord bits Lower box p found → IsNextCoord bits Leaf box p found
   leaf_none parts none found h = by found h
     where
@@ -91,12 +91,12 @@ module _ (bits : Bits) (box part : Box) (p : Coord) where
       by None h = λ q i. narrow q i (h q i)
       by (Some next) h = record { inside = h.inside; past = λ q i e. h.past q i (lower_from_leaf bits q p e); between = λ q i c. narrow q i (h.between q i c) }
 
-  -- past a lower block, in the upper block around it
+  -- past a lower extent, in the upper extent around it
   pub lower_found : IsPart bits Upper box p part → (next first : Coord) → IsNextBlock bits Lower part p (Some next) → IsFirstInBlock bits Lower box next first → IsNextCoord bits Lower box p (Some first)
   lower_found parts next first found least =
       found_coord bits Lower (InUpper bits) (IsBlockBefore bits Upper) (lower_nested bits) box part p (in_part bits Upper box p part parts) next first (part_same bits Upper box p part parts next found.0) found least
 
-  -- or past that upper block
+  -- past the upper extent around a lower extent
   pub lower_none : IsPart bits Upper box p part → IsNextBlock bits Lower part p None → (found : Option Coord) → IsNextCoord bits Upper box p found → IsNextCoord bits Lower box p found
   lower_none parts none found h = by found h
     where
@@ -108,7 +108,7 @@ module _ (bits : Bits) (box part : Box) (p : Coord) where
       by (Some next) h = record { inside = h.inside; past = λ q i e. h.past q i (upper_from_lower bits q p e); between = λ q i c. narrow q i (h.between q i c) }
 
 module _ (bits : Bits) (box : Box) (p : Coord) where
-  -- past an upper block
+  -- past an upper extent
   pub upper_found : (next first : Coord) → IsNextBlock bits Upper box p (Some next) → IsFirstInBlock bits Upper box next first → IsNextCoord bits Upper box p (Some first)
   upper_found next first found least = found_coord bits Upper (AreAll bits) (AreNone bits) (upper_nested bits) box box p (λ q i s. i) next first tt found least
 
@@ -144,7 +144,7 @@ corner_inside a b p h k =
       inside_from b (corner a b) (right_up_to _ _) (le_through _ _ _ x v.0.1) (right_up_to _ _) (le_through _ _ _ y v.1.1) (right_up_to _ _) (le_through _ _ _ z v.2.1),
     )
 
--- it is the first coordinate of what the box has of a block
+-- the least corner is the first coordinate of what the box has of a block
 pub first_at_corner : (bits : Bits) (level : Level) (box : Box) (p : Coord) → is_inside box p ≡ true → IsFirstInBlock bits level box p (corner box (block_around bits level p))
 first_at_corner bits level box p i =
     let around = block_around bits level p in
@@ -158,7 +158,7 @@ first_at_corner bits level box p i =
           first_or_same bits (corner box around) q (up_to_both _ _ _ u.0.0 v.0.0) (up_to_both _ _ _ u.1.0 v.1.0) (up_to_both _ _ _ u.2.0 v.2.0);
     }
 
--- ---- fewer coordinates come past it
+-- ---- fewer coordinates come past the next coordinate
 
 module _ (bits : Bits) where
   -- fewer coordinates come past the next coordinate

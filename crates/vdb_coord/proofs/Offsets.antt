@@ -59,7 +59,7 @@ position_same low bits x y same equal =
     alike : (a b s t : ℤ) (d e : ℕ) → a ≡ s +ℤ pos d → b ≡ t +ℤ pos e → s ≡ t → a ≡ b → d ≡ e
     alike a b s t d e h k same equal = omega (arith, ints, h, k, same, equal)
 
--- what a number of a coarser block is, where that of a finer one is known
+-- what a number of a coarser block is, if that of a finer one is known
 same_axis : (bits : Bits) (level : Level) (p q : Coord) → block_number bits level p ≡ block_number bits level q
     → let k = entry_bits bits level + node_bits bits level in (number_at k p.x ≡ number_at k q.x) × (number_at k p.y ≡ number_at k q.y) × (number_at k p.z ≡ number_at k q.z)
 same_axis bits level p q e =

@@ -51,7 +51,7 @@ entries_power bits level h =
     let e : 1 * 2 ^ (3 * b) % 65536 ≡ 2 ^ (3 * b) = omega (arith, small) in
     e ∙ three_times b ∙ sym (cube_is (2 ^ b))
 
--- and as a power of 2
+-- how many entries, as a power of 2
 pub entries_is : (bits : Bits) (level : Level) → entries bits level ≡ 2 ^ (3 * node_bits bits level)
 entries_is bits level = let b = node_bits bits level in cube_is (2 ^ b) ∙ sym (three_times b)
 

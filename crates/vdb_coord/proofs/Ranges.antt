@@ -26,7 +26,7 @@ entry_start low b n d = first_of (low + b) n +ℤ pos (d * 2 ^ low)
 abbrev entry_stop : ℕ → ℕ → ℤ → ℕ → ℤ
 entry_stop low b n d = entry_start low b n d +ℤ pos (2 ^ low - 1)
 
--- a number of block n lies before or in the entry d exactly where its position isn't above d
+-- a number of block n lies before or in the entry d exactly if its position isn't above d
 position_upto : (low b : ℕ) (n x : ℤ) (d : ℕ) → d < 2 ^ b → number_at (low + b) x ≡ n → int_le (pos (digit low b x)) (pos d) ≡ int_le x (entry_stop low b n d)
 position_upto low b n x d small e =
     let entry = n *ℤ pos (2 ^ b) +ℤ pos d in
@@ -34,7 +34,7 @@ position_upto low b n x d small e =
     sym (cancelled (n *ℤ pos (2 ^ b)) (digit low b x) d) ∙ ap (λ (t : ℤ). int_le t entry) (sym split) ∙ sym (ends_by low entry x)
     ∙ ap (λ (t : ℤ). int_le x (t +ℤ pos (2 ^ low - 1))) (sym (first_of_entry low b n d small))
 
--- and in it or behind it exactly where d isn't above its position
+-- a number of block n lies in the entry d or behind it exactly if d isn't above its position
 position_from : (low b : ℕ) (n x : ℤ) (d : ℕ) → d < 2 ^ b → number_at (low + b) x ≡ n → int_le (pos d) (pos (digit low b x)) ≡ int_le (entry_start low b n d) x
 position_from low b n x d small e =
     let entry = n *ℤ pos (2 ^ b) +ℤ pos d in
@@ -76,7 +76,7 @@ stop_in low b n d small =
 
 -- ---- along one axis: the range from low to high within block n
 
--- both ends of what they have in common lie in the block
+-- both ends of what a range and a block have in common lie in the block
 ends_in : (k : ℕ) (n least greatest : ℤ) → int_le (int_max least (first_of k n)) (int_min greatest (last_of k n)) ≡ true
     → (number_at k (int_max least (first_of k n)) ≡ n) × (number_at k (int_min greatest (last_of k n)) ≡ n)
 ends_in k n least greatest h = (
@@ -125,7 +125,7 @@ common_by k p b =
     let high : ℤ → ℤ → ℤ = λ greatest x. int_min greatest (last_of k (number_at k x)) in
     record { min = coord (low b.min.x p.x) (low b.min.y p.y) (low b.min.z p.z); max = coord (high b.max.x p.x) (high b.max.y p.y) (high b.max.z p.z) }
 
--- the same of the level's block
+-- the same for the level's block
 abbrev pub common_with : Bits → Level → Coord → Box → Box
 common_with bits level p b =
     let block = block_around bits level p in
@@ -146,7 +146,7 @@ positions_by low b c =
     let along : ℤ → ℤ = λ x. pos (digit low b x) in
     record { min = coord (along c.min.x) (along c.min.y) (along c.min.z); max = coord (along c.max.x) (along c.max.y) (along c.max.z) }
 
--- they are in order
+-- the positions of those corners are in order
 pub positions_are_box : (bits : Bits) (level : Level) (p : Coord) (b : Box) → is_box (common_with bits level p b) ≡ true → is_box (positions_with bits level p b) ≡ true
 positions_are_box bits level p b h =
     let low = entry_bits bits level in
@@ -164,7 +164,7 @@ positions_are_box bits level p b h =
     (position_order low n (number_at k p.y) c.min.y c.max.y y.0 y.1 hs.1)
     (position_order low n (number_at k p.z) c.min.z c.max.z z.0 z.1 hs.2))
 
--- where an entry stands in its node
+-- the position of an entry in its node
 pub position_of_is : (bits : Bits) (level : Level) (i : ℕ) → let n = 2 ^ node_bits bits level in position_of bits level i ≡ coord (pos (i / n / n)) (pos (i / n % n)) (pos (i % n))
 position_of_is bits level i =
     let n = 2 ^ node_bits bits level in
@@ -189,7 +189,7 @@ positions_meet bits level p b i small h =
     ∙ (λ j. x j && y j && z j)
     ∙ ap (λ (t : Box). meets t b) (sym (sub_block_is bits level p i))
 
--- where the box and the block have nothing in common, no entry meets the box
+-- if the box and the block have nothing in common, no entry meets the box
 pub none_meets : (bits : Bits) (level : Level) (p : Coord) (b : Box) (i : ℕ) → i < entries bits level → is_box b ≡ true → is_box (common_with bits level p b) ≡ false
     → meets (sub_block bits level (block_around bits level p) i) b ≡ false
 none_meets bits level p b i small ordered out =

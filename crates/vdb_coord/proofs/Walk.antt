@@ -41,7 +41,7 @@ module _ (k : ℕ) (x : ℤ) where
       let reach : int_le (end +ℤ pos 1) (last_of k (n +ℤ pos 1)) ≡ true = grind (arith, ints) in
       le_from_test _ _ (sym (ends_by k (n +ℤ pos 1) (end +ℤ pos 1)) ∙ reach)
 
-  -- so what comes before that lies no further than the block itself
+  -- what comes before the next block lies no further than the block itself
   before_behind : (y : ℤ) → number_at k y <ℤ number_at k (end +ℤ pos 1) → number_at k y ≤ℤ number_at k x
   before_behind y h = let near = behind_near in omega (arith, ints, near, h)
 
@@ -196,7 +196,7 @@ module _ (p q : Coord) (high_x : q.x ≤ℤ pos 2147483647) (high_y : q.y ≤ℤ
   pub nearer_x : p.x <ℤ q.x → coordinates_after q < coordinates_after p
   nearer_x h = let f = fewer_after p.x q.x h high_x in omega (arith, f, few_y, few_z)
 
--- ---- where a walk begins
+-- ---- the start of a walk
 
 -- a box holds its least corner
 pub min_inside : (b : Box) → is_box b ≡ true → is_inside b b.min ≡ true
@@ -205,7 +205,7 @@ min_inside b h =
     let self : (x : ℤ) → x ≤ℤ x = λ x. omega (arith, ints) in
     inside_from b b.min (self b.min.x) (le_from_test _ _ t.0) (self b.min.y) (le_from_test _ _ t.1) (self b.min.z) (le_from_test _ _ t.2)
 
--- and none of its coordinates lies in a block before that
+-- no coordinate of a box lies in a block before that of its least corner
 pub none_before : (bits : Bits) (level : Level) (b : Box) (q : Coord) → is_inside b q ≡ true → IsBlockBefore bits level q b.min → ⊥
 none_before bits level b q inside before =
     let k = block_bits bits level in

@@ -21,13 +21,13 @@ node_bits bits Leaf = bits.leaf
 node_bits bits Lower = bits.lower
 node_bits bits Upper = bits.upper
 
--- how many bits lie below those: an entry spans 2 to that power
+-- how many bits lie below the node bits: an entry spans 2 to that power
 abbrev pub entry_bits : Bits → Level → ℕ
 entry_bits bits Leaf = 0
 entry_bits bits Lower = bits.leaf
 entry_bits bits Upper = bits.leaf + bits.lower
 
--- both together: a block of the level spans 2 to that power
+-- the entry bits and the node bits together: a block of the level spans 2 to that power
 abbrev pub block_bits : Bits → Level → ℕ
 block_bits bits Leaf = bits.leaf
 block_bits bits Lower = bits.leaf + bits.lower
@@ -49,7 +49,7 @@ span bits level = 2 ^ block_bits bits level
 abbrev pub block_number : Bits → Level → Coord → Coord
 block_number bits level p = by_component (number_at (block_bits bits level)) p
 
--- the key of p in the root table: the number of its root block
+-- the key of p in the root table: the number of its upper extent
 abbrev pub key : Bits → Coord → Coord
 key bits p = block_number bits Upper p
 
@@ -75,7 +75,7 @@ offset bits level p =
 abbrev pub entries : Bits → Level → ℕ
 entries bits level = width bits level ^ 3
 
--- their numbers; never computed in a goal, since a node has thousands
+-- the indexes of a node's entries; never computed in a goal, since a node has thousands
 unfoldable pub entry_numbers : Bits → Level → List ℕ
 entry_numbers bits level = range_with_len 0 (entries bits level)
 
@@ -96,7 +96,7 @@ block_cmp bits p q =
     let by : Level → Ordering = λ level. nat_cmp (offset bits level p) (offset bits level q) in
     ordering_then (coord_cmp (key bits p) (key bits q)) (ordering_then (by Upper) (ordering_then (by Lower) (by Leaf)))
 
--- whether p comes past the last coordinate in block order; each does where there is no last one
+-- whether p comes past the last coordinate in block order; each does if there is no last one
 abbrev pub is_past : Bits → Option Coord → Coord → Bool
 is_past bits None p = true
 is_past bits (Some last) p = is_lt (block_cmp bits last p)

@@ -22,13 +22,13 @@ entry_number bits level p =
     let number : ℤ → ℤ = number_at (entry_bits bits level) in
     coord (number p.x) (number p.y) (number p.z)
 
--- where p's entry is in the level's node around p, along each axis
+-- the position of p's entry in the level's node around p, along each axis
 abbrev pub position : Bits → Level → Coord → Coord
 position bits level p =
     let along : ℤ → ℤ = λ x. pos (digit (entry_bits bits level) (node_bits bits level) x) in
     coord (along p.x) (along p.y) (along p.z)
 
--- where entry i is in its node, along each axis
+-- the position of entry i in its node, along each axis
 abbrev pub position_of : Bits → Level → ℕ → Coord
 position_of bits level i =
     let n = width bits level in

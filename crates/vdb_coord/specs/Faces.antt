@@ -15,7 +15,7 @@ toward PlusY p = coord p.x (p.y +ℤ pos 1) p.z
 toward MinusZ p = coord p.x p.y (p.z -ℤ pos 1)
 toward PlusZ p = coord p.x p.y (p.z +ℤ pos 1)
 
--- the neighbour behind the face, where it lies within the range
+-- the neighbour behind the face, if it lies within the range
 abbrev pub neighbour : Face → Coord → Option Coord
 neighbour face p = if is_inside everywhere (toward face p) then Some (toward face p) else None
 

@@ -21,7 +21,7 @@ pub record IsFirstPast (bits : Bits) (level : Level) (box : Box) (p next : Coord
   pub past : (q : Coord) → IsTrue (is_inside box q) → block_number bits level q ≡ block_number bits level p → ComesBefore bits q next
   pub between : (q : Coord) → IsTrue (is_inside box q) → ComesBefore bits q next → IsUpToBlock bits level p q
 
--- that coordinate; none where no coordinate of the box comes past the block
+-- the first coordinate of the box past the block; none if no coordinate of the box comes past it
 abbrev pub IsNextCoord : Bits → Level → Box → Coord → Option Coord → Type 0
 IsNextCoord bits level box p None = (q : Coord) → IsTrue (is_inside box q) → IsUpToBlock bits level p q
 IsNextCoord bits level box p (Some next) = IsFirstPast bits level box p next

@@ -10,7 +10,7 @@ use Rattle.vdb_coord.specs.declared.Coord.{Coord}
 abbrev pub coord : ℤ → ℤ → ℤ → Coord
 coord x y z = record { x = x; y = y; z = z }
 
--- a coordinate whose components are made of p's
+-- a coordinate whose components are p's
 abbrev pub by_component : (ℤ → ℤ) → Coord → Coord
 by_component f p = coord (f p.x) (f p.y) (f p.z)
 
@@ -22,7 +22,7 @@ coord_cmp p q = ordering_then (int_cmp p.x q.x) (ordering_then (int_cmp p.y q.y)
 abbrev pub coord_eq : Coord → Coord → Bool
 coord_eq p q = is_eq (coord_cmp p q)
 
--- a box of coordinates, given by its least and its greatest corner, both of which it holds
+-- a box of coordinates, given by its least and its greatest corner, which both belong to it
 pub record Box : Type 0 where
   pub min : Coord
   pub max : Coord

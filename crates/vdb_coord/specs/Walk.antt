@@ -6,16 +6,16 @@ use Rattle.vdb_coord.specs.declared.Bits.{Bits}
 use Rattle.vdb_coord.specs.declared.Coord.{Coord}
 use Rattle.vdb_coord.specs.declared.Level.{Level}
 
--- one comes before another by x, then by y, then by z
+-- one coordinate comes before another by x, then by y, then by z
 abbrev pub IsBefore : Coord → Coord → Type 0
 IsBefore p q = (p.x <ℤ q.x) ⊎ (p.x ≡ q.x) × ((p.y <ℤ q.y) ⊎ (p.y ≡ q.y) × (p.z <ℤ q.z))
 
 module _ (bits : Bits) (level : Level) where
-  -- the level's block around p comes before that around q
+  -- the level's block around p comes before the block around q
   abbrev pub IsBlockBefore : Coord → Coord → Type 0
   IsBlockBefore p q = IsBefore (block_number bits level p) (block_number bits level q)
 
-  -- a coordinate of the box whose block is the first past p's; none where p's is the last block that meets the box
+  -- a coordinate of the box whose block is the first past p's; none if p's is the last block that meets the box
   abbrev pub IsNextBlock : Box → Coord → Option Coord → Type 0
   IsNextBlock box p None = (q : Coord) → IsTrue (is_inside box q) → IsBlockBefore q p ⊎ (block_number bits level q ≡ block_number bits level p)
   IsNextBlock box p (Some next) =

@@ -1,9 +1,9 @@
-//! One component of a coordinate, and the blocks of 2 to a power numbers each along its axis.
+//! One component of a coordinate, and the blocks of `2 ^ bits` numbers each along its axis.
 ghost use Rattle.std.specs.Prelude.{◌≡◌, ◌+◌, ◌-◌, ◌*◌, ◌<◌, ◌≤◌, ◌^◌, ◌&&◌, ℤ, pos, negsuc, ◌+ℤ◌, IsTrue, int_le};
 ghost use Rattle.vdb_coord.specs.Space.{extent, is_between};
 ghost use Rattle.vdb_coord.specs.Components.{digit, first_of, last_of, number_at};
 
-/// Two to the power `bits`.
+/// Returns 2 to the power `bits`.
 pub(crate) fn power(bits: u32) -> i32
     requires { bits ≤ 15 }
     ensures { result ≡ pos (2 ^ bits) }
@@ -11,7 +11,7 @@ pub(crate) fn power(bits: u32) -> i32
     1 << bits
 }
 
-/// How far the last number of a block of `2 ^ bits` lies from its first.
+/// Returns how far the last number of a block of `2 ^ bits` lies from its first.
 pub(crate) fn reach(bits: u32) -> i32
     requires { bits ≤ 15 }
     ensures { result ≡ pos (2 ^ bits - 1) }
@@ -19,7 +19,7 @@ pub(crate) fn reach(bits: u32) -> i32
     power(bits) - 1
 }
 
-/// The block of `2 ^ bits` numbers that holds the component, counted in such blocks.
+/// Returns the number of the block of `2 ^ bits` numbers that holds the component, counted in such blocks.
 pub(crate) fn number_at(component: i32, bits: u32) -> i32
     requires { bits ≤ 15 }
     ensures { result ≡ number_at bits component }
@@ -27,7 +27,7 @@ pub(crate) fn number_at(component: i32, bits: u32) -> i32
     component >> bits
 }
 
-/// The first number of the component's block of `2 ^ bits`.
+/// Returns the first number of the component's block of `2 ^ bits`.
 pub(crate) fn first_around(component: i32, bits: u32) -> i32
     requires { bits ≤ 15 }
     ensures { result ≡ first_of bits (number_at bits component) }
@@ -35,7 +35,7 @@ pub(crate) fn first_around(component: i32, bits: u32) -> i32
     number_at(component, bits) * power(bits)
 }
 
-/// The last number of the component's block of `2 ^ bits`.
+/// Returns the last number of the component's block of `2 ^ bits`.
 pub(crate) fn last_around(component: i32, bits: u32) -> i32
     requires { bits ≤ 15 }
     ensures { result ≡ last_of bits (number_at bits component) }
@@ -43,7 +43,8 @@ pub(crate) fn last_around(component: i32, bits: u32) -> i32
     first_around(component, bits) + reach(bits)
 }
 
-/// Which entry of `2 ^ low` numbers holds the component, in its block of `2 ^ bits` such entries.
+/// Returns the position of the entry of `2 ^ low` numbers that holds the component, in its block of `2 ^ bits` such
+/// entries.
 pub(crate) fn digit(component: i32, low: u32, bits: u32) -> u32
     requires low_fits { low ≤ 10 }
     requires bits_fit { bits ≤ 5 }
@@ -55,7 +56,7 @@ pub(crate) fn digit(component: i32, low: u32, bits: u32) -> u32
     (entry - block * power(bits)) as u32
 }
 
-/// How many entries of `bits` bits there are along an axis.
+/// Returns how many entries a node of `bits` bits has along an axis.
 pub(crate) fn width(bits: u32) -> u32
     requires { bits ≤ 5 }
     ensures value { result ≡ 2 ^ bits }
@@ -64,7 +65,8 @@ pub(crate) fn width(bits: u32) -> u32
     1 << bits
 }
 
-/// The first number of the entry of `2 ^ low` numbers in this position of the component's block of `2 ^ bits` entries.
+/// Returns the first number of the entry of `2 ^ low` numbers in this position of the component's block of `2 ^ bits`
+/// entries.
 pub(crate) fn entry_first(component: i32, low: u32, bits: u32, position: u32) -> i32
     requires low_fits { low ≤ 10 }
     requires bits_fit { bits ≤ 5 }
@@ -74,7 +76,8 @@ pub(crate) fn entry_first(component: i32, low: u32, bits: u32, position: u32) ->
     first_around(component, low + bits) + (position << low) as i32
 }
 
-/// The last number of that entry.
+/// Returns the last number of the entry of `2 ^ low` numbers in this position of the component's block of `2 ^ bits`
+/// entries.
 pub(crate) fn entry_last(component: i32, low: u32, bits: u32, position: u32) -> i32
     requires low_fits { low ≤ 10 }
     requires bits_fit { bits ≤ 5 }
@@ -84,7 +87,7 @@ pub(crate) fn entry_last(component: i32, low: u32, bits: u32, position: u32) -> 
     entry_first(component, low, bits, position) + reach(low)
 }
 
-/// How many whole numbers there are from `low` to `high`.
+/// Returns how many whole numbers lie from `low` to `high`, both counted.
 pub(crate) fn extent(low: i32, high: i32) -> u128
     requires { IsTrue (int_le low high) }
     ensures value { result ≡ extent low high }
@@ -93,21 +96,21 @@ pub(crate) fn extent(low: i32, high: i32) -> u128
     u128::from(high.abs_diff(low)) + 1
 }
 
-/// Whether the component is one of the numbers from `low` to `high`.
+/// Returns whether the component is one of the numbers from `low` to `high`.
 pub(crate) fn is_between(low: i32, high: i32, component: i32) -> bool
     ensures { result ≡ is_between low high component }
 {
     low <= component && component <= high
 }
 
-/// Whether the numbers from `low` to `high` and those from `least` to `greatest` have one in common.
+/// Returns whether the numbers from `low` to `high` and those from `least` to `greatest` have one in common.
 pub(crate) fn touches(low: i32, high: i32, least: i32, greatest: i32) -> bool
     ensures { result ≡ (int_le least high && int_le low greatest) }
 {
     least <= high && low <= greatest
 }
 
-/// The first number of the block of `2 ^ bits` numbers with this number.
+/// Returns the first number of the block of `2 ^ bits` numbers that has this number.
 pub(crate) fn first_numbered(number: i32, bits: u32) -> i32
     requires few { bits ≤ 15 }
     requires within { IsTrue (is_between (number_at bits (negsuc 2147483647)) (number_at bits (pos 2147483647)) number) }
@@ -116,7 +119,7 @@ pub(crate) fn first_numbered(number: i32, bits: u32) -> i32
     number * power(bits)
 }
 
-/// Its last number.
+/// Returns the last number of the block of `2 ^ bits` numbers that has this number.
 pub(crate) fn last_numbered(number: i32, bits: u32) -> i32
     requires few { bits ≤ 15 }
     requires within { IsTrue (is_between (number_at bits (negsuc 2147483647)) (number_at bits (pos 2147483647)) number) }

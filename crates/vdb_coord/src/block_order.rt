@@ -10,8 +10,8 @@ ghost use Rattle.vdb_coord.specs.declared.Level.TheVariants.{Leaf, Lower, Upper}
 use crate::{Bits, Bounds, Coord, Level};
 
 impl Bounds {
-    /// The first coordinate of the box, in block order, past the level's block around `p`, which is one of the box.
-    /// `None` where no coordinate of the box comes past that block.
+    /// Returns the first coordinate of the box, in block order, past the level's block around `p`, a coordinate of
+    /// the box. Returns `None` if no coordinate of the box comes past that block.
     pub fn next_coord_in(self, bits: Bits, level: Level, p: Coord) -> Option<Coord>
         requires bits { AreBits bits }
         requires inside { IsTrue (is_inside self p) }
@@ -25,7 +25,7 @@ impl Bounds {
         }
     }
 
-    /// That coordinate past a leaf block: first sought in the lower block around it.
+    /// Returns the next coordinate past a leaf extent. It looks in the lower extent around `p` first.
     fn coord_past_leaf(self, bits: Bits, p: Coord) -> Option<Coord>
         requires bits { AreBits bits }
         requires inside { IsTrue (is_inside self p) }
@@ -39,7 +39,7 @@ impl Bounds {
         }
     }
 
-    /// That coordinate past a lower block: first sought in the upper block around it.
+    /// Returns the next coordinate past a lower extent. It looks in the upper extent around `p` first.
     fn coord_past_lower(self, bits: Bits, p: Coord) -> Option<Coord>
         requires bits { AreBits bits }
         requires inside { IsTrue (is_inside self p) }
@@ -53,7 +53,7 @@ impl Bounds {
         }
     }
 
-    /// That coordinate past an upper block.
+    /// Returns the next coordinate past an upper extent.
     fn coord_past_upper(self, bits: Bits, p: Coord) -> Option<Coord>
         requires bits { AreBits bits }
         requires inside { IsTrue (is_inside self p) }
@@ -66,7 +66,7 @@ impl Bounds {
         }
     }
 
-    /// What the box has of the level's block around `p`, which is one of the box.
+    /// Returns what the box and the level's block around `p`, a coordinate of the box, have in common.
     fn part_around(self, bits: Bits, level: Level, p: Coord) -> Bounds
         requires bits { AreBits bits }
         requires inside { IsTrue (is_inside self p) }
@@ -78,7 +78,8 @@ impl Bounds {
         }
     }
 
-    /// The first coordinate, in block order, of what the box has of the level's block around `p`: its least corner.
+    /// Returns the first coordinate, in block order, that the box and the level's block around `p` have in common:
+    /// their common box's least corner.
     fn first_in_block(self, bits: Bits, level: Level, p: Coord) -> Coord
         requires bits { AreBits bits }
         requires inside { IsTrue (is_inside self p) }

@@ -7,9 +7,9 @@ ghost use Rattle.vdb_coord.specs.Walk.{IsNextBlock, coordinates_after};
 use crate::{Bits, Bounds, Coord, Level};
 
 impl Bounds {
-    /// A coordinate of the box in the next block of the level that meets it, behind the block around `p`: blocks are
-    /// passed by z, then by y, then by x. `None` where no further block meets the box. A walk begins at the box's least
-    /// corner and so has each block that meets the box once.
+    /// Returns a coordinate of the box in the next block of the level that meets the box, after the block around `p`.
+    /// Blocks follow one another by x, then by y, then by z, so z changes first. Returns `None` if no further block
+    /// meets the box. A walk that begins at the box's least corner visits each block that meets the box once.
     pub fn next_block_in(self, bits: Bits, level: Level, p: Coord) -> Option<Coord>
         requires bits { AreBits bits }
         requires inside { IsTrue (is_inside self p) }

@@ -14,7 +14,7 @@ use crate::{Bits, Bounds, Coord, Level};
 use std::cmp::Ordering;
 
 impl Coord {
-    /// Which of the level's blocks holds this coordinate, counted in blocks along each axis.
+    /// Returns the number of the level's block that holds this coordinate, counted in blocks along each axis.
     pub fn block_number_in(self, bits: Bits, level: Level) -> Coord
         requires { AreBits bits }
         ensures number { result ≡ block_number bits level self }
@@ -27,8 +27,8 @@ impl Coord {
         Coord { x, y, z }
     }
 
-    /// The key of this coordinate in a root table: the number of its root block (OpenVDB's `RootNode::coordToKey`,
-    /// counted in blocks).
+    /// Returns the key of this coordinate in a root table: the number of its upper extent, counted in upper extents
+    /// along each axis (OpenVDB's `RootNode::coordToKey`, which counts voxels).
     pub fn key_in(self, bits: Bits) -> Coord
         requires { AreBits bits }
         ensures key { result ≡ key bits self }
@@ -37,7 +37,8 @@ impl Coord {
         self.block_number_in(bits, Level::Upper)
     }
 
-    /// The entry of the level's node around this coordinate that holds it (OpenVDB's `coordToOffset`).
+    /// Returns the index of the entry that holds this coordinate, in the level's node around it (OpenVDB's
+    /// `coordToOffset`).
     pub fn offset_in(self, bits: Bits, level: Level) -> u16
         requires { AreBits bits }
         ensures value { result ≡ offset bits level self }
@@ -51,7 +52,7 @@ impl Coord {
         ((((x << node) + y) << node) + z) as u16
     }
 
-    /// `block_number_in` of a standard VDB tree.
+    /// Returns `block_number_in` of a standard VDB tree.
     pub fn block_number(self, level: Level) -> Coord
         ensures number { result ≡ block_number vdb level self }
         ensures within { IsTrue (is_inside (block_numbers vdb level) result) }
@@ -59,7 +60,7 @@ impl Coord {
         self.block_number_in(Bits::VDB, level)
     }
 
-    /// `key_in` of a standard VDB tree.
+    /// Returns `key_in` of a standard VDB tree.
     pub fn key(self) -> Coord
         ensures key { result ≡ key vdb self }
         ensures within { IsTrue (is_inside (block_numbers vdb Upper) result) }
@@ -67,7 +68,7 @@ impl Coord {
         self.key_in(Bits::VDB)
     }
 
-    /// `offset_in` of a standard VDB tree.
+    /// Returns `offset_in` of a standard VDB tree.
     pub fn offset(self, level: Level) -> u16
         ensures value { result ≡ offset vdb level self }
         ensures bound { result < entries vdb level }
@@ -75,7 +76,7 @@ impl Coord {
         self.offset_in(Bits::VDB, level)
     }
 
-    /// The least coordinate of the block of `2 ^ bits` along each axis around this one.
+    /// Returns the least coordinate of the block around this one that spans `2 ^ bits` voxels along each axis.
     fn first_in(self, bits: u32) -> Coord
         requires { bits ≤ 15 }
         ensures { let first : ℤ → ℤ = λ x. first_of bits (number_at bits x) in result ≡ coord (first self.x) (first self.y) (first self.z) }
@@ -86,7 +87,7 @@ impl Coord {
         Coord { x, y, z }
     }
 
-    /// The greatest coordinate of that block.
+    /// Returns the greatest coordinate of the block around this one that spans `2 ^ bits` voxels along each axis.
     fn last_in(self, bits: u32) -> Coord
         requires { bits ≤ 15 }
         ensures { let last : ℤ → ℤ = λ x. last_of bits (number_at bits x) in result ≡ coord (last self.x) (last self.y) (last self.z) }
@@ -97,7 +98,7 @@ impl Coord {
         Coord { x, y, z }
     }
 
-    /// The level's block around this coordinate: the one that holds it (OpenVDB's `getNodeBoundingBox`).
+    /// Returns the level's block that holds this coordinate (OpenVDB's `getNodeBoundingBox`).
     pub fn block_in(self, bits: Bits, level: Level) -> Bounds
         requires { AreBits bits }
         ensures { result ≡ block_around bits level self }
@@ -106,14 +107,15 @@ impl Coord {
         Bounds::between(self.first_in(low), self.last_in(low))
     }
 
-    /// `block_in` of a standard VDB tree.
+    /// Returns `block_in` of a standard VDB tree.
     pub fn block(self, level: Level) -> Bounds
         ensures { result ≡ block_around vdb level self }
     {
         self.block_in(Bits::VDB, level)
     }
 
-    /// The level's block whose number this is, counted in blocks along each axis: the root block of a key, for one.
+    /// Returns the level's block with this number, counted in blocks along each axis. The upper extent of a key is
+    /// one example.
     pub fn numbered_block_in(self, bits: Bits, level: Level) -> Bounds
         requires configured { AreBits bits }
         requires within { IsTrue (is_inside (block_numbers bits level) self) }
@@ -133,7 +135,7 @@ impl Coord {
         Bounds::between(min, max)
     }
 
-    /// The coordinates of the entry with this index in the level's node around this coordinate.
+    /// Returns the coordinates of the entry with this index in the level's node around this coordinate.
     pub fn entry_block_in(self, bits: Bits, level: Level, index: u16) -> Bounds
         requires configured { AreBits bits }
         requires within { index < entries bits level }
@@ -159,7 +161,8 @@ impl Coord {
         Bounds::between(min, max)
     }
 
-    /// Where the entry that holds this coordinate is in the level's node around it, counted in entries along each axis.
+    /// Returns the position of the entry that holds this coordinate in the level's node around it, counted in entries
+    /// along each axis.
     pub fn position_in(self, bits: Bits, level: Level) -> Coord
         requires { AreBits bits }
         ensures { result ≡ position bits level self }
@@ -172,7 +175,7 @@ impl Coord {
         Coord { x, y, z }
     }
 
-    /// Which of the two comes first in block order: by key, and for one key by upper, then lower, then leaf offset.
+    /// Compares two coordinates in block order: by key, and for equal keys by upper, then lower, then leaf offset.
     pub fn block_cmp_in(&self, bits: Bits, other: &Coord) -> Ordering
         requires { AreBits bits }
         ensures { result ≡ block_cmp bits self.now other.now }
@@ -187,7 +190,7 @@ impl Coord {
             .then(by(Level::Leaf))
     }
 
-    /// `block_cmp_in` of a standard VDB tree.
+    /// Returns `block_cmp_in` of a standard VDB tree.
     pub fn block_cmp(&self, other: &Coord) -> Ordering
         ensures { result ≡ block_cmp vdb self.now other.now }
     {

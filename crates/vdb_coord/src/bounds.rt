@@ -11,8 +11,8 @@ use crate::axis::{extent, is_between, touches};
 use crate::{Bits, Coord, Level};
 use std::marker::Model;
 
-/// A box of coordinates, given by its least and its greatest corner, both of which it holds (OpenVDB's `CoordBBox`). A
-/// box is never empty.
+/// A box of coordinates, given by its least and its greatest corner, which both belong to it (OpenVDB's `CoordBBox`).
+/// A box is never empty.
 #[derive(Clone, Copy, Debug, PartialEq, Eq)]
 pub struct Bounds {
     min: Coord,
@@ -33,7 +33,7 @@ impl Model for Bounds {
 }
 
 impl Coord {
-    /// The greater of two coordinates' components along each axis (OpenVDB's `Coord::maxComponent`).
+    /// Returns the greater of two coordinates' components along each axis (OpenVDB's `Coord::maxComponent`).
     pub fn greater(self, other: Coord) -> Coord
         ensures { result ≡ coord (int_max self.x other.x) (int_max self.y other.y) (int_max self.z other.z) }
     {
@@ -44,7 +44,7 @@ impl Coord {
         }
     }
 
-    /// The lesser of two coordinates' components along each axis (OpenVDB's `Coord::minComponent`).
+    /// Returns the lesser of two coordinates' components along each axis (OpenVDB's `Coord::minComponent`).
     pub fn lesser(self, other: Coord) -> Coord
         ensures { result ≡ coord (int_min self.x other.x) (int_min self.y other.y) (int_min self.z other.z) }
     {
@@ -57,8 +57,8 @@ impl Coord {
 }
 
 impl Bounds {
-    /// The box from the least corner to the greatest: `None` exactly where a component of the least is above the
-    /// greatest's.
+    /// Returns the box from the least corner to the greatest. Returns `None` exactly if a component of the least
+    /// corner is above the greatest's.
     pub fn new(min: Coord, max: Coord) -> Option<Bounds>
         ensures { result ≡ box_of min max }
     {
@@ -69,7 +69,7 @@ impl Bounds {
         }
     }
 
-    /// The box of all coordinates.
+    /// Returns the box of all coordinates.
     pub fn all() -> Bounds
         ensures { result ≡ everywhere }
     {
@@ -87,14 +87,14 @@ impl Bounds {
         Bounds::between(min, max)
     }
 
-    /// The box of one coordinate.
+    /// Returns the box of one coordinate.
     pub fn single(p: Coord) -> Bounds
         ensures { result ≡ record { min = p; max = p } }
     {
         Bounds::between(p, p)
     }
 
-    /// The box between two corners in order.
+    /// Returns the box between two corners in order.
     pub(crate) fn between(min: Coord, max: Coord) -> Bounds
         requires { IsTrue (is_box (record { min = min; max = max })) }
         ensures { result ≡ record { min = min; max = max } }
@@ -102,7 +102,7 @@ impl Bounds {
         Bounds { min, max }
     }
 
-    /// The least corner.
+    /// Returns the least corner.
     pub fn min(self) -> Coord
         ensures corner { result ≡ self.min }
         ensures bounds { IsTrue (is_bounds self) }
@@ -110,7 +110,7 @@ impl Bounds {
         self.min
     }
 
-    /// The greatest corner.
+    /// Returns the greatest corner.
     pub fn max(self) -> Coord
         ensures corner { result ≡ self.max }
         ensures bounds { IsTrue (is_bounds self) }
@@ -118,7 +118,7 @@ impl Bounds {
         self.max
     }
 
-    /// How many coordinates it holds, at most 2 to the power 96.
+    /// Returns how many coordinates the box holds, at most 2 to the power 96.
     pub fn volume(self) -> u128
         ensures value { result ≡ volume self }
         ensures bound { result ≤ 2 ^ 96 }
@@ -129,7 +129,7 @@ impl Bounds {
         x * y * z
     }
 
-    /// Whether it holds the coordinate.
+    /// Returns whether the box holds the coordinate.
     pub fn contains(self, p: Coord) -> bool
         ensures { result ≡ is_inside self p }
     {
@@ -139,14 +139,14 @@ impl Bounds {
         x & y & z
     }
 
-    /// Whether it holds every coordinate of the other box.
+    /// Returns whether the box holds every coordinate of the other box.
     pub fn covers(self, other: Bounds) -> bool
         ensures { result ≡ is_within other self }
     {
         self.contains(other.min) & self.contains(other.max)
     }
 
-    /// Whether some coordinate is inside both boxes (OpenVDB's `CoordBBox::hasOverlap`).
+    /// Returns whether some coordinate is inside both boxes (OpenVDB's `CoordBBox::hasOverlap`).
     pub fn meets(self, other: Bounds) -> bool
         ensures { result ≡ meets self other }
     {
@@ -156,7 +156,7 @@ impl Bounds {
         x & y & z
     }
 
-    /// The box of the coordinates that both hold: `None` exactly where there is none.
+    /// Returns the box of the coordinates that both boxes hold, and `None` exactly if they share none.
     pub fn intersect(self, other: Bounds) -> Option<Bounds>
         ensures value { result ≡ overlap self other }
         ensures both { IfSome result (λ b. (p : Coord) → is_inside b p ≡ (is_inside self p && is_inside other p)) }
@@ -167,8 +167,8 @@ impl Bounds {
         Bounds::new(min, max)
     }
 
-    /// The numbers of the level's blocks that have a coordinate in the box: from that of the least corner to that of
-    /// the greatest.
+    /// Returns the numbers of the level's blocks that have a coordinate in the box: from the number of the least
+    /// corner's block to the number of the greatest corner's.
     pub fn block_numbers_in(self, bits: Bits, level: Level) -> Bounds
         requires { AreBits bits }
         ensures numbers { result ≡ numbers_over bits level self }
@@ -180,7 +180,7 @@ impl Bounds {
         )
     }
 
-    /// How many of the level's blocks have a coordinate in the box.
+    /// Returns how many of the level's blocks have a coordinate in the box.
     pub fn blocks_meeting_in(self, bits: Bits, level: Level) -> u128
         requires { AreBits bits }
         ensures { result ≡ blocks_meeting bits level self }
@@ -188,15 +188,15 @@ impl Bounds {
         self.block_numbers_in(bits, level).volume()
     }
 
-    /// `blocks_meeting_in` of a standard VDB tree.
+    /// Returns `blocks_meeting_in` of a standard VDB tree.
     pub fn blocks_meeting(self, level: Level) -> u128
         ensures { result ≡ blocks_meeting vdb level self }
     {
         self.blocks_meeting_in(Bits::VDB, level)
     }
 
-    /// Which entries of the level's node around `p` have a coordinate in the box: a box of their positions in the node,
-    /// counted in entries along each axis, and `None` where no entry has one.
+    /// Returns which entries of the level's node around `p` have a coordinate in the box: a box of their positions in
+    /// the node, counted in entries along each axis. Returns `None` if no entry has one.
     pub fn entries_meeting_in(self, bits: Bits, level: Level, p: Coord) -> Option<Bounds>
         requires { AreBits bits }
         ensures some { IfSome result (λ positions. (i : ℕ) → i < entries bits level

@@ -4,10 +4,10 @@ ghost use Rattle.vdb_coord.specs.Faces.{neighbour};
 
 use crate::Coord;
 
-/// The six directions in which a voxel has a neighbour behind a face.
+/// The six directions in which a voxel has a face neighbour.
 #[derive(Clone, Copy, Debug, PartialEq, Eq)]
 pub enum Face {
-    /// Toward lesser x, and then on in the order of the axes.
+    /// Toward lesser x. The others follow in the order of the axes.
     MinusX,
     PlusX,
     MinusY,
@@ -17,7 +17,7 @@ pub enum Face {
 }
 
 impl Face {
-    /// Each direction once.
+    /// Returns each direction once.
     pub const ALL: [Face; 6] = [
         Face::MinusX,
         Face::PlusX,
@@ -29,8 +29,8 @@ impl Face {
 }
 
 impl Coord {
-    /// The coordinate behind the face, which differs by 1 in one component: `None` exactly where that component lies
-    /// outside 32 bits.
+    /// Returns the face neighbour in this direction, which differs by 1 in one component. Returns `None` exactly if
+    /// that component lies outside 32 bits.
     pub fn neighbour(self, face: Face) -> Option<Coord>
         ensures { result ≡ neighbour face self }
     {

@@ -1,4 +1,4 @@
-//! What the bits of a tree's nodes say of each level.
+//! The sizes of each level's nodes, entries and blocks, by the bits of a tree.
 ghost use Rattle.std.specs.Prelude.{◌≡◌, ◌<◌};
 ghost use Rattle.vdb_coord.specs.Blocks.{block_bits, entries, entry_bits, node_bits};
 ghost use Rattle.vdb_coord.specs.Entries.{AreBits, position_of};
@@ -7,7 +7,8 @@ use crate::axis::width;
 use crate::{Bits, Coord, Level};
 
 impl Bits {
-    /// How many bits tell the entries of the level's nodes apart along an axis.
+    /// Returns how many bits of a component tell the entries of the level's nodes apart: a node has 2 to that power
+    /// entries along an axis.
     pub fn node_bits(self, level: Level) -> u32
         ensures { result ≡ node_bits self level }
     {
@@ -18,7 +19,8 @@ impl Bits {
         }
     }
 
-    /// How many bits lie below those: an entry of the level's nodes spans 2 to that power along an axis.
+    /// Returns how many bits lie below the node bits: an entry of the level's nodes spans 2 to that power voxels
+    /// along an axis.
     pub fn entry_bits(self, level: Level) -> u32
         ensures { result ≡ entry_bits self level }
     {
@@ -29,7 +31,8 @@ impl Bits {
         }
     }
 
-    /// How many bits both are: a block of the level spans 2 to that power along an axis (OpenVDB's `TOTAL`).
+    /// Returns the entry bits and the node bits together: a block of the level spans 2 to that power voxels along an
+    /// axis (OpenVDB's `TOTAL`).
     pub fn block_bits(self, level: Level) -> u32
         ensures { result ≡ block_bits self level }
     {
@@ -40,7 +43,7 @@ impl Bits {
         }
     }
 
-    /// How many entries a node of the level has (OpenVDB's `NUM_VALUES`).
+    /// Returns how many entries a node of the level has (OpenVDB's `NUM_VALUES`).
     pub fn entries(self, level: Level) -> u16
         requires { AreBits self }
         ensures { result ≡ entries self level }
@@ -49,7 +52,7 @@ impl Bits {
         1 << (3 * bits)
     }
 
-    /// Where the entry with this index is in a node of the level, counted in entries along each axis.
+    /// Returns the position of the entry with this index in a node of the level, counted in entries along each axis.
     pub fn position_of(self, level: Level, index: u16) -> Coord
         requires configured { AreBits self }
         requires within { index < entries self level }

@@ -34,8 +34,8 @@ pub enum Level {
     Upper,
 }
 
-/// How many bits of each component tell the entries of a node apart, level by level, each from 1 to 5: a node has 2 to
-/// that power entries along an axis (the template parameter `Log2Dim` of OpenVDB's nodes).
+/// How many bits of each component tell the entries of a node apart, level by level, each from 1 to 5. A node has 2
+/// to that power entries along an axis (the template parameter `Log2Dim` of OpenVDB's nodes).
 #[derive(Clone, Copy, Debug, PartialEq, Eq)]
 pub struct Bits {
     pub upper: u8,
@@ -44,7 +44,8 @@ pub struct Bits {
 }
 
 impl Bits {
-    /// Those of the standard VDB tree: leaf nodes span 8 voxels, lower internal nodes 128, upper ones 4,096.
+    /// The bits of the standard VDB tree: leaf nodes span 8 voxels along each axis, lower internal nodes 128, upper
+    /// ones 4,096.
     pub const VDB: Bits = Bits {
         upper: 5,
         lower: 4,

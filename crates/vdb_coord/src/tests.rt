@@ -56,7 +56,7 @@ fn expect_corners(rt: &impl Abort, block: Bounds, min: Coord, max: Coord) {
     assert_eq!(rt; block.max(), max);
 }
 
-// The root block around a coordinate is the one with its key.
+// The upper extent around a coordinate is the one with its key.
 fn expect_numbered(rt: &impl Abort, p: Coord) {
     let block = p.key().numbered_block_in(Bits::VDB, Level::Upper);
     assert_eq!(rt; block, p.block(Level::Upper));
@@ -206,7 +206,7 @@ fn entries_that_meet_a_box(rt: HostRuntime) -> Result<(), Fail> {
     Ok(())
 }
 
-// The next leaf block that meets the box, from one of its coordinates on.
+// The next leaf extent that meets the box, from one of its coordinates on.
 fn next_leaf_block(bounds: Bounds, p: Coord) -> Option<Coord> {
     if !bounds.contains(p) {
         return None;

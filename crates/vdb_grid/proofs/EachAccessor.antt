@@ -24,7 +24,7 @@ some_same p q e = cc
 past : (coords : List (Option Coord)) (k : ℕ) (p : Coord) → length coords ≤ k → last coords k ≡ Some p → ⊥
 past coords k p b e = none_apart p (sym (get_or_past coords k None b) ∙ e)
 
--- an accessor that has a coordinate is there
+-- an accessor that has a coordinate is one of the grid's
 pub there : (coords : List (Option Coord)) (k : ℕ) (p : Coord) → last coords k ≡ Some p → k < length coords
 there coords k p e =
     elim (below_or k (length coords)) [
@@ -50,7 +50,7 @@ module _ {V : Type 0} (t : Layout V) where
   whole_as : (p q : Coord) (a b : TreePath V) → p ≡ q → a ≡ b → IsWhole vdb t a p → IsWhole vdb t b q
   whole_as p q a b e f h = rw (← e, ← f) h
 
-  -- with a coordinate and a whole path set
+  -- all paths stay whole if one accessor gets a coordinate and a whole path to it
   pub whole_set : (coords : List (Option Coord)) (paths : List (TreePath V)) (k : ℕ) (p : Coord) (cached : TreePath V) → k < length coords → k < length paths
       → ArePathsWhole t coords paths → IsWhole vdb t cached p → ArePathsWhole t (slice_set coords k (Some p)) (slice_set paths k cached)
   whole_set coords paths k p cached b d h w j q e =
@@ -64,7 +64,7 @@ module _ {V : Type 0} (t : Layout V) where
             whole_as q q _ _ refl (sym (get_or-set_other paths k j cached Empty s.1)) (h j q f)
       ]
 
-  -- with a coordinate set for which the path is whole
+  -- all paths stay whole if one accessor gets a coordinate for which its path is whole
   pub whole_moved : (coords : List (Option Coord)) (paths : List (TreePath V)) (k : ℕ) (p : Coord)
       → ArePathsWhole t coords paths → IsWhole vdb t (path paths k) p → ArePathsWhole t (slice_set coords k (Some p)) paths
   whole_moved coords paths k p h w j q e =
@@ -85,7 +85,7 @@ module _ {V : Type 0} (t : Layout V) where
   abbrev pub AreWholeBelow : List (Option Coord) → List (TreePath V) → ℕ → Type 0
   AreWholeBelow coords paths n = (k : ℕ) (p : Coord) → k < n → last coords k ≡ Some p → IsWhole vdb t (path paths k) p
 
-  -- one more, whose path was traced
+  -- one more accessor has a whole path after its path was traced
   pub whole_next : (coords : List (Option Coord)) (paths : List (TreePath V)) (i : ℕ) (p : Coord) (cached : TreePath V) → i < length paths
       → AreWholeBelow coords paths i → last coords i ≡ Some p → IsWhole vdb t cached p → AreWholeBelow coords (slice_set paths i cached) (i + 1)
   whole_next coords paths i p cached b h s w k q l e =
@@ -99,7 +99,7 @@ module _ {V : Type 0} (t : Layout V) where
   pub set_length : (paths : List (TreePath V)) (i : ℕ) (cached : TreePath V) → length (slice_set paths i cached) ≡ length paths
   set_length paths i cached = grind (arith, common_steps)
 
-  -- or one that was given no coordinate
+  -- one more accessor has a whole path if it was given no coordinate
   pub none_next : (coords : List (Option Coord)) (paths : List (TreePath V)) (i : ℕ) → AreWholeBelow coords paths i → last coords i ≡ None → AreWholeBelow coords paths (i + 1)
   none_next coords paths i h s k q l e =
       elim (eqb_tells k i) [
@@ -113,7 +113,7 @@ module _ {V : Type 0} (t : Layout V) where
   pub nothing_whole : (n : ℕ) (paths : List (TreePath V)) → ArePathsWhole t (replicate n None) paths
   nothing_whole n paths k p e = absurd (none_apart p (sym (nothing_last n k) ∙ e))
 
-  -- and of an accessor that was given none the path may be emptied
+  -- the path of an accessor that was given no coordinate may be emptied
   pub whole_emptied : (coords : List (Option Coord)) (paths : List (TreePath V)) (k : ℕ) → last coords k ≡ None → ArePathsWhole t coords paths → ArePathsWhole t coords (slice_set paths k Empty)
   whole_emptied coords paths k s h j q e =
       elim (eqb_tells j k) [
@@ -121,6 +121,6 @@ module _ {V : Type 0} (t : Layout V) where
         | inr f ↦ whole_as q q _ _ refl (sym (get_or-set_other paths k j Empty Empty f.1)) (h j q e)
       ]
 
-  -- where a path is whole it lives
+  -- a whole path is live
   pub start_lives : (coords : List (Option Coord)) (paths : List (TreePath V)) (k : ℕ) (p : Coord) → ArePathsWhole t coords paths → last coords k ≡ Some p → Lives vdb t (path paths k) p
   start_lives coords paths k p h e = (h k p e).lives

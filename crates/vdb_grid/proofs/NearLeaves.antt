@@ -1,4 +1,4 @@
--- Paths within one leaf block.
+-- Paths within one leaf extent.
 use Rattle.std.proofs.Common.{◌≡◌, ℕ, ◌+◌, ◌-◌, ◌≤◌, true, false, refl, sym, ap, subst, ◌∙◌, arith, inl, inr, List}
 use Rattle.std.specs.Prelude.{Option, Some, None, IfSome, is_some, slice_set}
 use Rattle.vdb_coord.specs.Blocks.{block_number, vdb}
@@ -31,14 +31,14 @@ module _ {V : Type 0} (t : Layout V) (q p : Coord) where
   lower_same : (u l : Place (List (Entry V))) → block_number vdb Lower q ≡ block_number vdb Lower p → ◌≡◌ {A = TreePath V} (common_lower vdb q p u l) (ToLower u l)
   lower_same u l e = let s : coord_eq (block_number vdb Lower q) (block_number vdb Lower p) ≡ true = coord_self _ _ e in rw s refl
 
-  -- in one leaf block the whole path is shared
+  -- in one leaf extent the whole path is shared
   pub common_same : (path : TreePath V) → block_number vdb Leaf q ≡ block_number vdb Leaf p → common vdb q p path ≡ path
   common_same Empty e = refl
   common_same (ToUpper u) e = upper_same u (upper_from_lower vdb q p (lower_from_leaf vdb q p e))
   common_same (ToLower u l) e = lower_same u l (lower_from_leaf vdb q p e)
   common_same (ToLeaf u l f) e = let s : coord_eq (block_number vdb Leaf q) (block_number vdb Leaf p) ≡ true = coord_self _ _ e in rw s refl
 
-  -- and the same nodes are met
+  -- in one leaf extent the descents meet the same nodes
   pub down_same : block_number vdb Leaf q ≡ block_number vdb Leaf p → down_count vdb t q ≡ down_count vdb t p
   down_same e =
       let r = lower_from_leaf vdb q p e in
@@ -47,7 +47,7 @@ module _ {V : Type 0} (t : Layout V) (q p : Coord) where
       let c = lower_by_block vdb t q p e in
       rw (c, b, a) refl
 
-  -- from a whole path to a coordinate of the same leaf block there is at most one node to visit
+  -- from a whole path to a coordinate of the same leaf extent at most one node is left to visit
   pub near_visits : (path : TreePath V) → block_number vdb Leaf q ≡ block_number vdb Leaf p → IsWhole vdb t path q → down_count vdb t p - (depth (common vdb q p path) - 1) ≤ 1
   near_visits path e w =
       let a : depth (common vdb q p path) ≡ depth path = ap depth (common_same path e) in
@@ -55,7 +55,7 @@ module _ {V : Type 0} (t : Layout V) (q p : Coord) where
       let d = down_same e in
       omega (arith, a, b, d)
 
-  -- a whole path is one for each coordinate of the block
+  -- a whole path is whole for each coordinate of the leaf extent
   pub whole_same : (path : TreePath V) → block_number vdb Leaf q ≡ block_number vdb Leaf p → IsWhole vdb t path q → IsWhole vdb t path p
   whole_same path b h = record {
     lives = rw (common_same path b) at (common_lives vdb t q p path h.lives);
@@ -63,7 +63,7 @@ module _ {V : Type 0} (t : Layout V) (q p : Coord) where
   }
 
 module _ {V : Type 0} (q p : Coord) where
-  -- a path that shares a leaf with p is one to a coordinate of p's leaf block
+  -- a path that shares a leaf with p leads to a coordinate of p's leaf extent
   pub near_block : (path : TreePath V) → ends_in_leaf (common vdb q p path) ≡ true → block_number vdb Leaf q ≡ block_number vdb Leaf p
   near_block Empty e = absurd (apart (sym e))
   near_block (ToUpper u) e = absurd (apart (sym e ∙ no_leaf_upper vdb q p u))
@@ -101,11 +101,11 @@ module _ {V : Type 0} (t : Layout V) (q p : Coord) (path : TreePath V) where
   leaf_depth (ToLower u l) e = absurd (apart (sym e))
   leaf_depth (ToLeaf u l f) e = refl
 
-  -- a whole path to q that ends in a leaf that holds p is one to p
+  -- a whole path to q that ends in a leaf that holds p is whole for p
   pub whole_here : ends_in_leaf (common vdb q p path) ≡ true → IsWhole vdb t path q → IsWhole vdb t path p
   whole_here e h = whole_same t q p path (near_block q p path e) h
 
-  -- and it is one visit from there to p
+  -- from a path that ends in a leaf that holds p, one visit reaches p
   pub leaf_visit : ends_in_leaf (common vdb q p path) ≡ true → IsWhole vdb t path q → 1 ≤ down_count vdb t p - (depth (common vdb q p path) - 1)
   leaf_visit e h =
       let w = whole_of_leaf t (common vdb q p path) p e (common_lives vdb t q p path h.lives) in
@@ -120,7 +120,7 @@ pub near_whole : {V X : Type 0} (t : Layout V) (coords : List (Option Coord)) (p
 near_whole t coords paths k q p None h s e = tt
 near_whole t coords paths k q p (Some x) h s e = whole_here t q p (path paths k) (sym e) (h k q s)
 
--- where that leaf holds p, one visit is what lies below the lowest cached node
+-- if the leaf that ends a path holds p, one visit covers all below the lowest cached node
 pub near_below : {V : Type 0} (t : Layout V) (coords : List (Option Coord)) (paths : List (TreePath V)) (k : ℕ) (q p : Coord) (old new : ℕ)
     → ArePathsWhole t coords paths → last coords k ≡ Some q → has_leaf (last coords k) (path paths k) p ≡ true → new ≤ old + 1
     → new ≤ old + (down_count vdb t p - (depth (common vdb q p (path paths k)) - 1))

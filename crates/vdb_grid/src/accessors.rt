@@ -1,4 +1,4 @@
-//! Paths of accessors, traced anew after a change of the tree.
+//! Paths of accessors, traced again after a change of the tree.
 
 ghost use Rattle.std.specs.Prelude.{◌≡◌, ◌+◌, ◌*◌, ◌≤◌, length};
 ghost use Rattle.vdb_grid.specs.Grid.{ArePathsWhole};
@@ -8,7 +8,8 @@ use vdb_node::Stored;
 use vdb_pool::Steps;
 use vdb_tree::{Path, Tree};
 
-/// Traces the path to each coordinate that an accessor was last given, by at most three visits each and without memory.
+/// Traces the path to each coordinate that an accessor was last given, by at most three visits each and without
+/// memory.
 pub fn retrace<V: Stored<512> + Stored<64> + Stored<8>>(
     tree: &Tree<V>,
     coords: &[Option<Coord>],

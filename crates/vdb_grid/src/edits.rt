@@ -1,4 +1,4 @@
-//! What changes a grid beyond a voxel: each call makes the change on the tree, and then traces the path of each accessor anew.
+//! Calls that change a grid beyond a voxel: each changes the tree, and then traces the path of each accessor again.
 
 ghost use Rattle.std.specs.Prelude.{◌≡◌, ◌≤◌, Err, IfErr, OnErr, OnOk, true};
 ghost use Rattle.vdb_coord.specs.Blocks.{vdb};
@@ -27,7 +27,8 @@ use vdb_tree::{Tree, TreeRefusal};
 use vdb_value::Cell;
 
 impl<V: Stored<512> + Stored<64> + Stored<8>, const K: usize> Grid<V, K> {
-    /// Gives each coordinate of the box this cell, as `vdb_region::fill` does.
+    /// Sets each coordinate of the box to this cell, as `vdb_region::fill` does. It fails with `RootLimit` or
+    /// `Memory`, and then every cell stays.
     pub fn fill(
         &mut self,
         bounds: Bounds,
@@ -46,7 +47,8 @@ impl<V: Stored<512> + Stored<64> + Stored<8>, const K: usize> Grid<V, K> {
         outcome
     }
 
-    /// Makes each coordinate outside the box the background, inactive, as `vdb_region::clip` does.
+    /// Sets each coordinate outside the box to the background, inactive, as `vdb_region::clip` does. It fails with
+    /// `Memory`, and then every cell stays.
     pub fn clip(&mut self, bounds: Bounds, steps: &mut Steps) -> Result<(), TreeRefusal>
         ensures outcome { IsOutcome V.eq vdb self.old.tree.limit (field_of vdb self.old.tree)
             (clipped bounds (field_of vdb self.old.tree)) (field_of vdb self.new.tree) result }
@@ -60,7 +62,7 @@ impl<V: Stored<512> + Stored<64> + Stored<8>, const K: usize> Grid<V, K> {
         outcome
     }
 
-    /// Replaces each node whose cells are all equal by a tile, as the tree's `prune` does.
+    /// Collapses each node whose cells are all equal into a tile, as the tree's `prune` does. No cell changes.
     pub fn prune(&mut self, steps: &mut Steps)
         ensures field { field_of vdb self.new.tree ≡ field_of vdb self.old.tree }
         ensures limit { self.new.tree.limit ≡ self.old.tree.limit }
@@ -71,7 +73,8 @@ impl<V: Stored<512> + Stored<64> + Stored<8>, const K: usize> Grid<V, K> {
         retrace(&self.tree, &self.coords, &mut self.paths, steps);
     }
 
-    /// Puts each active voxel of the box in a leaf, as the tree's `voxelise` does.
+    /// Gives each active voxel of the box a leaf, as the tree's `voxelise` does. It fails with `Memory`. Every cell
+    /// stays, with or without an error.
     pub fn voxelise(&mut self, bounds: Bounds, steps: &mut Steps) -> Result<(), TreeRefusal>
         ensures field { field_of vdb self.new.tree ≡ field_of vdb self.old.tree }
         ensures limit { self.new.tree.limit ≡ self.old.tree.limit }
@@ -88,7 +91,8 @@ impl<V: Stored<512> + Stored<64> + Stored<8>, const K: usize> Grid<V, K> {
         outcome
     }
 
-    /// Makes each voxel active that is so in the other tree, as `vdb_topology::unite` does.
+    /// Activates each voxel that is active in the other tree, as `vdb_topology::unite` does. It fails with
+    /// `RootLimit` or `Memory`, and then every cell stays.
     pub fn unite<X: Stored<512> + Stored<64> + Stored<8>>(
         &mut self,
         other: &Tree<X>,
@@ -104,7 +108,8 @@ impl<V: Stored<512> + Stored<64> + Stored<8>, const K: usize> Grid<V, K> {
         outcome
     }
 
-    /// Makes each voxel inactive that is active in the other tree, as `vdb_topology::subtract` does.
+    /// Deactivates each voxel that is active in the other tree, as `vdb_topology::subtract` does. It fails with
+    /// `Memory`, and then every cell stays.
     pub fn subtract<X: Stored<512> + Stored<64> + Stored<8>>(
         &mut self,
         other: &Tree<X>,
@@ -121,7 +126,8 @@ impl<V: Stored<512> + Stored<64> + Stored<8>, const K: usize> Grid<V, K> {
         outcome
     }
 
-    /// Makes each voxel inactive that isn't active in the other tree, as `vdb_topology::intersect` does.
+    /// Deactivates each voxel that isn't active in the other tree, as `vdb_topology::intersect` does. It fails with
+    /// `Memory`, and then every cell stays.
     pub fn intersect<X: Stored<512> + Stored<64> + Stored<8>>(
         &mut self,
         other: &Tree<X>,
@@ -138,7 +144,8 @@ impl<V: Stored<512> + Stored<64> + Stored<8>, const K: usize> Grid<V, K> {
         outcome
     }
 
-    /// Takes the greater value of the two trees, as `vdb_composite::maximum` does.
+    /// Sets each coordinate to the greater of the two trees' values, as `vdb_composite::maximum` does. It fails with
+    /// `RootLimit` or `Memory`, and then the grid stays as it was.
     pub fn maximum(&mut self, other: &Tree<V>, steps: &mut Steps) -> Result<(), TreeRefusal>
         ensures outcome { IsOutcome V.eq vdb self.old.tree.limit (field_of vdb self.old.tree)
             (combine V.greater (field_of vdb self.old.tree) (field_of vdb other.now)) (field_of vdb self.new.tree) result }
@@ -151,7 +158,8 @@ impl<V: Stored<512> + Stored<64> + Stored<8>, const K: usize> Grid<V, K> {
         Ok(())
     }
 
-    /// Takes the lesser value of the two trees, as `vdb_composite::minimum` does.
+    /// Sets each coordinate to the lesser of the two trees' values, as `vdb_composite::minimum` does. It fails with
+    /// `RootLimit` or `Memory`, and then the grid stays as it was.
     pub fn minimum(&mut self, other: &Tree<V>, steps: &mut Steps) -> Result<(), TreeRefusal>
         ensures outcome { IsOutcome V.eq vdb self.old.tree.limit (field_of vdb self.old.tree)
             (combine V.lesser (field_of vdb self.old.tree) (field_of vdb other.now)) (field_of vdb self.new.tree) result }
@@ -164,7 +172,8 @@ impl<V: Stored<512> + Stored<64> + Stored<8>, const K: usize> Grid<V, K> {
         Ok(())
     }
 
-    /// Takes the other tree's cell where that is active, as `vdb_composite::replace` does.
+    /// Copies the other tree's active cells, as `vdb_composite::replace` does. It fails with `RootLimit` or `Memory`,
+    /// and then the grid stays as it was.
     pub fn replace(&mut self, other: &Tree<V>, steps: &mut Steps) -> Result<(), TreeRefusal>
         ensures outcome { IsOutcome V.eq vdb self.old.tree.limit (field_of vdb self.old.tree)
             (replaced (field_of vdb self.old.tree) (field_of vdb other.now)) (field_of vdb self.new.tree) result }
@@ -177,7 +186,8 @@ impl<V: Stored<512> + Stored<64> + Stored<8>, const K: usize> Grid<V, K> {
         Ok(())
     }
 
-    /// Gives each coordinate the sum of its two values, as `vdb_composite::sum` does. Truth values have no sums.
+    /// Sets each coordinate to the sum of its two values, as `vdb_composite::sum` does. Booleans have no sums. It
+    /// fails with `SumRange`, `RootLimit` or `Memory`, and then the grid stays as it was.
     pub fn sum(&mut self, other: &Tree<V>, steps: &mut Steps) -> Result<(), SumRefusal>
         requires { V.SUMS ≡ true }
         ensures outcome { IsSumOutcome V.eq V.sum_of vdb self.old.tree.limit (field_of vdb self.old.tree)
@@ -191,7 +201,8 @@ impl<V: Stored<512> + Stored<64> + Stored<8>, const K: usize> Grid<V, K> {
         Ok(())
     }
 
-    /// Makes each voxel active, in each of 1 to 16 turns, that has an active face neighbour, as `vdb_morph::dilate` does.
+    /// Activates, in each of 1 to 16 iterations, every voxel that has an active face neighbour, as
+    /// `vdb_morph::dilate` does. It fails with `RootLimit` or `Memory`, and then every cell stays.
     pub fn dilate(&mut self, turns: u32, steps: &mut Steps) -> Result<(), TreeRefusal>
         requires some { 1 ≤ turns }
         requires few { turns ≤ 16 }
@@ -205,7 +216,8 @@ impl<V: Stored<512> + Stored<64> + Stored<8>, const K: usize> Grid<V, K> {
         outcome
     }
 
-    /// Makes each voxel inactive, in each of 1 to 16 turns, that has an inactive face neighbour, as `vdb_morph::erode` does.
+    /// Deactivates, in each of 1 to 16 iterations, every voxel that has an inactive face neighbour, as
+    /// `vdb_morph::erode` does. It fails with `Memory`, and then every cell stays.
     pub fn erode(&mut self, turns: u32, steps: &mut Steps) -> Result<(), TreeRefusal>
         requires some { 1 ≤ turns }
         requires few { turns ≤ 16 }

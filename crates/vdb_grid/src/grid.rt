@@ -30,7 +30,7 @@ pub struct Grid<V: Stored<512> + Stored<64> + Stored<8>, const K: usize> {
     pub(crate) tree: Tree<V>,
     // The coordinate that each accessor was last given.
     pub(crate) coords: [Option<Coord>; K],
-    // The path to it; any path where there is none.
+    // The path to it; any path if there is none.
     pub(crate) paths: [Path<V>; K],
 }
 
@@ -49,8 +49,8 @@ impl<V: Stored<512> + Stored<64> + Stored<8>, const K: usize> Model for Grid<V, 
 }
 
 impl<V: Stored<512> + Stored<64> + Stored<8>, const K: usize> Grid<V, K> {
-    /// A grid without nodes, where each coordinate has the background, inactive, and with a limit of root blocks. Its
-    /// accessors were given no coordinate.
+    /// Returns a grid without nodes, whose every coordinate has the background, inactive. At most `limit` of its upper
+    /// extents may hold another cell. Its accessors were given no coordinate.
     pub fn new(alloc: Global, background: V, limit: u32) -> Self
         ensures field { field_of vdb result.tree ≡ new background }
         ensures limit { result.tree.limit ≡ limit }
@@ -63,7 +63,7 @@ impl<V: Stored<512> + Stored<64> + Stored<8>, const K: usize> Grid<V, K> {
         }
     }
 
-    /// The grid of a tree, with accessors that were given no coordinate. It takes no memory.
+    /// Returns the grid of a tree, with accessors that were given no coordinate. It takes no memory.
     pub fn from_tree(tree: Tree<V>) -> Self
         ensures tree { result.tree ≡ tree }
         ensures last { (k : ℕ) → last result.coords k ≡ None }
@@ -75,14 +75,14 @@ impl<V: Stored<512> + Stored<64> + Stored<8>, const K: usize> Grid<V, K> {
         }
     }
 
-    /// The tree.
+    /// Returns the tree.
     pub fn tree(&self) -> &Tree<V>
         ensures { result.now ≡ self.now.tree }
     {
         &self.tree
     }
 
-    /// The coordinate that an accessor was last given, by a probe or by a write through it.
+    /// Returns the coordinate that an accessor was last given, by a probe or by a write through it.
     pub fn cached(&self, k: usize) -> Option<Coord>
         requires { k < K }
         ensures { result ≡ last self.now.coords k }
@@ -90,8 +90,9 @@ impl<V: Stored<512> + Stored<64> + Stored<8>, const K: usize> Grid<V, K> {
         self.coords[k]
     }
 
-    /// The cell of a voxel through an accessor: by the descent from the lowest node that the accessor caches and that contains
-    /// the voxel (OpenVDB's `ValueAccessor::getValue`). In the leaf block of the last coordinate it visits at most one node.
+    /// Returns the cell of a voxel through an accessor. The descent begins at the lowest node that the accessor
+    /// caches and that contains the voxel (OpenVDB's `ValueAccessor::getValue`). In the leaf extent of the last
+    /// coordinate it visits at most one node.
     #[inline(always)]
     pub fn probe(&mut self, k: usize, p: Coord, steps: &mut Steps) -> Cell<V>
         requires { k < K }
@@ -114,7 +115,7 @@ impl<V: Stored<512> + Stored<64> + Stored<8>, const K: usize> Grid<V, K> {
         }
     }
 
-    /// The cell of a voxel in the leaf that the accessor's path ends in, where that holds it.
+    /// Returns the cell of a voxel in the leaf that ends the accessor's path, if that leaf holds the voxel.
     #[inline(always)]
     fn near_cell(&self, k: usize, p: Coord, steps: &mut Steps) -> Option<Cell<V>>
         requires { k < K }
@@ -127,8 +128,8 @@ impl<V: Stored<512> + Stored<64> + Stored<8>, const K: usize> Grid<V, K> {
         self.tree.cell_near(&self.paths[k], q, p, steps)
     }
 
-    /// The cell of a voxel by the descent from the lowest node of the accessor's path that contains it. The accessor then
-    /// caches the path to the voxel.
+    /// Returns the cell of a voxel by the descent from the lowest node of the accessor's path that contains it. The
+    /// accessor then caches the path to the voxel.
     #[inline(never)]
     fn go_to(&mut self, k: usize, p: Coord, steps: &mut Steps) -> Cell<V>
         requires { k < K }
@@ -148,8 +149,9 @@ impl<V: Stored<512> + Stored<64> + Stored<8>, const K: usize> Grid<V, K> {
         cell
     }
 
-    /// Where a descent to `p` through an accessor begins: the coordinate that it was last given, with the path to it. Where it
-    /// was given none, its path gets no node, and the descent begins at `p` itself.
+    /// Returns the coordinate at which a descent to `p` through an accessor begins: the one that the accessor was
+    /// last given, with the path to it. If it was given none, its path is emptied, and the descent begins at `p`
+    /// itself.
     #[inline(always)]
     fn start(&mut self, k: usize, p: Coord) -> Coord
         requires { k < K }
@@ -168,7 +170,8 @@ impl<V: Stored<512> + Stored<64> + Stored<8>, const K: usize> Grid<V, K> {
         }
     }
 
-    /// Writes a voxel, as the tree's `write` does, and traces the path of each accessor anew.
+    /// Writes a voxel, as the tree's `write` does, and traces the path of each accessor again. It fails with
+    /// `RootLimit` or `Memory`, and then every cell stays.
     #[inline(never)]
     pub fn write(
         &mut self,
@@ -193,9 +196,10 @@ impl<V: Stored<512> + Stored<64> + Stored<8>, const K: usize> Grid<V, K> {
         outcome
     }
 
-    /// Writes a voxel through an accessor, which then caches the path to it, whether the write is accepted or refused. Where the
-    /// cached path ends in a leaf that holds the voxel, that leaf alone is visited (OpenVDB's `ValueAccessor::setValue`); in any
-    /// other leaf it takes the descent from the lowest cached node that contains the voxel.
+    /// Writes a voxel through an accessor, which then caches the path to it, with or without an error. If the cached
+    /// path ends in a leaf that holds the voxel, that leaf alone is visited (OpenVDB's `ValueAccessor::setValue`). In
+    /// any other leaf it takes the descent from the lowest cached node that contains the voxel. It fails with
+    /// `RootLimit` or `Memory`, and then every cell stays.
     #[inline(always)]
     pub fn write_by(
         &mut self,
@@ -228,8 +232,8 @@ impl<V: Stored<512> + Stored<64> + Stored<8>, const K: usize> Grid<V, K> {
         self.write(p, change, steps)
     }
 
-    /// Writes a voxel in the leaf that the accessor's path ends in, where that holds the voxel, by one visit. The answer says
-    /// whether it does; where it doesn't, nothing changes.
+    /// Writes a voxel in the leaf that ends the accessor's path, if that leaf holds the voxel, by one visit. Returns
+    /// whether it does; if not, nothing changes.
     #[inline(always)]
     fn write_near(&mut self, k: usize, p: Coord, change: Write<V>, steps: &mut Steps) -> bool
         requires { k < K }
@@ -249,13 +253,13 @@ impl<V: Stored<512> + Stored<64> + Stored<8>, const K: usize> Grid<V, K> {
         if !self.tree.write_near(&path, q, p, change, steps) {
             return false;
         }
-        let _ = self.tree.limit(); // no more root blocks than the limit hold anything but the background
+        let _ = self.tree.limit(); // no more upper extents than the limit hold anything but the background
         self.coords[k] = Some(p);
         true
     }
 
-    /// A grid with the same cells, tiles, nodes, background and limit, and with accessors that were given no coordinate.
-    /// `Memory` says that a growth was refused.
+    /// Returns a grid with the same cells, tiles, nodes, background and limit, and with accessors that were given no
+    /// coordinate. It fails with `Memory` after an allocation failure.
     pub fn try_copy(&self) -> Result<Self, TreeRefusal>
         ensures field { IfOk result (λ copy. field_of vdb copy.tree ≡ field_of vdb self.now.tree) }
         ensures limit { IfOk result (λ copy. copy.tree.limit ≡ self.now.tree.limit) }
@@ -272,8 +276,8 @@ impl<V: Stored<512> + Stored<64> + Stored<8>, const K: usize> Grid<V, K> {
     }
 }
 
-/// The same coordinate, made anew from its components. A call takes a coordinate by its address: one that is made for a call alone
-/// leaves the other in registers.
+/// Returns the same coordinate, made from its components. A call takes a coordinate by its address: one that is made
+/// for a call alone leaves the other in registers.
 #[inline(always)]
 fn copied(p: Coord) -> Coord
     ensures { result ≡ p }

@@ -1,4 +1,4 @@
-//! Accessors beside the tree itself, and how many nodes they visit.
+//! Accessors compared with the tree itself, and how many nodes they visit.
 
 mod random;
 
@@ -21,7 +21,7 @@ fn off(value: i32) -> Cell<i32> {
     Cell { value, on: false }
 }
 
-/// A grid of whole numbers with eight accessors, and what it visited.
+/// A grid of whole numbers with eight accessors, and the count of its visits.
 #[derive(Drop)]
 struct Trial {
     grid: Grid<i32, 8>,
@@ -29,7 +29,7 @@ struct Trial {
 }
 
 impl Trial {
-    // A probe through an accessor, with the cell that it must give and the visits that it may make.
+    // Probes through an accessor, and expects this cell and at most this many visits.
     fn probes(&mut self, rt: &impl Abort, k: usize, p: Coord, cell: Cell<i32>, visits: u64) {
         let before = self.steps.count();
         if k < 8 {
@@ -40,7 +40,7 @@ impl Trial {
         assert!(rt; made <= visits, "{made} visits at {p:?}");
     }
 
-    // A write through an accessor, with the visits that it may make.
+    // Writes through an accessor, and expects at most this many visits.
     fn writes(&mut self, rt: &impl Abort, k: usize, p: Coord, change: Write<i32>, visits: u64) {
         let before = self.steps.count();
         if k < 8 {
@@ -52,26 +52,26 @@ impl Trial {
         assert!(rt; made <= visits, "{made} visits at {p:?}");
     }
 
-    // A write without an accessor.
+    // Writes without an accessor.
     fn writes_from_the_root(&mut self, rt: &impl Abort, p: Coord, change: Write<i32>) {
         let outcome = self.grid.write(p, change, &mut self.steps);
         outcome.expect(rt, "a write");
     }
 
-    // A fill of a box from its first voxel to its last one.
+    // Fills a box from its first voxel to its last one.
     fn fills(&mut self, rt: &impl Abort, min: Coord, max: Coord, cell: Cell<i32>) {
         let bounds = Bounds::new(min, max).expect(rt, "a box");
         let outcome = self.grid.fill(bounds, cell, &mut self.steps);
         outcome.expect(rt, "a fill");
     }
 
-    // A fill of all coordinates, which the root limit refuses.
+    // Expects `RootLimit` from a fill of all coordinates.
     fn refuses_to_fill(&mut self, rt: &impl Abort, cell: Cell<i32>) {
         let outcome = self.grid.fill(Bounds::all(), cell, &mut self.steps);
         assert_eq!(rt; outcome, Err(TreeRefusal::RootLimit));
     }
 
-    // The coordinate that an accessor was last given.
+    // Expects this as the coordinate that an accessor was last given.
     fn has_cached(&self, rt: &impl Abort, k: usize, p: Option<Coord>) {
         if k < 8 {
             assert_eq!(rt; self.grid.cached(k), p, "accessor {k}");
@@ -129,7 +129,7 @@ fn pruned_leaves_are_forgotten(rt: HostRuntime) {
     it.probes(&rt, 3, at(640, 0, 0), on(5), 3);
 }
 
-// A refused fill leaves each accessor within one visit of what it was given.
+// A fill that fails leaves each accessor within one visit of what it was given.
 #[test]
 fn refused_calls_keep_paths(rt: HostRuntime) {
     let mut it = fresh(&rt, 2);
@@ -143,8 +143,8 @@ fn refused_calls_keep_paths(rt: HostRuntime) {
     it.writes(&rt, 2, at(-9, 9, 9), Write::On(4), 24 + 4 * 8);
 }
 
-// A fill in a cached leaf after a prune, and one of all coordinates that is refused, leave each accessor within one visit of what it
-// was given.
+// A fill in a cached leaf after a prune, and a fill of all coordinates that fails, leave each accessor within one
+// visit of what it was given.
 #[test]
 fn paths_outlive_a_prune_and_two_fills(rt: HostRuntime) {
     let mut it = fresh(&rt, 4096);
@@ -162,7 +162,7 @@ fn paths_outlive_a_prune_and_two_fills(rt: HostRuntime) {
     it.probes(&rt, 2, at(0, 0, 200), on(1), 1);
 }
 
-// A full table sweeps out the root block that an accessor's path leads to.
+// A full table sweeps out the upper node that an accessor's path leads to.
 #[test]
 fn swept_nodes_are_forgotten(rt: HostRuntime) {
     let mut it = fresh(&rt, 1);

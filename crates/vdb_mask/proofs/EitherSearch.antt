@@ -22,11 +22,11 @@ module _ (on : ℕ → Bool) (k r found : ℕ) (shows : Shows on k r found) wher
       let at = shows.bits (i - 64 * k) (omega (arith, low)) (omega (arith, low, high)) in
       (rw same at at) ∙ rw zero_there refl
 
-  -- where nothing is found, no index of the word from bit r on is on
+  -- if nothing is found, no index of the word from bit r on is on
   pub none_shown : found ≡ 0 → (i : ℕ) → 64 * k + r ≤ i → i < 64 * k + 64 → on i ≡ false
   none_shown none i low high = off_at i low high (rw none (bit_at-zero (i - 64 * k)))
 
-  -- the lowest 1 is the first index that is on, where none before the word's bit r was
+  -- the lowest 1 is the first index that is on, if none before the word's bit r was
   pub first_shown : 0 < found → (n : ℕ) → k < n → (from : ℕ) → from ≤ 64 * k + r → ((i : ℕ) → from ≤ i → i < 64 * k + r → on i ≡ false)
       → IsFirstOnAt on (64 * n) from (64 * k + trailing_zeros w64 found)
   first_shown some n inside from low before =

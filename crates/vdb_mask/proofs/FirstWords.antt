@@ -1,4 +1,4 @@
--- A search of a row's first words is one of the row, as far as they go.
+-- A search of a row's first words is a search of the row, up to their end.
 use Rattle.std.proofs.Common.{◌≡◌, ◌+◌, ◌*◌, ◌/◌, ◌%◌, ◌<◌, ◌≤◌, ℕ, Bool, true, false, List, length, min, take, sym, ◌∙◌, refl, arith}
 use Rattle.std.specs.Int.{div_ceil}
 use Rattle.std.specs.Prelude.{◌||◌, not}
@@ -12,7 +12,7 @@ enough_words to last e =
     let e' : last ≡ to / 64 + min 1 (to % 64) = e in
     omega (arith, e')
 
--- a row of as many words has them
+-- a row with enough words has them
 pub within_words : (words : List ℕ) (to last w : ℕ) → length words ≡ w → to ≤ 64 * w → last ≡ div_ceil to 64 → to ≤ 64 * length (take last words)
 within_words words to last w len room e =
     let e' : last ≡ to / 64 + min 1 (to % 64) = e in
@@ -30,7 +30,7 @@ module _ (value : Bool) (words : List ℕ) (last to from : ℕ) (enough : to ≤
         before = λ i least less. sym (is_on-take words last i (omega (arith, less, h, enough))) ∙ next.before i least less;
       }
 
-  -- where there is none below `to`, the row has none
+  -- if none is below `to`, the row has none
   pub none-first_words : (m : ℕ) → to ≤ m → ((i : ℕ) → from ≤ i → i < m → is_on (bits_of (take last words)) i ≡ not value)
       → (i : ℕ) → from ≤ i → i < to → is_on (bits_of words) i ≡ not value
   none-first_words m far none i least below =

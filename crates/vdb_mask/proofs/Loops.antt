@@ -5,7 +5,7 @@ use Rattle.std.proofs.lemmas.List.{get_or_past}
 use Rattle.vdb_mask.specs.Mask.{bits_of, has_bit, is_on}
 use Rattle.vdb_mask.proofs.RowBits.{is_on-bits_of}
 
--- the first k words are combined, the others stand as before
+-- the first k words are combined, the others are as before
 pub record CombinesBelow (combine : ℕ → ℕ → ℕ) (before other now : List ℕ) (k : ℕ) : Type 0 where
   pub done : (j : ℕ) → j < k → get_or now j 0 ≡ combine (get_or before j 0) (get_or other j 0)
   pub ahead : (j : ℕ) → k ≤ j → get_or now j 0 ≡ get_or before j 0

@@ -16,7 +16,7 @@ count_by-range_more p a (suc n) =
     let short = sum_by-cons (λ i. cond (p i) 1 0) a (range_with_len (a + 1) n) in
     rw same (omega (arith, count_by-range_more p (a + 1) n, long, short))
 
--- of the first 0 values none is on
+-- none of the first 0 values is on
 pub on_count-zero : (mask : List Bool) → on_count mask 0 ≡ 0
 unfolding on_count
 on_count-zero mask = refl
@@ -42,7 +42,7 @@ on_count-more_on mask n here = on_count-more mask n ∙ rw here refl
 pub on_count-more_off : (mask : List Bool) (n : ℕ) → is_on mask n ≡ false → on_count mask (n + 1) ≡ on_count mask n
 on_count-more_off mask n here = on_count-more mask n ∙ rw here (omega arith)
 
--- of n values at most n are on
+-- at most n of n values are on
 pub on_count-le : (mask : List Bool) (n : ℕ) → on_count mask n ≤ n
 on_count-le mask zero = omega (arith, on_count-zero mask)
 on_count-le mask (suc n) =
@@ -58,7 +58,7 @@ on_count-same mask other (suc n) same =
     let before = on_count-same mask other n (λ i h. same i (omega (arith, h))) in
     on_count-suc mask n ∙ (rw (same n (omega arith), before) (sym (on_count-suc other n)))
 
--- of a mask that is off from m on, the first n values have as many on as the first m
+-- if a mask is off from m on, its first n values have as many on as its first m
 pub on_count-past : (mask : List Bool) (m n : ℕ) → m ≤ n → ((i : ℕ) → m ≤ i → i < n → is_on mask i ≡ false) → on_count mask n ≡ on_count mask m
 on_count-past mask m zero h off =
     let same : m ≡ 0 = omega (arith, h) in
@@ -71,11 +71,11 @@ on_count-past mask m (suc n) h off =
           on_count-suc mask n ∙ (rw (off n (omega (arith, h, e.1)) (omega arith)) (omega (arith, before)))
     ]
 
--- of a mask that has the first n values off none of them is on
+-- if the first n values of a mask are off, none of them is on
 pub on_count-all_off : (mask : List Bool) (n : ℕ) → ((i : ℕ) → i < n → is_on mask i ≡ false) → on_count mask n ≡ 0
 on_count-all_off mask n off = on_count-past mask 0 n (omega arith) (λ i _ h. off i h) ∙ on_count-zero mask
 
--- of a mask that has the first n values on all n are on
+-- if the first n values of a mask are on, all n are on
 pub on_count-all_on : (mask : List Bool) (n : ℕ) → ((i : ℕ) → i < n → is_on mask i ≡ true) → on_count mask n ≡ n
 on_count-all_on mask zero on = on_count-zero mask
 on_count-all_on mask (suc n) on =
@@ -133,7 +133,7 @@ pub on_count-turned_off : (old new : List Bool) (index n : ℕ) → index < n �
     → ((i : ℕ) → i ≢ index → is_on new i ≡ is_on old i) → on_count new n + 1 ≡ on_count old n
 on_count-turned_off old new index n h was is others = sym (on_count-turned_on new old index n h is was (λ i other. sym (others i other)))
 
--- of a mask that is off from m on, an index below n that is on is below m
+-- if a mask is off from m on, an index below n that is on is below m
 pub below_from_on : (mask : List Bool) (m n index : ℕ) → ((i : ℕ) → m ≤ i → i < n → is_on mask i ≡ false) → index < n → is_on mask index ≡ true → index < m
 below_from_on mask m n index off within here =
     elim (cases_lt index m) [
@@ -141,22 +141,22 @@ below_from_on mask m n index off within here =
       | inr h ↦ absurd (let there : is_on mask index ≡ false = off index h within in cc)
     ]
 
--- the first index below n, where it is below m, is the first below m
+-- the first index below n, if it is below m, is the first below m
 pub IsNextAt-below : (value : Bool) (mask : List Bool) (m n from index : ℕ) → index < m → IsNextAt value mask n from index → IsNextAt value mask m from index
 IsNextAt-below value mask m n from index h next = record { within = h; from_on = next.from_on; here = next.here; before = next.before }
 
--- the first index below n, where it is not below m, says that there is none below m
+-- the first index below n, if it is not below m, says that none is below m
 pub IsNextAt-none_below : (value : Bool) (mask : List Bool) (m n from index : ℕ) → m ≤ index → IsNextAt value mask n from index → IsNext value mask m from None
 IsNextAt-none_below value mask m n from index h next = λ i least below. next.before i least (omega (arith, below, h))
 
--- of a mask that is off from m on, the first index on and below n is the first below m: so `next_on` answers an index below m
+-- if a mask is off from m on, the first index on and below n is the first below m: so `next_on` answers an index below m
 pub IsNext-on_below : (mask : List Bool) (m n from : ℕ) (result : Option ℕ) → m ≤ n → ((i : ℕ) → m ≤ i → i < n → is_on mask i ≡ false)
     → IsNext true mask n from result → IsNext true mask m from result
 IsNext-on_below mask m n from (Some index) h off next =
     IsNextAt-below true mask m n from index (below_from_on mask m n index off next.within next.here) next
 IsNext-on_below mask m n from None h off next = λ i least below. next i least (omega (arith, below, h))
 
--- of what is off from m on, the first index on and below n is the first below m
+-- if `on` is false from m on, the first index on and below n is the first below m
 pub IsFirstOn-below : (on : ℕ → Bool) (m n from : ℕ) (result : Option ℕ) → m ≤ n → ((i : ℕ) → m ≤ i → i < n → on i ≡ false)
     → IsFirstOn on n from result → IsFirstOn on m from result
 IsFirstOn-below on m n from (Some index) h off first =

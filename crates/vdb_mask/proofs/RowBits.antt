@@ -29,7 +29,7 @@ is_on-bits_of words i =
       | inr h ↦ is_on-past words i h ∙ sym (rw (get_or_past words (i / 64) 0 (omega (arith, h))) (has_bit-zero (i % 64)))
     ]
 
--- the same with the word and the bit given
+-- the value at an index, with the word and the bit given
 pub is_on-at : (words : List ℕ) (k j : ℕ) → j < 64 → is_on (bits_of words) (64 * k + j) ≡ has_bit (get_or words k 0) j
 is_on-at words k j h =
     let word_index : (64 * k + j) / 64 ≡ k = omega (arith, h) in
@@ -42,18 +42,18 @@ module _ (words : List ℕ) (k word : ℕ) where
   pub is_on-set_here : k < length words → (j : ℕ) → j < 64 → is_on (bits_of (set words k word)) (64 * k + j) ≡ has_bit word j
   is_on-set_here inside j h = is_on-at (set words k word) k j h ∙ rw (get_or-set_same words k word 0 inside) refl
 
-  -- in each other word they stay
+  -- in each other word the values stay
   pub is_on-set_other : (i : ℕ) → i / 64 ≢ k → is_on (bits_of (set words k word)) i ≡ is_on (bits_of words) i
   is_on-set_other i other =
       is_on-bits_of (set words k word) i ∙ (rw (get_or-set_other words k (i / 64) word 0 other) refl) ∙ sym (is_on-bits_of words i)
 
 -- the row with the word around index i written
 module _ (words : List ℕ) (i word : ℕ) (within : i < 64 * length words) where
-  -- the value there is the new word's bit
+  -- the value at index i is the new word's bit
   pub is_on-set_bit : is_on (bits_of (set words (i / 64) word)) i ≡ has_bit word (i % 64)
   is_on-set_bit = is_on-bits_of (set words (i / 64) word) i ∙ rw (get_or-set_same words (i / 64) word 0 (omega (arith, within))) refl
 
-  -- where the new word has the old one's other bits, each other value stays
+  -- if the new word has the old one's other bits, each other value stays
   pub is_on-set_kept : ((j : ℕ) → j < 64 → j ≢ i % 64 → bit_at word j ≡ bit_at (get_or words (i / 64) 0) j)
       → (j : ℕ) → j ≢ i → is_on (bits_of (set words (i / 64) word)) j ≡ is_on (bits_of words) j
   is_on-set_kept kept j other =
@@ -71,11 +71,11 @@ module _ (words : List ℕ) (i word : ℕ) (within : i < 64 * length words) wher
 pub is_on-replicate : (n word i : ℕ) → i < 64 * n → is_on (bits_of (replicate n word)) i ≡ has_bit word (i % 64)
 is_on-replicate n word i h = is_on-bits_of (replicate n word) i ∙ rw (get_or-replicate n (i / 64) word 0 (omega (arith, h))) refl
 
--- past the end of such a row
+-- past the end of a row of one word throughout
 pub is_on-replicate_past : (n word i : ℕ) → 64 * n ≤ i → is_on (bits_of (replicate n word)) i ≡ false
 is_on-replicate_past n word i h = is_on-past (replicate n word) i (omega (arith, h, length-replicate n word))
 
--- a row of which each bit is that of one word
+-- a row whose every bit is that of one word
 pub same_words : (words : List ℕ) (word k : ℕ) → get_or words k 0 < 2 ^ 64 → word < 2 ^ 64 → ((j : ℕ) → j < 64 → is_on (bits_of words) (64 * k + j) ≡ has_bit word j)
     → get_or words k 0 ≡ word
 same_words words word k fits_row fits_word same =

@@ -23,11 +23,11 @@ module _ (value : Bool) (words : List ℕ) (k r found : ℕ) (inside : k < lengt
       let at = is_on-at words k (i - 64 * k) (omega (arith, low, high)) in
       (rw same at at) ∙ finds.zeros (i - 64 * k) (omega (arith, low)) (omega (arith, low, high)) zero_there
 
-  -- where nothing is found, no bit of the word from r on has the value
+  -- if nothing is found, no bit of the word from r on has the value
   pub none_found : found ≡ 0 → (i : ℕ) → 64 * k + r ≤ i → i < 64 * k + 64 → is_on (bits_of words) i ≡ not value
   none_found none i low high = value_without i low high (rw none (bit_at-zero (i - 64 * k)))
 
-  -- the lowest 1 is the first index, where none before the word's bit r had the value
+  -- the lowest 1 is the first index, if none before the word's bit r had the value
   pub first_found : 0 < found → (from : ℕ) → from ≤ 64 * k + r → ((i : ℕ) → from ≤ i → i < 64 * k + r → is_on (bits_of words) i ≡ not value)
       → IsNextAt value (bits_of words) (64 * length words) from (64 * k + trailing_zeros w64 found)
   first_found some from low before =

@@ -35,7 +35,7 @@ module _ (low high : ℕ) (begins : low < 64) (ends : high ≤ 64) where
   pub run_word-before : (j : ℕ) → j < low → has_bit (run_word low high) j ≡ false
   run_word-before j h = has_bit-and _ _ j ∙ rw (below_low j h) refl
 
-  -- and after it
+  -- after the run its bits are 0
   pub run_word-after : (j : ℕ) → high ≤ j → j < 64 → has_bit (run_word low high) j ≡ false
   run_word-after j h below =
       has_bit-and _ _ j

@@ -20,9 +20,9 @@ low_bits-more word j =
     let same : j + 1 ≡ 1 + j = omega arith in
     rw same (mod-pow-add word 1 j)
 
--- a mask and its word k, as `Mask::word` tells it
+-- a mask and its word k, as `Mask::word` returns it
 module _ (mask : List Bool) (k word : ℕ) (bits : (j : ℕ) → j < 64 → is_on mask (64 * k + j) ≡ has_bit word j) where
-  -- up to bit j of the word
+  -- how many values are on up to bit j of the word
   on_count-low_bits : (j : ℕ) → j ≤ 64 → on_count mask (64 * k + j) ≡ on_count mask (64 * k) + count_ones (word % 2 ^ j)
   on_count-low_bits zero h =
       let same : 64 * k + 0 ≡ 64 * k = omega arith in

@@ -5,7 +5,8 @@ ghost use Rattle.vdb_mask.specs.Mask.{bits_of, is_on, is_value, IsFirstOn};
 
 use crate::words::matches;
 
-/// The least index, not below `from`, at which the bit is 1 in the first row or `value` in the other.
+/// Returns the least index, not below `from`, at which the bit is 1 in the first row or `value` in
+/// the other.
 pub fn next(words: &[u64], others: &[u64], value: bool, from: u32) -> Option<u32>
     requires few_words { length words.now ≤ 512 }
     requires as_many { length others.now ≡ length words.now }
@@ -16,7 +17,7 @@ pub fn next(words: &[u64], others: &[u64], value: bool, from: u32) -> Option<u32
     if first >= words.len() {
         return None;
     }
-    // Of the first word, the bits below `from` do not count.
+    // In the first word, the bits below `from` do not count.
     let either = (words[first] | matches(others[first], value)) & (u64::MAX << (from % 64));
     if either != 0 {
         return Some(from / 64 * 64 + either.trailing_zeros());

@@ -1,5 +1,5 @@
-//! Masks: fixed rows of truth values, 64 to a word. A node of the tree keeps one mask of its child
-//! entries and one of its active entries, and tools go over them by whole words.
+//! Masks: fixed rows of booleans, 64 to a word. A node of the tree keeps one mask of its child
+//! entries and one of its active entries, and tools read them by whole words.
 //!
 //! This is the `NodeMask` of OpenVDB (`util/NodeMasks.h`). The names in the items' docs are its.
 #![tactic(auto)]
@@ -15,10 +15,10 @@ mod runs;
 mod tests;
 mod words;
 
-/// `64 * W` truth values in `W` words of 64 bits: the value at index `i` is bit `i % 64` of word
-/// `i / 64`, and it is on where that bit is 1. A mask takes no memory beside its words.
+/// `64 * W` booleans in `W` words of 64 bits: the value at index `i` is bit `i % 64` of word
+/// `i / 64`, and it is on if that bit is 1. A mask takes no memory beside its words.
 ///
-/// A contract sees the list of the values. It reads the one at index `i` by `is_on mask i`, which
+/// A contract sees the list of the values. It reads the value at index `i` by `is_on mask i`, which
 /// is off for every `i` past the end. OpenVDB's class `NodeMask`.
 #[derive(Drop)]
 pub struct Mask<const W: usize> {
@@ -35,15 +35,15 @@ impl<const W: usize> Model for Mask<W> {
 }
 
 impl<const W: usize> Mask<W> {
-    /// A mask with every value off. The constructor `NodeMask()`.
+    /// Returns a mask with every value off. The constructor `NodeMask()`.
     pub fn off() -> Mask<W>
         ensures { (i : ℕ) → is_on result i ≡ false }
     {
         Mask { words: [0; W] }
     }
 
-    /// A mask with each of its `64 * W` values on, or each off, as `on` says. The constructor
-    /// `NodeMask(bool)`.
+    /// Returns a mask with each of its `64 * W` values on, or each off, as `on` says. The
+    /// constructor `NodeMask(bool)`.
     pub fn filled(on: bool) -> Mask<W>
         ensures within { (i : ℕ) → i < 64 * W → is_on result i ≡ on }
         ensures past_end { (i : ℕ) → 64 * W ≤ i → is_on result i ≡ false }
@@ -53,7 +53,7 @@ impl<const W: usize> Mask<W> {
         }
     }
 
-    /// The same values in a mask of their own. The copy constructor of `NodeMask`.
+    /// Returns a mask of its own with the same values. The copy constructor of `NodeMask`.
     pub fn copied(&self) -> Mask<W>
         ensures same { result ≡ self.now }
         ensures past_end { (i : ℕ) → 64 * W ≤ i → is_on result i ≡ false }
@@ -61,7 +61,7 @@ impl<const W: usize> Mask<W> {
         Mask { words: self.words }
     }
 
-    /// Takes every value of the other mask, which stays as it is. `NodeMask::operator=`.
+    /// Copies every value from the other mask, which stays as it is. `NodeMask::operator=`.
     pub fn copy_from(&mut self, other: &Mask<W>)
         ensures same { self.new ≡ other.now }
         ensures past_end { (i : ℕ) → 64 * W ≤ i → is_on self.new i ≡ false }
@@ -69,7 +69,7 @@ impl<const W: usize> Mask<W> {
         self.words = other.words;
     }
 
-    /// Whether the value at index `i` is on. `NodeMask::isOn(i)`.
+    /// Returns whether the value at index `i` is on. `NodeMask::isOn(i)`.
     pub fn test(&self, i: u32) -> bool
         requires { i < 64 * W }
         ensures { is_on self.now i ≡ result }
@@ -95,7 +95,7 @@ impl<const W: usize> Mask<W> {
         self.words[(i / 64) as usize] &= !(1 << (i % 64));
     }
 
-    /// Makes each value from index `from` on and below `to` what `on` says; every other stays.
+    /// Sets each value from index `from` on and below `to` to `on`; every other stays.
     pub fn set_run(&mut self, from: u32, to: u32, on: bool)
         requires few_words { W ≤ 512 }
         requires in_order { from ≤ to }
@@ -107,7 +107,7 @@ impl<const W: usize> Mask<W> {
         runs::put(&mut self.words, from, to, on);
     }
 
-    /// The 64 values from index `64 * k` on, the first in the lowest bit: what
+    /// Returns the 64 values from index `64 * k` on, the first in the lowest bit: what
     /// `NodeMask::getWord(k)` gives to read.
     pub fn word(&self, k: u32) -> u64
         requires { k < W }
@@ -116,8 +116,8 @@ impl<const W: usize> Mask<W> {
         self.words[k as usize]
     }
 
-    /// Makes the bits of `word`, from the lowest on, the 64 values from index `64 * k` on; every
-    /// other stays. An assignment to what `NodeMask::getWord(k)` gives.
+    /// Sets the 64 values from index `64 * k` on to the bits of `word`, the first from the lowest
+    /// bit, and keeps every other. An assignment to what `NodeMask::getWord(k)` gives.
     pub fn set_word(&mut self, k: u32, word: u64)
         requires { k < W }
         ensures here { (j : ℕ) → j < 64 → is_on self.new (64 * k + j) ≡ has_bit word j }
@@ -150,10 +150,10 @@ impl<const W: usize> Mask<W> {
         words::intersect(&mut self.words, &other.words);
     }
 
-    /// How many of the `64 * W` values are on. `NodeMask::countOn()`.
+    /// Returns how many of the `64 * W` values are on. `NodeMask::countOn()`.
     ///
-    /// Where only the first `n` values are used and the others are off, it is how many of those are
-    /// on (`on_count-past` of `proofs/MaskLemmas`).
+    /// If only the first `n` values are used and the others are off, the result counts those `n`
+    /// alone (`on_count-past` of `proofs/MaskLemmas`).
     pub fn count(&self) -> u32
         requires { W ≤ 512 }
         ensures { result ≡ on_count self.now (64 * W) }
@@ -161,7 +161,7 @@ impl<const W: usize> Mask<W> {
         words::count_ones(&self.words)
     }
 
-    /// The least index not below `from` whose value is on, or `None` where there is none.
+    /// Returns the least index not below `from` whose value is on, or `None` if none is.
     /// `NodeMask::findNextOn(from)`, which answers `SIZE` for none.
     pub fn next_on(&self, from: u32) -> Option<u32>
         requires few_words { W ≤ 512 }
@@ -171,8 +171,8 @@ impl<const W: usize> Mask<W> {
         words::next(&self.words, true, from)
     }
 
-    /// The least index not below `from`, and below `64 * W`, whose value is off, or `None` where
-    /// there is none. `NodeMask::findNextOff(from)`, which answers `SIZE` for none.
+    /// Returns the least index not below `from`, and below `64 * W`, whose value is off, or `None`
+    /// if none is. `NodeMask::findNextOff(from)`, which answers `SIZE` for none.
     pub fn next_off(&self, from: u32) -> Option<u32>
         requires few_words { W ≤ 512 }
         requires from_within { from ≤ 64 * W }
@@ -181,8 +181,8 @@ impl<const W: usize> Mask<W> {
         words::next(&self.words, false, from)
     }
 
-    /// The least index not below `from` whose value is on in this mask or in the other, or `None`
-    /// where there is none. `NodeMask::findNextOn(from)` of the two masks joined by `|`.
+    /// Returns the least index not below `from` whose value is on in this mask or in the other, or
+    /// `None` if none is. `NodeMask::findNextOn(from)` of the two masks joined by `|`.
     pub fn next_on_in_either(&self, other: &Mask<W>, from: u32) -> Option<u32>
         requires few_words { W ≤ 512 }
         requires from_within { from ≤ 64 * W }
@@ -191,8 +191,8 @@ impl<const W: usize> Mask<W> {
         either::next(&self.words, &other.words, true, from)
     }
 
-    /// The least index not below `from`, and below `to`, whose value is on in this mask or `value` in
-    /// the other, or `None` where there is none.
+    /// Returns the least index not below `from`, and below `to`, whose value is on in this mask or
+    /// `value` in the other, or `None` if there is none.
     pub fn next_on_or_other(&self, other: &Mask<W>, value: bool, from: u32, to: u32) -> Option<u32>
         requires few_words { W ≤ 512 }
         requires in_order { from ≤ to }
@@ -204,8 +204,8 @@ impl<const W: usize> Mask<W> {
         if index < to { Some(index) } else { None }
     }
 
-    /// The least index not below `from`, and below `to`, that has this value, or `None` where there is
-    /// none.
+    /// Returns the least index not below `from`, and below `to`, that has this value, or `None` if
+    /// none has it.
     pub fn next_before(&self, value: bool, from: u32, to: u32) -> Option<u32>
         requires few_words { W ≤ 512 }
         requires in_order { from ≤ to }
@@ -217,14 +217,14 @@ impl<const W: usize> Mask<W> {
         if index < to { Some(index) } else { None }
     }
 
-    /// Whether each of the `64 * W` values is on. `NodeMask::isOn()`.
+    /// Returns whether each of the `64 * W` values is on. `NodeMask::isOn()`.
     pub fn all_on(&self) -> bool
         ensures { IsTrue result ↔ ((i : ℕ) → i < 64 * W → is_on self.now i ≡ true) }
     {
         words::are_all(&self.words, true)
     }
 
-    /// Whether every value is off. `NodeMask::isOff()`.
+    /// Returns whether every value is off. `NodeMask::isOff()`.
     pub fn all_off(&self) -> bool
         ensures { IsTrue result ↔ ((i : ℕ) → is_on self.now i ≡ false) }
     {

@@ -3,7 +3,7 @@ ghost use Rattle.std.specs.Prelude.{◌<◌, ◌≤◌};
 use super::Mask;
 use std::process::Abort;
 
-// What the calls that read a whole mask answer: the count, and the first indices on and off.
+// What the calls that read a whole mask return: the count, and the first indices on and off.
 fn expect_whole<const W: usize>(
     rt: &impl Abort,
     mask: &Mask<W>,
@@ -92,7 +92,8 @@ fn expect_word(rt: &impl Abort, mask: &Mask<8>, k: u32, word: u64, what: &str)
     assert_eq!(rt; mask.count(), word.count_ones(), "{what}, word {k}");
 }
 
-// One word of two masks, and then of either, of the first without the second, and of both.
+// One word in each of two masks, and the word of their union, their difference and their
+// intersection.
 fn try_two_masks(rt: &impl Abort, k: u32, words: [u64; 5])
     requires { k < 8 }
 {

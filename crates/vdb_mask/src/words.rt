@@ -1,17 +1,17 @@
-//! What a mask does with its words, a whole word at a time.
+//! Operations on the words of a mask, a whole word at a time.
 
 ghost use Rattle.std.specs.Prelude.{◌≡◌, ◌*◌, ◌<◌, ◌≤◌, ◌↔◌, ◌&&◌, ◌||◌, ℕ, length, not, EachIndex, IsTrue, slice_index};
 ghost use Rattle.std.specs.Int.{bit_at};
 ghost use Rattle.vdb_mask.specs.Mask.{bits_of, has_bit, is_on, on_count, IsNext};
 
-/// The word of which each bit is `value`.
+/// Returns the word whose every bit is `value`.
 pub fn repeated(value: bool) -> u64
     ensures { (j : ℕ) → j < 64 → has_bit result j ≡ value }
 {
     if value { u64::MAX } else { 0 }
 }
 
-/// Makes each bit 1 that is 1 in the other row.
+/// Sets to 1 each bit that is 1 in the other row.
 pub fn unite(words: &mut [u64], other: &[u64])
     requires { length other.now ≡ length words.old }
     ensures { (i : ℕ) → is_on (bits_of words.new) i
@@ -22,7 +22,7 @@ pub fn unite(words: &mut [u64], other: &[u64])
     }
 }
 
-/// Makes each bit 0 that is 1 in the other row.
+/// Sets to 0 each bit that is 1 in the other row.
 pub fn subtract(words: &mut [u64], other: &[u64])
     requires { length other.now ≡ length words.old }
     ensures { (i : ℕ) → is_on (bits_of words.new) i
@@ -33,7 +33,7 @@ pub fn subtract(words: &mut [u64], other: &[u64])
     }
 }
 
-/// Makes each bit 0 that is 0 in the other row.
+/// Sets to 0 each bit that is 0 in the other row.
 pub fn intersect(words: &mut [u64], other: &[u64])
     requires { length other.now ≡ length words.old }
     ensures { (i : ℕ) → is_on (bits_of words.new) i
@@ -44,7 +44,7 @@ pub fn intersect(words: &mut [u64], other: &[u64])
     }
 }
 
-/// How many bits of the row are 1.
+/// Returns how many bits of the row are 1.
 pub fn count_ones(words: &[u64]) -> u32
     requires { length words.now ≤ 512 }
     ensures { result ≡ on_count (bits_of words.now) (64 * length words.now) }
@@ -56,7 +56,7 @@ pub fn count_ones(words: &[u64]) -> u32
     count
 }
 
-/// Whether each bit of the row is `value`.
+/// Returns whether each bit of the row is `value`.
 pub fn are_all(words: &[u64], value: bool) -> bool
     ensures { IsTrue result
         ↔ ((i : ℕ) → i < 64 * length words.now → is_on (bits_of words.now) i ≡ value) }
@@ -64,14 +64,14 @@ pub fn are_all(words: &[u64], value: bool) -> bool
     each_is(words, repeated(value))
 }
 
-/// Whether each word of the row is this one.
+/// Returns whether each word of the row is this one.
 fn each_is(words: &[u64], whole: u64) -> bool
     ensures { IsTrue result ↔ EachIndex words.now (λ k. slice_index words.now k ≡ whole) }
 {
     words.iter().all(|word| *word == whole)
 }
 
-/// The word that is 1 where the bit of this word is `value`, and 0 where it is not.
+/// Returns the word that is 1 at each bit that is `value` in this word, and 0 at the others.
 pub fn matches(word: u64, value: bool) -> u64
     ensures ones { (j : ℕ) → j < 64 → bit_at result j ≡ 1 → has_bit word j ≡ value }
     ensures zeros { (j : ℕ) → j < 64 → bit_at result j ≡ 0 → has_bit word j ≡ not value }
@@ -79,7 +79,7 @@ pub fn matches(word: u64, value: bool) -> u64
     if value { word } else { !word }
 }
 
-/// The least index of a bit of the row, not below `from`, that is `value`.
+/// Returns the least index of a bit of the row, not below `from`, that is `value`.
 pub fn next(words: &[u64], value: bool, from: u32) -> Option<u32>
     requires { length words.now ≤ 512 }
     ensures { IsNext value (bits_of words.now) (64 * length words.now) from result }
@@ -88,7 +88,7 @@ pub fn next(words: &[u64], value: bool, from: u32) -> Option<u32>
     if first >= words.len() {
         return None;
     }
-    // Of the first word, the bits below `from` do not count.
+    // In the first word, the bits below `from` do not count.
     let found = matches(words[first], value) & (u64::MAX << (from % 64));
     if found != 0 {
         return Some(from / 64 * 64 + found.trailing_zeros());

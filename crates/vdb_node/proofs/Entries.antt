@@ -10,7 +10,7 @@ use Rattle.vdb_node.specs.declared.Entry.TheVariants.{Child, Tile}
 use Rattle.vdb_node.proofs.Listed.{get_or-listed, get_or-listed_past}
 use Rattle.vdb_value.specs.declared.Cell.{Cell}
 
--- one entry is changed
+-- one entry changes
 pub SetsEntry-listed : {A : Type 0} (old new : ℕ → A) (n i : ℕ) (x : A) → i < n → new i ≡ x → ((j : ℕ) → j ≢ i → new j ≡ old j)
     → SetsEntry (listed old n) (listed new n) i x
 SetsEntry-listed old new n i x h here others =
@@ -37,22 +37,22 @@ same_cell {V} a b value on =
     ap (λ (v : V). let c : Cell V = record { value = v; on = a.on } in c) value
     ∙ ap (λ (o : Bool). let c : Cell V = record { value = b.value; on = o } in c) on
 
--- of two truth values of which neither is true, the first is not
+-- if neither of two booleans is true, the first is not
 or_false_l : (a b : Bool) → (a || b) ≡ false → a ≡ false
 or_false_l true b e = e
 or_false_l false b e = refl
 
--- nor is the second
+-- if neither of two booleans is true, the second is not
 pub or_false_r : (a b : Bool) → (a || b) ≡ false → b ≡ false
 or_false_r true b e = absurd (cc)
 or_false_r false b e = e
 
 module _ {V : Type 0} (children states : List Bool) (value_at : ℕ → V) (slots : List ℕ) where
-  -- where the child mask is on stands the slot
+  -- at an index that the child mask has on, the entry is the slot
   pub entry_of-child : (i : ℕ) → is_on children i ≡ true → entry_of children states value_at slots i ≡ Child (get_or slots i 0)
   entry_of-child i on = rw on refl
 
-  -- where it is off stands the value with its state
+  -- at an index that the child mask has off, the entry is the value with its state
   pub entry_of-tile : (i : ℕ) → is_on children i ≡ false → entry_of children states value_at slots i ≡ Tile (record { value = value_at i; on = is_on states i })
   entry_of-tile i off = rw off refl
 
@@ -62,12 +62,12 @@ module _ {V : Type 0} (children states : List Bool) (value_at : ℕ → V) (slot
   IsConstant-node_of n cell off values on d i h =
       get_or-listed (entry_of children states value_at slots) n i d h ∙ entry_of-tile i (off i h) ∙ rw (values i h, on i h) refl
 
-  -- of a constant node each entry is the tile
+  -- each entry of a constant node is the tile
   constant_entry : (n : ℕ) (cell : Cell V) → IsConstant (listed (entry_of children states value_at slots) n) n (Tile cell) → (i : ℕ) → i < n
       → entry_of children states value_at slots i ≡ Tile cell
   constant_entry n cell constant i h = sym (get_or-listed (entry_of children states value_at slots) n i (Tile cell) h) ∙ constant (Tile cell) i h
 
-  -- so it has no child
+  -- a constant node has no child
   pub no_child : (n : ℕ) (cell : Cell V) → IsConstant (listed (entry_of children states value_at slots) n) n (Tile cell) → (i : ℕ) → i < n → is_on children i ≡ false
   no_child n cell constant i h =
       elim (cases_Bool (is_on children i)) [
@@ -80,19 +80,19 @@ module _ {V : Type 0} (children states : List Bool) (value_at : ℕ → V) (slot
   constant_cell n cell constant i h =
       tile_tile _ cell (sym (entry_of-tile i (no_child n cell constant i h)) ∙ constant_entry n cell constant i h)
 
-  -- and one value
+  -- a constant node has one value
   pub one_value : (n : ℕ) (cell : Cell V) → IsConstant (listed (entry_of children states value_at slots) n) n (Tile cell) → (i : ℕ) → i < n → value_at i ≡ cell.value
   one_value n cell constant i h = ap (λ (c : Cell V). c.value) (constant_cell n cell constant i h)
 
-  -- and one state
+  -- a constant node has one state
   pub one_state : (n : ℕ) (cell : Cell V) → IsConstant (listed (entry_of children states value_at slots) n) n (Tile cell) → (i : ℕ) → i < n → is_on states i ≡ cell.on
   one_state n cell constant i h = ap (λ (c : Cell V). c.on) (constant_cell n cell constant i h)
 
-  -- an index where the child mask is on has a child
+  -- an index that the child mask has on has a child
   pub has_child : (n i : ℕ) → i < n → is_on children i ≡ true → HasChild (listed (entry_of children states value_at slots) n) i
   has_child n i h on = (get_or slots i 0, λ d. get_or-listed (entry_of children states value_at slots) n i d h ∙ entry_of-child i on)
 
-  -- an index where it is off has none
+  -- an index that the child mask has off has none
   pub has_no_child : (n i : ℕ) → i < n → is_on children i ≡ false → HasChild (listed (entry_of children states value_at slots) n) i → ⊥
   has_no_child n i h off (slot, child) =
       tile_child _ slot
@@ -130,7 +130,7 @@ module _ {V : Type 0} (children states : List Bool) (value_at : ℕ → V) (slot
         λ d. get_or-listed (entry_of children states value_at slots) n i d h ∙ entry_of-tile i no_child ∙ rw no_state refl,
       )
 
-  -- an index that is on in one of them has none
+  -- an index that is on in one of the two masks has no inactive tile
   no_inactive_tile : (n i : ℕ) → i < n → (is_on children i || is_on states i) ≡ true → IsInactiveTile (listed (entry_of children states value_at slots) n) i → ⊥
   no_inactive_tile n i h on (value, tile) =
       elim (cases_Bool (is_on children i)) [
@@ -152,13 +152,13 @@ module _ {V : Type 0} (children states : List Bool) (value_at : ℕ → V) (slot
       }
   IsFirstWithout-inactive n from None first = λ i least below. inactive_tile n i below (first i least below)
 
-  -- a tile of a cell stands where there is no child, and the value and the state are the cell's
+  -- an index has a tile of a cell if it has no child, and the value and the state are the cell's
   pub tile_of : (n i : ℕ) (cell : Cell V) → i < n → is_on children i ≡ false → value_at i ≡ cell.value → is_on states i ≡ cell.on
       → IsTileOf cell (listed (entry_of children states value_at slots) n) i
   tile_of n i cell h off value on d =
       get_or-listed (entry_of children states value_at slots) n i d h ∙ entry_of-tile i off ∙ rw (value, on) refl
 
-  -- it does not stand where one of these fails
+  -- an index has no tile of a cell if it has a child, or the value or the state isn't the cell's
   pub no_tile_of : (n i : ℕ) (cell : Cell V) → i < n → (is_on children i ≡ false → value_at i ≡ cell.value → is_on states i ≡ cell.on → ⊥)
       → IsTileOf cell (listed (entry_of children states value_at slots) n) i → ⊥
   no_tile_of n i cell h differ tile =
@@ -170,7 +170,7 @@ module _ {V : Type 0} (children states : List Bool) (value_at : ℕ → V) (slot
       ]
 
   module _ (n : ℕ) (some : 0 < n) where
-    -- where there is no child, the values are alike and the states are, the first tile is the one of all
+    -- if there is no child, the values are all equal and the states are, the first tile is the one of all
     pub constant_alike : (first : Cell V) → ((i : ℕ) → is_on children i ≡ false) → ((i : ℕ) → i < n → is_on states i ≡ is_on states 0)
         → ((i : ℕ) → i < n → value_at i ≡ value_at 0) → value_at 0 ≡ first.value → is_on states 0 ≡ first.on
         → (cell : Cell V) → (Some first ≡ Some cell) ↔ IsConstant (listed (entry_of children states value_at slots) n) n (Tile cell)
@@ -185,7 +185,7 @@ module _ {V : Type 0} (children states : List Bool) (value_at : ℕ → V) (slot
           ap Some (same_cell first cell (sym value ∙ here) (sym state ∙ here')),
     )
 
-    -- where one of these fails, there is no such cell
+    -- if there is a child, or two values or two states differ, the node has no one tile
     pub constant_mixed : (((i : ℕ) → i < n → is_on children i ≡ false) → ((i : ℕ) → i < n → is_on states i ≡ is_on states 0)
         → ((i : ℕ) → i < n → value_at i ≡ value_at 0) → ⊥)
         → (cell : Cell V) → (None ≡ Some cell) ↔ IsConstant (listed (entry_of children states value_at slots) n) n (Tile cell)

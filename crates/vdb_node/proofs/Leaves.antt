@@ -19,7 +19,7 @@ abbrev pub leaf_of : {V : Type 0} → (ℕ → V) → ℕ → List Bool → Leaf
 leaf_of value_at n states = record { values = listed value_at n; states = states }
 
 module _ {V : Type 0} (value_at : ℕ → V) (n : ℕ) (states : List Bool) where
-  -- below the entry count stands the row's value with the mask's state
+  -- below the entry count the leaf has the row's value with the mask's state
   pub cell_in-leaf_of : (d : Cell V) (i : ℕ) → i < n → cell_in d (leaf_of value_at n states) i ≡ cell_of (value_at i) (is_on states i)
   cell_in-leaf_of d i h = ap (λ (v : V). cell_of v (is_on states i)) (get_or-listed value_at n i d.value h)
 
@@ -32,7 +32,7 @@ module _ {V : Type 0} (value_at : ℕ → V) (n : ℕ) (states : List Bool) wher
   pub same_values : (cell : Cell V) → 0 < n → IsConstantLeaf (leaf_of value_at n states) n cell → (i : ℕ) → i < n → value_at i ≡ cell.value
   same_values cell some constant i h = ap (λ (c : Cell V). c.value) (sym (cell_in-leaf_of cell i h) ∙ constant cell i h)
 
-  -- and one state
+  -- a constant leaf has one state
   pub same_states : (cell : Cell V) → 0 < n → IsConstantLeaf (leaf_of value_at n states) n cell → (i : ℕ) → i < n → is_on states i ≡ cell.on
   same_states cell some constant i h = ap (λ (c : Cell V). c.on) (sym (cell_in-leaf_of cell i h) ∙ constant cell i h)
 
@@ -40,7 +40,7 @@ module _ {V : Type 0} (value_at : ℕ → V) (n : ℕ) (states : List Bool) wher
 pub same_leaf : {V : Type 0} (f g : ℕ → V) (n : ℕ) (states states' : List Bool) → ((i : ℕ) → i < n → f i ≡ g i) → states ≡ states' → leaf_of f n states ≡ leaf_of g n states'
 same_leaf f g n states states' values on = rw (listed_same f g n values, on) refl
 
--- one entry of the row and of the mask is changed
+-- one entry of the row and of the mask changes
 pub SetsVoxel-leaf_of : {V : Type 0} (old new : ℕ → V) (n : ℕ) (states states' : List Bool) (i : ℕ) (cell : Cell V) → i < n
     → new i ≡ cell.value → ((j : ℕ) → j ≢ i → new j ≡ old j)
     → is_on states' i ≡ cell.on → ((j : ℕ) → j ≢ i → is_on states' j ≡ is_on states j)
@@ -57,7 +57,7 @@ SetsVoxel-leaf_of {V} old new n states states' i cell h here others here' others
           ];
     }
 
--- where the value and the state stay, the cell does
+-- if the value and the state stay, the cell does
 cell_kept : {V : Type 0} (old new : ℕ → V) (n : ℕ) (states states' : List Bool) (d : Cell V) (i : ℕ) → new i ≡ old i → is_on states' i ≡ is_on states i
     → cell_in d (leaf_of new n states') i ≡ cell_in d (leaf_of old n states) i
 cell_kept old new n states states' d i value state =
@@ -66,7 +66,7 @@ cell_kept old new n states states' d i value state =
       | inr past ↦ rw (get_or-listed_past new n i d.value past, get_or-listed_past old n i d.value past, state) refl
     ]
 
--- a run of the row and of the mask is changed
+-- a run of the row and of the mask changes
 pub FillsRun-leaf_of : {V : Type 0} (old new : ℕ → V) (n : ℕ) (states states' : List Bool) (from to : ℕ) (cell : Cell V) → to ≤ n
     → ((i : ℕ) → from ≤ i → i < to → new i ≡ cell.value) → ((i : ℕ) → i < from → new i ≡ old i) → ((i : ℕ) → to ≤ i → new i ≡ old i)
     → ((i : ℕ) → from ≤ i → i < to → is_on states' i ≡ cell.on) → ((i : ℕ) → i < from → is_on states' i ≡ is_on states i)
@@ -79,7 +79,7 @@ FillsRun-leaf_of old new n states states' from to cell h run before after run' b
     }
 
 module _ {V : Type 0} (value_at : ℕ → V) (n : ℕ) (states : List Bool) (some : 0 < n) where
-  -- where the values are alike and the states are, the first cell is the one of all
+  -- if the values are all equal and the states are, the first cell is the one of all
   pub constant_alike : (first : Cell V) → ((i : ℕ) → i < n → is_on states i ≡ is_on states 0) → ((i : ℕ) → i < n → value_at i ≡ value_at 0)
       → cell_in first (leaf_of value_at n states) 0 ≡ first
       → (cell : Cell V) → (Some first ≡ Some cell) ↔ IsConstantLeaf (leaf_of value_at n states) n cell
@@ -94,7 +94,7 @@ module _ {V : Type 0} (value_at : ℕ → V) (n : ℕ) (states : List Bool) (som
         λ constant. ap Some (sym here ∙ constant first 0 some),
       )
 
-  -- where they are not, there is no such cell
+  -- if the values or the states are not all equal, the leaf has no one cell
   pub constant_mixed : (((i : ℕ) → i < n → is_on states i ≡ is_on states 0) → ((i : ℕ) → i < n → value_at i ≡ value_at 0) → ⊥)
       → (cell : Cell V) → (None ≡ Some cell) ↔ IsConstantLeaf (leaf_of value_at n states) n cell
   constant_mixed differ cell = (
@@ -108,7 +108,7 @@ module _ {V : Type 0} (value_at : ℕ → V) (n : ℕ) (states : List Bool) (som
 
 module _ {V : Type 0} (blend : V → V → Option V) (old : ℕ → V) (n : ℕ) (states : List Bool) (other : Cell V → ℕ → Cell V) (others : ℕ → V) (on : ℕ → Bool)
     (given : (d : Cell V) (i : ℕ) → i < n → other d i ≡ cell_of (others i) (on i)) where
-  -- where each value is made of two, and each state
+  -- each value combines two, and so does each state
   pub AreBlended-leaf_of : (new : ℕ → V) (states' : List Bool) → ((i : ℕ) → i < n → blend (old i) (others i) ≡ Some (new i))
       → ((i : ℕ) → i < n → is_on states' i ≡ (is_on states i || on i))
       → AreBlended blend n (leaf_of old n states) other (leaf_of new n states')
@@ -117,11 +117,11 @@ module _ {V : Type 0} (blend : V → V → Option V) (old : ℕ → V) (n : ℕ)
     rw (given d i h) (joined i h),
   )
 
-  -- where two values become none
+  -- some two values do not combine
   pub LacksBlend-leaf_of : ((i : ℕ) × (i < n) × (blend (old i) (others i) ≡ None)) → LacksBlend blend n (leaf_of old n states) other
   LacksBlend-leaf_of (i, h, none) = (i, h, λ d. rw (get_or-listed old n i d.value h, given d i h) none)
 
--- the cells of another leaf are taken where they are on
+-- the cells of another leaf are copied if they are on
 pub takes_active-leaf_of : {V : Type 0} (old other new : ℕ → V) (n : ℕ) (states others states' : List Bool)
     → ((i : ℕ) → i < n → new i ≡ (if is_on others i then other i else old i))
     → ((i : ℕ) → is_on states' i ≡ (is_on states i || is_on others i))

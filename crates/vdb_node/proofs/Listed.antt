@@ -1,4 +1,4 @@
--- What stands at an index of a listed function.
+-- What a listed function has at an index.
 use Rattle.std.proofs.Common.{◌≡◌, ◌*◌, ◌<◌, ◌≤◌, ℕ, length, get_or, arith, pow_pos, subst, sym, ◌∙◌}
 use Rattle.std.proofs.lemmas.List.{ext_get_or, get_or_past}
 use Rattle.std.proofs.lemmas.List.FromFn.{get_or-map-range_with_len, length-map-range_with_len}
@@ -9,17 +9,17 @@ pub entry_count-pos : (bits : ℕ) → 0 < entry_count bits
 entry_count-pos bits = pow_pos (3 * bits)
 
 module _ {A : Type 0} (f : ℕ → A) (n : ℕ) where
-  -- the list is as long as was asked
+  -- the list has the requested length
   pub length-listed : length (listed f n) ≡ n
   unfolding listed
   length-listed = length-map-range_with_len f 0 n
 
-  -- below the end stands what the function gives
+  -- below the end the list has what the function gives
   pub get_or-listed : (i : ℕ) (d : A) → i < n → get_or (listed f n) i d ≡ f i
   unfolding listed
   get_or-listed i d h = get_or-map-range_with_len f 0 n i i d h (omega arith)
 
-  -- past the end stands nothing
+  -- past the end the list has nothing
   pub get_or-listed_past : (i : ℕ) (d : A) → n ≤ i → get_or (listed f n) i d ≡ d
   get_or-listed_past i d h = get_or_past (listed f n) i d (omega (arith, h, length-listed))
 

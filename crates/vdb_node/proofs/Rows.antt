@@ -3,7 +3,7 @@ use Rattle.std.proofs.Common.{◌≡◌, ◌<◌, ◌≤◌, ℕ, Bool, List, le
 use Rattle.std.specs.Prelude.{◌↔◌, IsTrue}
 use Rattle.std.proofs.lemmas.List.{get_or_default, get_or-take, length-take-le}
 
--- the first values of a row are alike where those of the slice of them are
+-- the first values of a row are equal if those of the slice of them are
 pub alike_taken : {V : Type 0} (items : List V) (count : ℕ) (z : V) (alike : Bool) → count ≤ length items → 0 < count
     → (IsTrue alike ↔ ((i : ℕ) (d : V) → i < length (take count items) → get_or (take count items) i d ≡ get_or (take count items) 0 d))
     → (IsTrue alike ↔ ((i : ℕ) → i < count → get_or items i z ≡ get_or items 0 z))

@@ -24,14 +24,14 @@ IsConstant {A} xs n x = (d : A) (i : ℕ) → i < n → slice_index_or xs i d �
 abbrev pub HasChild : {V : Type 0} → List (Entry V) → ℕ → Type 0
 HasChild {V} node i = (slot : ℕ) × ((d : Entry V) → slice_index_or node i d ≡ Child slot)
 
--- of the indices from `from` on and below n, this is the first whose entry is a child
+-- the first of the indices from `from` on and below n whose entry is a child
 pub record IsNextChildAt {V : Type 0} (node : List (Entry V)) (n from index : ℕ) : Type 0 where
   pub within : index < n
   pub from_on : from ≤ index
   pub here : HasChild node index
   pub before : (i : ℕ) → from ≤ i → i < index → HasChild node i → ⊥
 
--- the first index from `from` on and below n whose entry is a child, and nothing where none is
+-- the first index from `from` on and below n whose entry is a child, and nothing if none is
 abbrev pub IsNextChild : {V : Type 0} → List (Entry V) → ℕ → ℕ → Option ℕ → Type 0
 IsNextChild node n from (Some index) = IsNextChildAt node n from index
 IsNextChild node n from None = (i : ℕ) → from ≤ i → i < n → HasChild node i → ⊥
@@ -44,19 +44,19 @@ IsTileOf {V} cell node i = (d : Entry V) → slice_index_or node i d ≡ Tile ce
 abbrev pub IsInactiveTile : {V : Type 0} → List (Entry V) → ℕ → Type 0
 IsInactiveTile {V} node i = (value : V) × IsTileOf (record { value = value; on = false }) node i
 
--- of the indices from `from` on and below n, this is the first without what each before it has
+-- the first of the indices from `from` on and below n without what each before it has
 pub record IsFirstWithoutAt (Has : ℕ → Type 0) (n from index : ℕ) : Type 0 where
   pub within : index < n
   pub from_on : from ≤ index
   pub here : Has index → ⊥
   pub before : (i : ℕ) → from ≤ i → i < index → Has i
 
--- the first index from `from` on and below n without this, and nothing where each has it
+-- the first index from `from` on and below n without this, and nothing if each has it
 abbrev pub IsFirstWithout : (ℕ → Type 0) → ℕ → ℕ → Option ℕ → Type 0
 IsFirstWithout Has n from (Some index) = IsFirstWithoutAt Has n from index
 IsFirstWithout Has n from None = (i : ℕ) → from ≤ i → i < n → Has i
 
--- an internal node with so many bits and words has capacity for its entries, and no bit past them
+-- an internal node with this many bits and words has capacity for its entries, and no bit past them
 pub record IsSoundInternal (bits words row_len slots_len : ℕ) (children states : List Bool) : Type 0 where
   pub few_bits : bits ≤ 5
   pub few_words : words ≤ 512

@@ -10,7 +10,7 @@ pub record Leaf (V : Type 0) : Type 0 where
   pub values : List V
   pub states : List Bool
 
--- how a leaf is coded, from a coding of its values
+-- how the logic stores a leaf, from how it stores its values
 abbrev pub leaf_code : {V : Type 0} → Coded V → Coded (Leaf V)
 leaf_code {V} code =
     code_by
@@ -39,7 +39,7 @@ pub record FillsRun {V : Type 0} (old new : Leaf V) (from to : ℕ) (cell : Cell
 abbrev pub IsConstantLeaf : {V : Type 0} → Leaf V → ℕ → Cell V → Type 0
 IsConstantLeaf {V} leaf n cell = (d : Cell V) (i : ℕ) → i < n → cell_in d leaf i ≡ cell
 
--- a leaf with so many bits and words has capacity for its entries, and no state past them
+-- a leaf with this many bits and words has capacity for its entries, and no state past them
 pub record IsSoundLeaf (bits words row_len : ℕ) (states : List Bool) : Type 0 where
   pub few_bits : bits ≤ 5
   pub few_words : words ≤ 512

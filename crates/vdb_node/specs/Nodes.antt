@@ -7,7 +7,7 @@ use Rattle.vdb_mask.specs.Mask.{is_on}
 abbrev pub entry_count : ℕ → ℕ
 entry_count bits = 2 ^ (3 * bits)
 
--- what a function gives for 0, 1 and so on, n of them
+-- what a function gives for 0, 1 and so on, n values
 unfoldable pub listed : {A : Type 0} → (ℕ → A) → ℕ → List A
 listed f n = map f (range_with_len 0 n)
 

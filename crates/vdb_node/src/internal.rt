@@ -14,11 +14,11 @@ use vdb_mask::Mask;
 use vdb_pool::TryCopy;
 use vdb_value::Cell;
 
-/// A node whose 8 to the power `LOG2` entries are children or tiles. It is a mask of the children, a
-/// mask of active states, a row of values and a row of slots. The masks' bits past the last entry are
-/// off; with the least `W` only a node of 1 bit has such bits.
+/// A node whose 8 to the power `LOG2` entries are children or tiles. It keeps a mask of the
+/// children, a mask of active states, a row of values and a row of slots. The masks' bits past the
+/// last entry are off; with the least `W` only a node of 1 bit has such bits.
 ///
-/// A contract sees the list of the entries. It reads the one at index `i` by
+/// A contract sees the list of the entries. It reads the entry at index `i` by
 /// `slice_index_or node i d`, which below the entry count is the same for every `d`. OpenVDB's class
 /// `InternalNode<ChildT, LOG2>`.
 #[derive(Drop)]
@@ -46,8 +46,9 @@ impl<V: Stored<W>, const LOG2: u32, const W: usize> Model for Internal<V, LOG2, 
 }
 
 impl<V: Stored<W>, const LOG2: u32, const W: usize> Internal<V, LOG2, W> {
-    /// A node with a tile of this cell at every entry. The error says that the memory for the values
-    /// or the slots was refused. The constructor `InternalNode(Coord, ValueType, bool)`.
+    /// Returns a node with a tile of this cell at every entry. Returns an error if the memory for
+    /// the values or the slots cannot be allocated. The constructor
+    /// `InternalNode(Coord, ValueType, bool)`.
     pub fn new_constant(alloc: Global, cell: Cell<V>) -> Result<Internal<V, LOG2, W>, AllocError>
         requires bits { LOG2 ≤ 5 }
         requires capacity { entry_count LOG2 ≤ 64 * W }
@@ -66,10 +67,10 @@ impl<V: Stored<W>, const LOG2: u32, const W: usize> Internal<V, LOG2, W> {
         })
     }
 
-    /// A node of its own with the same entry at every index; this one stays. A child keeps its slot,
-    /// and so it is a child of both nodes: no node below is copied. The error says that the memory
-    /// for the values or the slots was refused. The copy constructor of `InternalNode`, which copies
-    /// the nodes below too.
+    /// Returns a node of its own with the same entry at every index; this one stays. A child keeps
+    /// its slot, and so it is a child of both nodes: no node below is copied. Returns an error if
+    /// the memory for the values or the slots cannot be allocated. The copy constructor of
+    /// `InternalNode`, which copies the nodes below too.
     pub fn try_copy(&self, alloc: Global) -> Result<Self, AllocError>
         ensures { IfOk result (λ copy. copy ≡ self.now) }
     {
@@ -81,7 +82,7 @@ impl<V: Stored<W>, const LOG2: u32, const W: usize> Internal<V, LOG2, W> {
         })
     }
 
-    /// The entry at index `i`. `InternalNode::isChildMaskOn(i)` with `getChildNode(i)`, or
+    /// Returns the entry at index `i`. `InternalNode::isChildMaskOn(i)` with `getChildNode(i)`, or
     /// `mNodes[i].getValue()` and `isValueMaskOn(i)`.
     pub fn entry(&self, i: u32) -> Entry<V>
         requires { i < entry_count LOG2 }
@@ -97,8 +98,8 @@ impl<V: Stored<W>, const LOG2: u32, const W: usize> Internal<V, LOG2, W> {
         }
     }
 
-    /// Makes the entry at index `i` a tile; every other stays. `InternalNode::addTile`, which takes a
-    /// child away too.
+    /// Sets the entry at index `i` to a tile of this cell; every other stays.
+    /// `InternalNode::addTile`, which removes a child too.
     pub fn set_tile(&mut self, i: u32, cell: Cell<V>)
         requires { i < entry_count LOG2 }
         ensures { SetsEntry self.old self.new i (Tile cell) }
@@ -108,7 +109,7 @@ impl<V: Stored<W>, const LOG2: u32, const W: usize> Internal<V, LOG2, W> {
         put(&mut self.states, i, cell.on);
     }
 
-    /// Makes the entry at index `i` the child in this slot; every other stays.
+    /// Sets the entry at index `i` to the child in this slot; every other stays.
     /// `InternalNode::setChildNode(i, child)`.
     pub fn set_child(&mut self, i: u32, slot: u32)
         requires { i < entry_count LOG2 }
@@ -118,8 +119,8 @@ impl<V: Stored<W>, const LOG2: u32, const W: usize> Internal<V, LOG2, W> {
         self.slots[i as usize] = slot;
     }
 
-    /// The cell that every entry is a tile of, or `None` where there is a child or two tiles differ.
-    /// `InternalNode::isConstant`, without a tolerance.
+    /// Returns the cell that every entry is a tile of, or `None` if there is a child or two tiles
+    /// differ. `InternalNode::isConstant`, without a tolerance.
     pub fn constant(&self) -> Option<Cell<V>>
         ensures { (cell : Cell V) → (result ≡ Some cell)
             ↔ IsConstant self.now (entry_count LOG2) (Tile cell) }
@@ -136,7 +137,7 @@ impl<V: Stored<W>, const LOG2: u32, const W: usize> Internal<V, LOG2, W> {
         }
     }
 
-    /// The least index not below `from` whose entry is a child, or `None` where there is none.
+    /// Returns the least index not below `from` whose entry is a child, or `None` if none is.
     /// `InternalNode::getChildMask().findNextOn(from)`, which answers the entry count for none.
     pub fn next_child(&self, from: u32) -> Option<u32>
         requires { from ≤ entry_count LOG2 }
@@ -145,8 +146,8 @@ impl<V: Stored<W>, const LOG2: u32, const W: usize> Internal<V, LOG2, W> {
         self.children.next_on(from)
     }
 
-    /// The least index not below `from` whose entry is a child or an active tile, or `None` where
-    /// there is none. What `beginChildOn()` and `beginValueOn()` go to, whichever comes first.
+    /// Returns the least index not below `from` whose entry is a child or an active tile, or `None`
+    /// if none is. What `beginChildOn()` and `beginValueOn()` go to, whichever comes first.
     pub fn next_active(&self, from: u32) -> Option<u32>
         requires { from ≤ entry_count LOG2 }
         ensures { IsFirstWithout (IsInactiveTile self.now) (entry_count LOG2) from result }
@@ -154,8 +155,8 @@ impl<V: Stored<W>, const LOG2: u32, const W: usize> Internal<V, LOG2, W> {
         self.children.next_on_in_either(&self.states, from)
     }
 
-    /// The least index not below `from` whose entry is anything but a tile of this cell, or `None`
-    /// where each is one.
+    /// Returns the least index not below `from` whose entry is anything but a tile of this cell, or
+    /// `None` if each is such a tile.
     pub fn next_unlike(&self, cell: Cell<V>, from: u32) -> Option<u32>
         requires { from ≤ entry_count LOG2 }
         ensures { IsFirstWithout (IsTileOf cell self.now) (entry_count LOG2) from result }
@@ -164,7 +165,7 @@ impl<V: Stored<W>, const LOG2: u32, const W: usize> Internal<V, LOG2, W> {
         let Cell { value, on } = cell;
         let count = entries(LOG2);
         let mut start = from;
-        // The masks are read only so far ahead of the values.
+        // The masks are read at most 512 entries ahead of the values.
         'parts: while start < count {
             let end = count.min(start + 512);
             let marked = next_marked(children, states, on, start, end);

@@ -1,4 +1,4 @@
-//! The rows of the three kinds of values.
+//! The rows of the three types of values.
 
 ghost use Rattle.std.specs.Prelude.{◌≡◌, ◌≢◌, ◌*◌, ◌<◌, ◌≤◌, ◌↔◌, ℕ, pos, length, slice_index_or, false, if◌then◌else◌, Some, None, IsTrue};
 ghost use Rattle.std.proofs.Common.{arith};
@@ -11,7 +11,7 @@ use std::alloc::{AllocError, Global};
 use vdb_mask::Mask;
 use vdb_value::{Blend, Voxel};
 
-/// Whether the values of the slice are one and the same.
+/// Returns whether the values of the slice are all equal.
 fn are_one<V: Voxel>(values: &[V]) -> bool
     requires { 0 < length values.now }
     ensures { IsTrue result ↔ ((i : ℕ) (d : V) → i < length values.now
@@ -21,8 +21,8 @@ fn are_one<V: Voxel>(values: &[V]) -> bool
     values.iter().all(|each| *each == first)
 }
 
-/// The first index from `from` on and below `to` with another value than this, or `to` where there is
-/// none.
+/// Returns the first index from `from` on and below `to` with another value than this, or `to` if
+/// there is none.
 fn next_other<V: Voxel>(values: &[V], value: V, from: u32, to: u32) -> u32
     requires from_within { from ≤ to }
     requires capacity { to ≤ length values.now }
@@ -40,7 +40,7 @@ fn next_other<V: Voxel>(values: &[V], value: V, from: u32, to: u32) -> u32
     to
 }
 
-/// Makes this the value at each index from `from` on and below `to`; every other stays.
+/// Sets the value at each index from `from` on and below `to`; every other stays.
 fn set_each<V: Voxel>(values: &mut [V], from: u32, to: u32, value: V)
     requires in_order { from ≤ to }
     requires within { to ≤ length values.old }
@@ -56,7 +56,7 @@ fn set_each<V: Voxel>(values: &mut [V], from: u32, to: u32, value: V)
     }
 }
 
-/// Makes the first `count` values those of the other slice; every other stays.
+/// Copies the first `count` values from the other slice; every other stays.
 fn copy_first<V: Voxel>(values: &mut [V], others: &[V], count: u32)
     requires within { count ≤ length values.old }
     requires source { count ≤ length others.now }
@@ -68,7 +68,7 @@ fn copy_first<V: Voxel>(values: &mut [V], others: &[V], count: u32)
     values[..count].copy_from_slice(&others[..count]);
 }
 
-/// Takes the others' values from `from` on and below `to`; every other stays.
+/// Copies the others' values from `from` on and below `to`; every other stays.
 fn copy_run<V: Voxel>(values: &mut [V], others: &[V], from: u32, to: u32)
     requires in_order { from ≤ to }
     requires within { to ≤ length values.old }
@@ -84,8 +84,8 @@ fn copy_run<V: Voxel>(values: &mut [V], others: &[V], from: u32, to: u32)
     values[from as usize..to as usize].copy_from_slice(&others[from as usize..to as usize]);
 }
 
-/// Makes each of the first `count` values the one that it and the other at its index become; those past
-/// them stay. False says that some two of the first `count` become none: then some may have changed.
+/// Combines each of the first `count` values with the other at its index; those past them stay.
+/// Returns false if some two of the first `count` do not combine: then some may have changed.
 #[inline(always)]
 fn blend_each<V: Voxel>(values: &mut [V], others: &[V], count: u32, how: Blend) -> bool
     requires capacity { count ≤ length values.old }
@@ -107,8 +107,8 @@ fn blend_each<V: Voxel>(values: &mut [V], others: &[V], count: u32, how: Blend) 
     true
 }
 
-/// Makes each of the first `count` values the one that it and this become; those past them stay. False
-/// says that one of the first `count` and this become none: then some may have changed.
+/// Combines each of the first `count` values with this one; those past them stay. Returns false if
+/// one of the first `count` does not combine with it: then some may have changed.
 #[inline(always)]
 fn blend_each_with<V: Voxel>(values: &mut [V], value: V, count: u32, how: Blend) -> bool
     requires capacity { count ≤ length values.old }
@@ -128,7 +128,8 @@ fn blend_each_with<V: Voxel>(values: &mut [V], value: V, count: u32, how: Blend)
     true
 }
 
-/// What `blend_each` does, by a loop for each way: none asks at a value which way it is.
+/// Does what `blend_each` does, by a loop for each `Blend`, so that no loop asks at a value which
+/// one it is.
 fn blend_slices<V: Voxel>(values: &mut [V], others: &[V], count: u32, how: Blend) -> bool
     requires capacity { count ≤ length values.old }
     requires other_capacity { count ≤ length others.now }
@@ -147,7 +148,7 @@ fn blend_slices<V: Voxel>(values: &mut [V], others: &[V], count: u32, how: Blend
     }
 }
 
-/// What `blend_each_with` does, by a loop for each way.
+/// Does what `blend_each_with` does, by a loop for each `Blend`.
 fn blend_slice_with<V: Voxel>(values: &mut [V], value: V, count: u32, how: Blend) -> bool
     requires capacity { count ≤ length values.old }
     ensures capacity { length values.new ≡ length values.old }
@@ -164,8 +165,8 @@ fn blend_slice_with<V: Voxel>(values: &mut [V], value: V, count: u32, how: Blend
     }
 }
 
-/// Takes the others' values where the mask is on, from `from` on and up to the end of the first run of
-/// marks there, and answers where that ends: `count` where there is no mark. All else stays.
+/// Copies the others' values in the first run of marks from `from` on, and returns the end of that
+/// run, or `count` if there is no mark. All else stays.
 fn take_next_run<V: Voxel, const W: usize>(
     values: &mut [V],
     others: &[V],
@@ -199,7 +200,7 @@ fn take_next_run<V: Voxel, const W: usize>(
     end
 }
 
-/// Takes the others' values at each index below `count` where the mask is on; every other stays.
+/// Copies the others' values at each index below `count` that the mask has on; every other stays.
 fn take_each<V: Voxel, const W: usize>(values: &mut [V], others: &[V], marks: &Mask<W>, count: u32)
     requires few_words { W ≤ 512 }
     requires mask_capacity { count ≤ 64 * W }

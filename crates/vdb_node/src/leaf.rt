@@ -16,9 +16,9 @@ use vdb_mask::Mask;
 use vdb_pool::TryCopy;
 use vdb_value::{Blend, Cell};
 
-/// A node whose 8 to the power `LOG2` entries are cells of single voxels. It is a row of values and a
-/// mask of active states. The mask's bits past the last entry are off; with the least `W` only a leaf
-/// of 1 bit has such bits.
+/// A node whose 8 to the power `LOG2` entries are cells of single voxels. It keeps a row of values
+/// and a mask of active states. The mask's bits past the last entry are off; with the least `W`
+/// only a leaf of 1 bit has such bits.
 ///
 /// A contract sees the list of the values and the list of the states. It reads the cell at index `i`
 /// by `cell_in d leaf i`, which below the entry count is the same for every `d`. OpenVDB's class
@@ -46,8 +46,8 @@ impl<V: Stored<W>, const LOG2: u32, const W: usize> Model for Leaf<V, LOG2, W> {
 }
 
 impl<V: Stored<W>, const LOG2: u32, const W: usize> Leaf<V, LOG2, W> {
-    /// A leaf with this cell at every entry. The error says that the memory for the values was
-    /// refused; a leaf of truth values takes none beyond its place. The constructor
+    /// Returns a leaf with this cell at every entry. Returns an error if the memory for the values
+    /// cannot be allocated; a leaf of booleans takes none beyond its place. The constructor
     /// `LeafNode(Coord, ValueType, bool)`.
     pub fn new_constant(alloc: Global, cell: Cell<V>) -> Result<Leaf<V, LOG2, W>, AllocError>
         requires bits { LOG2 ≤ 5 }
@@ -63,9 +63,9 @@ impl<V: Stored<W>, const LOG2: u32, const W: usize> Leaf<V, LOG2, W> {
         Ok(Leaf { row, states })
     }
 
-    /// A leaf of its own with the same cell at every entry; this one stays. The error says that the
-    /// memory for the values was refused; a leaf of truth values takes none beyond its place. The
-    /// copy constructor of `LeafNode`.
+    /// Returns a leaf of its own with the same cell at every entry; this one stays. Returns an
+    /// error if the memory for the values cannot be allocated; a leaf of booleans takes none beyond
+    /// its place. The copy constructor of `LeafNode`.
     pub fn try_copy(&self, alloc: Global) -> Result<Self, AllocError>
         ensures same { IfOk result (λ copy. copy ≡ self.now) }
         ensures in_place { V.KIND ≡ truths → IsOk result }
@@ -76,8 +76,8 @@ impl<V: Stored<W>, const LOG2: u32, const W: usize> Leaf<V, LOG2, W> {
         })
     }
 
-    /// Takes the cells of another leaf, which stays. It takes no memory. The assignment `operator=` of `LeafNode`'s buffer and
-    /// value mask.
+    /// Copies the cells of another leaf, which stays. It takes no memory. The assignment
+    /// `operator=` of `LeafNode`'s buffer and value mask.
     pub fn copy_from(&mut self, other: &Self)
         ensures { self.new ≡ other.now }
     {
@@ -85,7 +85,7 @@ impl<V: Stored<W>, const LOG2: u32, const W: usize> Leaf<V, LOG2, W> {
         self.states.copy_from(&other.states);
     }
 
-    /// The cell at index `i`. `LeafNode::getValue(i)` with `LeafNode::isValueOn(i)`.
+    /// Returns the cell at index `i`. `LeafNode::getValue(i)` with `LeafNode::isValueOn(i)`.
     pub fn entry(&self, i: u32) -> Cell<V>
         requires { i < entry_count LOG2 }
         ensures { (d : Cell V) → cell_in d self.now i ≡ result }
@@ -96,7 +96,7 @@ impl<V: Stored<W>, const LOG2: u32, const W: usize> Leaf<V, LOG2, W> {
         }
     }
 
-    /// Makes this the cell at index `i`; every other stays. `LeafNode::setValueOn(i, value)` and
+    /// Sets the cell at index `i`; every other stays. `LeafNode::setValueOn(i, value)` and
     /// `LeafNode::setValueOff(i, value)`.
     pub fn set(&mut self, i: u32, cell: Cell<V>)
         requires { i < entry_count LOG2 }
@@ -106,7 +106,7 @@ impl<V: Stored<W>, const LOG2: u32, const W: usize> Leaf<V, LOG2, W> {
         put(&mut self.states, i, cell.on);
     }
 
-    /// Makes this the cell at each index from `from` on and below `to`; every other stays. What
+    /// Sets the cell at each index from `from` on and below `to`; every other stays. What
     /// `LeafNode::fill(bbox, value, active)` does with each row of its box.
     pub fn fill_run(&mut self, from: u32, to: u32, cell: Cell<V>)
         requires in_order { from ≤ to }
@@ -117,8 +117,8 @@ impl<V: Stored<W>, const LOG2: u32, const W: usize> Leaf<V, LOG2, W> {
         self.states.set_run(from, to, cell.on);
     }
 
-    /// The cell that every entry has, or `None` where two differ. `LeafNode::isConstant`, without
-    /// a tolerance.
+    /// Returns the cell that every entry has, or `None` if two differ. `LeafNode::isConstant`,
+    /// without a tolerance.
     pub fn constant(&self) -> Option<Cell<V>>
         ensures { (cell : Cell V) → (result ≡ Some cell)
             ↔ IsConstantLeaf self.now (entry_count LOG2) cell }
@@ -132,7 +132,8 @@ impl<V: Stored<W>, const LOG2: u32, const W: usize> Leaf<V, LOG2, W> {
         }
     }
 
-    /// The states of the entries, which are off past the last one; there is a value for each entry. `LeafNode::getValueMask()`.
+    /// Returns the states of the entries, which are off past the last one. The leaf has a value for
+    /// each entry. `LeafNode::getValueMask()`.
     pub fn states(&self) -> &Mask<W>
         ensures same { result.now ≡ self.now.states }
         ensures values { length self.now.values ≡ entry_count LOG2 }
@@ -141,8 +142,8 @@ impl<V: Stored<W>, const LOG2: u32, const W: usize> Leaf<V, LOG2, W> {
         &self.states
     }
 
-    /// Gives each entry its state in the mask, of which the values past the last entry do not count.
-    /// The entries' values stay. `LeafNode::setValueMask(mask)`.
+    /// Sets each entry's state to its state in the mask, whose values past the last entry do not
+    /// count. The entries' values stay. `LeafNode::setValueMask(mask)`.
     pub fn set_states(&mut self, states: &Mask<W>)
         ensures values { self.new.values ≡ self.old.values }
         ensures states { (i : ℕ) → i < entry_count LOG2
@@ -153,16 +154,16 @@ impl<V: Stored<W>, const LOG2: u32, const W: usize> Leaf<V, LOG2, W> {
         cut(&mut self.states, entries(LOG2));
     }
 
-    /// How many entries are on. `LeafNode::onVoxelCount()`.
+    /// Returns how many entries are on. `LeafNode::onVoxelCount()`.
     pub fn count_on(&self) -> u32
         ensures { result ≡ on_count self.now.states (entry_count LOG2) }
     {
         self.states.count()
     }
 
-    /// Makes each value the one that it and the other leaf's become, and turns on what that has on.
-    /// False says that some two values become none, as they have no sum: then some cells of this
-    /// leaf may have changed. `LeafNode::combine(other, op)`.
+    /// Combines each value with the other leaf's, and turns on what that leaf has on. Returns false
+    /// if some two values do not combine, as they have no sum: then some cells of this leaf may
+    /// have changed. `LeafNode::combine(other, op)`.
     pub fn blend(&mut self, other: &Leaf<V, LOG2, W>, how: Blend) -> bool
         ensures blended { IsTrue result → AreBlended (blended V.greater V.lesser V.sum_of how)
             (entry_count LOG2) self.old (λ d i. cell_in d other.now i) self.new }
@@ -173,9 +174,9 @@ impl<V: Stored<W>, const LOG2: u32, const W: usize> Leaf<V, LOG2, W> {
         V::blend_rows(&mut self.row, &other.row, entries(LOG2), how)
     }
 
-    /// Makes each value the one that it and the cell's become, and turns all on where the cell is.
-    /// False says that some value and the cell's become none, as they have no sum: then some cells
-    /// of this leaf may have changed. `LeafNode::combine(value, valueIsActive, op)`.
+    /// Combines each value with the cell's, and turns all on if the cell is. Returns false if some
+    /// value and the cell's do not combine, as they have no sum: then some cells of this leaf may
+    /// have changed. `LeafNode::combine(value, valueIsActive, op)`.
     pub fn blend_with(&mut self, cell: Cell<V>, how: Blend) -> bool
         ensures blended { IsTrue result → AreBlended (blended V.greater V.lesser V.sum_of how)
             (entry_count LOG2) self.old (λ d i. cell) self.new }
@@ -186,7 +187,7 @@ impl<V: Stored<W>, const LOG2: u32, const W: usize> Leaf<V, LOG2, W> {
         V::blend_row_with(&mut self.row, cell.value, entries(LOG2), how)
     }
 
-    /// Takes the other leaf's cells where they are active; every other stays.
+    /// Copies the other leaf's active cells; every other cell stays.
     pub fn take_active(&mut self, other: &Leaf<V, LOG2, W>)
         ensures { (d : Cell V) (i : ℕ) → i < entry_count LOG2 → cell_in d self.new i
             ≡ (if (cell_in d other.now i).on then cell_in d other.now i else cell_in d self.old i) }

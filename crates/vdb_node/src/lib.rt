@@ -1,5 +1,6 @@
-//! Nodes of the tree: leaves and internal nodes, for any number of bits from 1 to 5. Outside each is a table of entries; inside
-//! it is masks, 64 entries to a word, beside rows of values and slots.
+//! Nodes of the tree: leaves and internal nodes, for any number of bits from 1 to 5. From outside
+//! each node is a table of entries; inside it keeps masks, 64 entries to a word, beside rows of
+//! values and slots.
 //!
 //! These are the `LeafNode` and the `InternalNode` of OpenVDB (`tree/LeafNode.h`,
 //! `tree/InternalNode.h`). The names in the items' docs are theirs. A node with `LOG2` bits has 2 to

@@ -12,8 +12,9 @@ use std::alloc::{AllocError, Global};
 use vdb_mask::Mask;
 use vdb_value::{Blend, Voxel};
 
-/// A type of voxel values with the row in which a node keeps them: a vector for the integers, a mask
-/// of `W` words for truth values (OpenVDB's `LeafBuffer<ValueT, LOG2>` and `LeafBuffer<bool, LOG2>`).
+/// A type of voxel values with the row in which a node keeps them: a vector for the integers, a
+/// mask of `W` words for booleans (OpenVDB's `LeafBuffer<ValueT, LOG2>` and
+/// `LeafBuffer<bool, LOG2>`).
 pub trait Stored<const W: usize>: Voxel {
     /// A row of values.
     type Row: Drop;
@@ -23,41 +24,42 @@ pub trait Stored<const W: usize>: Voxel {
 
     ghost value_in: { Self.Row → ℕ → Self };
 
-    /// A row with this value at the first `count` indices. The error says that the memory for them
-    /// was refused; truth values take none beyond the row's place.
+    /// Returns a row with this value at the first `count` indices. Returns an error if the memory
+    /// for them cannot be allocated; booleans take none beyond the row's place.
     fn filled_row(self, alloc: Global, count: u32) -> Result<Self::Row, AllocError>
         requires { count ≤ 64 * W }
         ensures capacity { IfOk result (λ row. count ≤ row_len row) }
         ensures values { IfOk result (λ row. (i : ℕ) → i < count → value_in row i ≡ self) }
         ensures in_place { Self.KIND ≡ truths → IsOk result };
 
-    /// A row of its own with the same capacity and values; this one stays. The error says that
-    /// the memory for them was refused; truth values take none beyond the row's place.
+    /// Returns a row of its own with the same capacity and values; this one stays. Returns an error
+    /// if the memory for them cannot be allocated; booleans take none beyond the row's place.
     fn copied_row(row: &Self::Row, alloc: Global) -> Result<Self::Row, AllocError>
         ensures capacity { IfOk result (λ copy. row_len copy ≡ row_len row.now) }
         ensures values { IfOk result (λ copy. value_in copy ≡ value_in row.now) }
         ensures in_place { Self.KIND ≡ truths → IsOk result };
 
-    /// Makes the first `count` values those of another row, which stays; the values past them may be any. It takes no memory.
+    /// Copies the first `count` values from another row, which stays; the values past them may be
+    /// any. It takes no memory.
     fn copy_row(row: &mut Self::Row, other: &Self::Row, count: u32)
         requires within { count ≤ row_len row.old }
         requires source { count ≤ row_len other.now }
         ensures capacity { row_len row.new ≡ row_len row.old }
         ensures values { (i : ℕ) → i < count → value_in row.new i ≡ value_in other.now i };
 
-    /// The value at an index.
+    /// Returns the value at an index.
     fn value_at(row: &Self::Row, i: u32) -> Self
         requires { i < row_len row.now }
         ensures { value_in row.now i ≡ result };
 
-    /// Makes this the value at an index; every other stays.
+    /// Sets the value at an index; every other stays.
     fn set_value(row: &mut Self::Row, i: u32, value: Self)
         requires { i < row_len row.old }
         ensures capacity { row_len row.new ≡ row_len row.old }
         ensures here { value_in row.new i ≡ value }
         ensures others { (j : ℕ) → j ≢ i → value_in row.new j ≡ value_in row.old j };
 
-    /// Makes this the value at each index from `from` on and below `to`; every other stays.
+    /// Sets the value at each index from `from` on and below `to`; every other stays.
     fn set_run(row: &mut Self::Row, from: u32, to: u32, value: Self)
         requires few_words { W ≤ 512 }
         requires in_order { from ≤ to }
@@ -67,15 +69,15 @@ pub trait Stored<const W: usize>: Voxel {
         ensures before { (i : ℕ) → i < from → value_in row.new i ≡ value_in row.old i }
         ensures after { (i : ℕ) → to ≤ i → value_in row.new i ≡ value_in row.old i };
 
-    /// Whether the first `count` values are one and the same.
+    /// Returns whether the first `count` values are all equal.
     fn are_alike(row: &Self::Row, count: u32) -> bool
         requires few_words { W ≤ 512 }
         requires some { 0 < count }
         requires capacity { count ≤ row_len row.now }
         ensures { IsTrue result ↔ ((i : ℕ) → i < count → value_in row.now i ≡ value_in row.now 0) };
 
-    /// The first index from `from` on and below `to` with another value than this, or `to` where there
-    /// is none.
+    /// Returns the first index from `from` on and below `to` with another value than this, or `to`
+    /// if there is none.
     fn next_unlike(row: &Self::Row, value: Self, from: u32, to: u32) -> u32
         requires few_words { W ≤ 512 }
         requires from_within { from ≤ to }
@@ -85,9 +87,9 @@ pub trait Stored<const W: usize>: Voxel {
         ensures here { result < to → value_in row.now result ≢ value }
         ensures before { (i : ℕ) → from ≤ i → i < result → value_in row.now i ≡ value };
 
-    /// Makes each of the first `count` values the one that it and the other row's become. What comes of
-    /// the values past them isn't said. False says that some two of the first `count` become none, as
-    /// they have no sum: then some of these may have changed.
+    /// Combines each of the first `count` values with the other row's. The values past them may be
+    /// any afterwards. Returns false if some two of the first `count` do not combine, as they have
+    /// no sum: then some of these may have changed.
     fn blend_rows(row: &mut Self::Row, other: &Self::Row, count: u32, how: Blend) -> bool
         requires capacity { count ≤ row_len row.old }
         requires other_capacity { count ≤ row_len other.now }
@@ -98,9 +100,9 @@ pub trait Stored<const W: usize>: Voxel {
         ensures lacks { result ≡ false → (i : ℕ) × (i < count)
             × (blended Self.greater Self.lesser Self.sum_of how (value_in row.old i) (value_in other.now i) ≡ None) };
 
-    /// Makes each of the first `count` values the one that it and this value become. What comes of the
-    /// values past them isn't said. False says that one of the first `count` and this value become
-    /// none, as they have no sum: then some of these may have changed.
+    /// Combines each of the first `count` values with this value. The values past them may be any
+    /// afterwards. Returns false if one of the first `count` and this value do not combine, as they
+    /// have no sum: then some of these may have changed.
     fn blend_row_with(row: &mut Self::Row, value: Self, count: u32, how: Blend) -> bool
         requires few_words { W ≤ 512 }
         requires capacity { count ≤ row_len row.old }
@@ -111,8 +113,8 @@ pub trait Stored<const W: usize>: Voxel {
         ensures lacks { result ≡ false → (i : ℕ) × (i < count)
             × (blended Self.greater Self.lesser Self.sum_of how (value_in row.old i) value ≡ None) };
 
-    /// Takes the other row's values at each index below `count` where the mask is on. The others below
-    /// `count` stay.
+    /// Copies the other row's values at each index below `count` that the mask has on. The others
+    /// below `count` stay.
     fn take_marked(row: &mut Self::Row, other: &Self::Row, marks: &Mask<W>, count: u32)
         requires few_words { W ≤ 512 }
         requires mask_capacity { count ≤ 64 * W }

@@ -1,4 +1,4 @@
-//! Nodes of every kind and number of bits, read at both ends.
+//! Nodes of every type and number of bits, read at both ends.
 
 ghost use Rattle.std.specs.Prelude.{◌≡◌, ◌*◌, ◌<◌, ◌≤◌};
 ghost use Rattle.vdb_node.specs.Nodes.{entry_count};
@@ -44,7 +44,7 @@ fn off<V>(value: V) -> Cell<V> {
     Cell { value, on: false }
 }
 
-// What a leaf answers: the cell at an index, the cell of all, and how many are on.
+// Expects of a leaf the cell at an index, the cell of all, and how many are on.
 fn expect_leaf<V: Stored<W>, const LOG2: u32, const W: usize>(
     rt: &impl Abort,
     leaf: &Leaf<V, LOG2, W>,
@@ -60,7 +60,7 @@ fn expect_leaf<V: Stored<W>, const LOG2: u32, const W: usize>(
     assert_eq!(rt; leaf.count_on(), count_on);
 }
 
-// A leaf of `count` entries, each `one`, in which the last is made `other` and back.
+// Tests a leaf of `count` entries, each `one`, by setting the last to `other` and back.
 fn try_leaf<V: Stored<W>, const LOG2: u32, const W: usize>(
     rt: &impl Abort,
     alloc: Global,
@@ -104,7 +104,7 @@ fn leaves_of_every_kind(rt: HostRuntime) -> Result<(), AllocError> {
     try_leaf::<i64, 5, 512>(&rt, rt.alloc(), 7, 8, 32768)
 }
 
-// What an internal node answers: the entry at an index, the cell of all, and the first child.
+// Expects of an internal node the entry at an index, the cell of all, and the first child.
 fn expect_node<V: Stored<W>, const LOG2: u32, const W: usize>(
     rt: &impl Abort,
     node: &Internal<V, LOG2, W>,
@@ -131,8 +131,8 @@ fn expect_entry<V: Stored<W>, const LOG2: u32, const W: usize>(
     assert!(rt; node.entry(i) == entry);
 }
 
-// An internal node of `count` entries, each a tile of `one`, in which the last is made another tile,
-// a child and the first tile again.
+// Tests an internal node of `count` entries, each a tile of `one`, by setting the last to another
+// tile, to a child and to the first tile again.
 fn try_internal<V: Stored<W>, const LOG2: u32, const W: usize>(
     rt: &impl Abort,
     alloc: Global,
@@ -252,8 +252,8 @@ fn a_change_of_a_copied_internal_node(rt: HostRuntime) -> Result<(), AllocError>
     try_internal_copy(&rt, rt.alloc(), 3, i64::MIN)
 }
 
-// A node of 4096 tiles in which a child, an active tile and a tile of another value are set, the next
-// entries of which are sought.
+// Sets a child, an active tile and a tile of another value in a node of 4096 tiles, and looks for
+// the next entries.
 fn try_next_entries<V: Stored<64>>(
     rt: &impl Abort,
     alloc: Global,
@@ -355,8 +355,8 @@ fn runs_of_every_kind(rt: HostRuntime) -> Result<(), AllocError> {
     try_runs(&rt, rt.alloc(), 3, i64::MIN)
 }
 
-// A leaf of truth values is made and copied with no memory: that neither can fail is proved here, and
-// it passes with every allocation refused.
+// A leaf of booleans is made and copied with no memory: that neither can fail is proved here, and
+// it passes if every allocation fails.
 #[test]
 fn a_leaf_of_truth_values_takes_no_memory(rt: HostRuntime) {
     let yes = Cell {

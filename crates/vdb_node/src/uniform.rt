@@ -1,4 +1,4 @@
-//! Masks of which only the first values stand for entries.
+//! Masks whose first values alone belong to a node's entries.
 
 ghost use Rattle.std.specs.Prelude.{◌≡◌, ◌≢◌, ◌*◌, ◌<◌, ◌≤◌, ◌↔◌, ◌||◌, ℕ, false, IsTrue};
 ghost use Rattle.vdb_mask.specs.Mask.{is_on};
@@ -6,7 +6,7 @@ ghost use Rattle.vdb_node.specs.Nodes.{entry_count, IsOffFrom};
 
 use vdb_mask::Mask;
 
-/// How many entries a node with this many bits has.
+/// Returns how many entries a node with this many bits has.
 pub fn entries(bits: u32) -> u32
     requires { bits ≤ 5 }
     ensures { result ≡ entry_count bits }
@@ -14,7 +14,7 @@ pub fn entries(bits: u32) -> u32
     1 << (3 * bits)
 }
 
-/// Makes the value at index `i` what `on` says; every other stays.
+/// Sets the value at index `i` to `on`; every other stays.
 pub fn put<const W: usize>(mask: &mut Mask<W>, i: u32, on: bool)
     requires { i < 64 * W }
     ensures here { is_on mask.new i ≡ on }
@@ -27,7 +27,7 @@ pub fn put<const W: usize>(mask: &mut Mask<W>, i: u32, on: bool)
     }
 }
 
-/// Whether the first `count` values of the mask are one and the same.
+/// Returns whether the first `count` values of the mask are all equal.
 pub fn is_uniform<const W: usize>(mask: &Mask<W>, count: u32) -> bool
     requires few_words { W ≤ 512 }
     requires some { 0 < count }
@@ -57,8 +57,8 @@ pub fn cut<const W: usize>(mask: &mut Mask<W>, count: u32)
     }
 }
 
-/// The first index from `from` on and below `to` where the mask is on or the states are not `on`, or
-/// `to` where there is none.
+/// Returns the first index from `from` on and below `to` whose value in the mask is on or whose
+/// state is not `on`, or `to` if there is none.
 pub fn next_marked<const W: usize>(
     mask: &Mask<W>,
     states: &Mask<W>,
@@ -81,7 +81,7 @@ pub fn next_marked<const W: usize>(
     }
 }
 
-/// Turns on the first `count` values of the mask where `on` says so; the others stay.
+/// Turns on the first `count` values of the mask if `on` is true; the others stay.
 pub fn join<const W: usize>(mask: &mut Mask<W>, on: bool, count: u32)
     requires few_words { W ≤ 512 }
     requires capacity { count ≤ 64 * W }

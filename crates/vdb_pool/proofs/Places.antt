@@ -1,7 +1,7 @@
 -- What a storage owns and lends, taken apart place by place and put together again. Assumes `Logic`.
---     some_item, same_item     an index below the length has an item, whatever stands for a missing one
+--     some_item, same_item     an index below the length has an item, whatever replaces a missing one
 --     split_last               a list that is not empty, and its last item
---     item_lent                a `&` to a storage has one to each item
+--     item_lent                a `&` to a storage has a `&` to each item
 --     item_out, item_in        one item's place is taken out, and put back with any value
 --     free_out, last_in        the first free place is taken out, and put back with an item
 --     last_out, free_in        the last item's place is taken out, and put back empty
@@ -43,7 +43,7 @@ module _ {X : Type 0} where
       (x ∷ more.0, more.1, ap (λ l. x ∷ l) more.2, omega (arith, e, long))
 
 module _ (R : RattleType) where
-  -- where the i-th item lies
+  -- the address of the i-th item
   abbrev pub place_of : List Ptr → ℕ → Ptr
   place_of ps i = get_or ps i null_ptr
 
@@ -51,14 +51,14 @@ module _ (R : RattleType) where
   abbrev pub type_of : Ty
   type_of = lone R.mir
 
-  -- all but the i-th item's place
+  -- all except the i-th item's place
   abbrev pub all_but : List Ptr → List R.Denot → ℕ → Fml
   all_but [] xs i = ftrue
   all_but (p ∷ ps) [] i = ftrue
   all_but (p ∷ ps) (x ∷ xs) zero = storage_owns R ps xs
   all_but (p ∷ ps) (x ∷ xs) (suc i) = fsep (lies_at R full_share p x) (all_but ps xs i)
 
-  -- all but the first free place
+  -- all except the first free place
   abbrev pub around : List Ptr → List R.Denot → Fml
   around [] xs = ftrue
   around (p ∷ ps) [] = storage_owns R ps []

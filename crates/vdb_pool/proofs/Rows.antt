@@ -1,4 +1,4 @@
--- Where the slots of the chunks lie.
+-- The addresses of the slots of the chunks.
 use Rattle.std.proofs.Common.{◌≡◌, ℕ, zero, suc, ◌+◌, ◌*◌, ◌/◌, ◌^◌, ◌<◌, List, [], ◌∷◌, ◌++◌, length, get_or, refl, sym, ap, subst, ◌∙◌, arith, length-append, append-nil, append_assoc, Option}
 use native.Mathlib.Nat.{zero-mul, suc-mul}
 use lib.ListN.{get_or-append}

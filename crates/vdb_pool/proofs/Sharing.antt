@@ -1,4 +1,4 @@
--- A `&` to a storage is made where one to each of its items is. Assumes `Logic`.
+-- A `&` to a storage comes from a `&` to each of its items. Assumes `Logic`.
 use Rattle.std.specs.Prelude.{List, [], ◌∷◌}
 use base.Fraction.{full_share}
 use seplogic.Ra.Ura.{Ura}
@@ -20,7 +20,7 @@ storage_shr_laws R L [] (x ∷ xs) = said_shr_laws ffalse tt
 storage_shr_laws R L (p ∷ ps) [] = nothing_shr_laws
 storage_shr_laws R L (p ∷ ps) (x ∷ xs) = beside_shr_laws (lent_at R p x) (storage_lends R ps xs) (lent_at_shr_laws R L p x) (storage_shr_laws R L ps xs)
 
--- it comes of a borrow of what the storage owns
+-- a `&` to a storage comes from a borrow of what the storage owns
 module _ {M : Type 1} {𝓤 : Ura M} (𝓛 : Logic 𝓤) (R : RattleType) (L : Laws R) (l : Lft) (inc : Incl l R.lives) where
   pub storage_borrowed : (ps : List Ptr) (xs : List R.Denot) → Lends 𝓛 (storage_owns R ps xs) (storage_lends R ps xs) l
   storage_borrowed [] [] = Lends-nothing 𝓛 ftrue l

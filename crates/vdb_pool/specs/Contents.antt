@@ -3,8 +3,8 @@ use Rattle.std.specs.Prelude.{◌≡◌, ◌⊎◌, ℕ, ◌+◌, ◌-◌, ◌^�
 use Rattle.std.specs.Coded.{Coded, code_by, coded×, coded_ℕ, coded_list, coded_option}
 use denote.RawPtr.{Ptr, coded_ptr}
 
--- the node or nothing in each slot that was ever held, the vacant ones of these with the one that was vacated last first, and
--- where each slot lies, also those that were never held
+-- the node or nothing in each slot that was ever held, the vacant ones among them with the one that was vacated last
+-- first, and the address of each slot, also of those that were never held
 pub record Contents (T : Type 0) : Type 0 where
   pub nodes : List (Option T)
   pub vacant : List ℕ
@@ -76,13 +76,13 @@ module _ {T : Type 0} where
   abbrev pub without_node : Contents T → ℕ → Contents T
   without_node c slot = record { nodes = slice_set c.nodes slot None; vacant = slot ∷ c.vacant; places = c.places }
 
-  -- there may be more slots at the end, and nothing else changes
+  -- more slots may follow at the end, and nothing else changes
   pub record Grows (old new : Contents T) : Type 0 where
     pub nodes : new.nodes ≡ old.nodes
     pub vacant : new.vacant ≡ old.vacant
     pub places : take (length old.places) new.places ≡ old.places
 
-  -- the vacant slots are listed once each and no others are, and no slot number is 2 ^ 32 - 1 or more
+  -- each vacant slot is listed once and no other is, and no slot number is 2 ^ 32 - 1 or more
   pub record IsOrderly (c : Contents T) : Type 0 where
     pub once : AreDistinct c.vacant
     pub vacant : (slot : ℕ) → IsAmong slot c.vacant → (slot < length c.nodes) × (node_at c slot ≡ None)

@@ -17,7 +17,7 @@ module _ {T : Type 0} where
   abbrev pub KeepsLive : Contents T → Contents T → Type 0
   KeepsLive old new = (p : Place T) → IsLive old p → IsLive new p
 
-  -- every place that was live is live, but for those of this slot
+  -- every place that was live is live, except those of this slot
   abbrev pub KeepsOthersLive : Contents T → Contents T → ℕ → Type 0
   KeepsOthersLive old new slot = (p : Place T) → p.slot ≢ slot → IsLive old p → IsLive new p
 

@@ -3,10 +3,10 @@ ghost use Rattle.std.specs.Prelude.{◌≡◌, IfOk};
 
 use std::alloc::{AllocError, Global};
 
-/// A type whose values can be copied where there is memory. It is not `Clone`, whose contract lets a copy differ.
+/// A type whose values can be copied if memory allows. It is not `Clone`, whose contract lets a copy differ.
 pub trait TryCopy: Drop {
-    /// The same value again, as contracts see it, with memory of its own from `alloc`. The error comes where that has
-    /// none.
+    /// Returns a copy that equals this value for contracts, with memory of its own from `alloc`. Returns an error if
+    /// `alloc` has no memory.
     fn try_copy(&self, alloc: Global) -> Result<Self, AllocError>
         ensures { IfOk result (λ copy. copy ≡ self.now) };
 }

@@ -19,21 +19,21 @@ use std_alloc::room::may_hold;
 
 /// Slots for nodes, at addresses that never change.
 ///
-/// Slots are numbered from 0, and there are at most 4,294,967,295. They come in chunks of 255, which are given back
-/// when the pool is dropped, so a pool never gets smaller. A slot takes at most 8 bytes beside its node, where that has
-/// at least 4 bytes and is aligned to at most 8. Making an empty pool allocates nothing.
+/// Slots are numbered from 0, and a pool has at most 4,294,967,295. They come in chunks of 255, which are given back
+/// when the pool is dropped, so a pool never gets smaller. A slot takes at most 8 bytes beside its node, if the node
+/// has at least 4 bytes and is aligned to at most 8. Making an empty pool allocates nothing.
 ///
 /// Vacant slots are linked through themselves and used again last in, first out, as in Rust's crate `slab`.
 ///
-/// In contracts a pool is its `Contents`: what each slot that was ever held has, which of them are vacant, and where
-/// each slot lies.
+/// In contracts a pool is its `Contents`: the content of each slot that was ever held, the vacant ones among them,
+/// and the address of each slot.
 pub struct Pool<T> {
     alloc: Global,
     chunks: Vec<Chunk<T>>,
     storage: Storage<Slot<T>>,
     // How many slots were ever held. They are the first ones.
     used: u32,
-    // How many slots there are.
+    // How many slots the pool has.
     total: u32,
     // How many slots are held.
     held: u32,
@@ -66,7 +66,7 @@ impl<T> Pool<T> {
     ghost use Rattle.vdb_pool.specs.Live.{IsLive, KeepsLive, KeepsOthers, KeepsOthersLive, place_slot};
     ghost use Rattle.vdb_pool.specs.LendsNode.{lends_node};
 
-    /// A pool without slots. It allocates nothing.
+    /// Returns a pool without slots. It allocates nothing.
     pub fn new(alloc: Global) -> Pool<T>
         ensures { result ≡ record { nodes = []; vacant = []; places = [] } }
     {
@@ -81,7 +81,7 @@ impl<T> Pool<T> {
         }
     }
 
-    /// How many slots are held, that is how many nodes there are.
+    /// Returns how many slots are held, which is the number of nodes.
     pub fn len(&self) -> u64
         ensures count { result ≡ count_of self.now }
         ensures orderly { IsOrderly self.now }
@@ -89,7 +89,7 @@ impl<T> Pool<T> {
         self.held as u64
     }
 
-    /// How many inserts are sure to succeed: the slots that are not held.
+    /// Returns how many inserts are sure to succeed: the number of slots that are not held.
     pub fn spare(&self) -> u64
         ensures value { result ≡ spare_of self.now }
         ensures all { result + count_of self.now ≡ length self.now.places }
@@ -104,7 +104,7 @@ impl<T> Pool<T> {
         address_in(self.chunks.as_slice(), slot)
     }
 
-    /// The place of a slot that is held, and `None` for any other number. It counts no step.
+    /// Returns the place of a slot that is held, and `None` for any other number. It counts no visit.
     pub fn place(&self, slot: u32) -> Option<Place<T>>
         ensures { MatchOption result (node_at self.now slot ≡ None) (λ p. (place_slot p ≡ slot) × IsLive self.now p) }
     {
@@ -118,7 +118,7 @@ impl<T> Pool<T> {
         }
     }
 
-    /// The node at a live place, for one step.
+    /// Returns the node at a live place, by one visit.
     pub fn at(&self, place: Place<T>, steps: &mut Steps) -> &T
         requires { IsLive self.now place }
         ensures node { node_at self.now (place_slot place) ≡ Some result.now }
@@ -128,7 +128,7 @@ impl<T> Pool<T> {
         self.storage.get(place.address, place.slot).node()
     }
 
-    /// The node at a live place, for writing and for one step. Places stay live, and nothing else changes.
+    /// Returns the node at a live place for writing, by one visit. Places stay live, and nothing else changes.
     pub fn at_mut(&mut self, place: Place<T>, steps: &mut Steps) -> &mut T
         requires { IsLive self.old place }
         ensures* writes_back { sem 𝓛 (lends_node T.row self.entry (place_slot place) result) }
@@ -141,9 +141,9 @@ impl<T> Pool<T> {
 
     /// Makes sure of capacity for `n` inserts, by as many chunks as that takes.
     ///
-    /// Where there is capacity already, nothing changes and the answer is `Ok`. The error comes where the allocator has no
-    /// memory, or where there would be more than 4,294,967,295 slots. Nodes, vacant slots and live places stay as they were,
-    /// also with an error, which may leave more capacity than there was.
+    /// If the capacity suffices already, nothing changes and the result is `Ok`. The error comes if the allocator has
+    /// no memory, or if the pool would have more than 4,294,967,295 slots. Nodes, vacant slots and live places stay
+    /// as they were, also with an error, which may leave more capacity than before.
     pub fn reserve(&mut self, n: u64) -> Result<(), Memory>
         ensures capacity { OnOk result (n ≤ spare_of self.new) }
         ensures had_capacity { n ≤ spare_of self.old → IsOk result × (self.new ≡ self.old) }
@@ -160,7 +160,7 @@ impl<T> Pool<T> {
         Ok(())
     }
 
-    /// One more chunk.
+    /// Adds one more chunk.
     fn grow(&mut self) -> Result<(), Memory>
         requires { length self.old.places < 2 ^ 32 - 1 }
         ensures capacity { OnOk result (spare_of self.new ≡ spare_of self.old + chunk_len) }
@@ -178,8 +178,8 @@ impl<T> Pool<T> {
         Ok(())
     }
 
-    /// Puts a node into the slot that was vacated last, or else into the lowest one that was never held, and gives its place.
-    /// There has to be capacity, which `reserve` makes. Other places stay live.
+    /// Inserts a node into the slot that was vacated last, or else into the lowest one that was never held, and
+    /// returns its place. The pool must have capacity, which `reserve` makes. Other places stay live.
     pub fn insert(&mut self, node: T) -> Place<T>
         requires { 0 < spare_of self.old }
         ensures slot { place_slot result ≡ next_slot self.old }
@@ -212,8 +212,8 @@ impl<T> Pool<T> {
         }
     }
 
-    /// Takes the node out of a live place, for one step. The slot is then vacant, and the next insert uses it. Places
-    /// of other slots stay live, and those of this slot do not.
+    /// Removes the node at a live place and returns it, by one visit. The slot is then vacant, and the next insert
+    /// uses it. Places of other slots stay live, and those of this slot do not.
     pub fn take(&mut self, place: Place<T>, steps: &mut Steps) -> T
         requires { IsLive self.old place }
         ensures node { node_at self.old (place_slot place) ≡ Some result }
@@ -236,14 +236,14 @@ impl<T> Pool<T> {
         }
     }
 
-    /// How many slots were ever held.
+    /// Returns how many slots were ever held.
     fn used(&self) -> u32
         ensures { result ≡ length self.now.nodes }
     {
         self.used
     }
 
-    /// Puts a node into the lowest slot that was never held, also where other slots are vacant.
+    /// Inserts a node into the lowest slot that was never held, even if other slots are vacant.
     fn append_held(&mut self, node: T)
         requires { length self.old.nodes < length self.old.places }
         ensures nodes { self.new.nodes ≡ self.old.nodes ++ Some node ∷ [] }
@@ -256,7 +256,7 @@ impl<T> Pool<T> {
         self.held += 1;
     }
 
-    /// Makes the lowest slot that was never held a vacant one, as if a node was just taken out of it.
+    /// Makes the lowest slot that was never held a vacant one, as if a node was just removed from it.
     fn append_vacant(&mut self)
         requires { length self.old.nodes < length self.old.places }
         ensures nodes { self.new.nodes ≡ self.old.nodes ++ None ∷ [] }
@@ -272,12 +272,12 @@ impl<T> Pool<T> {
 }
 
 impl<T: TryCopy> Pool<T> {
-    /// A pool with the same slots: each that was ever held here has a copy of its node there, or is vacant as it is
-    /// here. It counts no step.
+    /// Returns a pool with the same slots: each that was ever held here has a copy of its node there, or is vacant as
+    /// it is here. It counts no visit.
     ///
     /// The copy uses its vacant slots from the highest number down, in whatever order they were vacated here. Places
-    /// of one pool are not places of the other: `place` gives them by number. The error comes where the allocator has
-    /// no memory, and what was copied is then dropped. Where no slot was ever held, the copy allocates nothing.
+    /// of one pool are not places of the other: `place` gives them by number. The error comes if the allocator has no
+    /// memory, and the partial copy is then dropped. If no slot was ever held, the copy allocates nothing.
     pub fn try_copy(&self) -> Result<Pool<T>, Memory>
         ensures nodes { IfOk result (λ copy. copy.nodes ≡ self.now.nodes) }
         ensures order { IfOk result (λ copy. IsFalling copy.vacant) }
@@ -295,7 +295,7 @@ impl<T: TryCopy> Pool<T> {
         Ok(copy)
     }
 
-    /// A copy of the node in a slot, and `None` for a vacant slot.
+    /// Returns a copy of the node in a slot, and `None` for a vacant slot.
     fn copied_node(&self, slot: u32) -> Result<Option<T>, AllocError>
         requires { slot < length self.now.nodes }
         ensures { IfOk result (λ node. node ≡ node_at self.now slot) }
@@ -307,7 +307,7 @@ impl<T: TryCopy> Pool<T> {
     }
 }
 
-/// Drops the nodes, and gives the chunks back.
+/// Drops the nodes and gives the chunks back.
 impl<T: Drop> Drop for Pool<T> {
     fn drop(self) {
         let Pool {

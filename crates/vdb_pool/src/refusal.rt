@@ -1,7 +1,8 @@
 //! Why a pool could not grow.
 use std::alloc::AllocError;
 
-/// There is no capacity for so many nodes: the allocator had no memory, or there would be more than 4,294,967,295 slots.
+/// The pool has no capacity for the nodes: the allocator had no memory, or the pool would have more than
+/// 4,294,967,295 slots.
 #[derive(Clone, Copy, Drop, Debug)]
 pub struct Memory;
 

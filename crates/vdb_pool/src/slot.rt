@@ -13,7 +13,7 @@ pub enum Slot<T> {
 impl<T> Slot<T> {
     ghost use Rattle.vdb_pool.specs.contracts.slot.Slot.{the_row};
 
-    /// The node of a held slot.
+    /// Returns the node of a held slot.
     pub(crate) fn node(&self) -> &T
         requires { IsSome (node_of self.now) }
         ensures { node_of self.now ≡ Some result.now }
@@ -24,7 +24,7 @@ impl<T> Slot<T> {
         }
     }
 
-    /// The node of a held slot, for writing.
+    /// Returns the node of a held slot, for writing.
     pub(crate) fn node_mut(&mut self) -> &mut T
         requires { IsSome (node_of self.old) }
         ensures* writes_back { sem 𝓛 (Lends (the_row T.row) T.row self.entry result Slot.Held) }

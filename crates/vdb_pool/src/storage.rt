@@ -13,7 +13,7 @@ use std::alloc::{AllocError, Allocator};
 use std::marker::{Model, PhantomData};
 use std::mem::{align_of, size_of};
 
-/// Where a value lies, or where a row of them begins. It owns nothing.
+/// The address of a value, or of the first of a row of values. It owns nothing.
 pub struct Address<T> {
     pointer: *mut T,
 }
@@ -45,8 +45,7 @@ impl<T, A: Allocator> Model for Block<T, A> {
     ghost also_shares = { λ b _ _. block_says T.row b.at b.len b.stride };
 }
 
-/// The owner of the memory at `places`, of which the first ones hold the `items` and the others are free. It takes no
-/// space.
+/// The owner of the memory at `places`: the first places hold the `items` and the others are free. It takes no space.
 pub struct Storage<T> {
     mark: PhantomData<*const T>,
     ghost places: { List Ptr },
@@ -59,7 +58,7 @@ impl<T> Model for Storage<T> {
     ghost also_shares = { λ s _ κ. storage_lends T.row s.places s.items κ };
 }
 
-/// A block of `len` free places, beginning at the address.
+/// Allocates a block of `len` free places, beginning at the address that it returns.
 pub(crate) fn allocate<T, A: Allocator>(
     alloc: &A,
     len: usize,
@@ -82,7 +81,7 @@ pub(crate) fn allocate<T, A: Allocator>(
     }
 }
 
-/// Gives a block back, all of whose places are free.
+/// Gives back a block whose places are all free.
 pub(crate) fn deallocate<T, A: Allocator>(
     alloc: &A,
     base: Address<T>,
@@ -104,7 +103,7 @@ pub(crate) fn deallocate<T, A: Allocator>(
 }
 
 impl<T, A: Allocator> Block<T, A> {
-    /// The address of the place at `index` of the block, which begins at `base`.
+    /// Returns the address of the place at `index` of the block, which begins at `base`.
     pub(crate) fn place(&self, base: Address<T>, index: usize) -> Address<T>
         requires { (base.pointer ≡ self.now.at) × (index < self.now.len) }
         ensures { result.pointer ≡ base.pointer +ₚ index * self.now.stride }
@@ -118,7 +117,7 @@ impl<T, A: Allocator> Block<T, A> {
 impl<T> Storage<T> {
     ghost use Rattle.vdb_pool.specs.internal.Lends.{lends_item};
 
-    /// No memory at all.
+    /// Returns a storage without memory.
     pub(crate) fn new() -> Storage<T>
         ensures { (result.places ≡ []) × (result.items ≡ []) }
     {
@@ -126,7 +125,7 @@ impl<T> Storage<T> {
         Storage { mark }
     }
 
-    /// Takes over the places of `other`, all of which are free.
+    /// Takes over the places of `other`, all of them free.
     pub(crate) fn append(&mut self, other: Storage<T>)
         requires { other.items ≡ [] }
         ensures { (self.new.places ≡ self.old.places ++ other.places) × (self.new.items ≡ self.old.items) }
@@ -134,7 +133,7 @@ impl<T> Storage<T> {
         let Storage { mark: _ } = other;
     }
 
-    /// Gives up the places from the one at `from` on, where all are free.
+    /// Gives up the places from the one at `from` on, which are all free.
     pub(crate) fn split_off(&mut self, from: usize) -> Storage<T>
         requires { self.old.items ≡ [] }
         ensures rest { (self.new.places ≡ take from self.old.places) × (self.new.items ≡ []) }
@@ -151,7 +150,7 @@ impl<T> Storage<T> {
         let Storage { mark: _ } = self;
     }
 
-    /// The item at `index`, which lies at `at`.
+    /// Returns the item at `index`, whose address is `at`.
     pub(crate) fn get(&self, at: Address<T>, index: u32) -> &T
         requires { (at.pointer ≡ get_or self.now.places index null_ptr) × (index < length self.now.items) }
         ensures { result.now ≡ slice_index_or self.now.items index result.now }
@@ -160,7 +159,7 @@ impl<T> Storage<T> {
         unsafe { &*pointer }
     }
 
-    /// The item at `index`, which lies at `at`, for writing.
+    /// Returns the item at `index`, whose address is `at`, for writing.
     pub(crate) fn get_mut(&mut self, at: Address<T>, index: u32) -> &mut T
         requires { (at.pointer ≡ get_or self.old.places index null_ptr) × (index < length self.old.items) }
         ensures* writes_back { sem 𝓛 (lends_item T.row self.entry index result) }
@@ -170,7 +169,7 @@ impl<T> Storage<T> {
         unsafe { &mut *pointer }
     }
 
-    /// Puts an item at the first free place, which is `at`.
+    /// Moves an item into the first free place, whose address is `at`.
     pub(crate) fn push(&mut self, at: Address<T>, item: T)
         requires { (at.pointer ≡ get_or self.old.places (length self.old.items) null_ptr) × (length self.old.items < length self.old.places) }
         ensures { (self.new.places ≡ self.old.places) × (self.new.items ≡ self.old.items ++ item ∷ []) }
@@ -179,7 +178,7 @@ impl<T> Storage<T> {
         unsafe { pointer.write(item) }
     }
 
-    /// Takes the last item out of its place, which is `at`.
+    /// Moves the last item out of its place, whose address is `at`.
     pub(crate) fn pop(&mut self, at: Address<T>) -> T
         requires { IsLastAt self.old.places self.old.items at.pointer }
         ensures { (self.new.places ≡ self.old.places) × (self.old.items ≡ self.new.items ++ result ∷ []) }

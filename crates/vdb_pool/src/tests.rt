@@ -11,7 +11,7 @@ use std::process::Abort;
 use std::rc::Rc;
 use std::test::Fail;
 
-// Puts a number into the pool, which takes it into this slot and has so many nodes then.
+// Inserts a number into the pool, which uses this slot and then has `nodes` nodes.
 fn expect_slot(
     rt: &impl Abort,
     pool: &mut Pool<u32>,
@@ -28,7 +28,7 @@ fn expect_slot(
     Ok(())
 }
 
-// The number in a slot, which is held, is this one, and is read by one visit.
+// Reads the number in a held slot by one visit, and expects this one.
 fn expect_number(rt: &impl Abort, pool: &Pool<u32>, slot: u32, number: u32, steps: &mut Steps) {
     let before = steps.count();
     match pool.place(slot) {
@@ -48,7 +48,7 @@ fn raise(rt: &impl Abort, pool: &mut Pool<u32>, slot: u32, steps: &mut Steps) {
     assert_eq!(rt; steps.count().wrapping_sub(before), 1);
 }
 
-// Takes the number in a slot, which is held, out by one visit. The slot is vacant then.
+// Removes the number in a held slot by one visit, and expects this one. The slot is vacant then.
 fn expect_taken(rt: &impl Abort, pool: &mut Pool<u32>, slot: u32, number: u32, steps: &mut Steps) {
     let before = steps.count();
     match pool.place(slot) {
@@ -76,7 +76,7 @@ fn slots_are_used_again(rt: HostRuntime) -> Result<(), Memory> {
     Ok(())
 }
 
-// The numbers at two places.
+// Expects these numbers at two places.
 fn expect_at(
     rt: &impl Abort,
     pool: &Pool<u32>,
@@ -138,7 +138,7 @@ fn nodes_are_dropped_with_the_pool(rt: HostRuntime) -> Result<(), Fail> {
     Ok(())
 }
 
-// More nodes than there are slot numbers are refused, and so are 600 in a run with refused allocations.
+// Expects an error for more nodes than slot numbers, and for 600 nodes in a run with failing allocations.
 fn expect_refused(rt: &impl Abort, pool: &mut Pool<u32>) {
     let spare = pool.spare();
     assert!(rt; pool.reserve(4_294_967_294).is_err());
@@ -147,7 +147,7 @@ fn expect_refused(rt: &impl Abort, pool: &mut Pool<u32>) {
     let _ = pool.reserve(600);
 }
 
-// Refused for lack of slot numbers, and at a run with refused allocations for lack of memory.
+// The error comes for lack of slot numbers, and in a run with failing allocations for lack of memory.
 #[test]
 fn a_refused_reserve_keeps_everything(rt: HostRuntime) -> Result<(), Memory> {
     let mut steps = Steps::new(&rt);
@@ -166,7 +166,7 @@ fn a_refused_reserve_keeps_everything(rt: HostRuntime) -> Result<(), Memory> {
     expect_slot(&rt, &mut pool, 8, 1, 3)
 }
 
-// It passes with every allocation refused.
+// It passes if every allocation fails.
 #[test]
 fn an_empty_pool_takes_no_memory(rt: HostRuntime) {
     let mut pool: Pool<u64> = Pool::new(rt.alloc());
@@ -176,7 +176,7 @@ fn an_empty_pool_takes_no_memory(rt: HostRuntime) {
     assert_eq!(rt; pool.spare(), 0);
 }
 
-// In bytes. Only a node below 4 bytes has more beside it than a word.
+// Sizes in bytes. Only a node below 4 bytes has more beside it than a word.
 #[test]
 fn a_slot_takes_its_node_and_a_word(rt: HostRuntime) {
     assert_eq!(rt; size_of::<Slot<u8>>(), 12);

@@ -44,7 +44,7 @@ module _ {V : Type 0} (background : V) (cells : Coord → Cell V) where
   none false x y = refl
 
   module _ (out inn : Box) where
-    -- no face
+    -- with no face left, nothing is cleared
     pub clear_none : (fs : List Face) → length fs ≡ 0 → f ≡ clear out inn fs f
     clear_none fs e = same_cells background cells (λ q. cond (is_inside out q && false) (off background) (f.cell q)) (λ q inside. sym (cell_inside background cells q inside) ∙ none (is_inside out q) (off background) (f.cell q)) ∙ ap (λ gs. clear out inn gs f) (sym (empty fs e))
 
@@ -52,17 +52,17 @@ module _ {V : Type 0} (background : V) (cells : Coord → Cell V) where
       abbrev others : Coord → Cell V
       others q = cond (is_inside out q && list_any (is_beyond inn q) rest) (off background) (f.cell q)
 
-      -- a side filled, after the later ones
+      -- the side of one more face is filled, after those of the later faces
       pub clear_next : (s : Box) → ((q : Coord) → is_inside s q ≡ (is_inside out q && is_beyond inn q face)) → fill s (off background) (clear out inn rest f) ≡ clear out inn (face ∷ rest) f
       clear_next s same = same_cells background _ _ (λ q inside.
           let at = cell_inside background others q inside in
           rw at (either (is_inside s q) (is_inside out q) (is_beyond inn q face) (list_any (is_beyond inn q) rest) (off background) (f.cell q) (same q)))
 
-      -- no side
+      -- the side of one more face is empty
       pub clear_skip : ((q : Coord) → (is_inside out q && is_beyond inn q face) ≡ false) → clear out inn rest f ≡ clear out inn (face ∷ rest) f
       clear_skip none = same_cells background _ _ (λ q inside. neither (is_inside out q) (is_beyond inn q face) (list_any (is_beyond inn q) rest) (off background) (f.cell q) (none q))
 
-  -- all rings, from the outermost on
+  -- all rings together, from the outermost on
   ring : {A : Type 0} (b f l r e : Bool) (x y : A) → e ≡ true → (b ≡ true → f ≡ true) → (b ≡ true → l ≡ true) → (b ≡ true → r ≡ true)
       → cond (f && not b) x (cond (l && not f) x (cond (r && not l) x (cond (e && not r) x y))) ≡ cond b y x
   ring b f l r false x y h p q s = absurd (never refl h)
@@ -92,7 +92,7 @@ module _ {V : Type 0} (background : V) (cells : Coord → Cell V) where
         (ring (is_inside b q) (is_inside (hull bits Leaf b) q) (is_inside (hull bits Lower b) q) (is_inside (hull bits Upper b) q) true (off background) (cells q) refl
         (hull_holds bits b Leaf q) (hull_holds bits b Lower q) (hull_holds bits b Upper q)))
 
--- root blocks that hold anything but the background are no more where none comes
+-- the number of root blocks with anything but the background doesn't grow if none gets such a cell
 pub fewer_roots : {V : Type 0} (eq : V → V → Bool) (bits : Bits) (f g : Field V)
     → ((k : Coord) → is_background eq f (block bits Upper k) ≡ true → is_background eq g (block bits Upper k) ≡ true) → roots eq bits g ≤ roots eq bits f
 fewer_roots eq bits f g h =
@@ -108,7 +108,7 @@ cut v true true x e = e
 cut v true false x e = refl
 cut v false j x e = refl
 
--- and so it is with a clipped field
+-- a clipped field has no more root blocks with anything but the background
 pub clip_within : {V : Type 0} (eq : V → V → Bool) (exact : (x y : V) → eq x y ≡ true → x ≡ y) (itself : (x : V) → eq x x ≡ true) (bits : Bits) (b : Box) (background : V) (cells : Coord → Cell V)
     → roots eq bits (clip b (field background cells)) ≤ roots eq bits (field background cells)
 clip_within eq exact itself bits b background cells =

@@ -20,7 +20,7 @@ low = negsuc 2147483647
 abbrev high : ℤ
 high = pos 2147483647
 
--- what is below a number, and what is above it
+-- the numbers below a number, and those above it
 below : (a x : ℤ) → a ≤ℤ high → is_between low (a -ℤ pos 1) x ≡ (is_between low high x && int_lt x a)
 below a x h = grind (arith, ints)
 
@@ -89,7 +89,7 @@ module _ (b : Box) (bounds : is_bounds b ≡ true) where
       let y = is_between low high q.y in
       ap (λ t. x && y && t) (above b.max.z q.z (component b.max corners.1).2.0) ∙ along_z x y (is_between low high q.z) (int_lt b.max.z q.z)
 
-  -- where there is no half, nothing lies beyond the face
+  -- if there is no half, nothing lies beyond the face
   pub no_half : (face : Face) → box_of (half b face).min (half b face).max ≡ None → (q : Coord) → (is_inside everywhere q && is_beyond b q face) ≡ false
   no_half face none q =
       let outside : is_inside (half b face) q ≡ false = not_true (is_inside (half b face) q) (λ h. never (box_of_none (half b face).min (half b face).max none) (box_from_inside (half b face) q h)) in
@@ -114,7 +114,7 @@ all_three : (a b c : Bool) → (a && (b && c)) ≡ (a && b && c)
 all_three true b c = refl
 all_three false b c = refl
 
--- what lies beyond some face lies outside
+-- a coordinate that lies beyond some face lies outside, and the other way round
 pub beyond_all : (b : Box) (q : Coord) → list_any (is_beyond b q) faces ≡ not (is_inside b q)
 beyond_all b q =
     let tests : list_any (is_beyond b q) faces ≡ (not (int_le b.min.x q.x) || (not (int_le q.x b.max.x) || (not (int_le b.min.y q.y) || (not (int_le q.y b.max.y) || (not (int_le b.min.z q.z) || (not (int_le q.z b.max.z) || false)))))) =

@@ -51,7 +51,7 @@ inside_beyond b q face h k =
     each PlusZ a c d e f g = no_both (int_lt b.max.z q.z) (int_le q.z b.max.z) (not_le q.z b.max.z) g
 
 module _ (bits : Bits) (b : Box) where
-  -- a coordinate lies in the hull by the number of its block
+  -- the number of a coordinate's block says whether the coordinate lies in the hull
   pub hull_inside : (level : Level) (q : Coord) → is_inside (hull bits level b) q ≡ is_inside (numbers_over bits level b) (block_number bits level q)
   hull_inside level q =
       let k = block_bits bits level in
@@ -59,7 +59,7 @@ module _ (bits : Bits) (b : Box) where
       && (begins_by k (number_at k b.min.y) q.y i && ends_by k (number_at k b.max.y) q.y i)
       && (begins_by k (number_at k b.min.z) q.z i && ends_by k (number_at k b.max.z) q.z i)
 
-  -- and beyond its faces
+  -- the number of a coordinate's block says whether the coordinate lies beyond a face of the hull
   hull_beyond : (level : Level) (q : Coord) (face : Face) → is_beyond (hull bits level b) q face ≡ is_beyond (numbers_over bits level b) (block_number bits level q) face
   hull_beyond level q face = each face
     where
@@ -74,7 +74,7 @@ module _ (bits : Bits) (b : Box) where
       each MinusZ = let n = number_at k b.min.z in not_le (first_of k n) q.z ∙ ap not (begins_by k n q.z) ∙ sym (not_le n (number_at k q.z))
       each PlusZ = let n = number_at k b.max.z in not_le q.z (last_of k n) ∙ ap not (ends_by k n q.z) ∙ sym (not_le (number_at k q.z) n)
 
-  -- the others of its block are so, too
+  -- all coordinates of a block lie in the hull alike, and beyond its faces alike
   held_alike : (level : Level) (p r : Coord) → block_number bits level r ≡ block_number bits level p → is_inside (hull bits level b) r ≡ is_inside (hull bits level b) p
   held_alike level p r same = hull_inside level r ∙ ap (is_inside (numbers_over bits level b)) same ∙ sym (hull_inside level p)
 

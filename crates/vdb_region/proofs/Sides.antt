@@ -1,4 +1,4 @@
--- What the calls on hulls and sides make.
+-- The results of the calls on hulls and sides.
 use Rattle.std.proofs.Common.{◌≡◌, ◌∙◌, sym, refl, ap, true, false, Bool, ◌&&◌, Some, None, Option}
 use Rattle.std.specs.Prelude.{IfNone, IfSome}
 use Rattle.vdb_coord.specs.Boxes.{box_of, is_bounds}

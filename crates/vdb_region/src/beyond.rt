@@ -6,7 +6,8 @@ ghost use Rattle.vdb_region.specs.internal.Beyond.{half as half_of};
 
 use vdb_coord::{Bounds, Coord, Face};
 
-/// All coordinates past a face of the box, along its axis: `None` where the box reaches the end of the range there.
+/// Returns all coordinates past a face of the box, along its axis. Returns `None` if the box reaches the end of the
+/// range there.
 pub(crate) fn half(bounds: Bounds, face: Face) -> Option<Bounds>
     ensures value { result ≡ box_of (half_of bounds face).min (half_of bounds face).max }
     ensures bounds { IsTrue (is_bounds bounds) }

@@ -1,4 +1,4 @@
-//! Boxes kept while all around them is cleared.
+//! Clipping: the cells of a box stay, and all around it is cleared.
 
 ghost use Rattle.std.specs.Prelude.{◌≡◌, ◌&&◌, false, Err, IfErr, IfNone, IfSome};
 ghost use Rattle.vdb_coord.specs.Space.{is_inside};
@@ -19,10 +19,11 @@ use vdb_pool::Steps;
 use vdb_tree::{TreeOf, TreeRefusal};
 use vdb_value::Cell;
 
-/// Makes every coordinate outside the box the background, inactive, and keeps the cells of the box (OpenVDB's `Tree::clip`).
+/// Sets every coordinate outside the box to the background, inactive, and keeps the cells of the box (OpenVDB's
+/// `Tree::clip`).
 ///
-/// `Memory` says that a growth was refused; it leaves every cell as it was, and no node over a block of one cell: the tree is
-/// pruned then, so that the nodes that were made are given back to their pools.
+/// The call fails with `Memory` after an allocation failure. It then leaves every cell as it was, and no node over a
+/// block of one cell: the tree is pruned, so that the nodes made for the box are given back to their pools.
 pub fn clip<
     V: Stored<WU> + Stored<WL> + Stored<WF>,
     const U: u32,
@@ -62,7 +63,7 @@ pub fn clip<
     }
 }
 
-/// Clears what of a ring lies past these faces of what it begins at, in a tree that is split for it.
+/// Clears the part of a ring past these faces of its inner box, in a tree that is split for the box.
 fn clear_ring<
     V: Stored<WU> + Stored<WL> + Stored<WF>,
     const U: u32,
@@ -99,8 +100,8 @@ fn clear_ring<
     }
 }
 
-/// What of the ring lies past the face of what it begins at: `None` where that is nothing. A tree that is split for the box and
-/// the background cell is split for it, too.
+/// Returns the part of a ring past the face of its inner box, or `None` if that part is empty. A tree that is split
+/// for the box and the background cell is split for this part, too.
 fn split_side<
     V: Stored<WU> + Stored<WL> + Stored<WF>,
     const U: u32,

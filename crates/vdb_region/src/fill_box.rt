@@ -17,12 +17,13 @@ use vdb_pool::Steps;
 use vdb_tree::{TreeOf, TreeRefusal};
 use vdb_value::Cell;
 
-/// Gives each coordinate of the box this cell (OpenVDB's `Tree::fill`). What lies within the box becomes tiles, as large as the
-/// box lets them be, and the nodes that it covers are given back to their pools.
+/// Sets each coordinate of the box to this cell (OpenVDB's `Tree::fill`). Inside the box the tree then has tiles, as
+/// large as the box allows, and the nodes that the tiles replace are given back to their pools.
 ///
-/// `RootLimit` says that there would be more root blocks with a cell that isn't the background than the limit, `Memory` that a
-/// growth was refused; both leave every cell as it was. After `Memory` the tree is pruned, so that it has no node over a block
-/// of one cell: those that were made for the box are given back to their pools.
+/// The call fails with `RootLimit` if more upper extents than the root limit would hold a cell other than the
+/// background, and with `Memory` after an allocation failure. Both leave every cell as it was. After `Memory` the
+/// tree is pruned, so that it has no node over a block of one cell: the nodes made for the box are given back to
+/// their pools.
 pub fn fill<
     V: Stored<WU> + Stored<WL> + Stored<WF>,
     const U: u32,

@@ -1,7 +1,7 @@
 //! Boxes of any size written at once: filled with one cell, or kept while all around them is cleared.
 //!
-//! Both first split and then paint: whatever takes memory comes before the first cell changes, so that a refused call leaves
-//! every cell as it was.
+//! Both calls first split and then paint: whatever takes memory comes before the first cell changes, so that a failed
+//! call leaves every cell as it was.
 #![tactic(auto)]
 
 mod beyond;

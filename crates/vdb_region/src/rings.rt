@@ -10,21 +10,22 @@ ghost use Rattle.vdb_region.specs.internal.Rings.{hull as hull_of, inner as inne
 use crate::beyond::half;
 use vdb_coord::{Bits, Bounds, Coord, Face, Level};
 
-/// One of the rings around a box that are as wide as its blocks: a tree that is split for the box and the background cell is
-/// split for each of their sides, too, since a block that the edge of the box crosses is no tile.
+/// One of the rings around a box: from the box out to the blocks that meet it, level by level, and on to the end of
+/// the range. A tree that is split for the box and the background cell is split for each side of each ring, too: a
+/// block that the edge of the box crosses is no tile, or a tile of the background cell.
 #[derive(Clone, Copy, Debug, PartialEq, Eq)]
 pub(crate) enum Ring {
-    /// All around the root blocks that meet the box.
+    /// Around all upper extents that meet the box.
     AroundRoots,
-    /// Within these, around the lower blocks that meet the box.
+    /// Within the upper extents that meet the box, around the lower extents that meet it.
     WithinRoots,
-    /// Within these, around the leaf blocks that meet the box.
+    /// Within the lower extents that meet the box, around the leaf extents that meet it.
     WithinLowers,
-    /// Within these, around the box.
+    /// Within the leaf extents that meet the box, around the box.
     WithinLeaves,
 }
 
-/// The blocks of the level that meet the box, as one box.
+/// Returns the blocks of the level that meet the box, as one box.
 fn hull(bits: Bits, level: Level, bounds: Bounds) -> Bounds
     requires { AreBits bits }
     ensures { result ≡ hull_of bits level bounds }
@@ -37,7 +38,7 @@ fn hull(bits: Bits, level: Level, bounds: Bounds) -> Bounds
     }
 }
 
-/// All coordinates.
+/// Returns the box of all coordinates.
 fn space() -> Bounds
     ensures { result ≡ everywhere }
 {
@@ -57,7 +58,7 @@ fn space() -> Bounds
     }
 }
 
-/// Where a ring ends.
+/// Returns the outer box of a ring.
 fn outer(bits: Bits, bounds: Bounds, ring: Ring) -> Bounds
     requires { AreBits bits }
     ensures { result ≡ outer_of bits bounds ring }
@@ -70,7 +71,7 @@ fn outer(bits: Bits, bounds: Bounds, ring: Ring) -> Bounds
     }
 }
 
-/// Where a ring begins.
+/// Returns the inner box of a ring.
 fn inner(bits: Bits, bounds: Bounds, ring: Ring) -> Bounds
     requires { AreBits bits }
     ensures { result ≡ inner_of bits bounds ring }
@@ -83,7 +84,7 @@ fn inner(bits: Bits, bounds: Bounds, ring: Ring) -> Bounds
     }
 }
 
-/// What of the ring lies past the face of what it begins at: `None` where that is nothing.
+/// Returns the part of the ring past the face of its inner box, or `None` if that part is empty.
 pub(crate) fn side(bits: Bits, bounds: Bounds, ring: Ring, face: Face) -> Option<Bounds>
     requires { AreBits bits }
     ensures some { IfSome result (λ s. (q : Coord) → is_inside s q ≡ (is_inside (outer_of bits bounds ring) q && is_beyond (inner_of bits bounds ring) q face)) }

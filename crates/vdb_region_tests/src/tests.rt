@@ -23,12 +23,12 @@ fn off<V>(value: V) -> Cell<V> {
     Cell { value, on: false }
 }
 
-// The box between two corners that are in order.
+// Returns the box between two corners that are in order.
 fn bounds(rt: &impl Abort, min: Coord, max: Coord) -> Bounds {
     Bounds::new(min, max).expect(rt, "a box")
 }
 
-// The entries of the root table and the upper, lower and leaf nodes.
+// Expects these numbers of root entries and of upper, lower and leaf nodes.
 fn expect_counts(rt: &impl Abort, tree: &Tree<i32>, counts: [u64; 4]) {
     let [entries, upper, lower, leaf] = counts;
     let wanted = NodeCounts {

@@ -1,7 +1,7 @@
-//! The states of two grids made one: union, difference and intersection of what is active.
+//! Two grids' states combined: union, difference and intersection of the active voxels.
 //!
-//! The values of the grid that changes stay, and the other grid stays as it is; the two may be of two types of values. Nodes are
-//! made before the first state changes, so that a refused call leaves every cell as it was.
+//! The values of the grid that changes stay, and the other grid stays as it is; the two may have different types of
+//! values. Nodes are made before the first state changes, so that a failed call leaves every cell as it was.
 #![tactic(auto)]
 
 ghost use Rattle.std.specs.Prelude.{◌≡◌, IfErr};
@@ -14,10 +14,11 @@ use vdb_node::Stored;
 use vdb_pool::Steps;
 use vdb_tree::{StateRule, TreeOf, TreeRefusal};
 
-/// Makes each voxel of a tree active that is so in it or in another tree (OpenVDB's `Tree::topologyUnion`).
+/// Activates each voxel of a tree that is active in another tree; active voxels stay active (OpenVDB's
+/// `Tree::topologyUnion`).
 ///
-/// `RootLimit` says that there would be more root blocks with a cell that isn't the background than the limit, `Memory` that a
-/// growth was refused; both leave every cell as it was.
+/// The call fails with `RootLimit` if more upper extents than the root limit would hold a cell other than the
+/// background, and with `Memory` after an allocation failure. Both leave every cell as it was.
 pub fn unite<
     V: Stored<WU> + Stored<WL> + Stored<WF>,
     X: Stored<WU> + Stored<WL> + Stored<WF>,
@@ -39,9 +40,9 @@ pub fn unite<
     tree.combine_states(other, StateRule::Unite, steps)
 }
 
-/// Makes each voxel of a tree inactive that is active in another tree (OpenVDB's `Tree::topologyDifference`).
+/// Deactivates each voxel of a tree that is active in another tree (OpenVDB's `Tree::topologyDifference`).
 ///
-/// `Memory` says that a growth was refused, and leaves every cell as it was.
+/// The call fails with `Memory` after an allocation failure, and leaves every cell as it was.
 pub fn subtract<
     V: Stored<WU> + Stored<WL> + Stored<WF>,
     X: Stored<WU> + Stored<WL> + Stored<WF>,
@@ -64,10 +65,10 @@ pub fn subtract<
     tree.combine_states(other, StateRule::Subtract, steps)
 }
 
-/// Makes each voxel of a tree inactive that isn't active in another tree (OpenVDB's `Tree::topologyIntersection`, but that it
-/// keeps the values).
+/// Deactivates each voxel of a tree that isn't active in another tree. Unlike OpenVDB's `Tree::topologyIntersection`,
+/// it keeps the values.
 ///
-/// `Memory` says that a growth was refused, and leaves every cell as it was.
+/// The call fails with `Memory` after an allocation failure, and leaves every cell as it was.
 pub fn intersect<
     V: Stored<WU> + Stored<WL> + Stored<WF>,
     X: Stored<WU> + Stored<WL> + Stored<WF>,

@@ -1,4 +1,4 @@
-//! States of pairs of trees, beside what their cells were before.
+//! States of pairs of trees, compared with their cells before.
 
 ghost use Rattle.std.specs.Prelude.{◌<◌};
 
@@ -13,7 +13,7 @@ use vdb_value::Cell;
 /// A tree whose blocks span 2, 4 and 8 voxels along each axis.
 type Tiny<V> = TreeOf<V, 1, 1, 1, 1, 1, 1>;
 
-/// Where the boxes lie along each axis.
+/// The range of the boxes along each axis.
 const LOW: i32 = -9;
 
 const HIGH: i32 = 12;
@@ -29,7 +29,7 @@ struct Draws {
 }
 
 impl Draws {
-    // A number below `bound`, by the upper bits.
+    // Returns a number below `bound`, from the generator's upper bits.
     fn below(&mut self, bound: u64) -> u64
         requires { 0 < bound }
         ensures { result < bound }
@@ -41,7 +41,7 @@ impl Draws {
         (self.state >> 33) % bound
     }
 
-    // Where a box begins and ends along an axis.
+    // Returns where a box begins and ends along an axis.
     fn span(&mut self) -> (i32, i32) {
         let first = LOW.wrapping_add(self.below(22) as i32);
         let length = self.below(12) as i32;
@@ -54,7 +54,7 @@ impl Draws {
     }
 }
 
-// Gives the coordinates of a box this cell, which is accepted.
+// Sets the coordinates of a box to this cell, and expects no error.
 fn fill<
     V: Stored<WU> + Stored<WL> + Stored<WF>,
     const U: u32,
@@ -74,7 +74,8 @@ fn fill<
     tree.paint(bounds, cell, steps);
 }
 
-// Fills a box that is drawn with one of these values, active or not, and at times prunes the tree or makes leaves in the box.
+// Fills a random box with one of these values, active or not, and at times prunes the tree or makes leaves in the
+// box.
 fn draw_box<
     V: Stored<WU> + Stored<WL> + Stored<WF>,
     const U: u32,
@@ -107,7 +108,7 @@ fn draw_box<
     }
 }
 
-// Fills some boxes.
+// Fills some random boxes.
 fn draw<
     V: Stored<WU> + Stored<WL> + Stored<WF>,
     const U: u32,
@@ -140,7 +141,7 @@ fn made<V: Copy>(rule: StateRule, first: Cell<V>, second: bool) -> Cell<V> {
     }
 }
 
-// Each coordinate around the boxes, with one voxel more on each side.
+// Compares each coordinate around the boxes, with one voxel more on each side.
 fn expect_around<
     V: Stored<WU> + Stored<WL> + Stored<WF>,
     X: Stored<WU> + Stored<WL> + Stored<WF>,
@@ -169,7 +170,7 @@ fn expect_around<
     }
 }
 
-// Makes the states of two trees by a rule, which is accepted.
+// Combines the states of two trees by a rule, and expects no error.
 fn make<
     V: Stored<WU> + Stored<WL> + Stored<WF>,
     X: Stored<WU> + Stored<WL> + Stored<WF>,
@@ -194,7 +195,7 @@ fn make<
     result.expect(rt, "states");
 }
 
-// The cell at a coordinate.
+// Expects this cell at a coordinate.
 fn expect_cell<
     V: Stored<WU> + Stored<WL> + Stored<WF>,
     const U: u32,
@@ -214,7 +215,7 @@ fn expect_cell<
     assert!(rt; tree.get(p, steps) == Cell { value, on }, "at {p:?}");
 }
 
-// Far from the boxes all cells are the background.
+// Expects the background far from the boxes.
 fn expect_far(rt: &impl Abort, tree: &Tiny<i32>, steps: &mut Steps) {
     for p in [
         at(5000, 0, 0),
@@ -225,7 +226,7 @@ fn expect_far(rt: &impl Abort, tree: &Tiny<i32>, steps: &mut Steps) {
     }
 }
 
-// Makes the states of two trees by a rule, and compares each cell around the boxes.
+// Combines the states of two trees by a rule, and compares each cell around the boxes.
 fn expect_rule<
     V: Stored<WU> + Stored<WL> + Stored<WF>,
     X: Stored<WU> + Stored<WL> + Stored<WF>,
@@ -277,7 +278,7 @@ fn random_trees_of_large_nodes(rt: HostRuntime) {
     }
 }
 
-// Gives the root blocks with the keys from 0 to `count - 1` along z a cell.
+// Fills the upper extents with the keys from 0 to `count - 1` along z with a cell.
 fn fill_roots(
     rt: &impl Abort,
     tree: &mut Tree<i32>,
@@ -290,7 +291,7 @@ fn fill_roots(
     fill(rt, tree, bounds, cell, steps);
 }
 
-// A union is refused by the root limit.
+// Expects `RootLimit` from a union.
 fn expect_refused(rt: &impl Abort, tree: &mut Tree<i32>, other: &Tree<bool>, steps: &mut Steps) {
     let result = unite(tree, other, steps);
     assert!(rt; result == Err(TreeRefusal::RootLimit));
@@ -319,7 +320,7 @@ fn the_limit_is_that_of_the_first_tree(rt: HostRuntime) {
     expect_refused(&rt, &mut tree, &other, &mut steps);
     expect_cell(&rt, &tree, p, 0, false, &mut steps);
     make(&rt, StateRule::Subtract, &mut tree, &other, &mut steps);
-    // One of the three blocks becomes background, and its entry stays until the table wants room.
+    // One of the three upper extents becomes background, and its entry stays until the table needs room.
     fill_roots(&rt, &mut tree, 1, background, &mut steps);
     make(&rt, StateRule::Unite, &mut tree, &other, &mut steps);
     expect_cell(&rt, &tree, p, 0, true, &mut steps);

@@ -10,7 +10,7 @@ has_number truths z = false
 has_number I32 z = int_le (negsuc 2147483647) z && int_le z (pos 2147483647)
 has_number I64 z = int_le (negsuc 9223372036854775807) z && int_le z (pos 9223372036854775807)
 
--- the sum, where the kind has it
+-- the sum, if the kind has it
 abbrev pub sum_in : Kind → ℤ → ℤ → Option ℤ
 sum_in kind x y = if has_number kind (x +ℤ y) then Some (x +ℤ y) else None
 
@@ -18,11 +18,11 @@ sum_in kind x y = if has_number kind (x +ℤ y) then Some (x +ℤ y) else None
 abbrev pub number_bytes : Width → ℤ → List ℕ
 number_bytes w z = to_be_bytes w (cast_unsigned w z)
 
--- the byte of a truth value
+-- the byte of a boolean
 abbrev pub truth_bytes : Bool → List ℕ
 truth_bytes b = (if b then 1 else 0) ∷ []
 
--- the word of a truth value
+-- the word of a boolean
 abbrev pub truth_text : Bool → List ℕ
 truth_text b = if b then codes "true" else codes "false"
 

@@ -1,23 +1,23 @@
-//! How two values become one.
+//! How two values combine.
 ghost use Rattle.std.specs.Prelude.{◌≡◌};
 ghost use Rattle.vdb_value.specs.Blends.{blended};
 
 use crate::Voxel;
 
-/// How two values become one (OpenVDB's `tools::compMax`, `tools::compMin` and `tools::compSum`, `tools/Composite.h`).
+/// How two values combine (OpenVDB's `tools::compMax`, `tools::compMin` and `tools::compSum`, `tools/Composite.h`).
 #[derive(Clone, Copy, Debug, PartialEq, Eq)]
 pub enum Blend {
-    /// The greater of the two: `or` for truth values.
+    /// The greater of the two: `or` for booleans.
     Greatest,
-    /// The lesser of the two: `and` for truth values.
+    /// The lesser of the two: `and` for booleans.
     Least,
-    /// Their sum, which truth values don't have.
+    /// Their sum, which booleans don't have.
     Sum,
 }
 
 impl Blend {
-    /// The one value that two become: `None` exactly where they have no sum, which is so for numbers whose sum lies
-    /// outside the type, and always for truth values.
+    /// Combines two values. Returns `None` exactly if they have no sum: for numbers whose sum lies outside the type,
+    /// and always for booleans.
     pub fn of<V: Voxel>(self, first: V, second: V) -> Option<V>
         ensures { result ≡ blended V.greater V.lesser V.sum_of self first second }
     {

@@ -147,7 +147,7 @@ impl Voxel for i32 {
     ghost small = { (Prim.omega arith, Prim.omega arith) };
 }
 
-/// The number that has these bytes.
+/// Returns the number that has these bytes.
 fn number(bytes: [u8; 8]) -> i64
     ensures { number_bytes w64 result ≡ bytes }
 {

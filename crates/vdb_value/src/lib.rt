@@ -1,4 +1,4 @@
-//! The values of voxels: three kinds of them, and cells.
+//! The values of voxels, their three types, and cells.
 #![tactic(auto)]
 
 mod blend;
@@ -10,10 +10,10 @@ mod voxel;
 pub use blend::Blend;
 pub use voxel::Voxel;
 
-/// The kinds of values that a grid may have.
+/// The types of values that a grid may have.
 #[derive(Clone, Copy, Debug, PartialEq, Eq)]
 pub enum Kind {
-    /// Truth values.
+    /// Booleans.
     Bool,
     /// Signed numbers of 32 bits.
     I32,

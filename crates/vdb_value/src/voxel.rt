@@ -13,12 +13,12 @@ use itoa::Buffer;
 
 /// A type of voxel values: `bool`, `i32` or `i64`.
 pub trait Voxel: Copy + Ord + Drop {
-    /// Which kind it is.
+    /// The type's kind.
     ghost KIND: { Kind };
 
     const KIND: Kind;
 
-    /// Whether two values may have a sum: not where they are truth values.
+    /// Whether two values may have a sum: not if they are booleans.
     ghost SUMS: { Bool };
 
     const SUMS: bool;
@@ -31,27 +31,27 @@ pub trait Voxel: Copy + Ord + Drop {
 
     ghost text_of: { Self → List ℕ };
 
-    /// The lesser and the greater of two values, and their sum where the type has it.
+    /// The lesser and the greater of two values, and their sum if the type has it.
     ghost lesser: { Self → Self → Self };
 
     ghost greater: { Self → Self → Self };
 
     ghost sum_of: { Self → Self → Option Self };
 
-    /// The lesser of two values: `and` for truth values.
+    /// Returns the lesser of two values: `and` for booleans.
     fn least(self, other: Self) -> Self
         ensures { result ≡ lesser self other };
 
-    /// The greater of two values: `or` for truth values.
+    /// Returns the greater of two values: `or` for booleans.
     fn greatest(self, other: Self) -> Self
         ensures { result ≡ greater self other };
 
-    /// The sum of two values: `None` exactly where it lies outside the type, and always for truth values.
+    /// Returns the sum of two values. Returns `None` exactly if it lies outside the type, and always for booleans.
     fn plus(self, other: Self) -> Option<Self>
         ensures { result ≡ sum_of self other };
 
-    /// Puts the value's bytes at the start of `bytes`, most significant first and in two's complement, and answers how many
-    /// they are: 1 for a truth value, which is 0 or 1, and 4 or 8 for a number. The bytes behind them stay.
+    /// Writes the value's bytes to the start of `bytes`, most significant first and in two's complement, and returns
+    /// how many they are: 1 for a boolean, which is 0 or 1, and 4 or 8 for a number. The bytes behind them stay.
     fn to_bytes(self, bytes: &mut [u8; 8]) -> usize
         ensures count { result ≡ byte_count KIND }
         ensures few { result ≤ 8 }
@@ -59,22 +59,22 @@ pub trait Voxel: Copy + Ord + Drop {
         ensures rest { drop result bytes.new ≡ drop result bytes.old }
         ensures value { is_value self };
 
-    /// The value that has these bytes: `None` exactly where they are not as many as the type's values have, or where
-    /// the byte of a truth value is above 1.
+    /// Returns the value that has these bytes. Returns `None` exactly if the type's values have another number of
+    /// bytes, or if the byte of a boolean is above 1.
     fn from_bytes(bytes: &[u8]) -> Option<Self>
         ensures same { IfSome result (λ x. bytes_of x ≡ bytes.now) }
         ensures value { IfSome result is_value }
         ensures known { is_some result ≡ are_bytes_of KIND bytes.now };
 
-    /// The value's text, which lies in `buffer` or is a constant: a number in decimal with a sign where it is negative,
-    /// `true` or `false`.
+    /// Returns the value's text, which lies in `buffer` or is a constant: `true` or `false`, or a number in decimal,
+    /// with a sign if it is negative.
     fn print(self, buffer: &mut Buffer) -> &str
         ensures text { result.now ≡ text_of self }
         ensures short { length result.now ≤ 20 }
         ensures ascii { IsAscii result.now }
         ensures value { is_value self };
 
-    /// Values that compare alike are one.
+    /// Values that compare alike are equal.
     ghost exact: { (x y : Self) → Self.cmp x y ≡ Equal → x ≡ y };
 
     /// The lesser and the greater are those of the order.
@@ -82,7 +82,7 @@ pub trait Voxel: Copy + Ord + Drop {
 
     ghost greater_by_order: { (x y : Self) → greater x y ≡ (if is_lt (Self.cmp x y) then y else x) };
 
-    /// A type has sums where its kind has, and without sums no two values have one.
+    /// A type has sums if its kind has, and without sums no two values have one.
     ghost sums_by_kind: { SUMS ≡ has_sums KIND };
 
     ghost no_sums: { SUMS ≡ false → (x y : Self) → sum_of x y ≡ None };
@@ -90,7 +90,7 @@ pub trait Voxel: Copy + Ord + Drop {
     /// A sum is a value of the type.
     ghost sum_value: { (x y z : Self) → sum_of x y ≡ Some z → is_value z };
 
-    /// Values with the same bytes are one, and a value can be read back from its bytes.
+    /// Values with the same bytes are equal, and a value can be read back from its bytes.
     ghost bytes_exact: { (x y : Self) → is_value x → is_value y → bytes_of x ≡ bytes_of y → x ≡ y };
 
     ghost bytes_known: { (x : Self) → is_value x → IsTrue (are_bytes_of KIND (bytes_of x)) };

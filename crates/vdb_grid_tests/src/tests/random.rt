@@ -16,7 +16,7 @@ struct Draws {
 }
 
 impl Draws {
-    // A number below `bound`, by the upper bits.
+    // Returns a number below `bound`, from the generator's upper bits.
     fn below(&mut self, bound: u64) -> u64
         requires { 0 < bound }
         ensures { result < bound }
@@ -28,7 +28,7 @@ impl Draws {
         (self.state >> 33) % bound
     }
 
-    // Around 0, or around an end of the first root block.
+    // Returns a component around 0, or around an end of the first upper extent.
     fn along(&mut self) -> i32 {
         let near = (self.below(24) as i32).wrapping_sub(12);
         if self.below(4) == 0 {
@@ -59,7 +59,7 @@ impl Draws {
         )
     }
 
-    // A small value, or at times one near the greatest.
+    // Returns a small value, or at times one near the greatest.
     fn value(&mut self) -> i32 {
         let value = self.below(3) as i32;
         if self.below(50) == 0 {
@@ -70,18 +70,18 @@ impl Draws {
     }
 }
 
-/// A grid, beside what its accessors and its sums were given.
+/// A grid with what its accessors and its sums were given.
 #[derive(Drop)]
 struct Calls {
     it: Trial,
     // The coordinate that each accessor was last given.
     given: [Option<Coord>; 8],
-    // How many sums were made, and how many were out of range.
+    // How many sums succeeded, and how many were out of range.
     sums: u32,
     refused: u32,
 }
 
-// A call on a box, or one that rebuilds the tree. Where it is refused the grid has the cells from before.
+// Makes a call on a box, or one that rebuilds the tree. After an error the grid has the cells from before.
 fn rebuild(it: &mut Trial, draws: &mut Draws) {
     let _ = match (draws.below(6), draws.bounds()) {
         (0, Some(bounds)) => it.grid.fill(bounds, on(draws.value()), &mut it.steps),
@@ -96,7 +96,7 @@ fn rebuild(it: &mut Trial, draws: &mut Draws) {
     };
 }
 
-// A call with a tree of another box.
+// Makes a call with a tree of another box.
 fn combine(it: &mut Trial, other: &Tree<i32>, draws: &mut Draws) {
     let _ = match draws.below(6) {
         0 => it.grid.unite(other, &mut it.steps),
@@ -108,7 +108,7 @@ fn combine(it: &mut Trial, other: &Tree<i32>, draws: &mut Draws) {
     };
 }
 
-// The cells around 0 and around an end of the first root block are those of another tree.
+// Expects another tree's cells around 0 and around an end of the first upper extent.
 fn expect_cells(rt: &impl Abort, it: &mut Trial, before: &Tree<i32>, draws: &mut Draws) {
     for _ in 0..500u32 {
         let p = draws.coord();
@@ -117,7 +117,7 @@ fn expect_cells(rt: &impl Abort, it: &mut Trial, before: &Tree<i32>, draws: &mut
     }
 }
 
-// The sum with a tree of another box. Where it is refused no cell changes.
+// Adds a tree of another box. After an error no cell changes.
 fn add(rt: &impl Abort, calls: &mut Calls, other: &Tree<i32>, draws: &mut Draws) {
     let before = calls.it.grid.try_copy().expect(rt, "a copy");
     match calls.it.grid.sum(other, &mut calls.it.steps) {
@@ -131,13 +131,13 @@ fn add(rt: &impl Abort, calls: &mut Calls, other: &Tree<i32>, draws: &mut Draws)
     }
 }
 
-// The grid's copy in its place. No accessor was given a coordinate.
+// Replaces the grid by its copy, whose accessors were given no coordinate.
 fn take_copy(rt: &impl Abort, calls: &mut Calls) {
     calls.it.grid = calls.it.grid.try_copy().expect(rt, "a copy");
     calls.given = [None; 8];
 }
 
-// A voxel written, with an accessor or without.
+// Writes a voxel, with an accessor or without.
 fn write(calls: &mut Calls, k: usize, p: Coord, draws: &mut Draws) {
     let change = match draws.below(3) {
         0 => Write::Off(draws.value()),
@@ -153,7 +153,7 @@ fn write(calls: &mut Calls, k: usize, p: Coord, draws: &mut Draws) {
     };
 }
 
-// A probe gives the tree's cell, and an accessor reaches what it was given by one visit.
+// Expects the tree's cell from each probe, and at most one visit to the accessor's last coordinate.
 fn check(rt: &impl Abort, calls: &mut Calls, k: usize, p: Coord)
     requires { k < 8 }
 {
@@ -168,7 +168,7 @@ fn check(rt: &impl Abort, calls: &mut Calls, k: usize, p: Coord)
     calls.given[k] = Some(p);
 }
 
-// One call, and a check of one accessor.
+// Makes one call, and checks one accessor.
 fn turn(rt: &impl Abort, calls: &mut Calls, other: &Tree<i32>, draws: &mut Draws) {
     let (k, p) = (draws.below(8) as usize, draws.coord());
     match draws.below(240) {
@@ -182,7 +182,7 @@ fn turn(rt: &impl Abort, calls: &mut Calls, other: &Tree<i32>, draws: &mut Draws
     check(rt, calls, k, p);
 }
 
-// A tree with a box, for the calls on two trees.
+// Returns a tree with a box, for the calls on two trees.
 fn boxed(rt: &(impl Abort + AllocGlobal), steps: &mut Steps) -> Tree<i32> {
     let mut other = Tree::new(rt.alloc(), 0i32, 4);
     let bounds = Bounds::new(at(-20, 1, 1), at(9, 15, 15)).expect(rt, "a box");

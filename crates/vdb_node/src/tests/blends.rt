@@ -1,10 +1,10 @@
-//! Leaves that two become, and active cells taken.
+//! Leaves combined, and active cells copied.
 
 use super::*;
 use vdb_value::Blend;
 
-// Two leaves of 512 entries, of which one is blended into the other: the cells at 3 and 500 differ from
-// the rest. What comes of the first value and of the two cells is told, and how many are on.
+// Blends one of two leaves of 512 entries into the other: the cells at 3 and 500 differ from the
+// rest. Expects the combined first value, the two combined cells, and how many are on.
 fn try_blend<V: Stored<8>>(
     rt: &impl Abort,
     alloc: Global,
@@ -28,7 +28,7 @@ fn try_blend<V: Stored<8>>(
     Ok(())
 }
 
-// The same leaf, blended with one cell that is off, and then with one that is on.
+// Blends the same leaf with one cell that is off, and then with one that is on.
 fn try_blend_with<V: Stored<8>>(
     rt: &impl Abort,
     alloc: Global,
@@ -52,7 +52,7 @@ fn try_blend_with<V: Stored<8>>(
     Ok(())
 }
 
-// Each is blended with the first value: what the rest and the other value become.
+// Blends with the first value, and expects what the rest and the other value become.
 #[test]
 fn leaves_blended(rt: HostRuntime) -> Result<(), AllocError> {
     let numbers = [
@@ -87,7 +87,8 @@ fn leaves_blended(rt: HostRuntime) -> Result<(), AllocError> {
     Ok(())
 }
 
-// One leaf blended into another, where the last sum is a value and where it is none.
+// One leaf blended into another, once with a last sum that is a value and once with one that is
+// none.
 #[test]
 fn sums_of_two_leaves(rt: HostRuntime) -> Result<(), AllocError> {
     let mut leaf: Leaf<i32, 3, 8> = Leaf::new_constant(rt.alloc(), on(1))?;
@@ -117,7 +118,7 @@ fn expect_no_sum<V: Stored<8>>(
     Ok(())
 }
 
-// Sums too small and too large; truth values have none.
+// Sums too small and too large; booleans have none.
 #[test]
 fn sums_that_no_value_is(rt: HostRuntime) -> Result<(), AllocError> {
     expect_no_sum(&rt, rt.alloc(), -1, i32::MIN)?;
@@ -134,8 +135,8 @@ fn a_sum_at_the_end_of_the_range(rt: HostRuntime) -> Result<(), AllocError> {
     Ok(())
 }
 
-// A leaf whose values are all `one` takes the active cells of one whose values are all `other`: those in
-// a run across words, one by itself, and the last.
+// A leaf whose values are all `one` copies the active cells of one whose values are all `other`:
+// those in a run across words, one by itself, and the last.
 fn try_take_active<V: Stored<8>>(
     rt: &impl Abort,
     alloc: Global,

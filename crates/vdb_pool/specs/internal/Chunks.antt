@@ -9,7 +9,7 @@ abbrev pub chunk_len : ℕ
 chunk_len = 255
 
 module _ {T : Type 0} where
-  -- where the slots of the chunks lie
+  -- the addresses of the slots of the chunks
   abbrev pub rows_of : List (Chunk T) → List Ptr
   rows_of [] = []
   rows_of (c ∷ cs) = row_from c.block.stride c.base.pointer chunk_len ++ rows_of cs

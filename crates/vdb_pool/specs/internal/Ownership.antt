@@ -26,10 +26,10 @@ module _ (R : RattleType) where
   storage_lends (p ∷ ps) [] = nothing
   storage_lends (p ∷ ps) (x ∷ xs) = beside (lent_at R p x) (storage_lends ps xs)
 
-  -- a place takes so many bytes, n of them fewer than 2 ^ 63, and p is in a block
+  -- a place takes `stride` bytes, n of them fewer than 2 ^ 63, and p is in a block
   abbrev pub block_says : Ptr → ℕ → ℕ → Fml
   block_says p n stride = fsep (feq ℕ stride (type_size R)) (fsep (flt (n * type_size R) (2 ^ 63)) (in_block p ftrue))
 
-  -- that, and the allocator's token for a block of n places
+  -- what `block_says` says, and the allocator's token for a block of n places
   abbrev pub block_owns : (Ty → Ptr → Fml) → Ptr → ℕ → ℕ → Fml
   block_owns token p n stride = fsep (block_says p n stride) (token (raw (ty_array (lone R.mir) n)) p)

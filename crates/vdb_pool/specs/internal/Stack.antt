@@ -11,13 +11,13 @@ module _ {T : Type 0} where
   link_of (Some (Held _)) = None
   link_of (Some (Vacant next)) = next
 
-  -- from top on, so many slots along the links
+  -- the first `count` slots along the links, from top on
   abbrev pub linked : ℕ → Option ℕ → List (Slot T) → List ℕ
   linked zero top slots = []
   linked (suc count) None slots = []
   linked (suc count) (Some slot) slots = slot ∷ linked count (link_of (slice_get slots slot)) slots
 
-  -- from top on, so many vacant slots name one another, each once, and the last names none
+  -- from top on, `count` vacant slots name one another, each once, and the last names none
   abbrev pub IsStack : ℕ → Option ℕ → List (Slot T) → Type 0
   IsStack zero top slots = top ≡ None
   IsStack (suc count) top slots =

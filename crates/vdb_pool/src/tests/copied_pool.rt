@@ -33,27 +33,27 @@ impl TryCopy for Boxed {
     }
 }
 
-/// The number in a slot, for a step where the slot is held.
+/// Returns the number in a slot, by one visit if the slot is held.
 fn number_in(pool: &Pool<Boxed>, slot: u32, steps: &mut Steps) -> Option<u64> {
     let place = pool.place(slot)?;
     Some(*pool.at(place, steps).number)
 }
 
-/// Puts a number into the pool, and gives its slot.
+/// Inserts a number into the pool and returns its slot.
 fn put(pool: &mut Pool<Boxed>, alloc: Global, number: u64) -> Result<u32, Memory> {
     let node = Boxed::new(alloc, number)?;
     pool.reserve(1)?;
     Ok(pool.insert(node).slot())
 }
 
-/// Takes the node out of a slot, for a step where it is held.
+/// Removes the node in a slot, by one visit if it is held.
 fn vacate(pool: &mut Pool<Boxed>, slot: u32, steps: &mut Steps) {
     if let Some(place) = pool.place(slot) {
         drop(pool.take(place, steps));
     }
 }
 
-/// The number in a slot is this one, or the slot is vacant.
+/// Expects this number in a slot, or a vacant slot.
 fn expect_number(
     rt: &impl Abort,
     pool: &Pool<Boxed>,
@@ -64,7 +64,7 @@ fn expect_number(
     assert_eq!(rt; number_in(pool, slot, steps), number, "slot {slot}");
 }
 
-/// Puts a number into the pool, which takes it into this slot.
+/// Inserts a number into the pool, which uses this slot.
 fn expect_slot(
     rt: &impl Abort,
     pool: &mut Pool<Boxed>,
@@ -77,7 +77,7 @@ fn expect_slot(
     Ok(())
 }
 
-/// Makes a number 1000 and takes another one out.
+/// Changes one number to 1000 and removes another one.
 fn change(pool: &mut Pool<Boxed>, steps: &mut Steps) {
     if let Some(place) = pool.place(1) {
         *pool.at_mut(place, steps).number = 1000;
@@ -85,7 +85,7 @@ fn change(pool: &mut Pool<Boxed>, steps: &mut Steps) {
     vacate(pool, 2, steps);
 }
 
-/// Two chunks. Each number is that of its slot, and four slots are vacant.
+/// Returns a pool of two chunks. Each number is that of its slot, and four slots are vacant.
 fn holed_pool(alloc: Global, steps: &mut Steps) -> Result<Pool<Boxed>, Memory> {
     let mut pool = Pool::new(alloc);
     for number in 0..300u64 {
@@ -138,7 +138,7 @@ fn a_copy_is_changed_alone(rt: HostRuntime) -> Result<(), Memory> {
     Ok(())
 }
 
-// It passes with every allocation refused.
+// It passes if every allocation fails.
 #[test]
 fn a_copy_of_an_empty_pool_takes_no_memory(rt: HostRuntime) {
     let pool: Pool<Boxed> = Pool::new(rt.alloc());

@@ -67,7 +67,7 @@ impl Chain {
         }
     }
 
-    /// The path, to be kept beside the chain.
+    /// Returns the path, to be kept beside the chain.
     pub fn path(&self) -> Path
         ensures path { result ≡ self.now.1 }
         ensures upper { IfSome result.upper (IsLive self.now.0) }
@@ -76,7 +76,7 @@ impl Chain {
         self.path
     }
 
-    /// The number at the lower place, for at most one step.
+    /// Returns the number at the lower place, by at most one visit.
     pub fn number(&self, steps: &mut Steps) -> Option<u64>
         ensures step { steps.new ≤ steps.old + 1 }
     {
@@ -86,7 +86,7 @@ impl Chain {
         }
     }
 
-    /// One more node, at which the lower place is from now on. The upper place is where the lower one was.
+    /// Adds a node, at which the lower place is from now on. The upper place is where the lower one was.
     pub fn push(&mut self, number: u64) -> Result<(), Memory>
         ensures former { OnOk result (self.new.1.upper ≡ self.old.1.lower) }
         ensures kept { OnErr result (self.new.1 ≡ self.old.1) }
@@ -104,7 +104,7 @@ impl Chain {
         Ok(())
     }
 
-    /// Another number at the lower place.
+    /// Writes another number at the lower place.
     pub fn write(&mut self, number: u64, steps: &mut Steps) -> bool
         ensures path { self.new.1 ≡ self.old.1 }
     {
@@ -117,7 +117,7 @@ impl Chain {
         }
     }
 
-    /// Takes the lower node out. The path is then empty, so that it holds no place of a vacant slot.
+    /// Removes the lower node. The path is then empty, so that it holds no place of a vacant slot.
     pub fn pop(&mut self, steps: &mut Steps) -> Option<Link> {
         match self.path.lower {
             Some(place) => {

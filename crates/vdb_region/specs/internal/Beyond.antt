@@ -16,7 +16,7 @@ is_beyond b q PlusY = int_lt b.max.y q.y
 is_beyond b q MinusZ = int_lt q.z b.min.z
 is_beyond b q PlusZ = int_lt b.max.z q.z
 
--- all coordinates, up to the number before the box or from that behind it along the face's axis
+-- all coordinates before the box along the face's axis, or all behind it
 abbrev pub half : Box → Face → Box
 half b MinusX = record everywhere { max = coord (b.min.x -ℤ pos 1) everywhere.max.y everywhere.max.z }
 half b PlusX = record everywhere { min = coord (b.max.x +ℤ pos 1) everywhere.min.y everywhere.min.z }
@@ -25,6 +25,6 @@ half b PlusY = record everywhere { min = coord everywhere.min.x (b.max.y +ℤ po
 half b MinusZ = record everywhere { max = coord everywhere.max.x everywhere.max.y (b.min.z -ℤ pos 1) }
 half b PlusZ = record everywhere { min = coord everywhere.min.x everywhere.min.y (b.max.z +ℤ pos 1) }
 
--- nothing but the background in the outer box beyond these faces of the inner one
+-- the field with nothing but the background in the outer box beyond these faces of the inner one
 abbrev pub clear : {V : Type 0} → Box → Box → List Face → Field V → Field V
 clear outer inner faces f = field f.background (λ q. if is_inside outer q && list_any (is_beyond inner q) faces then off f.background else f.cell q)

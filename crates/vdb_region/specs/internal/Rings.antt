@@ -1,5 +1,5 @@
--- The rings around a box: between it and the leaf blocks that it meets, between these and the lower blocks, between these and the
--- root blocks, and all around those.
+-- The rings around a box: between it and the leaf extents that it meets, between these and the lower extents, between
+-- these and the upper extents, and all around those.
 use Rattle.vdb_coord.specs.Blocks.{block_around}
 use Rattle.vdb_coord.specs.Space.{Box, everywhere}
 use Rattle.vdb_coord.specs.declared.Bits.{Bits}
@@ -12,7 +12,7 @@ use Rattle.vdb_region.specs.declared.rings.Ring.TheVariants.{AroundRoots, Within
 abbrev pub hull : Bits → Level → Box → Box
 hull bits level b = record { min = (block_around bits level b.min).min; max = (block_around bits level b.max).max }
 
--- where a ring ends, and where it begins
+-- the outer box of a ring, and its inner box
 abbrev pub outer : Bits → Box → Ring → Box
 outer bits b AroundRoots = everywhere
 outer bits b WithinRoots = hull bits Upper b

@@ -19,7 +19,7 @@ fn expect_cells(
     }
 }
 
-// Gives a box a cell, which is accepted.
+// Fills a box with a cell, and expects no error.
 fn fill_box(
     rt: &impl Abort,
     tree: &mut Tree<i32>,
@@ -31,7 +31,7 @@ fn fill_box(
     fill(tree, bounds(rt, min, max), cell, steps).expect(rt, "a fill");
 }
 
-// The root limit refuses to give a box a cell.
+// Expects `RootLimit` from filling a box with a cell.
 fn expect_refused(
     rt: &impl Abort,
     tree: &mut Tree<i32>,
@@ -44,12 +44,12 @@ fn expect_refused(
     assert_eq!(rt; refused, Err(TreeRefusal::RootLimit));
 }
 
-// Clears what lies around a box, which is accepted.
+// Clears what lies around a box, and expects no error.
 fn clip_to(rt: &impl Abort, tree: &mut Tree<i32>, min: Coord, max: Coord, steps: &mut Steps) {
     clip(tree, bounds(rt, min, max), steps).expect(rt, "a clip");
 }
 
-// How many voxels from 0 to 20 along each axis are active.
+// Expects this many active voxels from 0 to 20 along each axis.
 fn expect_active(rt: &impl Abort, tree: &Tree<i32>, wanted: u32, steps: &mut Steps) {
     let mut count = 0u32;
     for x in 0..=20 {
@@ -122,7 +122,8 @@ fn what_lies_around_a_box_is_cleared(rt: HostRuntime) {
     expect_counts(&rt, &tree, [0, 0, 0, 0]);
 }
 
-// The voxels from -2 to 1 along each axis are active, with the value 1, and those around them are the background -3.
+// Expects the voxels from -2 to 1 along each axis to be active, with the value 1, and those around them to be the
+// background -3.
 fn expect_cube(rt: &impl Abort, tree: &Tree<i32>, steps: &mut Steps) {
     for x in -4..=3 {
         for y in -4..=3 {
@@ -135,7 +136,7 @@ fn expect_cube(rt: &impl Abort, tree: &Tree<i32>, steps: &mut Steps) {
     }
 }
 
-// A clipped tree keeps the background, also where that isn't 0, and clears large tiles on all six sides.
+// A clipped tree keeps the background, even if that isn't 0, and clears large tiles on all six sides.
 #[test]
 fn tiles_across_every_face(rt: HostRuntime) {
     let mut steps = Steps::new(&rt);

@@ -1,4 +1,4 @@
-//! Many small boxes, drawn by a linear congruential generator, beside a map of cells.
+//! Many small random boxes, drawn by a linear congruential generator, compared with a map of cells.
 
 ghost use Rattle.std.specs.Prelude.{◌<◌, ◌≤◌};
 
@@ -15,7 +15,7 @@ use vdb_value::Cell;
 /// A tree whose blocks span 2, 4 and 8 voxels along each axis.
 type Tiny = TreeOf<i32, 1, 1, 1, 1, 1, 1>;
 
-/// Where the boxes lie along each axis.
+/// The range of the boxes along each axis.
 const LOW: i32 = -9;
 
 const HIGH: i32 = 12;
@@ -27,7 +27,7 @@ struct Draws {
 }
 
 impl Draws {
-    // A number below `bound`, by the upper bits.
+    // Returns a number below `bound`, from the generator's upper bits.
     fn below(&mut self, bound: u64) -> u64
         requires { 0 < bound }
         ensures { result < bound }
@@ -39,7 +39,7 @@ impl Draws {
         (self.state >> 33) % bound
     }
 
-    // Where a box begins and ends along an axis.
+    // Returns where a box begins and ends along an axis.
     fn span(&mut self, longest: u64) -> (i32, i32)
         requires { (0 < longest) × (longest ≤ 100) }
     {
@@ -55,7 +55,7 @@ impl Draws {
         Bounds::new(at(x.0, y.0, z.0), at(x.1, y.1, z.1))
     }
 
-    // Often the background, so that blocks are all background again.
+    // Returns a cell, often the background, so that blocks are all background again.
     fn cell(&mut self) -> Cell<i32> {
         let value = self.below(2) as i32;
         let on = self.below(2) == 0;
@@ -63,7 +63,7 @@ impl Draws {
     }
 }
 
-/// What a tree with background 0 is to hold.
+/// The expected content of a tree with background 0.
 #[derive(Drop)]
 struct Wanted {
     alloc: Global,
@@ -78,7 +78,7 @@ impl Wanted {
         }
     }
 
-    // Gives the coordinates inside the box, or those outside it, this cell.
+    // Sets the coordinates inside the box, or those outside it, to this cell.
     fn put(&mut self, rt: &impl Abort, bounds: Bounds, inside: bool, cell: Cell<i32>) {
         for x in LOW..=HIGH {
             for y in LOW..=HIGH {
@@ -92,7 +92,7 @@ impl Wanted {
         }
     }
 
-    // How many blocks of 8 voxels along each axis would hold something with the box filled.
+    // Returns how many blocks of 8 voxels along each axis would hold something with the box filled.
     fn root_blocks(&self, rt: &impl Abort, bounds: Bounds, filled: Cell<i32>) -> usize {
         let mut keys = BTreeMap::new(self.alloc);
         for x in LOW..=HIGH {
@@ -116,7 +116,7 @@ impl Wanted {
     }
 }
 
-// What an empty tree holds.
+// Returns the expected content of an empty tree.
 fn empty(rt: &impl AllocGlobal) -> Wanted {
     Wanted {
         alloc: rt.alloc(),
@@ -124,7 +124,7 @@ fn empty(rt: &impl AllocGlobal) -> Wanted {
     }
 }
 
-// Each coordinate around the boxes, with one voxel more on each side.
+// Compares each coordinate around the boxes, with one voxel more on each side.
 fn expect_same<
     const U: u32,
     const L: u32,
@@ -143,7 +143,7 @@ fn expect_same<
     }
 }
 
-// Fills a box that is drawn, where the limit lets it, and tells whether the limit refused that.
+// Fills a random box if the limit allows it, and returns whether the limit rejected it.
 fn fill_one(
     rt: &impl Abort,
     tree: &mut Tiny,
@@ -168,7 +168,7 @@ fn fill_one(
     }
 }
 
-// Clears what lies around a box that is drawn.
+// Clears what lies around a random box.
 fn clip_one<
     const U: u32,
     const L: u32,
@@ -211,7 +211,7 @@ fn small_nodes_within_a_limit(rt: HostRuntime) {
     assert!(rt; refused > 0, "the limit was never reached");
 }
 
-// Fills a box that is drawn, and gives it leaves every other time.
+// Fills a random box, and gives it leaves every other time.
 fn fill_large(
     rt: &impl Abort,
     tree: &mut Tree433<i32>,

@@ -1,4 +1,4 @@
--- The entry's number, without the number of its block times the entries of one, is its position.
+-- The entry's number minus the block's number times its entries is the position.
 use Rattle.std.proofs.Common.{◌≡◌, ◌≤◌, ◌<◌, ◌+◌, ◌^◌, ◌+ℤ◌, ◌*ℤ◌, ◌-ℤ◌, ℕ, ℤ, pos, SFits, w32, rules, arith, ap, refl, sym, subst, ◌∙◌}
 use Rattle.std.proofs.Math.Pow.{pow_mono}
 use Rattle.std.proofs.lemmas.Int.{ints, to_z-of_z}

@@ -1,4 +1,4 @@
--- `allocate` makes a new block a row of free places, and keeps the right to give it back. Assumes `Logic`.
+-- `allocate` turns a new block into a row of free places, and keeps the right to give it back. Assumes `Logic`.
 use Rattle.std.proofs.Common.{◌≡◌, ℕ, ◌*◌, ◌<◌, ◌^◌, List, [], ◌∷◌, ◌++◌, true, false, IfOk, Ok, Err, refl, sym, ap, subst, arith, lit<, w64}
 use Rattle.std.specs.Mem.{type_size}
 use Rattle.std.specs.Vec.Ownership.{FitsInBlock}

@@ -1,4 +1,4 @@
--- `deallocate` makes a block of its free places, and hands it back with the allocator's token. Assumes `Logic`.
+-- `deallocate` turns free places into a block again, and hands it back with the allocator's token. Assumes `Logic`.
 use Rattle.std.proofs.Common.{◌≡◌, ℕ, ◌*◌, ◌<◌, ◌^◌, List, [], ◌∷◌, ◌++◌, refl, sym, ap, subst, ◌∙◌, arith, w64}
 use Rattle.std.specs.Mem.{type_size}
 use lib.Dec.{T as Holds}

@@ -1,4 +1,4 @@
--- A box holds a coordinate where each component lies between the corners'.
+-- A box holds a coordinate if each component lies between the corners'.
 use Rattle.std.proofs.Common.{SFits, w32, rules, refl}
 use Rattle.std.proofs.lemmas.Int.{to_z-of_z}
 use Rattle.vdb_coord.proofs.bounds.Bounds.contains.Goals as goal

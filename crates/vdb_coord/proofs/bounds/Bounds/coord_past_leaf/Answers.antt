@@ -1,4 +1,4 @@
--- The next leaf block that meets what the box has of the lower block around p.
+-- The next leaf extent that meets what the box has of the lower extent around p.
 use Rattle.std.proofs.Common.{refl}
 use Rattle.vdb_coord.specs.declared.Level.TheVariants.{Lower}
 use Rattle.vdb_coord.proofs.NextCoord.{leaf_found, leaf_none, in_part, part_inside}

@@ -1,4 +1,4 @@
--- The next lower block that meets what the box has of the upper block around p.
+-- The next lower extent that meets what the box has of the upper extent around p.
 use Rattle.std.proofs.Common.{refl}
 use Rattle.vdb_coord.specs.declared.Level.TheVariants.{Upper}
 use Rattle.vdb_coord.proofs.NextCoord.{lower_found, lower_none, in_part, part_inside}

@@ -1,4 +1,4 @@
--- The next upper block that meets the box.
+-- The next upper extent that meets the box.
 use Rattle.vdb_coord.proofs.NextCoord.{upper_found, upper_none}
 use Rattle.vdb_coord.proofs.bounds.Bounds.coord_past_upper.Goals as goal
 

@@ -40,7 +40,7 @@ use Rattle.vdb_pool.proofs.storage.Storage.get_mut.Statement.{statement}
 use Rattle.vdb_pool.proofs.storage.Storage.get_mut.Code as code
 
 module _ (E : El) {M : Type 1} {𝓤 : Ura M} (𝓛 : Logic 𝓤) (s : (Store E).Denot) (i : ℕ) (rb ro b o : ℕ) (vs : List Val) where
-  -- all that the storage is made of but for the item
+  -- the parts of the storage except the item
   abbrev Rest : Fml
   Rest = fsep (all_but (R E) s.places s.items i) (fsep ((Mark E).own_val (tt, tt) vs) (cell_at full_share (Store E).mir vs rb ro))
 
