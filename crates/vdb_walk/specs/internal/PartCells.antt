@@ -1,4 +1,4 @@
--- What tells that a box has one cell. Only proofs and private functions speak of these.
+-- When a box has one cell. Only proofs and private functions use these definitions.
 use Rattle.std.specs.Prelude.{◌≡◌, ◌⊎◌, ℕ, IsTrue}
 use Rattle.vdb_coord.specs.Blocks.{key, offset}
 use Rattle.vdb_coord.specs.Space.{Box, is_inside}
