@@ -95,7 +95,7 @@ module _ {A : Type 0} (P : A → Type 0) (code : A → List ℕ) where
           let none : length y ≡ 0 = ap length e in
           absurd (omega (arith, long, none, ap length front, ap length c, length-append (code a) rest, length-append text y))
 
-  -- other items with other codes, if each stands for an item of the code
+  -- other items with other codes, if each belongs to an item of the code
   pub fails_turn : {B : Type 0} (Q : B → Type 0) (part : B → List ℕ) (field : A → B) (fault : LoadFault) (old : Position)
       → ((a : A) → P a → Q (field a)) → ((a : A) → P a → code a ≡ part (field a)) → Fails Q part fault old → Fails P code fault old
   fails_turn Q part field fault old has same h = fails_first Q part field (λ a. []) fault old has (λ a p. same a p ∙ sym (append-nil (part (field a)))) h

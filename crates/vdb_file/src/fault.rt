@@ -30,8 +30,8 @@ pub enum LoadFault {
     /// The root limit is 0 or above 65,536.
     #[error("limit")]
     Limit,
-    /// A grid has more than 16 metadata pairs, a key has another form than a name or doesn't come after the one before it, or a
-    /// text isn't 1 to 64 printable characters.
+    /// A grid has more than 16 metadata pairs, or a key has another form than a name or doesn't come after the one before it; or
+    /// a text isn't 1 to 64 printable characters.
     #[error("meta")]
     Meta,
     /// A key is no root block's, or doesn't come after the one before it.

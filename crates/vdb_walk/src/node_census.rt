@@ -94,9 +94,9 @@ fn node_count<
     }
 }
 
-/// Returns whether the cells of the first block from `p` on that isn't skipped differ, and a coordinate past that block. It skips
-/// blocks of inactive background, and takes a tile of a higher level as one block. Past a leaf block the coordinate is that of
-/// the next leaf.
+/// Finds the first block from `p` on that isn't skipped. Returns whether its cells differ, and a coordinate past it. The function
+/// skips blocks of inactive background, and takes a tile of a higher level as one block. Past a leaf block the coordinate is that
+/// of the next leaf.
 fn next_block<
     V: Stored<WU> + Stored<WL> + Stored<WF>,
     const U: u32,
@@ -169,8 +169,8 @@ fn leaf_differs<
     }
 }
 
-/// Returns the level of the block to take around a coordinate, and whether that block's cells differ. The level is the given one,
-/// or the upper one if the upper block lies in a tile.
+/// Returns a level, and whether the cells of that level's block around a coordinate differ. The level is the given one, or the
+/// upper one if the upper block lies in a tile.
 fn block_at<
     V: Stored<WU> + Stored<WL> + Stored<WF>,
     const U: u32,

@@ -16,10 +16,10 @@ use vdb_pool::Steps;
 use vdb_tree::{Content, Skip, TreeOf, Walk};
 use vdb_value::Cell;
 
-/// Returns the cell that each voxel of the box has, or `None` if two voxels differ in value or state (as OpenVDB's
-/// `LeafNode::isConstant` does for a leaf, but for any box and without a tolerance). It tests a tile's part of the box in one go,
-/// and a leaf of one cell by the words of its states and then its values. It stops at the first difference, and allocates
-/// nothing.
+/// Returns the cell that each voxel of the box has, or `None` if two voxels differ in value or state. OpenVDB's
+/// `LeafNode::isConstant` does that for a leaf; this is for any box, and without a tolerance. It tests a tile's part of the box
+/// in one go, and a leaf of one cell by the words of its states and then its values. It stops at the first difference, and
+/// allocates nothing.
 pub fn uniform<
     V: Stored<WU> + Stored<WL> + Stored<WF>,
     const U: u32,
@@ -40,8 +40,8 @@ pub fn uniform<
     }
 }
 
-/// Returns whether each voxel of the box has this cell. If the cell is the inactive background, it skips the parts that are too;
-/// otherwise each root block of the box needs an entry.
+/// Returns whether each voxel of the box has this cell. If the cell is the inactive background, it skips the parts with that
+/// cell; otherwise each root block of the box needs an entry.
 fn has_only<
     V: Stored<WU> + Stored<WL> + Stored<WF>,
     const U: u32,

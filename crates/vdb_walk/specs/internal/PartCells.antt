@@ -12,7 +12,7 @@ use Rattle.vdb_tree.specs.Parts.{IsSkipped}
 use Rattle.vdb_tree.specs.declared.queries.parts.Skip.{Skip}
 
 module _ {V : Type 0} (bits : Bits) (t : Layout V) (box : Box) (cell : Cell V) where
-  -- each coordinate of the box has the cell, or a walk may pass over it
+  -- each coordinate of the box has the cell, or a walk may skip it
   abbrev pub IsCellOrSkipped : Skip → Type 0
   IsCellOrSkipped skip = (q : Coord) → IsTrue (is_inside box q) → ((field_of bits t).cell q ≡ cell) ⊎ IsSkipped bits skip t q
 

@@ -123,8 +123,8 @@ fn expect_next<V: Voxel>(
     assert!(rt; found == wanted, "act {number}, past {after:?}");
 }
 
-// What a listing said at one of its items, or past the last: whether more were left, what came next in the box, and the item it
-// yielded.
+// Checks what a listing said at one of its items, or past the last: whether more were left, what came next in the box, and the
+// item it yielded.
 fn expect_listed<V: Voxel>(
     rt: &impl Abort,
     place: (usize, usize),

@@ -266,7 +266,7 @@ impl Wanted {
     }
 }
 
-// Adds tests of whether boxes drawn at random are of one cell.
+// Adds tests of whether random boxes have one cell.
 fn add_parts(
     acts: &mut Vec<Act<'static, i32>>,
     wanted: &Wanted,
