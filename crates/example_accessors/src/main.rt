@@ -1,5 +1,5 @@
-//! A grid with two accessors: how many nodes writes and probes through them visit, near to what they cache and far from it, and
-//! after a prune.
+//! Writes and reads through two accessors of a grid, and prints how many nodes each call visits: near the cached path, far from
+//! it, and after a prune.
 #![tactic(auto)]
 
 ghost use Rattle.std.specs.Prelude.{◌<◌};
@@ -11,13 +11,13 @@ use vdb_grid::Grid;
 use vdb_pool::Steps;
 use vdb_tree::Write;
 
-/// How many accessors the grid has.
+/// The number of the grid's accessors.
 const ACCESSORS: usize = 2;
 
-/// The most root blocks, of 4,096 voxels along each axis, that may hold anything but the background.
+/// The root limit: the most root blocks, of 4,096 voxels along each axis, that may hold anything but the background.
 const ROOT_LIMIT: u32 = 16;
 
-/// A grid of numbers, and how many nodes the calls on it visited so far.
+/// A grid of numbers, and the count of node visits so far.
 #[derive(Drop)]
 struct Numbers {
     grid: Grid<i32, ACCESSORS>,
@@ -25,7 +25,7 @@ struct Numbers {
 }
 
 impl Numbers {
-    /// Writes a voxel through an accessor, and prints how many nodes that visited.
+    /// Writes a voxel through an accessor, and prints how many nodes the call visited.
     fn write(&mut self, rt: &impl Print, k: usize, p: Coord, change: Write<i32>) -> Result<()>
         requires { k < ACCESSORS }
     {
@@ -36,7 +36,7 @@ impl Numbers {
         Ok(())
     }
 
-    /// Reads a voxel through an accessor, and prints its cell and how many nodes that visited.
+    /// Reads a voxel through an accessor, and prints its cell and how many nodes the call visited.
     fn probe(&mut self, rt: &impl Print, k: usize, p: Coord) -> Result<()>
         requires { k < ACCESSORS }
     {
@@ -49,7 +49,7 @@ impl Numbers {
         Ok(())
     }
 
-    /// Prints the coordinate to which an accessor caches the path, if it was given one.
+    /// Prints the coordinate whose path an accessor caches, if it has one.
     fn print_cached(&self, rt: &impl Print, k: usize) -> io::Result<()>
         requires { k < ACCESSORS }
     {
@@ -59,7 +59,7 @@ impl Numbers {
         }
     }
 
-    /// Makes the tree as small as its cells allow, and prints how many leaves it has before and after.
+    /// Prunes the tree, and prints how many leaves it has before and after.
     fn prune(&mut self, rt: &impl Print) -> Result<()> {
         let before = self.grid.tree().node_counts().leaf;
         self.grid.prune(&mut self.steps);
@@ -73,7 +73,7 @@ fn at(x: i32, y: i32, z: i32) -> Coord {
     Coord { x, y, z }
 }
 
-/// Writes three voxels of a leaf block. The first write makes the nodes.
+/// Writes three voxels of one leaf extent. The first write creates the nodes.
 fn write_row(rt: &impl Print, numbers: &mut Numbers) -> Result<()> {
     for z in 0..3 {
         numbers.write(rt, 0, at(0, 0, z), Write::On(7))?;
@@ -81,8 +81,8 @@ fn write_row(rt: &impl Print, numbers: &mut Numbers) -> Result<()> {
     Ok(())
 }
 
-/// Probes through an accessor that was never used, then in the same leaf block, the same lower block, the same upper block, and
-/// back in the first leaf block.
+/// Reads through an accessor that was never used, then in the same leaf extent, the same lower extent, the same upper extent, and
+/// back in the first leaf extent.
 fn probe_around(rt: &impl Print, numbers: &mut Numbers) -> Result<()> {
     numbers.print_cached(rt, 1)?;
     for p in [
@@ -98,7 +98,8 @@ fn probe_around(rt: &impl Print, numbers: &mut Numbers) -> Result<()> {
     Ok(())
 }
 
-/// Takes back a write in another root block: the leaf that it made goes, and the accessor that leads there stays right.
+/// Undoes a write in another root block. The prune removes the leaf that the write created, and the accessor that leads there
+/// stays right.
 fn prune_back(rt: &impl Print, numbers: &mut Numbers) -> Result<()> {
     numbers.write(rt, 0, at(4096, 0, 0), Write::On(9))?;
     numbers.write(rt, 0, at(4096, 0, 0), Write::Off(0))?;

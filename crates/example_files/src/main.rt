@@ -1,5 +1,5 @@
-//! A scene of two grids is saved in memory as a file and loaded again, and cells of both scenes are compared. The file without its
-//! last byte is refused.
+//! Saves a scene of two grids as a file in memory, loads it again, and compares cells of both scenes. Then loads the file without
+//! its last byte, which fails.
 #![tactic(auto)]
 
 use anyhow::{Context, Result, bail, ensure};
@@ -15,19 +15,19 @@ use vdb_value::Cell;
 /// The name of the grid of numbers.
 const HEIGHTS: &str = "heights";
 
-/// The name of the grid of truth values.
+/// The name of the grid of booleans.
 const MARKS: &str = "marks";
 
 fn at(x: i32, y: i32, z: i32) -> Coord {
     Coord { x, y, z }
 }
 
-/// The name of a grid.
+/// Returns the name of a grid.
 fn name_of(text: &str) -> Result<Name> {
     Name::new(text.as_bytes()).context("not a name")
 }
 
-/// A grid of numbers: 7 in a box of 256 voxels along each axis, and -1 around it.
+/// Returns a grid of numbers: 7 in a box of 256 voxels along each axis, and -1 around it.
 fn heights(alloc: Global, steps: &mut Steps) -> Result<AnyGrid> {
     let bounds = Bounds::new(at(0, 0, 0), at(255, 255, 255)).context("corners out of order")?;
     let mut grid: Grid<i32, ACCESSORS> = Grid::new(alloc, -1, ROOT_LIMIT);
@@ -35,14 +35,14 @@ fn heights(alloc: Global, steps: &mut Steps) -> Result<AnyGrid> {
     Ok(AnyGrid::I32(grid))
 }
 
-/// A grid of truth values, in which one voxel is true and inactive.
+/// Returns a grid of booleans, in which one voxel is true and inactive.
 fn marks(alloc: Global, steps: &mut Steps) -> Result<AnyGrid> {
     let mut grid: Grid<bool, ACCESSORS> = Grid::new(alloc, false, ROOT_LIMIT);
     grid.write(at(1, 2, 3), Write::Off(true), steps)?;
     Ok(AnyGrid::Bool(grid))
 }
 
-/// Puts a grid into a scene.
+/// Adds a grid to a scene.
 fn add(scene: &mut Scene, name: &str, grid: AnyGrid) -> Result<()> {
     match scene.insert(name_of(name)?, grid) {
         Ok(()) => Ok(()),
@@ -51,7 +51,7 @@ fn add(scene: &mut Scene, name: &str, grid: AnyGrid) -> Result<()> {
     }
 }
 
-/// The scene of both grids.
+/// Returns the scene of both grids.
 fn scene_of_both(alloc: Global, steps: &mut Steps) -> Result<Scene> {
     let mut scene = Scene::new(alloc);
     add(&mut scene, HEIGHTS, heights(alloc, steps)?)?;
@@ -59,13 +59,13 @@ fn scene_of_both(alloc: Global, steps: &mut Steps) -> Result<Scene> {
     Ok(scene)
 }
 
-/// The cell of a grid at a coordinate.
+/// Returns the cell of a grid at a coordinate.
 fn cell(scene: &Scene, name: &str, p: Coord, steps: &mut Steps) -> Result<Cell<Scalar>> {
     let grid = scene.get(&name_of(name)?).context("no such grid")?;
     Ok(grid.get(p, steps))
 }
 
-/// Prints some cells of the scene that was saved, each of which the loaded one must have, too.
+/// Prints some cells of the saved scene, and fails if the loaded scene has another cell.
 fn compare(rt: &impl Print, saved: &Scene, loaded: &Scene, steps: &mut Steps) -> Result<()> {
     for (name, p) in [
         (HEIGHTS, at(255, 255, 255)),
@@ -86,7 +86,8 @@ fn compare(rt: &impl Print, saved: &Scene, loaded: &Scene, steps: &mut Steps) ->
     Ok(())
 }
 
-/// The scene that these bytes spell, or why they spell none. Lack of memory says nothing of them, and is an error by itself.
+/// Returns the scene that these bytes encode, or the fault of the bytes. An allocation failure says nothing about the bytes, so
+/// it is an error of its own.
 fn loaded(alloc: Global, bytes: &[u8], steps: &mut Steps) -> Result<Result<Scene, LoadFault>> {
     match load(alloc, &mut Watched::new(bytes), steps) {
         Err(LoadFault::Memory) => bail!("out of memory"),
@@ -94,7 +95,7 @@ fn loaded(alloc: Global, bytes: &[u8], steps: &mut Steps) -> Result<Result<Scene
     }
 }
 
-/// Prints whether bytes are a file of a scene, or why not.
+/// Prints whether bytes are a file of a scene, or else their fault.
 fn print_answer(rt: &impl Print, alloc: Global, bytes: &[u8], steps: &mut Steps) -> Result<()> {
     match loaded(alloc, bytes, steps)? {
         Ok(_) => println!(rt; "{} bytes: a scene", bytes.len())?,

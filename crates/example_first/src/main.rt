@@ -1,4 +1,4 @@
-//! A box is filled in a sparse grid of numbers, and a voxel of it is made inactive. What is active is counted. The README shows `main`.
+//! Fills a box in a sparse grid of numbers, deactivates one voxel of it, and counts the active voxels. The README shows `main`.
 #![tactic(auto)]
 
 use anyhow::{Context, Result};

@@ -1,5 +1,5 @@
-//! A block and a line of voxels are written, dilated by one turn, and a tunnel is cut through them. What is left is counted, and
-//! shown leaf by leaf.
+//! Writes a block and a line of voxels, dilates them once, and cuts a tunnel through them. Counts the voxels that are left, and
+//! prints them leaf by leaf.
 #![tactic(auto)]
 
 use anyhow::{Context, Result};
@@ -15,17 +15,17 @@ use vdb_tree::{Content, Skip, Tree, Write};
 use vdb_value::Cell;
 use vdb_walk::{active_bounds, count};
 
-/// The most root blocks, of 4,096 voxels along each axis, that may hold anything but the background.
+/// The root limit: the most root blocks, of 4,096 voxels along each axis, that may hold anything but the background.
 const ROOT_LIMIT: u32 = 16;
 
-/// The leaves of a tree of numbers, which span 8 voxels along each axis and have 8 words of states.
+/// A leaf of a tree of numbers: it spans 8 voxels along each axis and has 8 words of states.
 type NumberLeaf = Leaf<i32, 3, 8>;
 
 fn at(x: i32, y: i32, z: i32) -> Coord {
     Coord { x, y, z }
 }
 
-/// The box between two corners.
+/// Returns the box between two corners.
 fn between(min: Coord, max: Coord) -> Result<Bounds> {
     Bounds::new(min, max).context("corners out of order")
 }
@@ -40,7 +40,7 @@ fn build(tree: &mut Tree<i32>, steps: &mut Steps) -> Result<()> {
     Ok(())
 }
 
-/// A box of two voxels by two, long along z. Nothing but its states will count, so its values are truth values.
+/// Returns a tree with a box of two voxels by two, long along z. Only its states matter, so its values are booleans.
 fn tunnel(alloc: Global, steps: &mut Steps) -> Result<Tree<bool>> {
     let bounds = between(at(3, 3, -100), at(4, 4, 100))?;
     let mut tree = Tree::new(alloc, false, ROOT_LIMIT);
@@ -56,7 +56,7 @@ fn tunnel(alloc: Global, steps: &mut Steps) -> Result<Tree<bool>> {
     Ok(tree)
 }
 
-/// Prints how many voxels are active, and the least box that holds them.
+/// Prints how many voxels are active, and their bounding box.
 fn print_size(rt: &impl Print, tree: &Tree<i32>, steps: &mut Steps) -> io::Result<()> {
     let active = count(tree, None, steps);
     let Some(bounds) = active_bounds(tree, steps) else {
@@ -84,7 +84,7 @@ fn print_parts(rt: &impl Print, tree: &Tree<i32>, steps: &mut Steps) -> io::Resu
     Ok(())
 }
 
-/// Prints how many voxels of a leaf are active in each plane of one x. A word of its states is such a plane.
+/// Prints how many voxels of a leaf are active in each plane of one x. Each word of its states is such a plane.
 fn print_states(rt: &impl Print, leaf: &NumberLeaf) -> io::Result<()> {
     print!(rt; " a leaf:")?;
     for x in 0..8 {
@@ -100,7 +100,7 @@ fn cut(tree: &mut Tree<i32>, alloc: Global, steps: &mut Steps) -> Result<()> {
     Ok(())
 }
 
-/// Builds, dilates and cuts, and prints what there is in between.
+/// Builds, dilates and cuts, and prints the result of each step.
 fn show(rt: &impl Print, tree: &mut Tree<i32>, alloc: Global, steps: &mut Steps) -> Result<()> {
     build(tree, steps)?;
     println!(rt; "{} active voxels", count(tree, None, steps))?;

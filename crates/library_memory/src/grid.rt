@@ -1,4 +1,4 @@
-//! A grid whose accessors were given coordinates, with calls on it that take memory.
+//! Calls methods that allocate on a grid whose accessors have coordinates.
 
 ghost use Rattle.std.specs.Prelude.{◌<◌};
 
@@ -9,21 +9,21 @@ use vdb_pool::Steps;
 use vdb_tree::Write;
 use vdb_value::Cell;
 
-/// How many accessors the grid has.
+/// The number of the grid's accessors.
 const ACCESSORS: usize = 8;
 
-/// How many root blocks the grid may have.
+/// The grid's root limit.
 const LIMIT: u32 = 16;
 
-/// The accessor by which a voxel is written, and that voxel.
+/// The accessor that writes the voxel `WRITTEN`.
 const WRITER: usize = 3;
 
 const WRITTEN: Coord = Coord { x: 129, y: 1, z: 1 };
 
-/// The cells at an accessor's last coordinate and beside it; none where it has no coordinate.
+/// The cells at an accessor's last coordinate and beside it; `None` if the accessor has no coordinate.
 type Seen = Option<(Cell<i32>, Cell<i32>)>;
 
-/// The calls, in their order.
+/// The calls, in order.
 const CALLS: [Call; 7] = [
     Call::Write,
     Call::Fill,
@@ -58,7 +58,7 @@ impl Call {
         }
     }
 
-    /// A voxel that the call changes, or for a copy one that is copied, and its cell after the call.
+    /// Returns a voxel that the call changes (for a copy, one that is copied), and its cell after the call.
     fn outcome(self) -> (Coord, Cell<i32>) {
         match self {
             Call::Write => (WRITTEN, on(7)),
@@ -84,22 +84,22 @@ fn off(value: i32) -> Cell<i32> {
     Cell { value, on: false }
 }
 
-/// The other voxel of the same leaf block in whose x the last bit differs.
+/// Returns the voxel whose x differs in the last bit: it lies in the same leaf extent.
 fn beside(p: Coord) -> Coord {
     at(p.x ^ 1, p.y, p.z)
 }
 
-/// The box from the origin to a coordinate, or that coordinate alone.
+/// Returns the box from the origin to a coordinate, or the box of that coordinate alone if the corners are out of order.
 fn up_to(p: Coord) -> Bounds {
     Bounds::new(at(0, 0, 0), p).unwrap_or(Bounds::single(p))
 }
 
-/// The cell of a voxel, looked up from the root.
+/// Returns the cell of a voxel, looked up from the root.
 fn look_up(grid: &Grid<i32, ACCESSORS>, p: Coord, steps: &mut Steps) -> Cell<i32> {
     grid.tree().get(p, steps)
 }
 
-/// The grid, a copy of it once there is one, and how many nodes were visited.
+/// The grid, its copy if one exists, and the count of node visits.
 #[derive(Drop)]
 struct Watched {
     grid: Grid<i32, ACCESSORS>,
@@ -108,7 +108,7 @@ struct Watched {
 }
 
 impl Watched {
-    /// The cell of a voxel through an accessor; none where the look-up visits more than one node.
+    /// Returns the cell of a voxel, read through an accessor; `None` if the read visits more than one node.
     fn look(&mut self, k: usize, p: Coord) -> Option<Cell<i32>>
         requires { k < ACCESSORS }
     {
@@ -120,14 +120,14 @@ impl Watched {
         Some(cell)
     }
 
-    /// The coordinate that an accessor has, if it was given one.
+    /// Returns the coordinate of an accessor, if it has one.
     fn coord_of(&self, k: usize) -> Option<Coord>
         requires { k < ACCESSORS }
     {
         self.grid.cached(k)
     }
 
-    /// What an accessor sees in the leaf block of its last coordinate, where each look-up visits at most one node.
+    /// Returns what an accessor sees in the leaf extent of its last coordinate; `None` if a read visits more than one node.
     fn near(&mut self, k: usize) -> Seen
         requires { k < ACCESSORS }
     {
@@ -137,7 +137,7 @@ impl Watched {
         Some((cell, other))
     }
 
-    /// What it should see, by look-ups from the root.
+    /// Returns what an accessor should see, found by look-ups from the root.
     fn wanted(&mut self, k: usize) -> Seen
         requires { k < ACCESSORS }
     {
@@ -147,7 +147,7 @@ impl Watched {
         Some((cell, other))
     }
 
-    /// What all accessors should see.
+    /// Returns what all accessors should see.
     fn all_wanted(&mut self) -> [Seen; ACCESSORS] {
         let mut all = [None; ACCESSORS];
         for k in 0..ACCESSORS {
@@ -156,7 +156,7 @@ impl Watched {
         all
     }
 
-    /// Whether the accessors see this.
+    /// Returns whether each accessor sees the wanted cells.
     fn sees(&mut self, wanted: &[Seen; ACCESSORS]) -> bool {
         for k in 0..ACCESSORS {
             if self.near(k) != wanted[k] {
@@ -166,7 +166,7 @@ impl Watched {
         true
     }
 
-    /// Makes a call. The answer says whether it was carried out.
+    /// Makes a call. Returns whether it succeeded.
     fn make(&mut self, call: Call) -> bool {
         let steps = &mut self.steps;
         match call {
@@ -192,7 +192,7 @@ impl Watched {
         }
     }
 
-    /// Makes a call that reads the copy.
+    /// Makes a call that reads the copy. Returns whether it succeeded.
     fn make_with_copy(&mut self, call: Call) -> bool {
         let Some(copy) = &self.copy else {
             return false;
@@ -203,7 +203,7 @@ impl Watched {
         }
     }
 
-    /// Whether the cell that tells of a call is as the call makes it, in the copy too where it made one.
+    /// Returns whether the voxel of the call's outcome has the right cell: in the copy for a copy, else in the grid.
     fn has_made(&mut self, call: Call) -> bool {
         let (p, cell) = call.outcome();
         if let (Call::Copy, Some(copy)) = (call, &self.copy) {
@@ -212,7 +212,7 @@ impl Watched {
         look_up(&self.grid, p, &mut self.steps) == cell
     }
 
-    /// Makes a call, and where it is refused, makes it once more.
+    /// Makes a call, and if it fails, makes it once more.
     fn attempt(&mut self, rt: &HostRuntime, call: Call) {
         let before = self.all_wanted();
         if !self.make(call) {
@@ -226,8 +226,8 @@ impl Watched {
     }
 }
 
-/// Makes a grid, gives coordinates to three of its accessors, and makes the calls. The writer's coordinate is in a leaf that
-/// the calls make and change, one is in tiles and one outside all.
+/// Creates a grid, gives coordinates to three of its accessors, and makes the calls. The writer's coordinate lies in a leaf that
+/// the calls create and change, one lies in tiles, and one lies outside both.
 pub fn grid(rt: &HostRuntime) {
     let mut watched = Watched {
         grid: Grid::new(rt.alloc(), 0, LIMIT),

@@ -1,5 +1,6 @@
-//! Takes memory by the calls of the library that reserve it, that make nodes and that copy them, and by calls on a grid. A call that is
-//! refused is told, with what stands after it, and made once more. The hostile runs refuse each growth of this program in turn.
+//! Allocates memory through the library: it reserves places in a pool, creates and copies nodes, and calls methods of a grid. If
+//! a call fails, the program prints that, checks what the call left, and calls once more. Fault injection makes each allocation
+//! of this program fail in turn.
 #![tactic(auto)]
 
 mod grid;
@@ -14,13 +15,13 @@ use vdb_value::Cell;
 /// The value of the cells that are copied.
 const VALUE: i32 = 7;
 
-/// Where the voxels of the tree lie along x: two in one root block and one in another.
+/// The x coordinates of the tree's voxels: two in one root block and one in another.
 const VOXELS: [i32; 3] = [0, 9, 5000];
 
-/// How many root blocks a tree may have.
+/// The tree's root limit.
 const LIMIT: u32 = 4096;
 
-/// The leaves and the lower internal nodes of a tree of numbers.
+/// A leaf of a tree of numbers; `NumberNode` is such a tree's lower internal node.
 type NumberLeaf = Leaf<i32, 3, 8>;
 
 type NumberNode = Internal<i32, 4, 64>;
@@ -35,12 +36,12 @@ fn main(rt: HostRuntime) -> ExitCode {
     ExitCode::from(0)
 }
 
-/// Tells what became of a call.
+/// Prints the outcome of a call.
 pub(crate) fn tell(rt: &HostRuntime, call: &str, outcome: &str) {
     let _ = println!(rt; "{call}: {outcome}");
 }
 
-/// Tells that a call was refused, and whether all is as it was before.
+/// Prints that a call failed, and whether everything is as before.
 pub(crate) fn tell_refused(rt: &HostRuntime, call: &str, is_kept: bool) {
     tell(
         rt,
@@ -53,12 +54,12 @@ pub(crate) fn tell_refused(rt: &HostRuntime, call: &str, is_kept: bool) {
     );
 }
 
-/// Tells whether a call gave what it should.
+/// Prints whether a call gave the right result.
 pub(crate) fn tell_done(rt: &HostRuntime, call: &str, is_right: bool) {
     tell(rt, call, if is_right { "done" } else { "done, but wrong" });
 }
 
-/// Reserves places in a pool: for two nodes, and then for so many more that it takes further chunks.
+/// Reserves places in a pool: for two nodes, and then for enough nodes that the pool needs further chunks.
 fn reserve(rt: &HostRuntime, steps: &mut Steps) {
     let mut pool = Pool::new(rt.alloc());
     if pool.reserve(2).is_err() {
@@ -90,7 +91,7 @@ fn reserve(rt: &HostRuntime, steps: &mut Steps) {
     );
 }
 
-/// The cell of the nodes that are made.
+/// Returns the cell of the nodes that the program creates.
 fn cell() -> Cell<i32> {
     Cell {
         value: VALUE,
@@ -98,7 +99,7 @@ fn cell() -> Cell<i32> {
     }
 }
 
-/// A leaf of that cell. A refusal is told, and the call made once more.
+/// Creates a leaf of that cell. If the call fails, prints that and calls once more.
 fn made_leaf(rt: &HostRuntime) -> Option<NumberLeaf> {
     if let Some(leaf) = new_leaf(rt) {
         return Some(leaf);
@@ -111,7 +112,7 @@ fn new_leaf(rt: &HostRuntime) -> Option<NumberLeaf> {
     Leaf::new_constant(rt.alloc(), cell()).ok()
 }
 
-/// A copy of a leaf. A refusal is told, and the call made once more.
+/// Copies a leaf. If the call fails, prints that and calls once more.
 fn copied_leaf(rt: &HostRuntime, leaf: &NumberLeaf) -> Option<NumberLeaf> {
     if let Some(copy) = copy_leaf(rt, leaf) {
         return Some(copy);
@@ -128,7 +129,7 @@ fn is_whole_leaf(leaf: &NumberLeaf) -> bool {
     leaf.constant() == Some(cell())
 }
 
-/// Makes a leaf and a copy of it.
+/// Creates a leaf and copies it.
 fn leaf(rt: &HostRuntime) {
     let Some(leaf) = made_leaf(rt) else {
         return tell(rt, "leaf", "refused again");
@@ -141,7 +142,7 @@ fn leaf(rt: &HostRuntime) {
     tell_done(rt, "copy of a leaf", is_right);
 }
 
-/// An internal node of that cell. A refusal is told, and the call made once more.
+/// Creates an internal node of one cell. If the call fails, prints that and calls once more.
 fn made_node(rt: &HostRuntime) -> Option<NumberNode> {
     if let Some(node) = new_node(rt) {
         return Some(node);
@@ -154,7 +155,7 @@ fn new_node(rt: &HostRuntime) -> Option<NumberNode> {
     Internal::new_constant(rt.alloc(), cell()).ok()
 }
 
-/// A copy of an internal node. A refusal is told, and the call made once more.
+/// Copies an internal node. If the call fails, prints that and calls once more.
 fn copied_node(rt: &HostRuntime, node: &NumberNode) -> Option<NumberNode> {
     if let Some(copy) = copy_node(rt, node) {
         return Some(copy);
@@ -171,7 +172,7 @@ fn is_whole_node(node: &NumberNode) -> bool {
     node.constant() == Some(cell())
 }
 
-/// Makes an internal node and a copy of it.
+/// Creates an internal node and copies it.
 fn internal(rt: &HostRuntime) {
     let Some(node) = made_node(rt) else {
         return tell(rt, "internal node", "refused again");
@@ -188,12 +189,12 @@ fn look(tree: &Tree<i32>, p: Coord, steps: &mut Steps) -> Cell<i32> {
     tree.get(p, steps)
 }
 
-/// Writes a voxel. The answer says whether that was carried out.
+/// Writes a voxel. Returns whether the call succeeded.
 fn put(tree: &mut Tree<i32>, p: Coord, steps: &mut Steps) -> bool {
     tree.write(p, Write::On(VALUE), steps).is_ok()
 }
 
-/// Writes the voxels. A refusal is told, and the call made once more. The answer says whether all were written.
+/// Writes the voxels. If a call fails, prints that and calls once more. Returns whether all were written.
 fn write(rt: &HostRuntime, tree: &mut Tree<i32>, steps: &mut Steps) -> bool {
     for x in VOXELS {
         let p = Coord { x, y: 0, z: 0 };
@@ -210,7 +211,7 @@ fn write(rt: &HostRuntime, tree: &mut Tree<i32>, steps: &mut Steps) -> bool {
     true
 }
 
-/// How many nodes a tree has, and whether the three voxels are as they were written.
+/// Returns how many nodes a tree has, and whether the three voxels have the cell that was written.
 fn seen(tree: &Tree<i32>, steps: &mut Steps) -> (NodeCounts, bool) {
     for x in VOXELS {
         if look(tree, Coord { x, y: 0, z: 0 }, steps) != cell() {
@@ -220,7 +221,7 @@ fn seen(tree: &Tree<i32>, steps: &mut Steps) -> (NodeCounts, bool) {
     (tree.node_counts(), true)
 }
 
-/// A copy of a tree that is seen so. A refusal is told, and the call made once more.
+/// Copies a tree. If the call fails, prints that, checks that `seen` still returns `wanted` for the tree, and calls once more.
 fn copied_tree(
     rt: &HostRuntime,
     tree: &Tree<i32>,
@@ -238,7 +239,7 @@ fn copy_tree(tree: &Tree<i32>) -> Option<Tree<i32>> {
     tree.try_copy().ok()
 }
 
-/// Makes a copy of a tree.
+/// Copies a tree.
 fn copy(rt: &HostRuntime, tree: &Tree<i32>, steps: &mut Steps) {
     let (counts, _) = seen(tree, steps);
     let wanted = (counts, true);
@@ -249,7 +250,7 @@ fn copy(rt: &HostRuntime, tree: &Tree<i32>, steps: &mut Steps) {
     tell_done(rt, "copy of a tree", is_right);
 }
 
-/// Writes voxels into a tree, and makes a copy of it.
+/// Writes voxels into a tree, and copies it.
 fn tree(rt: &HostRuntime, steps: &mut Steps) {
     let mut tree = Tree::<i32>::new(rt.alloc(), 0, LIMIT);
     if write(rt, &mut tree, steps) {

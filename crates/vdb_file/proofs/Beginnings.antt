@@ -1,4 +1,4 @@
--- Magic and version that are read.
+-- Reads `VDBS` and the version.
 use Rattle.std.proofs.Common.{◌≡◌, ℕ, ◌<◌, ◌^◌, List, [], length, refl, arith}
 use Rattle.std.specs.Prelude.{Option, Some, None, IfSome, codes, ⊤}
 use Rattle.std.specs.Int.{w16, to_be_bytes}
@@ -15,7 +15,7 @@ use Rattle.vdb_file.proofs.Unambiguous.{says_fixed}
 use Rattle.vdb_file.proofs.Numbers.{says_u16}
 use Rattle.vdb_file.proofs.Fronts.{fails_after, fails_none, fails_turn}
 
--- a fault behind the version is of neither
+-- a fault after the version is a fault of neither `VDBS` nor the version
 pub inner_magic : (fault : LoadFault) → IsInner fault → IsMagicFault fault
 inner_magic faults.Magic h = absurd h
 inner_magic faults.Version h = absurd h
@@ -28,7 +28,7 @@ inner_version faults.Version h = absurd h
 inner_version faults.Trailing h = absurd h
 inner_version _ h = tt
 
--- all of them are faults of fields
+-- each of these faults is the fault of a field
 pub inner_field : (fault : LoadFault) → IsInner fault → IsFieldFault fault
 inner_field faults.Magic h = absurd h
 inner_field faults.Version h = absurd h
@@ -45,7 +45,7 @@ version_field faults.Magic h = absurd h
 version_field faults.Trailing h = absurd h
 version_field _ h = tt
 
--- ---- magic
+-- ---- `VDBS`
 
 -- four other bytes were read
 pub other_magic : (fault : LoadFault) (old one : Position) (field : List ℕ) → Took old one field → length field ≡ 4 → (field ≡ codes "VDBS" → ⊥) → Fails (λ (u : Unit {0}). ⊤) (λ u. codes "VDBS") fault old
@@ -72,7 +72,7 @@ version_bytes v = to_be_bytes w16 (version_number v)
 pub no_version : (fault : LoadFault) (old : Position) → Fails (λ n. n < 2 ^ 16) (to_be_bytes w16) fault old → Fails (λ (v : Version). ⊤) version_bytes fault old
 no_version fault old h = fails_turn (λ (v : Version). ⊤) version_bytes (λ n. n < 2 ^ 16) (to_be_bytes w16) version_number fault old (λ v p. small_version v) (λ v p. refl) h
 
--- another number was read
+-- a number that is no version was read
 pub other_version : (fault : LoadFault) (old mid : Position) (n : ℕ) → n < 2 ^ 16 → Took old mid (to_be_bytes w16 n) → (n ≡ 1 → ⊥) → (n ≡ 2 → ⊥) → Fails (λ (v : Version). ⊤) version_bytes fault old
 other_version fault old mid n small took not_one not_two =
     fails_after (λ (v : Version). ⊤) version_bytes (to_be_bytes w16 n) (λ v. n ≡ version_number v) version_bytes (λ v. []) fault old mid took (λ v p. says_u16 n (version_number v) small (small_version v)) (λ v p. refl)
@@ -87,7 +87,7 @@ starts_with_other None b n small took not_one not_two = tt
 starts_with_other (Some x) None n small took not_one not_two = absurd took
 starts_with_other (Some x) (Some y) n small took not_one not_two = record { number = n; rest = y; begins = took; small = small; not_one = not_one; not_two = not_two }
 
--- behind the magic
+-- the version comes after `VDBS`
 pub has_other_version : (a b : Option (List ℕ)) → Consumes a b (codes "VDBS") → IfSome b StartsWithOther → IfSome a HasOtherVersion
 has_other_version None b took h = tt
 has_other_version (Some x) None took h = absurd took

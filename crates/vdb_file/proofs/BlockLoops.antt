@@ -1,4 +1,4 @@
--- The entries of a block are read one after another.
+-- Reads the entries of a block one after another.
 use Rattle.std.proofs.Common.{◌≡◌, ℕ, ◌+◌, ◌<◌, Bool, true, List, refl, sym, subst}
 use Rattle.std.specs.Prelude.{Option, Some, None}
 use Rattle.std.specs.Int.{w16, to_be_bytes}
@@ -32,7 +32,7 @@ module _ {V : Type 0} {eq : V → V → Bool} {value_bytes : V → List ℕ} {P 
   abbrev b : Box
   b = block_around bits level p
 
-  -- so many entries were read
+  -- `done` entries were read
   abbrev Under : ℕ → Option ℕ → Field V → Position → Type 0
   Under = IsUnderway eq P (node_row bits level b entry) background b f old
 
@@ -42,7 +42,7 @@ module _ {V : Type 0} {eq : V → V → Bool} {value_bytes : V → List ℕ} {P 
   abbrev Each : ℕ → Field V → Type 0
   Each = ShowsInEach eq P background (sub_block bits level b) (entry_numbers bits level)
 
-  -- none at first, where the block holds nothing but the background
+  -- at first no entry is read, if the block holds nothing but the background
   pub no_entries : HasValues P background f → is_background eq f b ≡ true → Under 0 None f old
   no_entries has clear =
       none_underway values is background b f old has
@@ -56,7 +56,7 @@ module _ {V : Type 0} {eq : V → V → Bool} {value_bytes : V → List ℕ} {P 
     abbrev box : ℕ → Box
     box = entry_box bits level p
 
-    -- the tree's own background is that of the file
+    -- the tree's own background is the file's
     entry_values : HasValues P g.background g
     entry_values = record { same = refl; values = so_far.values.values }
 
@@ -81,7 +81,7 @@ module _ {V : Type 0} {eq : V → V → Bool} {value_bytes : V → List ℕ} {P 
         no_next values is background b f old done before g now so_far count more fault N (λ i member follows. record { within = member_below bits level i member; later = follows })
         (subst (λ (v : V). Fails (IsNext eq P v N box) (next_bytes (to_be_bytes w16) entry box) fault now) so_far.values.same h)
 
-    -- one was read
+    -- one more entry was read
     pub more_entries : (i : ℕ) (next : Position) (h : Field V) → IsNext eq P g.background N box (i, h) → Took now next (next_bytes (to_be_bytes w16) entry box (i, h)) → KeptOutside (box i) g h → Under (done + 1) (Some i) h next
     more_entries i next h is_next took kept =
         more_underway values is background b f old done before g now so_far i (below_member bits level i is_next.key.within) is_next.key.later (entry_in_block bits level p i is_next.key.within) next h took

@@ -1,4 +1,4 @@
--- A block is read: its head, and then its entries where its cells differ.
+-- Reads a block: its head, and then its entries if its cells differ.
 use Rattle.std.proofs.Common.{◌≡◌, ℕ, ◌<◌, ◌≤◌, ◌^◌, Bool, true, false, not, List, [], ◌∷◌, ◌++◌, length, refl, sym, ap, subst, ◌∙◌, arith, inl, inr, append-nil}
 use Rattle.std.specs.Prelude.{if◌then◌else◌}
 use Rattle.std.specs.List.{AllByRecursion}
@@ -35,7 +35,7 @@ use Rattle.vdb_file.proofs.RowInstances.{agree_from_entries, node_row}
 use Rattle.vdb_file.proofs.RowReads.{no_row}
 use Rattle.vdb_file.proofs.Rows.{IsRow}
 
--- the numbers of the entries of a block are as many as it has
+-- a block has as many entry numbers as entries
 numbers_count : (bits : Bits) (level : Level) → length (entry_numbers bits level) ≡ entries bits level
 unfolding entry_numbers
 numbers_count bits level = length-range_with_len 0 (entries bits level)
@@ -53,11 +53,11 @@ module _ {V : Type 0} {eq : V → V → Bool} {value_bytes : V → List ℕ} {P 
   abbrev list : Field V → List ℕ
   list f = numbered (λ i. entry f (sub_block bits level b i)) (listed eq value_bytes bits f level b)
 
-  -- so many entries are listed, and the cells of the block differ
+  -- this many entries are listed, and the cells of the block differ
   abbrev Mixed : ℕ → Field V → Type 0
   Mixed n f = ShowsInEach eq P background (sub_block bits level b) (entry_numbers bits level) n f × (is_constant eq f b ≡ false)
 
-  -- the head of a block, and what stands behind it
+  -- the head of a block, and the bytes after it
   abbrev head_by : Bool → Field V → Head V
   head_by one f = if one then One (f.cell b.min) else Node (length (listed eq value_bytes bits f level b))
 
@@ -74,7 +74,7 @@ module _ {V : Type 0} {eq : V → V → Bool} {value_bytes : V → List ℕ} {P 
   most_fits : most < 2 ^ 16
   most_fits = let m = entries_few bits level few in omega (arith, m)
 
-  -- a block of the background is one of one cell
+  -- a block of the background has one cell
   plain_constant : (f : Field V) → is_background eq f b ≡ true → is_constant eq f b ≡ true
   plain_constant f h =
       let cells = uniform_cells eq values.exact values.itself f b (off f.background) h in
@@ -102,7 +102,7 @@ module _ {V : Type 0} {eq : V → V → Bool} {value_bytes : V → List ℕ} {P 
       by [] e = absurd (let never : true ≡ false = sym (all_plain (sym e)) ∙ shown in cc)
       by (i ∷ is) e = omega arith
 
-  -- the head is one that may be read
+  -- the head is one that a file may have
   head_is : (f : Field V) → ShowsIn eq P background b f → IsHead eq P background most (head_by (is_constant eq f b) f)
   head_is f shows = by (is_constant eq f b) refl
     where
@@ -142,7 +142,7 @@ module _ {V : Type 0} {eq : V → V → Bool} {value_bytes : V → List ℕ} {P 
   pub one_read : (cell : Cell V) (f : Field V) (old new : Position) → is_constant eq f b ≡ true → f.cell b.min ≡ cell → Took old new (head_bytes eq value_bytes (One cell)) → Took old new (body f)
   one_read cell f old new one at took = rw one (subst (λ (x : Cell V). Took old new (cell_bytes eq value_bytes x)) (sym at) took)
 
-  -- another was
+  -- a block whose cells differ was read
   pub node_shows : (n : ℕ) (f : Field V) → Mixed n f → ShowsIn eq P background b f
   node_shows n f p = record {
     values = p.0.values;
@@ -153,11 +153,11 @@ module _ {V : Type 0} {eq : V → V → Bool} {value_bytes : V → List ℕ} {P 
   node_read n f old mid new p head took =
       rw p.1 (took_both old mid new (3 ∷ to_be_bytes w16 (length (listed eq value_bytes bits f level b))) (list f) (subst (λ (m : ℕ). Took old mid (3 ∷ to_be_bytes w16 m)) (sym p.0.counted) head) took)
 
-  -- no such entries are ahead, and so none whose cells differ
+  -- no such entries are ahead, so none whose cells differ
   pub no_mixed_list : (n : ℕ) (fault : LoadFault) (old : Position) → Fails (ShowsInEach eq P background (sub_block bits level b) (entry_numbers bits level) n) list fault old → Fails (Mixed n) list fault old
   no_mixed_list n fault old h = fails_turn (Mixed n) list (ShowsInEach eq P background (sub_block bits level b) (entry_numbers bits level) n) list (λ f. f) fault old (λ f p. p.0) (λ f p. refl) h
 
-  -- the entries were read, and all are one cell
+  -- the entries were read, and all have one cell
   pub no_mixed : {Q : ℕ → Type 0} → IsRow P Q (node_row bits level b entry) → (n : ℕ) (g : Field V) (fault : LoadFault) (old new : Position) → ShowsInEach eq P background (sub_block bits level b) (entry_numbers bits level) n g → is_constant eq g b ≡ true
       → Took old new (list g) → Fails (Mixed n) list fault old
   no_mixed is n g fault old new shows one took =

@@ -1,4 +1,4 @@
--- What a block that was read leaves, by what the last call of its reader answered.
+-- The result of a block that was read, by the answer of its reader's last call.
 use Rattle.std.proofs.Common.{◌≡◌, ℕ, ◌≤◌, Bool, true, false, List, ◌||◌, length, refl, sym, ap, subst, ◌∙◌}
 use Rattle.std.specs.Prelude.{Result, Ok, Err, IfErr, OnOk}
 use Rattle.std.specs.List.{Contains}
@@ -32,9 +32,9 @@ use Rattle.vdb_file.proofs.RowFrames.{agree_in_entry, constant_same, corner_in_b
 use Rattle.vdb_file.proofs.RowInstances.{is_leaf_row}
 use Rattle.vdb_file.proofs.Rows.{texts_same}
 
--- ---- refusals of memory
+-- ---- allocation failures
 
--- they aren't the end of the reader, nor a failure of it
+-- an allocation failure is neither the end nor a failure of the reader
 pub memory_ended : (result : Result (Unit {0}) LoadFault) → IfErr result (λ fault. fault ≡ Memory) → {C : Type 0} → result ≡ Err Truncated → C
 memory_ended (Ok x) h e = absurd cc
 memory_ended (Err fault) h e = absurd (let never : Memory ≡ Truncated = sym h ∙ same fault Truncated e in cc)
@@ -51,7 +51,7 @@ memory_failed (Err fault) h old = rw h (either old)
     either true = refl
     either false = refl
 
--- they say nothing of the bytes
+-- an allocation failure claims nothing about the bytes
 memory_silent : {A : Type 0} (P : A → Type 0) (code : A → List ℕ) (fault : LoadFault) (old : Position) → fault ≡ Memory → Fails P code fault old
 memory_silent P code fault old e = rw e (fails_silent P code Memory old (λ claims. claims))
 
@@ -80,14 +80,14 @@ module _ {V : Type 0} {eq : V → V → Bool} {value_bytes : V → List ℕ} {P 
       )
   one_result inside cells has cell spelled old mid took new (Err fault) memory is = memory_silent (ShowsIn eq P background b) body fault old memory
 
-  -- another block
+  -- a block whose cells differ
   pub node_result : (n : ℕ) → (1 ≤ n) × (n ≤ entries bits level) → (old mid end : Position) → Took old mid (head_bytes eq value_bytes (Node n)) → (new : Field V) (result : Result (Unit {0}) LoadFault) → Reads (λ _. new) (Mixed n) list result mid end
       → Reads (λ _. new) (ShowsIn eq P background b) body result old end
   node_result n fits old mid end took new (Ok x) h = (node_shows values bits few level p entry background n new h.0, node_read values bits few level p entry background n new old mid end h.0 took h.1)
   node_result n fits old mid end took new (Err fault) h = no_block_list values bits few level p entry background n fits fault old mid took h
 
 module _ {V : Type 0} {eq : V → V → Bool} {value_bytes : V → List ℕ} {P : V → Type 0} (values : AreValues eq value_bytes P) (bits : Bits) (few : AreBits bits) (p : Coord) (inside : is_inside everywhere p ≡ true) (background : V) (cells : Coord → Cell V) (has : HasValues P background (field background cells)) where
-  -- so many voxels of a leaf block whose cells differ
+  -- this many voxels of a leaf block whose cells differ
   abbrev Voxels : ℕ → Field V → Type 0
   Voxels n f = IsMixed eq P background bits p f × (voxel_count eq value_bytes bits p f ≡ n)
 

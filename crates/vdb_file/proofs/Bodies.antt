@@ -1,4 +1,4 @@
--- The body of a block says the cells of all of its coordinates.
+-- The body of a block determines the cells of all its coordinates.
 use Rattle.std.proofs.Common.{◌≡◌, ℕ, Bool, true, false, ◌<◌, ◌^◌, List, ◌∷◌, length, refl, sym, ap, subst, ◌∙◌, arith}
 use Rattle.std.specs.Prelude.{if◌then◌else◌}
 use Rattle.std.specs.List.{AllByRecursion, Contains}
@@ -25,17 +25,17 @@ use Rattle.vdb_file.proofs.Agreement.{Agree, AreAlike, AreValues, both_uniform, 
 -- ---- entries and their numbers
 
 module _ (bits : Bits) (level : Level) where
-  -- the numbers of all entries are as many as these
+  -- a block has as many entry numbers as entries
   numbers_length : length (entry_numbers bits level) ≡ entries bits level
   unfolding entry_numbers
   numbers_length = length-range_with_len 0 (entries bits level)
 
-  -- each of them is below that
+  -- each entry number is below that count
   numbers_below : AllByRecursion (λ i. i < entries bits level) (entry_numbers bits level)
   unfolding entry_numbers
   numbers_below = range_below (entries bits level)
 
-  -- and each below that is one of them
+  -- each number below the count is an entry number
   numbers_have : (i : ℕ) → i < entries bits level → Contains (entry_numbers bits level) i
   unfolding entry_numbers
   numbers_have i h = range_has (entries bits level) i h
@@ -45,11 +45,11 @@ module _ (bits : Bits) (level : Level) where
       sub_block bits level (block_around bits level q) (offset bits level q) ≡ sub_block bits level (block_around bits level c) i
   own_corner c i h = let at = corner_of_entry bits level c i h in λ j. sub_block bits level (block bits level (at.0 j)) (at.1 j)
 
--- so an entry of a lower block is a leaf block
+-- an entry of a lower block is a leaf block
 pub entry_is_leaf : (bits : Bits) (c : Coord) (i : ℕ) → i < entries bits Lower → let b = sub_block bits Lower (block_around bits Lower c) i in block_around bits Leaf b.min ≡ b
 entry_is_leaf bits c i h = sym (leaf_block_at_offset bits (sub_block bits Lower (block_around bits Lower c) i).min) ∙ own_corner bits Lower c i h
 
--- and an entry of an upper block is a lower block
+-- an entry of an upper block is a lower block
 pub entry_is_lower : (bits : Bits) (c : Coord) (i : ℕ) → i < entries bits Upper → let b = sub_block bits Upper (block_around bits Upper c) i in block_around bits Lower b.min ≡ b
 entry_is_lower bits c i h = sym (lower_block_at_offset bits (sub_block bits Upper (block_around bits Upper c) i).min) ∙ own_corner bits Upper c i h
 
@@ -61,11 +61,11 @@ no_tag true e = cc
 no_tag false e = cc
 
 module _ {V : Type 0} {eq : V → V → Bool} {value_bytes : V → List ℕ} {P : V → Type 0} (values : AreValues eq value_bytes P) (bits : Bits) (few : AreBits bits) (f g : Field V) (alike : AreAlike P f g) where
-  -- the bytes of a cell at one coordinate of both
+  -- the bytes of a cell at one coordinate of both fields
   says_corner : (p : Coord) → Says (cell_bytes eq value_bytes (f.cell p)) (cell_bytes eq value_bytes (g.cell p)) (f.cell p ≡ g.cell p)
   says_corner p = says_cell values (f.cell p) (g.cell p) (alike.left p) (alike.right p)
 
-  -- a block of which the text of each entry says its cells
+  -- a block, if the text of each entry determines its cells
   module _ (left right : Box → List ℕ) (level : Level) (c : Coord)
       (each : (i : ℕ) → i < entries bits level → let b = sub_block bits level (block_around bits level c) i in Says (left b) (right b) (Agree f g b)) where
     -- each coordinate of the block lies in an entry
@@ -77,13 +77,13 @@ module _ {V : Type 0} {eq : V → V → Bool} {value_bytes : V → List ℕ} {P 
           (all i (numbers_have bits level i small)).same p (entry_holds bits level c p i small (number_in_block bits level (block_number bits level c) p inside) refl);
     }
 
-    -- the count of what is listed is one of 16 bits
+    -- the count of the listed entries has 16 bits
     few_listed : (field : Field V) → length (listed eq value_bytes bits field level (block_around bits level c)) < 2 ^ 16
     few_listed field =
         let kept = few_kept (is_held eq (sub_block bits level (block_around bits level c)) field) (entry_numbers bits level) in
         omega (arith, kept, numbers_length bits level, entries_few bits level few)
 
-    -- the entries that are listed say the cells of the block
+    -- the listed entries determine the cells of the block
     pub says_entries : let b = block_around bits level c in Says (entries_bytes eq value_bytes bits f left level b) (entries_bytes eq value_bytes bits g right level b) (Agree f g b)
     says_entries =
         let b = block_around bits level c in
@@ -92,7 +92,7 @@ module _ {V : Type 0} {eq : V → V → Bool} {value_bytes : V → List ℕ} {P 
         (says_listed values f g alike (sub_block bits level b) (λ i. i < entries bits level) (to_be_bytes w16) (λ i j hi hj. says_u16 i j (omega (arith, most)) (omega (arith, most))) left right each
         (entry_numbers bits level) (numbers_below bits level) (says_u16 (length (listed eq value_bytes bits f level b)) (length (listed eq value_bytes bits g level b)) (few_listed f) (few_listed g)))
 
-    -- and so does the block's own text
+    -- the block's own text determines its cells
     pub says_block : let b = block_around bits level c in Says (block_bytes eq value_bytes bits f left level b) (block_bytes eq value_bytes bits g right level b) (Agree f g b)
     says_block =
         let b = block_around bits level c in
@@ -118,18 +118,18 @@ module _ {V : Type 0} {eq : V → V → Bool} {value_bytes : V → List ℕ} {P 
             ap f.cell only ∙ e ∙ sym (ap g.cell only);
       }) (says_corner b.min)
 
-  -- the body of a leaf block says its cells
+  -- the body of a leaf block determines its cells
   pub says_leaf : (c : Coord) → let b = block_around bits Leaf c in Says (leaf_body eq value_bytes bits f b) (leaf_body eq value_bytes bits g b) (Agree f g b)
   says_leaf c = says_block (voxel_body eq value_bytes bits f) (voxel_body eq value_bytes bits g) Leaf c (says_voxel c)
 
-  -- so does that of a lower block, by those of the leaf blocks in it
+  -- the body of a lower block determines its cells, by those of its leaf blocks
   pub says_lower : (c : Coord) → let b = block_around bits Lower c in Says (lower_body eq value_bytes bits f b) (lower_body eq value_bytes bits g b) (Agree f g b)
   says_lower c =
       let body : Field V → Box → List ℕ = leaf_body eq value_bytes bits in
       says_block (body f) (body g) Lower c
       (λ i h. subst (λ b. Says (body f b) (body g b) (Agree f g b)) (entry_is_leaf bits c i h) (says_leaf (sub_block bits Lower (block_around bits Lower c) i).min))
 
-  -- and that of a root block, by those of the lower blocks in it
+  -- the body of a root block determines its cells, by those of its lower blocks
   pub says_root : (c : Coord) → let b = block_around bits Upper c in Says (root_body eq value_bytes bits f b) (root_body eq value_bytes bits g b) (Agree f g b)
   says_root c =
       let body : Field V → Box → List ℕ = lower_body eq value_bytes bits in

@@ -1,4 +1,4 @@
--- Spellings of worked examples, found by computing.
+-- The encodings of worked examples, found by computing.
 use Rattle.std.proofs.Common.{◌≡◌, pos, negsuc, true, [], ◌∷◌, ◌++◌, refl}
 use Rattle.std.specs.Prelude.{codes, if◌then◌else◌}
 use Rattle.vdb_coord.specs.Blocks.{block, entry_numbers}
@@ -21,7 +21,7 @@ no_grids = refl
 no_grids_before : file_bytes 1 (λ g. []) [] ≡ 0x56 ∷ 0x44 ∷ 0x42 ∷ 0x53 ∷ 0x00 ∷ 0x01 ∷ 0x00 ∷ 0x00 ∷ []
 no_grids_before = refl
 
--- ---- what stands before the root blocks
+-- ---- the part before the root blocks
 
 name_and_background : counted (codes "a") ++ kind_bytes (I32 (pos 0)) ≡ 0x01 ∷ 0x61 ∷ 0x01 ∷ 0x00 ∷ 0x00 ∷ 0x00 ∷ 0x00 ∷ []
 name_and_background = refl
@@ -44,7 +44,7 @@ cell = refl
 abbrev small : Bits
 small = record { upper = 1; lower = 1; leaf = 1 }
 
--- with one active voxel
+-- a field with one active voxel
 abbrev one : Field Scalar
 one = record { background = I32 (pos 0); cell = λ p. if coord_eq (coord (pos 1) (pos 2) (pos 3)) p then record { value = I32 (pos 5); on = true } else off (I32 (pos 0)) }
 

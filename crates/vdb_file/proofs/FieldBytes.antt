@@ -13,11 +13,11 @@ use Rattle.vdb_file.proofs.Fronts.{took_both}
 
 -- ---- pieces of a field
 
--- the position stays where no byte was taken
+-- the position is unchanged if no byte was read
 pub took_kept : (a b c : Position) (text : List ℕ) → Took a b text → Keeps b.known c.known → c.capacity ≡ b.capacity → Took a c text
 took_kept a b c text took kept capacity = record { bytes = Consumes-kept a.known b.known c.known text took.bytes kept; fewer = omega (arith, took.fewer, capacity) }
 
--- nothing is unread, and the reader has no more
+-- no byte is unread, and the reader has ended
 pub at_end : (unread : List ℕ) (known : Option (List ℕ)) → unread ≡ [] → IsAtEnd known → IsAtEnd (prepend_known unread known)
 at_end unread None e end = tt
 at_end unread (Some x) e end = ap (λ t. t ++ x) e ∙ end
@@ -47,7 +47,7 @@ later_part xs a b n h =
 
 -- ---- what the reader gave
 
--- what was asked for since nothing was unread and no field was there yet
+-- the bytes that the reader gave since no byte was unread and no field was read
 pub gave_few : (s : Stock) (before after : Option (List ℕ)) → ((n : ℕ) → byte_total (record { unread = []; capacity = 268435456; ended = false }) before ≡ Some n → byte_total s after ≡ Some n) → GaveAtMost 268435457 before after
 gave_few s None after h = tt
 gave_few s (Some x) None h = let zero_first : 0 + length x ≡ length x = omega arith in let e = h (length x) (ap Some zero_first) in absurd cc

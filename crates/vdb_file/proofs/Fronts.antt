@@ -1,4 +1,4 @@
--- Reading one field after another: what was taken, and what a fault at a later position says of the bytes at an earlier one.
+-- Reads one field after another: what was read, and what a fault at a later position shows about the bytes at an earlier one.
 use Rattle.std.proofs.Common.{◌≡◌, ℕ, ◌<◌, List, [], ◌++◌, length, sym, ap, ◌∙◌, append_assoc, append-nil, length-append, arith}
 use Rattle.std.specs.Prelude.{Option, Some, None, IfSome}
 use Rattle.std.specs.Io.KnownBytes.{Consumes, IsAtEnd}
@@ -8,9 +8,9 @@ use Rattle.vdb_file.specs.declared.fault.LoadFault.{LoadFault}
 use Rattle.vdb_file.specs.internal.Reading.{Fails, NoFront, Position, Took}
 use Rattle.vdb_file.proofs.Unambiguous.{Says}
 
--- ---- what was taken
+-- ---- the bytes that were read
 
--- nothing, at first
+-- at first no byte is read
 pub took_nothing : (p : Position) → Took p p []
 took_nothing p = record { bytes = Consumes-nil p.known; fewer = omega arith }
 
@@ -23,30 +23,30 @@ took_both a b c x y p q = record {
 
 -- ---- bytes that may not be known
 
--- what is known of bytes ahead of one position, from what is known of those ahead of a later one
+-- a property of the bytes ahead of one position, from a property of those ahead of a later one
 pub some_after : (a b : Option (List ℕ)) (text : List ℕ) (P Q : List ℕ → Type 0) → Consumes a b text → ((bytes here : List ℕ) → bytes ≡ text ++ here → Q here → P bytes) → IfSome b Q → IfSome a P
 some_after None b text P Q c f q = tt
 some_after (Some x) None text P Q c f q = absurd c
 some_after (Some x) (Some y) text P Q c f q = f x y c q
 
--- what is known of them in other words
+-- a property of the bytes, replaced by one that follows from it
 pub some_turn : (a : Option (List ℕ)) (P Q : List ℕ → Type 0) → ((bytes : List ℕ) → Q bytes → P bytes) → IfSome a Q → IfSome a P
 some_turn None P Q f q = tt
 some_turn (Some x) P Q f q = f x q
 
--- what holds of all bytes
+-- a property that all bytes have
 pub some_any : (a : Option (List ℕ)) (P : List ℕ → Type 0) → ((bytes : List ℕ) → P bytes) → IfSome a P
 some_any None P f = tt
 some_any (Some x) P f = f x
 
 -- ---- faults
 
--- texts before one rest are as long as each other
+-- texts before the same rest have the same length
 same_length : (p q x y : List ℕ) → x ≡ y → p ++ x ≡ q ++ y → length p ≡ length q
 same_length p q x y e h = omega (arith, ap length h, ap length e, length-append p x, length-append q y)
 
 module _ {A : Type 0} (P : A → Type 0) (code : A → List ℕ) where
-  -- a field at the front of all those things isn't ahead, so none of them is
+  -- no field that begins each of those items is ahead, so none of them is
   pub fails_first : {B : Type 0} (Q : B → Type 0) (part : B → List ℕ) (field : A → B) (tail : A → List ℕ) (fault : LoadFault) (old : Position)
       → ((a : A) → P a → Q (field a)) → ((a : A) → P a → code a ≡ part (field a) ++ tail a) → Fails Q part fault old → Fails P code fault old
   fails_first Q part field tail fault old has split h = record {
@@ -58,7 +58,7 @@ module _ {A : Type 0} (P : A → Type 0) (code : A → List ℕ) where
         (h.none claims);
   }
 
-  -- a field was read; from here on only the things that have it count, by what follows it in their codes
+  -- a field was read; from then on only the items that begin with it count, by the rest of their codes
   pub fails_after : (text : List ℕ) (C : A → Type 0) (part tail : A → List ℕ) (fault : LoadFault) (old mid : Position)
       → Took old mid text → ((a : A) → P a → Says text (part a) (C a)) → ((a : A) → P a → code a ≡ part a ++ tail a)
       → Fails (λ a. P a × C a) tail fault mid → Fails P code fault old
@@ -73,7 +73,7 @@ module _ {A : Type 0} (P : A → Type 0) (code : A → List ℕ) where
         (h.none claims);
   }
 
-  -- nothing has P
+  -- no item has P
   pub fails_none : (fault : LoadFault) (old : Position) → ((a : A) → P a → ⊥) → Fails P code fault old
   fails_none fault old h = record { none = λ claims. some_any old.known (λ bytes. NoFront P code bytes old.capacity) (λ bytes a rest p fits e. h a p) }
 
@@ -95,11 +95,11 @@ module _ {A : Type 0} (P : A → Type 0) (code : A → List ℕ) where
           let none : length y ≡ 0 = ap length e in
           absurd (omega (arith, long, none, ap length front, ap length c, length-append (code a) rest, length-append text y))
 
-  -- other things with other codes, as what a value of the code stands for
+  -- other items with other codes, if each belongs to an item of the code
   pub fails_turn : {B : Type 0} (Q : B → Type 0) (part : B → List ℕ) (field : A → B) (fault : LoadFault) (old : Position)
       → ((a : A) → P a → Q (field a)) → ((a : A) → P a → code a ≡ part (field a)) → Fails Q part fault old → Fails P code fault old
   fails_turn Q part field fault old has same h = fails_first Q part field (λ a. []) fault old has (λ a p. same a p ∙ sym (append-nil (part (field a)))) h
 
-  -- a fault that says nothing of the bytes
+  -- a fault that claims nothing about the bytes
   pub fails_silent : (fault : LoadFault) (old : Position) → (Claims fault → ⊥) → Fails P code fault old
   fails_silent fault old h = record { none = λ claims. absurd (h claims) }

@@ -1,4 +1,4 @@
--- Values, cells, heads and numbers: what their bytes say.
+-- The bytes of values, cells, heads and numbers determine them.
 use Rattle.std.proofs.Common.{◌≡◌, ℕ, ◌<◌, ◌≤◌, ◌^◌, Bool, true, false, ◌&&◌, ◌==◌, List, [], ◌∷◌, ◌++◌, length, refl, sym, ap, subst, ◌∙◌, arith, append-nil}
 use Rattle.std.specs.Prelude.{if◌then◌else◌, IsTrue, ⊤}
 use Rattle.std.specs.Int.{w16, to_be_bytes}
@@ -22,7 +22,7 @@ use Rattle.vdb_file.proofs.Fronts.{fails_after, fails_none, fails_turn}
 
 -- ---- values
 
--- the bytes of a kind are as many as it has
+-- a value of a type has the type's count of bytes
 bytes_count : (k : Kind) (bytes : List ℕ) → IsTrue (are_bytes_of k bytes) → length bytes ≡ byte_count k
 bytes_count kinds.Bool bytes h = front (length bytes) _ h
   where
@@ -32,7 +32,7 @@ bytes_count kinds.Bool bytes h = front (length bytes) _ h
 bytes_count kinds.I32 bytes h = grind (arith, nat_tests)
 bytes_count kinds.I64 bytes h = grind (arith, nat_tests)
 
--- values of one kind, told apart by their bytes and by a test
+-- values of one type, told apart by their bytes and by a test
 pub voxel_values : {V : Type 0} (eq : V → V → Bool) (value_bytes : V → List ℕ) (is_value : V → Type 0) (kind : Kind) → ((x y : V) → eq x y ≡ true → x ≡ y) → ((x : V) → eq x x ≡ true)
     → ((x : V) → is_value x → IsTrue (are_bytes_of kind (value_bytes x))) → ((x y : V) → is_value x → is_value y → value_bytes x ≡ value_bytes y → x ≡ y) → AreValues eq value_bytes is_value
 voxel_values eq value_bytes is_value kind exact itself known bytes_exact = record {
@@ -74,7 +74,7 @@ module _ {V : Type 0} {eq : V → V → Bool} {value_bytes : V → List ℕ} {P 
       says_state true false = record { same = λ x y e. cc }
       says_state false true = record { same = λ x y e. cc }
 
-  -- it was another byte
+  -- the byte was no tag of a cell
   pub no_tag : (n : ℕ) → (n ≡ 1 → ⊥) → (n ≡ 2 → ⊥) → (fault : LoadFault) (old mid : Position) → Took old mid (n ∷ []) → Fails (IsSpelled eq P background) (cell_bytes eq value_bytes) fault old
   no_tag n one two fault old mid took =
       fails_after (IsSpelled eq P background) (cell_bytes eq value_bytes) (n ∷ []) (λ c. ⊥) (λ c. tag c.on ∷ []) (λ c. value_bytes c.value) fault old mid took
@@ -86,7 +86,7 @@ module _ {V : Type 0} {eq : V → V → Bool} {value_bytes : V → List ℕ} {P 
       apart false e = one e
 
   module _ (most : ℕ) where
-    -- a head of one cell was read in part
+    -- the tag of one cell was read, and no value is ahead
     pub no_one : (on : Bool) (fault : LoadFault) (old mid : Position) → Took old mid (tag on ∷ []) → Fails (λ (c : Cell V). IsSpelled eq P background c × (c.on ≡ on)) (λ c. value_bytes c.value) fault mid
         → Fails (IsHead eq P background most) (head_bytes eq value_bytes) fault old
     no_one on fault old mid took h =
@@ -135,7 +135,7 @@ module _ {V : Type 0} {eq : V → V → Bool} {value_bytes : V → List ℕ} {P 
         same on (One c) p = refl
         same on (Node n) p = absurd p.1
 
-    -- so was one of a node
+    -- the tag of a node was read, and no count is ahead
     pub no_node : (fault : LoadFault) (old mid : Position) → Took old mid (3 ∷ []) → Fails (λ n. (1 ≤ n) × (n ≤ most)) (to_be_bytes w16) fault mid → Fails (IsHead eq P background most) (head_bytes eq value_bytes) fault old
     no_node fault old mid took h =
         fails_after (IsHead eq P background most) (head_bytes eq value_bytes) (3 ∷ []) has front behind fault old mid took says split
@@ -177,7 +177,7 @@ module _ {V : Type 0} {eq : V → V → Bool} {value_bytes : V → List ℕ} {P 
         same (One c) p = absurd p.1
         same (Node n) p = refl
 
-    -- and another byte
+    -- the byte was no tag of a head
     pub no_head_tag : (n : ℕ) → (n ≡ 1 → ⊥) → (n ≡ 2 → ⊥) → (n ≡ 3 → ⊥) → (fault : LoadFault) (old mid : Position) → Took old mid (n ∷ []) → Fails (IsHead eq P background most) (head_bytes eq value_bytes) fault old
     no_head_tag n one two three fault old mid took =
         fails_after (IsHead eq P background most) (head_bytes eq value_bytes) (n ∷ []) (λ x. ⊥) front behind fault old mid took
@@ -204,7 +204,7 @@ module _ {V : Type 0} {eq : V → V → Bool} {value_bytes : V → List ℕ} {P 
         split (One c) p = refl
         split (Node m) p = refl
 
-    -- the bytes of a head say which it is
+    -- the bytes of a head determine it
     pub says_head : most < 2 ^ 16 → IsCode (IsHead eq P background most) (head_bytes eq value_bytes)
     says_head few (One c) (One d) pc pd = says_map (ap One) (says_cell values c d pc.value pd.value)
     says_head few (Node m) (Node n) pm pn = says_after 3 (says_map (ap Node) (says_u16 m n (let h = pm.1 in omega (arith, h, few)) (let h = pn.1 in omega (arith, h, few))))
@@ -221,7 +221,7 @@ module _ {V : Type 0} {eq : V → V → Bool} {value_bytes : V → List ℕ} {P 
 
 -- ---- numbers
 
--- a number was read that has not what is wanted of it
+-- a number was read that doesn't have P
 pub no_number : (P : ℕ → Type 0) (fault : LoadFault) (old mid : Position) (n : ℕ) → n < 2 ^ 16 → Took old mid (to_be_bytes w16 n) → ((m : ℕ) → P m → m < 2 ^ 16) → (P n → ⊥) → Fails P (to_be_bytes w16) fault old
 no_number P fault old mid n small took few none =
     fails_after P (to_be_bytes w16) (to_be_bytes w16 n) (λ m. n ≡ m) (to_be_bytes w16) (λ m. []) fault old mid took (λ m p. says_u16 n m small (few m p)) (λ m p. sym (append-nil (to_be_bytes w16 m)))

@@ -1,4 +1,4 @@
--- Things that are read one after another, each with a name that comes after the one before.
+-- Reads items one after another, each with a name that comes after the one before.
 use Rattle.std.proofs.Common.{◌≡◌, ℕ, zero, suc, ◌<◌, List, [], ◌∷◌, ◌++◌, length, take, drop, get_or, length-take, take-append-drop, refl, sym, ap, subst, ◌∙◌, append-nil, arith}
 use Rattle.std.specs.Prelude.{Option, Some, None, map, ⊤}
 use Rattle.std.specs.List.{AllByRecursion, flat_map}
@@ -20,12 +20,12 @@ abbrev cmp : List ℕ → List ℕ → Ordering
 cmp = slice_cmp nat_cmp
 
 module _ {E : Type 0} (P : E → Type 0) (key : E → List ℕ) where
-  -- each may follow the one before
+  -- each item may follow the one before
   abbrev pub IsChain : Option (List ℕ) → List E → Type 0
   IsChain before [] = ⊤
   IsChain before (e ∷ es) = IsItem P key before e × IsChain (Some (key e)) es
 
-  -- the name that the next is to follow
+  -- the name that the next item must follow
   abbrev pub last_of : Option (List ℕ) → List E → Option (List ℕ)
   last_of before [] = before
   last_of before (e ∷ es) = last_of (Some (key e)) es
@@ -42,17 +42,17 @@ module _ {E : Type 0} (P : E → Type 0) (key : E → List ℕ) where
 
   -- ---- chains are in order
 
-  -- all of them have P
+  -- all items have P
   pub chain_each : (before : Option (List ℕ)) (es : List E) → IsChain before es → AllByRecursion P es
   chain_each before [] c = tt
   chain_each before (e ∷ es) c = (c.0.has, chain_each (Some (key e)) es c.1)
 
-  -- what comes after one name comes after an earlier one
+  -- a name after one name comes after an earlier one
   all_after : (low high : List ℕ) (ks : List (List ℕ)) → cmp low high ≡ Less → AllByRecursion (λ k. cmp high k ≡ Less) ks → AllByRecursion (λ k. cmp low k ≡ Less) ks
   all_after low high [] h all = tt
   all_after low high (k ∷ ks) h all = (nat_list_cmp_total.trans low high k h all.0, all_after low high ks h all.1)
 
-  -- all names come after the one before
+  -- all names of a chain come after the name before it
   chain_after : (before : List ℕ) (es : List E) → IsChain (Some before) es → AllByRecursion (λ k. cmp before k ≡ Less) (map key es)
   chain_after before [] c = tt
   chain_after before (e ∷ es) c = (c.0.rises, all_after before (key e) (map key es) c.0.rises (chain_after (key e) es c.1))
@@ -63,7 +63,7 @@ module _ {E : Type 0} (P : E → Type 0) (key : E → List ℕ) where
   chain_sorted before [] c = tt
   chain_sorted before (e ∷ es) c = (chain_after (key e) es c.1, chain_sorted (Some (key e)) es c.1)
 
-  -- and where they do, things that have P are a chain
+  -- if the names rise, items that have P are a chain
   chain_behind : (before : List ℕ) (es : List E) → AllByRecursion P es → IsStrictlySortedBy cmp (map key es) → AllByRecursion (λ k. cmp before k ≡ Less) (map key es) → IsChain (Some before) es
   unfolding IsStrictlySortedBy
   chain_behind before [] ps sorted later = tt
@@ -74,7 +74,7 @@ module _ {E : Type 0} (P : E → Type 0) (key : E → List ℕ) where
   sorted_chain [] ps sorted = tt
   sorted_chain (e ∷ es) ps sorted = (record { has = ps.0; rises = tt }, chain_behind (key e) es ps.1 sorted.1 sorted.0)
 
-  -- so many were read
+  -- this many items were read
   pub are_items : (n : ℕ) (es : List E) → length es ≡ n → IsChain None es → AreItems P key n es
   are_items n es count chain = record { count = count; each = chain_each None es chain; in_order = chain_sorted None es chain }
 
@@ -99,7 +99,7 @@ module _ {E : Type 0} (P : E → Type 0) (key : E → List ℕ) where
     code_parts : (k : ℕ) (es : List E) → flat_map code es ≡ flat_map code (take k es) ++ flat_map code (drop k es)
     code_parts k es = ap (flat_map code) (sym (take-append-drop k es)) ∙ flat_map-append code (take k es) (drop k es)
 
-    -- where one can't be read after those that were, no list of more of them is ahead of the first
+    -- if no item can be read after those that were, no list of more of them is ahead of the first
     pub fails_within : IsCode P code → E → (fault : LoadFault) (n : ℕ) (done : List E) (old mid : Position) → length done < n → IsChain None done → Took old mid (flat_map code done)
         → Fails (IsItem P key (last_of None done)) code fault mid → Fails (AreItems P key n) (flat_map code) fault old
     fails_within is_code none fault n done old mid short chain took h =
@@ -114,11 +114,11 @@ module _ {E : Type 0} (P : E → Type 0) (key : E → List ℕ) where
         (λ es p. let inside : k < length es = omega (arith, p.0.count, short) in code_split none k es inside)
         h)
 
-    -- one more was read
+    -- one more item was read
     pub more_read : (a b c : Position) (done : List E) (e : E) → Took a b (flat_map code done) → Took b c (code e) → Took a c (flat_map code (done ++ e ∷ []))
     more_read a b c done e p q = subst (Took a c) (ap (λ t. flat_map code done ++ t) (sym (append-nil (code e))) ∙ sym (flat_map-append code done (e ∷ []))) (took_both a b c (flat_map code done) (code e) p q)
 
--- an entry that follows the last of a chain is put at its end
+-- an entry that follows the last of a chain is added at its end
 pub put_last : {X : Type 0} (P : List ℕ × X → Type 0) (es : List (List ℕ × X)) (e : List ℕ × X) → IsChain P name_of None es → IsItem P name_of (last_of P name_of None es) e
     → insert_entry cmp es e.0 e.1 ≡ es ++ e ∷ []
 put_last P es e chain item = insert_last nat_list_cmp_total es [] e (chain_sorted P name_of None (es ++ e ∷ []) (chain_more P name_of None es e chain item))

@@ -1,4 +1,4 @@
--- Keys of root blocks: what their bytes say.
+-- The bytes of the keys of root blocks determine the keys.
 use Rattle.std.proofs.Common.{◌≡◌, ℕ, ℤ, List, [], ◌++◌, refl, sym, subst, append-nil}
 use Rattle.std.specs.Prelude.{FitsSigned, Option}
 use Rattle.std.specs.Int.{w32}
@@ -14,7 +14,7 @@ use Rattle.vdb_file.proofs.Numbers.{says_i32, says_key}
 use Rattle.vdb_file.proofs.Fronts.{fails_after, fails_first, fails_none, fails_turn, took_both}
 use Rattle.vdb_file.proofs.Roots.{key_fits}
 
--- each component is one of 32 bits
+-- each component has 32 bits
 abbrev pub AreThree : Coord → Type 0
 AreThree k = FitsSigned w32 k.x × FitsSigned w32 k.y × FitsSigned w32 k.z
 

@@ -1,4 +1,4 @@
--- The three types of values among those of any kind.
+-- The three types of values among the scalars of any type.
 use Rattle.std.proofs.Common.{◌≡◌, ℤ, pos, negsuc, Bool, true, false, refl, arith}
 use Rattle.std.specs.Prelude.{FitsSigned, ⊤}
 use Rattle.std.specs.Int.{w32, w64}
@@ -13,7 +13,7 @@ use Rattle.vdb_file.specs.Scenes.{is_value_of}
 use Rattle.vdb_file.proofs.TypedGrids.{IsKind}
 use Rattle.vdb_file.proofs.Values.{i32_fits, i64_fits}
 
--- the value that one is; any stands for one of another type
+-- the boolean of a scalar; a scalar of another type gives an arbitrary one
 pub truth_of : Scalar → Bool
 truth_of (truth b) = b
 truth_of (I32 z) = false
@@ -24,7 +24,7 @@ number_of (truth b) = pos 0
 number_of (I32 z) = z
 number_of (I64 z) = z
 
--- numbers that fit are the kind's
+-- numbers that fit have the type
 fits_i32 : (z : ℤ) → FitsSigned w32 z → has_number kinds.I32 z ≡ true
 fits_i32 (pos n) h = grind (arith, ints)
 fits_i32 (negsuc n) h = grind (arith, ints)

@@ -45,7 +45,7 @@ clash : (b : Bool) → b ≡ true → b ≡ false → ⊥
 clash true p q = cc
 clash false p q = cc
 
--- two numbers are one or not
+-- two numbers are equal or not
 same_or_other : (i j : ℕ) → (i ≡ j) ⊎ ((i ≡ j) → ⊥)
 same_or_other zero zero = inl refl
 same_or_other zero (suc j) = inr (λ e. absurd (omega (arith, e)))
@@ -83,7 +83,7 @@ module _ {V : Type 0} (bits : Bits) (p : Coord) (background : V) (leaf : LeafOf 
       let here : coord_eq (block_number bits Leaf p) (block_number bits Leaf q) ≡ true = ap (coord_eq (block_number bits Leaf p)) e ∙ coord_equiv.refl (block_number bits Leaf p) in
       ap (λ (b : Bool). if b then cell_in (off background) leaf (offset bits Leaf q) else off background) here
 
-  -- and elsewhere none
+  -- elsewhere it has the background
   pub other_cell : (q : Coord) → coord_eq (block_number bits Leaf p) (block_number bits Leaf q) ≡ false → (leaf_field bits p background leaf).cell q ≡ off background
   other_cell q e = ap (λ (b : Bool). if b then cell_in (off background) leaf (offset bits Leaf q) else off background) e
 
@@ -91,18 +91,18 @@ module _ {V : Type 0} (bits : Bits) (p : Coord) (background : V) (leaf : LeafOf 
 abbrev pub AreCells : {V : Type 0} → (V → Type 0) → Bits → V → LeafOf V → Type 0
 AreCells P bits background leaf = (i : ℕ) → i < entries bits Leaf → P (cell_in (off background) leaf i).value
 
--- what was read so far: so many voxels, the last of them with this number
+-- the voxels read so far: this many, the last of them with this number
 pub record HasRead {V : Type 0} (eq : V → V → Bool) (value_bytes : V → List ℕ) (bits : Bits) (background : V) (p : Coord) (leaf : LeafOf V) (old now : Position) (n : ℕ) (before : Option ℕ) : Type 0 where
   pub took : Took old now (voxels_bytes eq value_bytes bits p (leaf_field bits p background leaf))
   pub count : voxel_count eq value_bytes bits p (leaf_field bits p background leaf) ≡ n
   pub last : before ≡ last_of None (listed eq value_bytes bits (leaf_field bits p background leaf) Leaf (block_around bits Leaf p))
 
 module _ {V : Type 0} {eq : V → V → Bool} {value_bytes : V → List ℕ} {P : V → Type 0} (values : AreValues eq value_bytes P) (bits : Bits) (few : AreBits bits) (background : V) where
-  -- so it is at first
+  -- at first no voxel is read
   pub first_cells : (leaf : LeafOf V) → P background → (n : ℕ) → entries bits Leaf ≡ n → IsConstantLeaf leaf n (off background) → AreCells P bits background leaf
   first_cells leaf fits n e constant i less = subst (λ (c : Cell V). P c.value) (sym (constant (off background) i (omega (arith, less, e)))) fits
 
-  -- and after one more cell
+  -- after one more cell
   pub more_cells : (old new : LeafOf V) (i : ℕ) (cell : Cell V) → SetsVoxel old new i cell → P cell.value → AreCells P bits background old → AreCells P bits background new
   more_cells old new i cell sets fits cells j less = elim (same_or_other j i) [
     | inl e ↦ subst (λ (c : Cell V). P c.value) (sym (ap (cell_in (off background) new) e ∙ sets.changed (off background))) fits
@@ -122,7 +122,7 @@ module _ {V : Type 0} {eq : V → V → Bool} {value_bytes : V → List ℕ} {P 
     abbrev shown : LeafOf V → Field V
     shown leaf = leaf_field bits p background leaf
 
-    -- the field has such values too
+    -- the field's values have P too
     pub shown_values : (leaf : LeafOf V) → P background → AreCells P bits background leaf → HasValues P background (shown leaf)
     shown_values leaf fits cells = record {
       same = refl;
@@ -139,24 +139,24 @@ module _ {V : Type 0} {eq : V → V → Bool} {value_bytes : V → List ℕ} {P 
     entry_cell : (leaf : LeafOf V) (i : ℕ) → i < entries bits Leaf → (shown leaf).cell (at i).min ≡ cell_in (off background) leaf i
     entry_cell leaf i less = let c = corner_of_entry bits Leaf p i less in leaf_cell bits p background leaf (at i).min c.0 ∙ ap (cell_in (off background) leaf) c.1
 
-    -- it is background where its cell is
+    -- an entry is background if its cell is
     background_from : (f : Field V) (i : ℕ) → i < entries bits Leaf → f.cell (at i).min ≡ off f.background → is_background eq f (at i) ≡ true
     background_from f i less e =
         let c = corner_of_entry bits Leaf p i less in
         uniform_from eq values.exact values.itself f (at i) (off f.background)
         (λ q inside. let k = in_entry bits Leaf p q i less inside in ap f.cell (voxel_from_leaf bits q (at i).min (k.0 ∙ sym c.0) (k.1 ∙ sym c.1)) ∙ e)
 
-    -- and only there
+    -- an entry is background only if its cell is
     background_gives : (f : Field V) (i : ℕ) → is_background eq f (at i) ≡ true → f.cell (at i).min ≡ off f.background
     background_gives f i h = uniform_cells eq values.exact values.itself f (at i) (off f.background) h (at i).min (corner_inside bits Leaf box i)
 
-    -- so it is held where its cell is another
+    -- an entry is listed if its cell isn't the background
     held_from : (f : Field V) (i : ℕ) (c : Cell V) → f.background ≡ background → f.cell (at i).min ≡ c → cell_eq eq c (off background) ≡ false → is_background eq f (at i) ≡ false
     held_from f i c e here other =
         not_true (is_background eq f (at i))
         (λ h. clash (cell_eq eq c (off background)) (cell_same eq values.exact values.itself c (off background) (sym here ∙ background_gives f i h ∙ ap off e)) other)
 
-    -- and only there, too
+    -- an entry is listed only if its cell isn't the background
     held_gives : (f : Field V) (i : ℕ) → i < entries bits Leaf → f.background ≡ background → is_background eq f (at i) ≡ false → cell_eq eq (f.cell (at i).min) (off background) ≡ false
     held_gives f i less e h =
         not_true (cell_eq eq (f.cell (at i).min) (off background))
@@ -166,15 +166,15 @@ module _ {V : Type 0} {eq : V → V → Bool} {value_bytes : V → List ℕ} {P 
     constant_from : (f : Field V) (c : Cell V) → ((q : Coord) → is_inside box q ≡ true → f.cell q ≡ c) → is_constant eq f box ≡ true
     constant_from f c all = uniform_from eq values.exact values.itself f box (f.cell box.min) (λ q inside. all q inside ∙ sym (all box.min (corner_in_block bits Leaf p)))
 
-    -- so is the block of any field with the cells of a leaf of one cell
+    -- if a leaf has only one cell, the block of any field with its cells is constant
     constant_leaf : (f : Field V) (leaf : LeafOf V) (c : Cell V) → ((d : Cell V) (i : ℕ) → i < entries bits Leaf → cell_in d leaf i ≡ c) → Agree (shown leaf) f box → is_constant eq f box ≡ true
     constant_leaf f leaf c constant agree =
         constant_from f c (λ q inside.
         sym (agree.same q inside) ∙ leaf_cell bits p background leaf q (number_in_block bits Leaf (block_number bits Leaf p) q inside) ∙ constant (off background) (offset bits Leaf q) (offset_below bits Leaf q))
 
-    -- ---- what was read so far
+    -- ---- the voxels read so far
 
-    -- nothing at first
+    -- at first no voxel is read
     pub none_read : (leaf : LeafOf V) (old : Position) (n : ℕ) → entries bits Leaf ≡ n → IsConstantLeaf leaf n (off background) → HasRead eq value_bytes bits background p leaf old old 0 None
     none_read leaf old n e constant =
         let empty : held eq row (shown leaf) ≡ [] =
@@ -193,7 +193,7 @@ module _ {V : Type 0} {eq : V → V → Bool} {value_bytes : V → List ℕ} {P 
       new_cell : (shown new).cell (at i).min ≡ cell
       new_cell = entry_cell new i less ∙ sets.changed (off background)
 
-      -- all others keep theirs
+      -- all other entries keep their cells
       kept : (q : Coord) → is_inside (at i) q ≡ false → (shown old).cell q ≡ (shown new).cell q
       kept q outside = elim (cases_Bool (coord_eq (block_number bits Leaf p) (block_number bits Leaf q))) [
         | inl here ↦
@@ -204,7 +204,7 @@ module _ {V : Type 0} {eq : V → V → Bool} {value_bytes : V → List ℕ} {P 
         | inr there ↦ other_cell bits p background old q there ∙ sym (other_cell bits p background new q there)
       ]
 
-      -- so one more entry is held
+      -- one more entry is listed
       adds : Adds eq row (shown old) (shown new) i
       adds = adds_outside (is_leaf_row values bits few p) (shown old) (shown new) i (below_member bits Leaf i less) refl kept (held_from (shown new) i cell refl new_cell other)
 
@@ -226,11 +226,11 @@ module _ {V : Type 0} {eq : V → V → Bool} {value_bytes : V → List ℕ} {P 
 
     -- ---- faults
 
-    -- the fields of which so many voxels are listed
+    -- the fields with this many listed voxels
     abbrev pub IsListed : ℕ → Field V → Type 0
     IsListed count f = IsMixed eq P background bits p f × (voxel_count eq value_bytes bits p f ≡ count)
 
-    -- no text at all says the one number there is
+    -- the empty text is a code for one number
     no_text : (count : ℕ) → IsCode (λ n. n ≡ count) (λ (n : ℕ). [])
     no_text count a b pa pb = record { same = λ x y e. (pa ∙ sym pb, e) }
 
@@ -247,14 +247,14 @@ module _ {V : Type 0} {eq : V → V → Bool} {value_bytes : V → List ℕ} {P 
         (λ e next. refl) h
 
     module _ (leaf : LeafOf V) (fits : P background) (cells : AreCells P bits background leaf) (fault : LoadFault) (old mid : Position) (n count : ℕ) (before : Option ℕ) (read : HasRead eq value_bytes bits background p leaf old mid n before) where
-      -- a voxel was wanted, and none is ahead
+      -- a voxel was due, and none is ahead
       pub voxels_fail : n < count → (most : ℕ) → most ≡ entries bits Leaf → Fails (IsVoxel eq P background most before) (voxel_bytes eq value_bytes) fault mid → Fails (IsListed count) (voxels_bytes eq value_bytes bits p) fault old
       voxels_fail more most all h =
           let size : length (held eq row (shown leaf)) ≡ n = read.count in
           within values (is_leaf_row values bits few p) background (λ _. []) (λ m. m ≡ count) (no_text count) (IsListed count) (λ f r. r.0.values) (λ f r. r.1) fault old mid (shown leaf) (shown_values leaf fits cells) count refl
           (omega (arith, size, more)) read.took (subst (λ (b : Option ℕ). Fails (IsNextOf eq P row background b) (entry_bytes row) fault mid) read.last (voxel_fails most all before fault mid h))
 
-      -- all voxels are one cell
+      -- all voxels have one cell
       pub voxels_alike : n ≡ count → (c : Cell V) (m : ℕ) → entries bits Leaf ≡ m → IsConstantLeaf leaf m c → Fails (IsListed count) (voxels_bytes eq value_bytes bits p) fault old
       voxels_alike done c m all constant =
           no_row values (is_leaf_row values bits few p) background (λ _. []) (λ k. k ≡ count) (no_text count) (IsListed count) (λ f r. r.0.values) (λ f r. r.1) fault old mid (shown leaf) (shown_values leaf fits cells)

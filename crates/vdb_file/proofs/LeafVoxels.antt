@@ -89,12 +89,12 @@ module _ {V : Type 0} (eq : V → V → Bool) (exact : (x y : V) → eq x y ≡ 
   by_leaf q b = leaf_around q (block_in_range bits Leaf configured p q inside b) b
 
   module _ (one : Option (Cell V)) (given : (c : Cell V) → (one ≡ Some c) ↔ IsConstantLeaf leaf (entry_count (node_bits bits Leaf)) c) where
-    -- the leaf has one cell where its block is constant
+    -- the leaf has one cell if its block is constant
     pub one_test : (last : ℕ) → last + 1 ≡ entries bits Leaf → (e : Cell V) → ((d : Cell V) → cell_in d leaf last ≡ e) → is_some one ≡ is_constant eq f box
     one_test last end e reads =
         same_denied (is_some one) (is_constant eq f box) (leaf_test eq exact itself bits configured t p inside leaf leaf_around last end e reads one (not (is_some one)) (twice (is_some one)) given)
 
-  -- and that is the block's
+  -- the leaf's one cell is the block's
   pub one_at : (one : Option (Cell V)) → ((c : Cell V) → (one ≡ Some c) ↔ IsConstantLeaf leaf (entry_count (node_bits bits Leaf)) c) → IfSome one (λ c. f.cell box.min ≡ c)
   one_at None given = tt
   one_at (Some c) given =
@@ -106,7 +106,7 @@ module _ {V : Type 0} (eq : V → V → Bool) (exact : (x y : V) → eq x y ≡ 
       let c = corner_of_entry bits Leaf p i less in
       by_leaf (around bits p Leaf i).min c.0 ∙ ap (cell_in (off t.background) leaf) c.1
 
-  -- which is listed where it isn't the background
+  -- the voxel is listed if it isn't the background
   pub voxel_test : (i : ℕ) → i < entries bits Leaf → is_background eq f (around bits p Leaf i) ≡ cell_eq eq (cell_in (off t.background) leaf i) (off t.background)
   voxel_test i less =
       let corner = (around bits p Leaf i).min in
@@ -123,7 +123,7 @@ module _ {V : Type 0} (eq : V → V → Bool) (exact : (x y : V) → eq x y ≡ 
         listed_is eq value_bytes bits f Leaf box
         ∙ passing_same (λ i. not (is_background eq f (around bits p Leaf i))) (stands eq leaf (off t.background) (off t.background)) (entries bits Leaf) (λ i less. ap not (voxel_test i less))
 
-    -- the voxels that were put are the entries that are listed
+    -- the voxels that were written are the listed entries
     pub voxels_put : (a b : Sent) → Puts a b (numbered (λ i. cell_bytes eq value_bytes (cell_in (off t.background) leaf i)) (passing (stands eq leaf (off t.background) (off t.background)) (entries bits Leaf)))
         → Puts a b (numbered (λ i. voxel_body eq value_bytes bits f (around bits p Leaf i)) (listed eq value_bytes bits f Leaf box))
     voxels_put a b put =

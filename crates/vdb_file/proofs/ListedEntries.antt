@@ -20,7 +20,7 @@ use Rattle.vdb_file.specs.internal.Written.{passing}
 below_or_from : (k at : ℕ) → (k < at) ⊎ (at ≤ k)
 below_or_from k at = grind arith
 
--- those are listed that aren't all background
+-- the listed entries are those that aren't all background
 pub listed_is : {V : Type 0} (eq : V → V → Bool) (value_bytes : V → List ℕ) (bits : Bits) (f : Field V) (level : Level) (b : Box)
     → listed eq value_bytes bits f level b ≡ passing (λ i. not (is_background eq f (sub_block bits level b i))) (entries bits level)
 unfolding entry_numbers
@@ -73,7 +73,7 @@ module _ (bits : Bits) (p : Coord) where
           | inr h ↦ passed_over at i (let w = next.within in omega (arith, w)) next.before k h less
         ]
 
-        -- the next that isn't background is the first
+        -- the next entry that isn't background is the first
         pub listed_next : flat_at i ≡ false → IsFirstWithoutAt (λ k. flat_at k ≡ true) (entries bits level) from i
         listed_next h = record {
           within = next.within;
@@ -82,14 +82,14 @@ module _ (bits : Bits) (p : Coord) where
           before = up_to;
         }
 
-        -- one that is, is passed over with the others
+        -- one more background entry is skipped
         pub flat_more : flat_at i ≡ true → (k : ℕ) → from ≤ k → k < i + 1 → flat_at k ≡ true
         flat_more h k more less = elim (below_or_from k i) [
           | inl l ↦ up_to k more l
           | inr l ↦ let e : i ≡ k = omega (arith, l, less) in subst (λ (n : ℕ). flat_at n ≡ true) e h
         ]
 
-      -- where none is left all are background
+      -- if no entry is left, all are background
       pub flat_rest : IsCellFrom bits f.cell level p (off f.background) at (entries bits level) → (k : ℕ) → from ≤ k → k < entries bits level → flat_at k ≡ true
       flat_rest rest k more less = elim (below_or_from k at) [
         | inl h ↦ done k more h

@@ -1,4 +1,4 @@
--- Fields in which one box was given other cells.
+-- Fields whose cells changed in one box.
 use Rattle.std.proofs.Common.{◌≡◌, ℕ, ◌<◌, Bool, true, false, List, refl, sym, ap, subst, ◌∙◌, arith, inl, inr}
 use Rattle.std.proofs.lemmas.Bool.{cases_Bool}
 use Rattle.std.specs.Prelude.{if◌then◌else◌, pos, Result, Err}
@@ -35,7 +35,7 @@ kept_all b f = record { background = refl; cells = λ p out. refl }
 pub kept_both : {V : Type 0} (b : Box) (f g h : Field V) → KeptOutside b f g → KeptOutside b g h → KeptOutside b f h
 kept_both b f g h first second = record { background = second.background ∙ first.background; cells = λ p out. second.cells p out ∙ first.cells p out }
 
--- outside a box is outside those within it
+-- a coordinate outside a box is outside the boxes within it
 outside_of : (b c : Bool) → (c ≡ true → b ≡ true) → b ≡ false → c ≡ false
 outside_of b false h e = refl
 outside_of b true h e = sym (h refl) ∙ e
@@ -46,7 +46,7 @@ kept_wider b c f g within kept = record { background = kept.background; cells = 
 pub capacity_kept : {V : Type 0} (eq : V → V → Bool) (bits : Bits) (limit : ℕ) (b : Box) (f g : Field V) → KeptOutside b f g → HasCapacityAt eq bits limit b f → HasCapacityAt eq bits limit b g
 capacity_kept eq bits limit b f g kept capacity = record { few = λ h more. capacity.few h (kept_both b f g h kept more) }
 
--- where a box has capacity, a change of it isn't refused for the limit
+-- if a box has capacity, no change of it fails with `RootLimit`
 pub no_root_limit : {V : Type 0} (eq : V → V → Bool) (bits : Bits) (limit : ℕ) (b : Box) (f changed new : Field V) (result : Result (Unit {0}) TreeRefusal) → IsOutcome eq bits limit f changed new result → result ≡ Err RootLimit → HasCapacityAt eq bits limit b f → KeptOutside b f changed → ⊥
 no_root_limit eq bits limit b f changed new result outcome e capacity kept =
     let over : limit < roots eq bits changed = (subst (λ (r : Result (Unit {0}) TreeRefusal). IsOutcome eq bits limit f changed new r) e outcome).1 in
@@ -61,11 +61,11 @@ number_up bits Upper p q e = e
 number_up bits Lower p q e = upper_from_lower bits q p e
 number_up bits Leaf p q e = upper_from_lower bits q p (lower_from_leaf bits q p e)
 
--- holds the blocks around it
+-- the upper block holds the blocks around the coordinate
 pub in_upper : (bits : Bits) (level : Level) (p q : Coord) → is_inside (block_around bits level p) q ≡ true → is_inside (block_around bits Upper p) q ≡ true
 in_upper bits level p q h = inside_numbered bits Upper (block_number bits Upper p) q (number_up bits level p q (number_in_block bits level (block_number bits level p) q h))
 
--- and is that around each coordinate of these
+-- the upper block is the same around each coordinate of those blocks
 pub same_upper : (bits : Bits) (level : Level) (p q : Coord) → is_inside (block_around bits level p) q ≡ true → block_around bits Upper q ≡ block_around bits Upper p
 same_upper bits level p q h = ap (block bits Upper) (number_up bits level p q (number_in_block bits level (block_number bits level p) q h))
 
@@ -75,7 +75,7 @@ entry_in_block bits level p i less q h = inside_numbered bits level (block_numbe
 
 -- ---- values
 
--- the background of a tree is a value, as there are coordinates past the range
+-- the background of a tree is a value, since coordinates beyond the range have it
 pub background_value : {V : Type 0} (P : V → Type 0) (background : V) (bits : Bits) (t : Layout V) → HasValues P background (field_of bits t) → P t.background
 background_value P background bits t has = has.values (coord (pos 2147483648) (pos 0) (pos 0))
 
@@ -141,7 +141,7 @@ module _ {V : Type 0} (P : V → Type 0) (bits : Bits) (few : AreBits bits) (p :
   abbrev around : Box
   around = block_around bits Leaf p
 
-  -- whether it is p's leaf block
+  -- a coordinate of the block has p's leaf block around it
   here_eq : (q : Coord) → is_inside around q ≡ true → coord_eq (block_number bits Leaf p) (block_number bits Leaf q) ≡ true
   here_eq q h = subst (λ (n : Coord). coord_eq (block_number bits Leaf p) n ≡ true) (sym (number_in_block bits Leaf (block_number bits Leaf p) q h)) (coord_equiv.refl (block_number bits Leaf p))
 
@@ -161,7 +161,7 @@ module _ {V : Type 0} (P : V → Type 0) (bits : Bits) (few : AreBits bits) (p :
       there q true out = rw out refl
       there q false out = refl
 
-  -- there it is the field of the leaf alone
+  -- in that block it is the field of the leaf alone
   pub leaf_agrees : Agree (leaf_field bits p background leaf) after around
   leaf_agrees = record {
     same = λ q h. rw (here_eq q h, block_in_range bits Leaf few p q inside (number_in_block bits Leaf (block_number bits Leaf p) q h)) refl;

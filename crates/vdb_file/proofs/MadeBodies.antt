@@ -1,4 +1,4 @@
--- A field whose values are made others is spelled alike, where its values are.
+-- A field with converted values has the same encoding if each value keeps its encoding.
 use Rattle.std.proofs.Common.{◌≡◌, ℕ, Bool, not, if◌then◌else◌, List, ◌∷◌, ◌++◌, ap, ◌∙◌, length, filter}
 use Rattle.std.specs.List.{flat_map}
 use Rattle.std.specs.Int.{w16, w32, to_be_bytes}
@@ -34,7 +34,7 @@ module _ {V U : Type 0} (make : V → U) (background : V) (cells : Coord → Cel
   made_listed : (level : Level) (b : Box) → listed made_eq made_bytes bits made level b ≡ listed eq bytes bits f level b
   made_listed level b = ap (λ test. filter test (entry_numbers bits level)) (fun_ext (λ i. ap not (made_background (sub_block bits level b i))))
 
-  -- blocks whose entries are spelled alike are
+  -- blocks have the same encoding if their entries do
   made_block : (left right : Box → List ℕ) → left ≡ right → (level : Level) → block_bytes made_eq made_bytes bits made left level ≡ block_bytes eq bytes bits f right level
   made_block left right e level = fun_ext (λ b.
       ap (λ one. if one then cell_bytes made_eq made_bytes (made.cell b.min) else 3 ∷ (to_be_bytes w16 (length (listed made_eq made_bytes bits made level b)) ++ flat_map (λ i. to_be_bytes w16 i ++ left (sub_block bits level b i)) (listed made_eq made_bytes bits made level b)))
@@ -50,7 +50,7 @@ module _ {V U : Type 0} (make : V → U) (background : V) (cells : Coord → Cel
   pub made_keys : root_keys made_eq bits made ≡ root_keys eq bits f
   made_keys = ap (λ test. filter test (coordinates (block_numbers bits Upper))) (fun_ext (λ k. ap not (made_background (block bits Upper k))))
 
-  -- the root blocks are spelled alike
+  -- the root blocks have the same encoding
   pub made_roots : roots_bytes made_eq made_bytes bits made ≡ roots_bytes eq bytes bits f
   unfolding roots_bytes
   made_roots =

@@ -1,4 +1,4 @@
--- What an iterator over a list gives after some items were passed over.
+-- The answer of an iterator over a list after some items were skipped.
 use Rattle.std.proofs.Common.{◌≡◌, ℕ, List, [], ◌∷◌, ◌++◌, arith, refl, sym, ap, ◌∙◌, append-nil, length, MatchOption}
 use Rattle.std.specs.Prelude.{Option, Some, None, map}
 use Rattle.std.specs.Option.{option_map}
@@ -20,7 +20,7 @@ module _ {A B : Type 0} (now : B → A) where
   seam [] zs y = refl
   seam (x ∷ ys) zs y = seam ys zs y
 
-  -- the item that has so many others before it, if there is one
+  -- the item at an index, if the list has it
   pub nth_is : (s u : List A) (i : ℕ) (r : Option B) → SkipsThenYields gives s i r u → option_map now r ≡ slice_get s i
   nth_is s u i (Some x) h =
       let e = skipped h.0 s h.1.0 h.1.1 ∙ ap (λ l. map now h.0 ++ l) h.1.2 in

@@ -1,4 +1,4 @@
--- Numbers, truth values, keys, and bytes behind their count.
+-- Numbers, booleans, keys, and bytes after their count.
 use Rattle.std.proofs.Common.{◌≡◌, ℕ, ◌<◌, ◌^◌, List, length, refl, sym, ap, ◌∙◌}
 use Rattle.std.specs.Prelude.{FitsSigned, ⊤}
 use Rattle.std.specs.Int.{w16, w32, w64, from_be_bytes, to_be_bytes}
@@ -24,26 +24,26 @@ says_i32 = says_apart (FitsSigned w32) (number_bytes w32) (λ y z. refl) i32_byt
 pub says_i64 : IsCode (FitsSigned w64) (number_bytes w64)
 says_i64 = says_apart (FitsSigned w64) (number_bytes w64) (λ y z. refl) i64_bytes_exact
 
--- truth values
+-- booleans
 pub says_truth : IsCode (λ b. ⊤) truth_bytes
 says_truth = says_apart (λ b. ⊤) truth_bytes (λ a b. refl) bool_bytes_exact
 
 -- ---- keys of root blocks
 
--- each component is one of 32 bits
+-- each component has 32 bits
 pub record FitsKey (k : Coord) : Type 0 where
   pub x : FitsSigned w32 k.x
   pub y : FitsSigned w32 k.y
   pub z : FitsSigned w32 k.z
 
--- the bytes of a key say which it is
+-- the bytes of a key determine it
 pub says_key : IsCode FitsKey key_bytes
 says_key k l fk fl =
     says_map (λ r. λ j. record { x = r.0 j; y = r.1.0 j; z = r.1.1 j })
     (says_then (says_i32 k.x l.x fk.x fl.x) (λ _. says_then (says_i32 k.y l.y fk.y fl.y) (λ _. says_i32 k.z l.z fk.z fl.z)))
 
--- ---- bytes behind their count
+-- ---- bytes after their count
 
--- they say which bytes they are, and so how many
+-- the bytes are determined, and so is their count
 pub says_counted : (p q : List ℕ) → Says (counted p) (counted q) (p ≡ q)
 says_counted p q = says_behind (says_byte (length p) (length q)) (λ l. says_fixed p q l)

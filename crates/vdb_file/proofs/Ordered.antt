@@ -1,4 +1,4 @@
--- Members of a sorted list, kept by a test, one after another.
+-- The members of a sorted list that a test keeps, one after another.
 use Rattle.std.proofs.Common.{◌≡◌, ℕ, zero, suc, ◌<◌, Bool, true, false, cond, List, [], ◌∷◌, ◌++◌, length, refl, sym, ap, subst, ◌∙◌, arith}
 use Rattle.std.specs.Prelude.{Option, Some, None, slice_index_or}
 use Rattle.std.specs.List.{AllByRecursion, Contains, filter}
@@ -19,12 +19,12 @@ module _ {K : Type 0} where
   pub later_member : (x : K) (xs : List K) (k : K) → Contains xs k → Contains (x ∷ xs) k
   later_member x xs k m = (suc m.0, omega (arith, m.1), m.2)
 
-  -- what holds of each member, one by one
+  -- a property of each member holds of the whole list
   pub by_member : (P : K → Type 0) (xs : List K) → ((k : K) → Contains xs k → P k) → AllByRecursion P xs
   by_member P [] h = tt
   by_member P (x ∷ xs) h = (h x (first_member x xs), by_member P xs (λ k m. h k (later_member x xs k m)))
 
-  -- and back
+  -- a property of the whole list holds of each member
   pub at_member : (P : K → Type 0) (xs : List K) (k : K) → AllByRecursion P xs → Contains xs k → P k
   at_member P xs k all m = All-contains P xs k (All-from_recursion P xs all) m
 
@@ -32,7 +32,7 @@ module _ {K : Type 0} where
   none_kept test [] all = refl
   none_kept test (x ∷ xs) all = rw all.0 (none_kept test xs all.1)
 
-  -- the last of them, or what came before
+  -- the last of them, or the one before if the list is empty
   abbrev pub last_of : Option K → List K → Option K
   last_of before [] = before
   last_of before (x ∷ xs) = last_of (Some x) xs
@@ -42,7 +42,7 @@ module _ {K : Type 0} where
   last_more before (x ∷ xs) k = last_more (Some x) xs k
 
 module _ {K : Type 0} (cmp : K → K → Ordering) where
-  -- what comes after the members of a sorted list follows the last of them
+  -- a coordinate or key past the members of a sorted list follows the last of them
   pub next_follows : (xs : List K) (k : K) (rest : List K) → IsStrictlySortedBy cmp (xs ++ k ∷ rest) → Follows cmp (last_of None xs) k
   unfolding IsStrictlySortedBy
   next_follows [] k rest s = tt

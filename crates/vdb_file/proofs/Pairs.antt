@@ -1,4 +1,4 @@
--- The bytes of metadata pairs say which pairs they are.
+-- The bytes of metadata pairs determine the pairs.
 use Rattle.std.proofs.Common.{◌≡◌, ℕ, List, ◌++◌, length}
 use Rattle.std.specs.List.{AllByRecursion}
 use Rattle.std.proofs.lemmas.List.Elements.{recursion_from_All}
@@ -7,11 +7,11 @@ use Rattle.vdb_file.specs.Spelling.{counted, pairs_bytes}
 use Rattle.vdb_file.proofs.Unambiguous.{Says, says_all, says_behind, says_byte, says_map, says_then}
 use Rattle.vdb_file.proofs.Numbers.{says_counted}
 
--- a text behind its key
+-- a key, and then its text
 pub says_pair : (a b : List ℕ × List ℕ) → Says (counted a.0 ++ counted a.1) (counted b.0 ++ counted b.1) (a ≡ b)
 says_pair a b = says_map (λ r. λ j. (r.0 j, r.1 j)) (says_then (says_counted a.0 b.0) (λ _. says_counted a.1 b.1))
 
--- pairs behind their count
+-- a count, and then the pairs
 pub says_pairs : (a b : Pairs) → Says (pairs_bytes a) (pairs_bytes b) (a ≡ b)
 says_pairs a b =
     let Any : List ℕ × List ℕ → Type 0 = λ _. Unit {0} in

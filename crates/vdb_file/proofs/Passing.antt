@@ -1,4 +1,4 @@
--- The numbers that pass a test, gathered one after another.
+-- The numbers that pass a test, collected one after another.
 use Rattle.std.proofs.Common.{◌≡◌, ◌⊎◌, inl, inr, ℕ, zero, suc, ◌+◌, ◌-◌, ◌<◌, ◌≤◌, Bool, true, false, cond, not, List, [], ◌∷◌, ◌++◌, arith, refl, sym, ap, subst, ◌∙◌, append-nil, length, length-append, filter, take_all}
 use Rattle.std.specs.Prelude.{Option, Some, take}
 use Rattle.std.specs.List.{flat_map, range_with_len, slice_get}
@@ -26,22 +26,22 @@ module _ (test : ℕ → Bool) where
       let e : 0 + n ≡ n = omega arith in
       ap (filter test) (range_more 0 n ∙ ap (λ m. range_with_len 0 n ++ m ∷ []) e) ∙ filter-append test (range_with_len 0 n) (n ∷ [])
 
-  -- a number that passes comes last
+  -- a number that passes is collected last
   pub passing_in : (n : ℕ) → test n ≡ true → passing test (n + 1) ≡ passing test n ++ n ∷ []
   passing_in n h = one_more n ∙ ap (λ b. passing test n ++ cond b (n ∷ []) []) h
 
-  -- and one that doesn't isn't gathered
+  -- a number that doesn't pass isn't collected
   pub passing_out : (n : ℕ) → test n ≡ false → passing test (n + 1) ≡ passing test n
   passing_out n h = one_more n ∙ ap (λ b. passing test n ++ cond b (n ∷ []) []) h ∙ append-nil (passing test n)
 
-  -- nor is any of several that don't
+  -- none of several numbers that don't pass is collected
   pub passing_over : (n k : ℕ) → ((i : ℕ) → n ≤ i → i < n + k → test i ≡ false) → passing test (n + k) ≡ passing test n
   passing_over n zero none = ap (passing test) (let e : n + 0 ≡ n = omega arith in e)
   passing_over n (suc k) none =
       let e : n + suc k ≡ n + k + 1 = omega arith in
       ap (passing test) e ∙ passing_out (n + k) (none (n + k) (omega arith) (omega arith)) ∙ passing_over n k (λ i from less. none i from (omega (arith, less)))
 
-  -- no more pass than there are
+  -- no more numbers pass than there are
   pub passing_few : (n : ℕ) → length (passing test n) ≤ n
   passing_few zero = omega arith
   passing_few (suc n) =
@@ -52,7 +52,7 @@ module _ (test : ℕ → Bool) where
         | inr h ↦ let k = ap (λ (m : ℕ). length (passing test m)) e ∙ ap length (passing_out n h) in omega (arith, k, less)
       ]
 
-  -- they are counted with it, or without
+  -- the count of the numbers that pass: one more if the next one passes, else the same
   pub counted_in : (n count : ℕ) → test n ≡ true → count ≡ length (passing test n) → count + 1 ≡ length (passing test (n + 1))
   counted_in n count h e = let k = ap length (passing_in n h) ∙ length-append (passing test n) (n ∷ []) in omega (arith, k, e)
 
@@ -72,7 +72,7 @@ module _ (flat : ℕ → Bool) where
   passes true h = absurd (h refl)
   passes false h = refl
 
-  -- the next one comes last
+  -- the next such number is collected last
   pub others_next : (n from i : ℕ) → IsFirstWithoutAt (λ k. flat k ≡ true) n from i → passing others (i + 1) ≡ passing others from ++ i ∷ []
   others_next n from i next =
       let e : from + (i - from) ≡ i = let h = next.from_on in omega (arith, h) in
@@ -82,7 +82,7 @@ module _ (flat : ℕ → Bool) where
   pub others_counted : (n from i count : ℕ) → IsFirstWithoutAt (λ k. flat k ≡ true) n from i → count ≡ length (passing others from) → count + 1 ≡ length (passing others (i + 1))
   others_counted n from i count next e = let k = ap length (others_next n from i next) ∙ length-append (passing others from) (i ∷ []) in omega (arith, k, e)
 
-  -- where none is left all are gathered
+  -- if no such number is left, all are collected
   pub others_end : (n from : ℕ) → from ≤ n → ((i : ℕ) → from ≤ i → i < n → flat i ≡ true) → passing others n ≡ passing others from
   others_end n from few none =
       let e : from + (n - from) ≡ n = omega (arith, few) in
@@ -98,13 +98,13 @@ passing_same s t (suc n) same =
     ∙ ap (λ (b : Bool). passing t n ++ cond b (n ∷ []) []) (same n (omega arith))
     ∙ sym (ap (passing t) e ∙ one_more t n)
 
--- ---- each behind its number
+-- ---- entries after their numbers
 
 pub numbered_more : (entry : ℕ → List ℕ) (is : List ℕ) (i : ℕ) → numbered entry (is ++ i ∷ []) ≡ numbered entry is ++ (to_be_bytes w16 i ++ entry i)
 numbered_more entry is i =
     flat_map-append (λ k. to_be_bytes w16 k ++ entry k) is (i ∷ []) ∙ ap (λ (l : List ℕ). numbered entry is ++ l) (append-nil (to_be_bytes w16 i ++ entry i))
 
--- one more entry is put
+-- one more entry is written
 pub entry_put : (entry : ℕ → List ℕ) (a b c : Sent) (is : List ℕ) (i : ℕ) (more : List ℕ) → Puts a b (numbered entry is) → Puts b c (to_be_bytes w16 i ++ entry i) → more ≡ is ++ i ∷ [] → Puts a c (numbered entry more)
 entry_put entry a b c is i more first second e =
     subst (Puts a c) (sym (ap (numbered entry) e ∙ numbered_more entry is i)) (puts_then a b c (numbered entry is) (to_be_bytes w16 i ++ entry i) first second)
@@ -131,7 +131,7 @@ numbered_same test left right (suc n) same =
 pub same_some : {A : Type 0} (x y : A) → ◌≡◌ {A = Option A} (Some x) (Some y) → x ≡ y
 same_some x y e = cc
 
--- the first of a list up to one that is there
+-- the first members of a list, up to one that exists
 pub take_next : {A : Type 0} (xs : List A) (i : ℕ) (x : A) → slice_get xs i ≡ Some x → take (i + 1) xs ≡ take i xs ++ x ∷ []
 take_next [] i x h = cc
 take_next (y ∷ ys) zero x h = ap (λ z. z ∷ []) (same_some y x h)
@@ -139,19 +139,19 @@ take_next (y ∷ ys) (suc i) x h =
     let e : suc i + 1 ≡ suc (i + 1) = omega arith in
     ap (λ n. take n (y ∷ ys)) e ∙ ap (λ l. y ∷ l) (take_next ys i x h)
 
--- which is there where the list is long enough
+-- a member exists at each index below the list's length
 pub member_at : {A : Type 0} (xs : List A) (i : ℕ) → i < length xs → (x : A) × (slice_get xs i ≡ Some x)
 member_at [] i h = absurd (omega (arith, h))
 member_at (y ∷ ys) zero h = (y, refl)
 member_at (y ∷ ys) (suc i) h = member_at ys i (omega (arith, h))
 
--- one more of a list is put
+-- one more member of a list is written
 pub taken_put : {A : Type 0} (entry : A → List ℕ) (xs : List A) (i : ℕ) (x : A) → slice_get xs i ≡ Some x → (a b c : Sent) → Puts a b (flat_map entry (take i xs)) → Puts b c (entry x) → Puts a c (flat_map entry (take (i + 1) xs))
 taken_put entry xs i x h a b c so_far more =
     puts_same a c (flat_map entry (take i xs) ++ entry x) (flat_map entry (take (i + 1) xs))
     (sym (ap (flat_map entry) (take_next xs i x h) ∙ flat_map-append entry (take i xs) (x ∷ []) ∙ ap (λ l. flat_map entry (take i xs) ++ l) (append-nil (entry x))))
     (puts_then a b c (flat_map entry (take i xs)) (entry x) so_far more)
 
--- and all are put in the end
+-- in the end all members are written
 pub all_taken : {A : Type 0} (entry : A → List ℕ) (xs : List A) (i : ℕ) → length xs ≤ i → (a b : Sent) → Puts a b (flat_map entry (take i xs)) → Puts a b (flat_map entry xs)
 all_taken entry xs i h a b put = puts_same a b (flat_map entry (take i xs)) (flat_map entry xs) (ap (flat_map entry) (take_all i xs h)) put

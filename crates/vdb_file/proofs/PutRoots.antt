@@ -1,4 +1,4 @@
--- The keys of the root blocks that are put, gathered along the keys of the table.
+-- The keys of the root blocks written so far, along the keys of the table.
 use Rattle.std.proofs.Common.{◌≡◌, ◌⊎◌, inl, inr, ℕ, Bool, true, false, not, cond, ◌&&◌, List, [], ◌∷◌, ◌++◌, refl, sym, ap, subst, ◌∙◌, append-nil}
 use Rattle.std.specs.Prelude.{Option, Some, None, IsSome}
 use Rattle.std.specs.List.{AllByRecursion, filter, flat_map}
@@ -76,7 +76,7 @@ module _ {V : Type 0} (eq : V → V → Bool) (bits : Bits) (t : Layout V) where
   abbrev keys : List Coord
   keys = coordinates (block_numbers bits Upper)
 
-  -- those of the keys passed whose root blocks do
+  -- the keys passed whose root blocks hold anything but the background
   abbrev pub put_keys : Option Coord → List Coord
   put_keys passed = filter (λ k. shows k && is_passed passed k) keys
 
@@ -98,7 +98,7 @@ module _ {V : Type 0} (eq : V → V → Bool) (exact : (x y : V) → eq x y ≡ 
       hidden false h = refl
 
   module _ (passed : Option Coord) (key : Coord) (next : IsNextKey t.root passed (Some key)) where
-    -- another key of the table was passed before or is still past
+    -- another key of the table was passed before, or is still ahead
     as_before : (k : Coord) → is_inside (block_numbers bits Upper) k ≡ true → (k ≡ key → ⊥) → stands k ≡ true → is_passed (Some key) k ≡ is_passed passed k
     as_before k inside apart h =
         elim (past_or_passed passed k) [
@@ -110,7 +110,7 @@ module _ {V : Type 0} (eq : V → V → Bool) (exact : (x y : V) → eq x y ≡ 
         ]
 
     module _ (inside : is_inside (block_numbers bits Upper) key ≡ true) where
-      -- a root block that holds something is put after the others
+      -- a root block that holds something is written after the others
       pub put_more : stands key ≡ true → those (Some key) ≡ those passed ++ key ∷ []
       put_more h =
           let member = coordinates_have (block_numbers bits Upper) key inside in
@@ -135,7 +135,7 @@ module _ {V : Type 0} (eq : V → V → Bool) (exact : (x y : V) → eq x y ≡ 
           (all_coordinates_have (λ k. (stands k && is_passed (Some key) k) ≡ (stands k && is_passed passed k)) (block_numbers bits Upper)
           (λ k i. alike (stands k) (is_passed (Some key) k) (is_passed passed k) (λ s. as_before k i (λ e. never h (subst (λ (l : Coord). stands l ≡ true) e s)) s)))
 
-  -- past the last key all are put
+  -- past the last key all root blocks are written
   pub put_end : (passed : Option Coord) → IsNextKey t.root passed None → those passed ≡ root_keys eq bits (field_of bits t)
   put_end passed none =
       filter_as (λ k. stands k && is_passed passed k) stands all_keys
@@ -148,7 +148,7 @@ module _ {V : Type 0} (eq : V → V → Bool) (exact : (x y : V) → eq x y ≡ 
       each true b h = h refl
       each false b h = refl
 
-  -- nothing is put before the first key
+  -- before the first key no root block is written
   pub put_first : those None ≡ []
   put_first = gone all_keys
     where
@@ -164,11 +164,11 @@ module _ {V : Type 0} (eq : V → V → Bool) (exact : (x y : V) → eq x y ≡ 
   pub around_corner : (key corner : Coord) → corner ≡ (block bits Upper key).min → block_around bits Upper corner ≡ block bits Upper key
   around_corner key corner e = ap (block_around bits Upper) e ∙ ap (block bits Upper) (number_of_corner bits Upper key)
 
-  -- whether it holds something, told by the test of its cells
+  -- whether the block holds something, by the test of its cells
   pub shown : (key corner : Coord) → corner ≡ (block bits Upper key).min → (test : Bool) → test ≡ is_uniform eq (field_of bits t) (block_around bits Upper corner) (off t.background) → stands key ≡ not test
   shown key corner e test h = sym (ap not (h ∙ ap (λ (b : Box). is_uniform eq (field_of bits t) b (off t.background)) (around_corner key corner e)))
 
-  -- one more root block is put
+  -- one more root block is written
   pub root_put : (entry : Coord → List ℕ) (a b c : Sent) (passed : Option Coord) (key : Coord) → IsNextKey t.root passed (Some key) → is_inside (block_numbers bits Upper) key ≡ true → stands key ≡ true
       → Puts a b (flat_map entry (those passed)) → Puts b c (entry key) → Puts a c (flat_map entry (those (Some key)))
   root_put entry a b c passed key next inside h so_far more =

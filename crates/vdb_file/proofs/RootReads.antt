@@ -1,4 +1,4 @@
--- The root blocks of a field are read one after another.
+-- Reads the root blocks of a field one after another.
 use Rattle.std.proofs.Common.{◌≡◌, ℕ, ◌+◌, ◌<◌, ◌≤◌, ◌^◌, Bool, true, false, List, [], ◌∷◌, ◌++◌, length, length-append, refl, sym, ap, subst, ◌∙◌, arith, inl, inr}
 use Rattle.std.specs.Prelude.{if◌then◌else◌, Option, Some, None, Result, Ok, Err}
 use Rattle.std.specs.List.{Contains, flat_map}
@@ -30,9 +30,9 @@ use Rattle.vdb_file.proofs.RowInstances.{inside_member, is_root_row, member_insi
 use Rattle.vdb_file.proofs.RowLoops.{IsUnderway, more_underway, next_clear, no_next, none_underway}
 use Rattle.vdb_file.proofs.Rows.{adds_outside, held, held_more, held_same}
 
--- ---- the root blocks behind their count
+-- ---- the root blocks after their count
 
--- their bytes without the count
+-- the bytes of the root blocks without the count
 abbrev pub keyed_bytes : {V : Type 0} → (V → V → Bool) → (V → List ℕ) → Bits → Field V → List ℕ
 keyed_bytes eq value_bytes bits f = flat_map (λ k. key_bytes k ++ root_body eq value_bytes bits f (block bits Upper k)) (root_keys eq bits f)
 
@@ -63,11 +63,11 @@ module _ {V : Type 0} (eq : V → V → Bool) (value_bytes : V → List ℕ) (P 
         fails_after Within bytes (to_be_bytes w32 count) (λ f. count ≡ roots eq bits f) (λ f. to_be_bytes w32 (roots eq bits f)) keyed fault old mid took
         (λ f p. says_u32 count (roots eq bits f) fits (few f p)) (λ f p. count_first eq value_bytes bits f) h
 
-    -- it was above the limit
+    -- the count was above the limit
     pub too_many_roots : limit < count → (fault : LoadFault) → Fails Within bytes fault old
     too_many_roots over fault = after_roots fault (fails_none (λ f. Within f × (count ≡ roots eq bits f)) keyed fault mid (λ f p. let e = p.1 in let h = p.0.few in omega (arith, e, h, over)))
 
-    -- it was within the limit, and so many root blocks are read
+    -- the count was within the limit, and that many root blocks are read
     pub roots_result : count ≤ limit → (cells : Coord → Cell V) (b : V) (result : Result (Unit {0}) LoadFault) (end : Position)
         → Reads (λ _. field b cells) (ShowsInEach eq P background (block bits Upper) (coordinates (block_numbers bits Upper)) count) keyed result mid end → Reads (λ _. field b cells) Within bytes result old end
     roots_result most cells b (Ok x) end h =
@@ -90,7 +90,7 @@ module _ {V : Type 0} (eq : V → V → Bool) (value_bytes : V → List ℕ) (P 
 -- ---- one after another
 
 module _ {V : Type 0} {eq : V → V → Bool} {value_bytes : V → List ℕ} {P : V → Type 0} (values : AreValues eq value_bytes P) (bits : Bits) (configured : AreBits bits) (background : V) (f : Field V) (old : Position) where
-  -- so many root blocks were read
+  -- this many root blocks were read
   abbrev Under : ℕ → Option Coord → Field V → Position → Type 0
   Under = IsUnderway eq P (root_row eq value_bytes bits) background everywhere f old
 
@@ -100,7 +100,7 @@ module _ {V : Type 0} {eq : V → V → Bool} {value_bytes : V → List ℕ} {P 
   abbrev Each : ℕ → Field V → Type 0
   Each = ShowsInEach eq P background (block bits Upper) (coordinates (block_numbers bits Upper))
 
-  -- none at first, in a new field
+  -- at first no root block is read, in a new field
   pub no_roots : f ≡ new background → P background → Under 0 None f old
   no_roots e v =
       let empty : (p : Coord) → (new background).cell p ≡ off background = λ p. either (is_inside everywhere p) in
@@ -131,7 +131,7 @@ module _ {V : Type 0} {eq : V → V → Bool} {value_bytes : V → List ℕ} {P 
       follows_last : Follows coord_cmp (last_of None (held eq (root_row eq value_bytes bits) g)) k
       follows_last = subst (λ (o : Option Coord). Follows coord_cmp o k) so_far.last key.later
 
-      -- with whatever it holds there are at most so many root blocks
+      -- whatever its block holds, the field has at most this many root blocks
       one_more : (h : Field V) → KeptOutside (block bits Upper k) g h → roots eq bits h ≤ count
       one_more h kept =
           let is = is_root_row values bits configured in
@@ -160,7 +160,7 @@ module _ {V : Type 0} {eq : V → V → Bool} {value_bytes : V → List ℕ} {P 
       own : block_around bits Upper (box k).min ≡ box k
       own = ap (block bits Upper) (number_of_corner bits Upper k)
 
-      -- is loadable
+      -- the block of that key is loadable
       root_loadable : (limit : ℕ) → count ≤ limit → IsLoadable eq P bits limit Upper (box k).min g
       root_loadable limit most = record {
         configured = configured;
@@ -169,7 +169,7 @@ module _ {V : Type 0} {eq : V → V → Bool} {value_bytes : V → List ℕ} {P 
         capacity = subst (λ (c : Box). HasCapacityAt eq bits limit c g) (sym own) (record { few = λ h kept. let n = one_more h kept in omega (arith, n, most) });
       }
 
-    -- each that may come next is
+    -- the block of each key that may come next is loadable
     pub roots_loadable : (limit : ℕ) → count ≤ limit → AreLoadable eq P bits limit Upper N box g
     roots_loadable limit most = record { configured = configured; each = λ k key. root_loadable k key limit most }
 
@@ -179,7 +179,7 @@ module _ {V : Type 0} {eq : V → V → Bool} {value_bytes : V → List ℕ} {P 
         no_next values (is_root_row values bits configured) background everywhere f old done before g now so_far count more fault N (λ k member follows. record { inside = member_inside bits k member; later = follows })
         (subst (λ (v : V). Fails (IsNext eq P v N box) (next_bytes key_bytes (root_body eq value_bytes bits) box) fault now) so_far.values.same h)
 
-    -- one was read
+    -- one more root block was read
     pub more_roots : (k : Coord) (next : Position) (h : Field V) → IsNext eq P g.background N box (k, h) → Took now next (next_bytes key_bytes (root_body eq value_bytes bits) box (k, h)) → KeptOutside (box k) g h → Under (done + 1) (Some k) h next
     more_roots k next h is_next took kept =
         more_underway values (is_root_row values bits configured) background everywhere f old done before g now so_far k (inside_member bits k is_next.key.inside) is_next.key.later

@@ -1,4 +1,4 @@
--- The bytes of all root blocks say the whole field.
+-- The bytes of all root blocks determine the whole field.
 use Rattle.std.proofs.Common.{◌≡◌, ℕ, suc, ℤ, pos, negsuc, ◌<◌, ◌≤◌, ◌^◌, ◌*ℤ◌, Bool, true, false, List, get_or, sym, ap, subst, ◌∙◌, arith, inl, inr}
 use Rattle.std.specs.Prelude.{FitsSigned}
 use Rattle.std.specs.Int.{w32}
@@ -33,16 +33,16 @@ use Rattle.vdb_file.proofs.Bodies.{says_root}
 
 -- ---- keys
 
--- a number of which a multiple fits does so itself
+-- a number fits if a multiple of it does
 times_fits : (z : ℤ) (m : ℕ) → 0 < m → FitsSigned w32 (z *ℤ pos m) → FitsSigned w32 z
 times_fits (pos n) m h f = let more = le-mul_of_pos_right n h in grind (arith, ints, more)
 times_fits (negsuc n) m h f = let more = le-mul_of_pos_right (suc n) h in grind (arith, ints, more)
 
--- the number of a root block along an axis is one of 32 bits
+-- the number of a root block along an axis has 32 bits
 number_fits : (k : ℕ) (z : ℤ) → k ≤ 15 → is_between (number_at k (negsuc 2147483647)) (number_at k (pos 2147483647)) z ≡ true → FitsSigned w32 z
 number_fits k z few h = times_fits z (2 ^ k) (pow_pos k) (numbered_fits k z few h).0
 
--- so the key of a root block is three of 32 bits
+-- the three components of a root block's key have 32 bits each
 pub key_fits : (bits : Bits) → AreBits bits → (k : Coord) → is_inside (block_numbers bits Upper) k ≡ true → FitsKey k
 key_fits bits few k inside =
     let n = block_bits bits Upper in
@@ -51,26 +51,26 @@ key_fits bits few k inside =
     let hs = three (between k.x) (between k.y) (between k.z) inside in
     record { x = number_fits n k.x small hs.0; y = number_fits n k.y small hs.1; z = number_fits n k.z small hs.2 }
 
--- what holds of each coordinate of a box holds of all of the list
+-- what each coordinate of a box has, each coordinate in its list has
 pub all_coordinates_have : (P : Coord → Type 0) (b : Box) → ((p : Coord) → is_inside b p ≡ true → P p) → AllByRecursion P (coordinates b)
 all_coordinates_have P b h =
     let inside = AllPass-from_list_all (is_inside b) (coordinates b) (all_coordinates (is_inside b) b (λ p i. i)) in
     recursion_from_All P (coordinates b) (λ i d l. h (get_or (coordinates b) i d) (inside i d l))
 
--- which has each of them
+-- the list of a box's coordinates has each of them
 pub coordinates_have : (b : Box) (p : Coord) → is_inside b p ≡ true → Contains (coordinates b) p
 coordinates_have b p inside = (is_member-Decides (λ p q. (coord_exact p q, λ e. ap (coord_eq p) (sym e) ∙ coord_equiv.refl p)) (coordinates b) p).0 (member_coordinates b p ∙ inside)
 
 -- ---- fields
 
 module _ {V : Type 0} {eq : V → V → Bool} {value_bytes : V → List ℕ} {P : V → Type 0} (values : AreValues eq value_bytes P) (bits : Bits) (few : AreBits bits) (f g : Field V) (alike : AreAlike P f g) where
-  -- the body of a root block says its cells
+  -- the body of a root block determines its cells
   pub says_root_block : (k : Coord) → let b = block bits Upper k in Says (root_body eq value_bytes bits f b) (root_body eq value_bytes bits g b) (Agree f g b)
   says_root_block k =
       let body : Field V → Box → List ℕ = root_body eq value_bytes bits in
       subst (λ n. Says (body f (block bits Upper n)) (body g (block bits Upper n)) (Agree f g (block bits Upper n))) (number_of_corner bits Upper k) (says_root values bits few f g alike (block bits Upper k).min)
 
-  -- all root blocks behind their count say the cells of all coordinates
+  -- the count and the root blocks determine the cells of all coordinates
   pub says_roots : roots eq bits f < 2 ^ 32 → roots eq bits g < 2 ^ 32 → Says (roots_bytes eq value_bytes bits f) (roots_bytes eq value_bytes bits g) (Agree f g everywhere)
   unfolding roots_bytes
   says_roots small_f small_g =
@@ -82,7 +82,7 @@ module _ {V : Type 0} {eq : V → V → Bool} {value_bytes : V → List ℕ} {P 
       (says_listed values f g alike (block bits Upper) FitsKey key_bytes says_key (body f) (body g) (λ k fits. says_root_block k) (coordinates numbers) (all_coordinates_have FitsKey numbers (key_fits bits few))
       (says_u32 (roots eq bits f) (roots eq bits g) small_f small_g))
 
--- fields that have the same cells at all coordinates, and beyond those the same background, are one
+-- two fields are equal if they have the same cells at all coordinates, and the same background beyond those
 pub same_field : {V : Type 0} (f g : Field V) → f.background ≡ g.background → Agree f g everywhere → ((p : Coord) → is_inside everywhere p ≡ false → f.cell p ≡ off f.background)
     → ((p : Coord) → is_inside everywhere p ≡ false → g.cell p ≡ off g.background) → f ≡ g
 same_field f g e agree out_f out_g =

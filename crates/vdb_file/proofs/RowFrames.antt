@@ -1,4 +1,4 @@
--- The text of a block depends on the cells of its coordinates, and on no other.
+-- The text of a block depends only on the cells of its coordinates.
 use Rattle.std.proofs.Common.{◌≡◌, ℕ, ◌<◌, Bool, true, not, cond, List, [], ◌∷◌, ◌++◌, length, refl, sym, ap, subst, ◌∙◌}
 use Rattle.std.specs.List.{AllByRecursion, Contains, filter, flat_map}
 use Rattle.std.specs.Int.{w16, to_be_bytes}
@@ -23,19 +23,19 @@ use Rattle.vdb_file.proofs.Bodies.{entry_is_leaf, entry_is_lower}
 
 -- ---- lists
 
--- tests that agree at each member keep the same
+-- tests that agree at each member keep the same members
 pub filter_same : {K : Type 0} (s t : K → Bool) (xs : List K) → AllByRecursion (λ x. s x ≡ t x) xs → filter s xs ≡ filter t xs
 filter_same s t [] all = refl
 filter_same s t (x ∷ xs) all = let rest = filter_same s t xs all.1 in λ j. cond (all.0 j) (x ∷ rest j) (rest j)
 
--- texts that agree at each member are one text
+-- texts that agree at each member combine to one text
 pub flat_map_same : {K : Type 0} (f g : K → List ℕ) (xs : List K) → AllByRecursion (λ x. f x ≡ g x) xs → flat_map f xs ≡ flat_map g xs
 flat_map_same f g [] all = refl
 flat_map_same f g (x ∷ xs) all = let rest = flat_map_same f g xs all.1 in λ j. all.0 j ++ rest j
 
 -- ---- the entries of a block
 
--- their numbers are those below their count
+-- the numbers of the entries lie below their count
 pub member_below : (bits : Bits) (level : Level) (i : ℕ) → Contains (entry_numbers bits level) i → i < entries bits level
 unfolding entry_numbers
 member_below bits level i member = at_member (λ k. k < entries bits level) (entry_numbers bits level) i (range_below (entries bits level)) member
@@ -53,7 +53,7 @@ pub corner_in_block : (bits : Bits) (level : Level) (c : Coord) → is_inside (b
 corner_in_block bits level c = let n = block_number bits level c in inside_numbered bits level n (block bits level n).min (number_of_corner bits level n)
 
 module _ {V : Type 0} {eq : V → V → Bool} {value_bytes : V → List ℕ} {P : V → Type 0} (values : AreValues eq value_bytes P) (f g : Field V) where
-  -- boxes of the same cells are both of one cell, or neither is
+  -- if two fields agree in a box, the box has one cell in both or in neither
   pub uniform_same : (b : Box) (c : Cell V) → Agree f g b → is_uniform eq f b c ≡ is_uniform eq g b c
   uniform_same b c agree =
       same_truth (is_uniform eq f b c) (is_uniform eq g b c)
@@ -98,7 +98,7 @@ module _ {V : Type 0} {eq : V → V → Bool} {value_bytes : V → List ℕ} {P 
             λ j. cond (one j) (cell_bytes eq value_bytes (cell j)) (3 ∷ all j)
 
     module _ (bits : Bits) where
-      -- a voxel, a leaf block, a lower block and a root block
+      -- the bodies of a voxel, a leaf block, a lower block and a root block
       pub voxel_same : (b : Box) → is_inside b b.min ≡ true → Agree f g b → voxel_body eq value_bytes bits f b ≡ voxel_body eq value_bytes bits g b
       voxel_same b corner agree = ap (cell_bytes eq value_bytes) (agree.same b.min corner)
 

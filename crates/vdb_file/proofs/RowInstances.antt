@@ -59,7 +59,7 @@ pub numbers_count : (bits : Bits) (level : Level) → length (entry_numbers bits
 unfolding entry_numbers
 numbers_count bits level = length-range_with_len 0 (entries bits level)
 
--- no more are listed than a count can say
+-- the count of the listed entries fits 16 bits
 pub few_held : {V : Type 0} (eq : V → V → Bool) (bits : Bits) (few : AreBits bits) (level : Level) (b : Box) (body : Field V → Box → List ℕ) (f : Field V) → length (held eq (node_row bits level b body) f) < 2 ^ 16
 few_held eq bits few level b body f = let kept = few_kept (is_held eq (sub_block bits level b) f) (entry_numbers bits level) in omega (arith, kept, numbers_count bits level, entries_few bits level few)
 
@@ -127,7 +127,7 @@ module _ {V : Type 0} {eq : V → V → Bool} {value_bytes : V → List ℕ} {P 
 abbrev pub root_row : {V : Type 0} → (V → V → Bool) → (V → List ℕ) → Bits → Row V Coord
 root_row eq value_bytes bits = record { keys = coordinates (block_numbers bits Upper); cmp = coord_cmp; box = block bits Upper; code = key_bytes; body = root_body eq value_bytes bits }
 
--- the keys are those in range
+-- the keys in the row are those in range
 pub member_inside : (bits : Bits) (k : Coord) → Contains (coordinates (block_numbers bits Upper)) k → is_inside (block_numbers bits Upper) k ≡ true
 member_inside bits k member = let numbers = block_numbers bits Upper in at_member (λ k. is_inside numbers k ≡ true) (coordinates numbers) k (all_coordinates_have (λ k. is_inside numbers k ≡ true) numbers (λ k h. h)) member
 

@@ -1,4 +1,4 @@
--- A row that is read entry by entry into a field.
+-- Reads a row entry by entry into a field.
 use Rattle.std.proofs.Common.{◌≡◌, ℕ, ◌+◌, ◌<◌, Bool, true, false, not, List, [], ◌∷◌, length, refl, sym, ap, subst, ◌∙◌, arith, inl, inr, length-append}
 use Rattle.std.specs.Prelude.{Option, Some, None}
 use Rattle.std.specs.List.{Contains, flat_map}
@@ -23,7 +23,7 @@ use Rattle.vdb_file.proofs.Ordered.{by_member, last_more, last_of, none_kept, no
 use Rattle.vdb_file.proofs.RowReads.{IsNextOf, entry_bytes, entry_read, within}
 use Rattle.vdb_file.proofs.Rows.{IsRow, Row, adds_outside, all_before, behind_key, held, held_more, texts, texts_more}
 
--- so many entries of a row were read into a field that was another
+-- `done` entries of a row were read into a field that was another before
 pub record IsUnderway {V K : Type 0} (eq : V → V → Bool) (P : V → Type 0) (row : Row V K) (background : V) (b : Box) (f : Field V) (old : Position) (done : ℕ) (before : Option K) (g : Field V) (now : Position) : Type 0 where
   pub values : HasValues P background g
   pub kept : KeptOutside b f g
@@ -35,7 +35,7 @@ module _ {V K : Type 0} {eq : V → V → Bool} {value_bytes : V → List ℕ} {
   abbrev Underway : ℕ → Option K → Field V → Position → Type 0
   Underway = IsUnderway eq P row background b f old
 
-  -- at first none were
+  -- at first no entry is read
   pub none_underway : HasValues P background f → ((k : K) → Contains row.keys k → is_background eq f (row.box k) ≡ true) → Underway 0 None f old
   none_underway has clear =
       let none : held eq row f ≡ [] = none_kept (is_held eq row.box f) row.keys (by_member (λ k. is_held eq row.box f k ≡ false) row.keys (λ k m. ap not (clear k m))) in
@@ -64,19 +64,19 @@ module _ {V K : Type 0} {eq : V → V → Bool} {value_bytes : V → List ℕ} {
       abbrev All : Field V → Type 0
       All = ShowsInEach eq P background row.box row.keys count
 
-      -- none is ahead
+      -- no entry is ahead
       pub none_next : Fails (IsNextOf eq P row background (last_of None (held eq row g))) (entry_bytes row) fault now → Fails All (texts eq row) fault old
       none_next h =
           within values is background (λ n. []) (λ n. n ≡ count) (λ m n pm pn. says_map (λ _. pm ∙ sym pn) (says_fixed [] [] refl)) All (λ a p. p.values) (λ a p. p.counted) fault old now g so_far.values
           count refl (let e = so_far.counted in omega (arith, e, more)) so_far.took h
 
-      -- neither is a key with a field for its box
+      -- no key with a field for its box is ahead
       pub no_next : (N : K → Type 0) → ((k : K) → Contains row.keys k → Follows row.cmp before k → N k) → Fails (IsNext eq P background N row.box) (next_bytes row.code row.body row.box) fault now → Fails All (texts eq row) fault old
       no_next N has h =
           none_next (fails_turn (IsNextOf eq P row background (last_of None (held eq row g))) (entry_bytes row) (IsNext eq P background N row.box) (next_bytes row.code row.body row.box) (λ e. e) fault now
           (λ e p. record { key = has e.0 p.member (subst (λ (o : Option K). Follows row.cmp o e.0) (sym so_far.last) p.follows); shows = record { values = p.values; shown = p.held } }) (λ e p. refl) h)
 
-    -- one more was read
+    -- one more entry was read
     pub more_underway : (k : K) → Contains row.keys k → Follows row.cmp before k → ((p : Coord) → is_inside (row.box k) p ≡ true → is_inside b p ≡ true) → (next : Position) (h : Field V) → Took now next (next_bytes row.code row.body row.box (k, h))
         → ShowsIn eq P background (row.box k) h → KeptOutside (row.box k) g h → Underway (done + 1) (Some k) h next
     more_underway k member follows inside next h took shows kept =
@@ -90,6 +90,6 @@ module _ {V K : Type 0} {eq : V → V → Bool} {value_bytes : V → List ℕ} {
           took = entry_read eq row (λ n. []) 0 g h k old now next (texts_more values is g h k member (follows_last k follows) adds) so_far.took took;
         }
 
-    -- in the end all were
+    -- in the end all entries were read
     pub all_underway : (count : ℕ) → done ≡ count → ShowsInEach eq P background row.box row.keys count g × Took old now (texts eq row g)
     all_underway count e = (record { values = so_far.values; counted = so_far.counted ∙ e }, so_far.took)

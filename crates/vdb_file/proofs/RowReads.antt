@@ -1,4 +1,4 @@
--- The entries of a row, read one after another.
+-- Reads the entries of a row one after another.
 use Rattle.std.proofs.Common.{◌≡◌, ℕ, suc, zero, ◌<◌, Bool, true, false, not, List, [], ◌∷◌, ◌++◌, length, take, drop, refl, sym, ap, subst, ◌∙◌, append_assoc, append-nil, length-append, length-take, take-append-drop, arith}
 use Rattle.std.specs.Prelude.{Option, None}
 use Rattle.std.specs.List.{AllByRecursion, Contains, flat_map}
@@ -27,19 +27,19 @@ pub record IsNextOf {V K : Type 0} (eq : V → V → Bool) (P : V → Type 0) (r
 
 -- ---- lists
 
--- a list past some of its members, of which there are more
+-- the rest of a list past some of its members, if more are left
 drop_next : {K : Type 0} (xs : List K) (m : ℕ) → m < length xs → (x : K) × (rest : List K) × (drop m xs ≡ x ∷ rest)
 drop_next [] m h = absurd (omega (arith, h))
 drop_next (x ∷ xs) zero h = (x, xs, refl)
 drop_next (x ∷ xs) (suc m) h = drop_next xs m (omega (arith, h))
 
--- what all members have the first of them have
+-- what all members have, the first one has
 all_front : {K : Type 0} (P : K → Type 0) (m : ℕ) (xs : List K) → AllByRecursion P xs → AllByRecursion P (take m xs)
 all_front P zero xs all = tt
 all_front P (suc m) [] all = tt
 all_front P (suc m) (x ∷ xs) all = (all.0, all_front P m xs all.1)
 
--- and each one has
+-- what all members have, each one has
 all_at : {K : Type 0} (P : K → Type 0) (xs : List K) (x : K) (rest : List K) → AllByRecursion P (xs ++ x ∷ rest) → P x
 all_at P [] x rest all = all.0
 all_at P (y ∷ xs) x rest all = all_at P xs x rest all.1
@@ -49,9 +49,9 @@ not_held : (b : Bool) → not b ≡ true → b ≡ false
 not_held true e = cc
 not_held false e = refl
 
--- ---- things of which each begins with another
+-- ---- items that each begin with another
 
--- none of those others is ahead, so none of the things is
+-- no such beginning is ahead, so no item is
 pub fails_begin : {A B : Type 0} (P : A → Type 0) (code : A → List ℕ) (Q : B → Type 0) (part : B → List ℕ) (fault : LoadFault) (old : Position)
     → ((a : A) → P a → (b : B) × (tail : List ℕ) × Q b × (code a ≡ part b ++ tail)) → Fails Q part fault old → Fails P code fault old
 fails_begin P code Q part fault old begin h = record {
@@ -65,16 +65,16 @@ fails_begin P code Q part fault old begin h = record {
 
 -- ---- entries and rows
 
--- the text of such an entry
+-- the text of an entry
 abbrev pub entry_bytes : {V K : Type 0} → Row V K → K × Field V → List ℕ
 entry_bytes row e = row.code e.0 ++ row.body e.1 (row.box e.0)
 
--- the texts of a row behind their count
+-- the count of a row's texts, and then the texts
 abbrev pub row_bytes : {V K : Type 0} → (V → V → Bool) → Row V K → (ℕ → List ℕ) → Field V → List ℕ
 row_bytes eq row count f = count (length (held eq row f)) ++ texts eq row f
 
 module _ {V K : Type 0} {eq : V → V → Bool} {value_bytes : V → List ℕ} {P : V → Type 0} {Q : K → Type 0} {row : Row V K} (values : AreValues eq value_bytes P) (is : IsRow P Q row) (background : V) where
-  -- ---- all of them behind their count, of the fields that have R
+  -- ---- a whole row after its count, for the fields that have R
 
   module _ (count : ℕ → List ℕ) (N : ℕ → Type 0) (is_count : IsCode N count)
       (R : Field V → Type 0) (has : (f : Field V) → R f → HasValues P background f) (few : (f : Field V) → R f → N (length (held eq row f))) (fault : LoadFault) (old : Position) where
@@ -83,15 +83,15 @@ module _ {V K : Type 0} {eq : V → V → Bool} {value_bytes : V → List ℕ} {
 
     module _ (mid : Position) where
       module _ (g : Field V) (of : HasValues P background g) where
-        -- both fields are of this background and these values
+        -- both fields have this background and these values
         alike : (f : Field V) → R f → AreAlike P g f
         alike f r = are_alike of (has f r)
 
-        -- the codes tell the keys apart
+        -- the codes determine the keys
         member_code : IsCode (Contains row.keys) row.code
         member_code k l mk ml = is.is_code k l (is.fits k mk) (is.fits l ml)
 
-        -- the fields that begin with a count and with these entries
+        -- the fields that begin with this count and these entries
         abbrev Begins : ℕ → Field V → Type 0
         Begins n f = (n ≡ length (held eq row f)) × (held eq row g ≡ take (length (held eq row g)) (held eq row f))
 
@@ -101,7 +101,7 @@ module _ {V K : Type 0} {eq : V → V → Bool} {value_bytes : V → List ℕ} {
         abbrev back : Field V → List ℕ
         back f = flat_map (behind_key row f) (drop (length (held eq row g)) (held eq row f))
 
-        -- what was read says that a field begins so
+        -- the bytes that were read show that a field begins so
         says_front : (n : ℕ) → N n → length (held eq row g) < n → (f : Field V) → R f → Says (count n ++ texts eq row g) (front f) (Begins n f)
         says_front n fits more f r =
             let m = length (held eq row g) in
@@ -112,7 +112,7 @@ module _ {V K : Type 0} {eq : V → V → Bool} {value_bytes : V → List ℕ} {
             (held eq row g) (take m (held eq row f)) (let l = length-take m (held eq row f) in omega (arith, l, e, more))
             (held_members eq row g) (all_front (Contains row.keys) m (held eq row f) (held_members eq row f))))
 
-        -- the bytes are these two parts
+        -- the bytes consist of these two parts
         split : (f : Field V) → row_bytes eq row count f ≡ front f ++ back f
         split f =
             let m = length (held eq row g) in
@@ -121,7 +121,7 @@ module _ {V K : Type 0} {eq : V → V → Bool} {value_bytes : V → List ℕ} {
             ap (λ l. c ++ l) (ap part (sym (take-append-drop m (held eq row f))) ∙ flat_map-append (behind_key row f) (take m (held eq row f)) (drop m (held eq row f)))
             ∙ sym (append_assoc c (part (take m (held eq row f))) (part (drop m (held eq row f))))
 
-        -- what such a field goes on with
+        -- the next entry of such a field
         next : (n : ℕ) → length (held eq row g) < n → (f : Field V) → R f × Begins n f
             → (e : K × Field V) × (tail : List ℕ) × IsNextOf eq P row background (last_of None (held eq row g)) e × (back f ≡ entry_bytes row e ++ tail)
         next n more f p =
@@ -153,7 +153,7 @@ module _ {V K : Type 0} {eq : V → V → Bool} {value_bytes : V → List ℕ} {
             fails_after R (row_bytes eq row count) (count n ++ texts eq row g) (Begins n) front back fault old mid took (says_front n fits more) (λ f r. split f)
             (fails_begin (λ f. R f × Begins n f) back (IsNextOf eq P row background (last_of None (held eq row g))) (entry_bytes row) fault mid (next n more) h)
 
-        -- all entries were read, and none of the fields has the cells that they say
+        -- all entries were read, and no field has the cells that they give
         pub no_row : N (length (held eq row g)) → Took old mid (row_bytes eq row count g) → ((f : Field V) → R f → ((k : K) → Contains row.keys k → Agree g f (row.box k)) → ⊥) → NoRow
         no_row fits took none =
             let All : Field V → Type 0 = λ f. (k : K) → Contains row.keys k → Agree g f (row.box k) in

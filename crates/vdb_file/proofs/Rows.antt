@@ -1,4 +1,4 @@
--- Rows: keys in strict order, each with a box and a code. Of a field those keys are listed whose box holds anything but the background.
+-- Rows: keys in strict order, each with a box and a code. A row lists the keys whose box holds anything but the background of a field.
 use Rattle.std.proofs.Common.{◌≡◌, ℕ, Bool, true, false, not, List, [], ◌∷◌, ◌++◌, refl, sym, ap, subst, ◌∙◌, append-nil, inl, inr}
 use Rattle.std.specs.Prelude.{Some, None}
 use Rattle.std.specs.List.{AllByRecursion, Contains, filter, flat_map}
@@ -30,20 +30,21 @@ pub record Row (V K : Type 0) : Type 0 where
   pub code : K → List ℕ
   pub body : Field V → Box → List ℕ
 
--- one text behind its key
+-- a key, and then one text
 abbrev pub behind_key : {V K : Type 0} → Row V K → Field V → K → List ℕ
 behind_key row f k = row.code k ++ row.body f (row.box k)
 
 module _ {V K : Type 0} (eq : V → V → Bool) (row : Row V K) where
-  -- the keys that are listed
+  -- the keys that the row lists
   abbrev pub held : Field V → List K
   held f = filter (is_held eq row.box f) row.keys
 
-  -- the text of each of them, behind its key
+  -- the text of each listed key, after the key
   abbrev pub texts : Field V → List ℕ
   texts f = flat_map (behind_key row f) (held f)
 
--- keys in order, whose codes tell them apart, with boxes apart; a text depends on the cells of its box alone, and says them
+-- keys in order, with codes that tell them apart and with disjoint boxes; a text depends on the cells of its box alone and determines
+-- them
 pub record IsRow {V K : Type 0} (P : V → Type 0) (Q : K → Type 0) (row : Row V K) : Type 0 where
   pub total : IsTotalOrder row.cmp
   pub sorted : IsStrictlySortedBy row.cmp row.keys
@@ -63,7 +64,7 @@ pub record Adds {V K : Type 0} (eq : V → V → Bool) (row : Row V K) (old new 
   pub others : (l : K) → Contains row.keys l → (l ≡ k → ⊥) → Agree old new (row.box l)
   pub held : is_background eq new (row.box k) ≡ false
 
--- the agreement of the old and the new in the boxes of all other keys follows from that outside the key's box
+-- if the fields agree outside the key's box, they agree in the boxes of all other keys
 pub adds_outside : {V K : Type 0} {eq : V → V → Bool} {P : V → Type 0} {Q : K → Type 0} {row : Row V K} (is : IsRow P Q row) (old new : Field V) (k : K) → Contains row.keys k → old.background ≡ new.background
     → ((p : Coord) → is_inside (row.box k) p ≡ false → old.cell p ≡ new.cell p) → is_background eq new (row.box k) ≡ false → Adds eq row old new k
 adds_outside {row = row} is old new k member e outside h = record {
@@ -77,7 +78,7 @@ adds_outside {row = row} is old new k member e outside h = record {
   held = h;
 }
 
--- the same texts of some keys, where the fields agree in their boxes
+-- the texts of some keys are the same if the fields agree in their boxes
 pub texts_of_same : {V K : Type 0} {P : V → Type 0} {Q : K → Type 0} {row : Row V K} (is : IsRow P Q row) (f g : Field V) → f.background ≡ g.background → (ks : List K) → AllByRecursion (λ k. Contains row.keys k × Agree f g (row.box k)) ks
     → flat_map (behind_key row f) ks ≡ flat_map (behind_key row g) ks
 texts_of_same is f g e [] all = refl
@@ -86,23 +87,23 @@ texts_of_same {row = row} is f g e (k ∷ ks) all =
     let rest = texts_of_same is f g e ks all.1 in
     λ j. (row.code k ++ here j) ++ rest j
 
--- members that come before one more do so one by one
+-- if a key follows the last member of a sorted list that isn't empty, each member comes before it
 each_before : {K : Type 0} {cmp : K → K → Ordering} (total : IsTotalOrder cmp) (k x : K) (xs : List K) → IsStrictlySortedBy cmp (x ∷ xs) → Follows cmp (last_of (Some x) xs) k → AllByRecursion (λ l. cmp l k ≡ Less) (x ∷ xs)
 unfolding IsStrictlySortedBy
 each_before total k x [] s f = (f, tt)
 each_before total k x (y ∷ ys) s f = let r = each_before total k y ys s.1 f in (total.trans x y k s.0.0 r.0, r)
 
--- so do all members of a list
+-- if a key follows the last member of a sorted list, each member comes before it
 pub all_before : {K : Type 0} {cmp : K → K → Ordering} (total : IsTotalOrder cmp) (k : K) (xs : List K) → IsStrictlySortedBy cmp xs → Follows cmp (last_of None xs) k → AllByRecursion (λ l. cmp l k ≡ Less) xs
 all_before total k [] s f = tt
 all_before total k (x ∷ xs) s f = each_before total k x xs s f
 
--- the keys that are listed are some of all keys
+-- the listed keys are some of all keys
 pub held_members : {V K : Type 0} (eq : V → V → Bool) (row : Row V K) (f : Field V) → AllByRecursion (Contains row.keys) (held eq row f)
 held_members eq row f = all_kept (Contains row.keys) (is_held eq row.box f) row.keys (by_member (Contains row.keys) row.keys (λ k member. member))
 
 module _ {V K : Type 0} {eq : V → V → Bool} {value_bytes : V → List ℕ} {P : V → Type 0} {Q : K → Type 0} {row : Row V K} (values : AreValues eq value_bytes P) (is : IsRow P Q row) where
-  -- the same keys are listed, with the same texts, where the fields agree in all boxes
+  -- if the fields agree in all boxes, the same keys are listed with the same texts
   module _ (f g : Field V) (e : f.background ≡ g.background) (agree : (k : K) → Contains row.keys k → Agree f g (row.box k)) where
     pub held_same : held eq row f ≡ held eq row g
     held_same =
@@ -117,11 +118,11 @@ module _ {V K : Type 0} {eq : V → V → Bool} {value_bytes : V → List ℕ} {
         ∙ ap (flat_map (behind_key row g)) held_same
 
   module _ (old new : Field V) (k : K) (member : Contains row.keys k) (follows : Follows row.cmp (last_of None (held eq row old)) k) (adds : Adds eq row old new k) where
-    -- all that were listed come before the key
+    -- all listed keys come before the new key
     before : AllByRecursion (λ l. row.cmp l k ≡ Less) (held eq row old)
     before = all_before is.total k (held eq row old) (IsStrictlySortedBy-filter row.cmp (is_held eq row.box old) row.keys is.sorted) follows
 
-    -- one by one
+    -- each listed key comes before the new key
     held_before : (l : K) → Contains row.keys l → is_held eq row.box old l ≡ true → row.cmp l k ≡ Less
     held_before l m h = at_kept (λ l. row.cmp l k ≡ Less) (is_held eq row.box old) row.keys before l m h
 
@@ -142,7 +143,7 @@ module _ {V K : Type 0} {eq : V → V → Bool} {value_bytes : V → List ℕ} {
         let less = at_member (λ l. row.cmp l k ≡ Less) (held eq row old) l before m in
         (within, adds.others l within (λ e. not_before is.total k (subst (λ x. row.cmp x k ≡ Less) e less))))
 
-    -- and its text comes last
+    -- the new key's text comes last
     pub texts_more : texts eq row new ≡ texts eq row old ++ behind_key row new k
     texts_more =
         ap (flat_map (behind_key row new)) held_more

@@ -1,4 +1,4 @@
--- The coordinates of a box come in their order.
+-- The coordinates of a box are sorted.
 use Rattle.std.proofs.Common.{◌≡◌, ℕ, zero, suc, ℤ, pos, ◌+◌, ◌<◌, ◌≤◌, ◌+ℤ◌, ◌<ℤ◌, List, [], ◌∷◌, ◌++◌, arith, refl, sym, ap, subst, ◌∙◌, inl, inr, subst₂}
 use Rattle.std.proofs.lemmas.Int.{ints}
 use Rattle.std.specs.Prelude.{map}
@@ -10,7 +10,7 @@ use Rattle.vdb_coord.specs.Space.{Box, coord, coord_cmp, coordinates, extent, ra
 use Rattle.vdb_coord.specs.declared.Coord.{Coord}
 use Rattle.vdb_coord.proofs.BlockOrder.{key_less}
 
--- ---- lists of which each member has something
+-- ---- lists whose members all have something
 
 module _ {K : Type 0} where
   all_append : (P : K → Type 0) (xs ys : List K) → AllByRecursion P xs → AllByRecursion P ys → AllByRecursion P (xs ++ ys)
@@ -24,7 +24,7 @@ module _ {K : Type 0} where
   -- ---- sorted lists
 
   module _ (cmp : K → K → Ordering) where
-    -- two sorted lists, of which each member of one comes before each of the other
+    -- two sorted lists, if each member of the first comes before each of the second
     sorted_append : (P Q : K → Type 0) (xs ys : List K) → IsStrictlySortedBy cmp xs → IsStrictlySortedBy cmp ys → AllByRecursion P xs → AllByRecursion Q ys → ((x y : K) → P x → Q y → cmp x y ≡ Less) → IsStrictlySortedBy cmp (xs ++ ys)
     unfolding IsStrictlySortedBy
     sorted_append P Q [] ys s t h k before = t
@@ -33,7 +33,7 @@ module _ {K : Type 0} where
 
     module _ (group : ℕ → List K) (In : ℕ → K → Type 0) (each : (k : ℕ) → AllByRecursion (In k) (group k)) (sorted : (k : ℕ) → IsStrictlySortedBy cmp (group k))
         (before : (k l : ℕ) (x y : K) → k < l → In k x → In l y → cmp x y ≡ Less) where
-      -- a member of some group from one on
+      -- a member of a group from this one on
       abbrev From : ℕ → K → Type 0
       From a x = (k : ℕ) × (a ≤ k) × In k x
 

@@ -1,4 +1,4 @@
--- Bytes behind their count that are read.
+-- Reads bytes after their count.
 use Rattle.std.proofs.Common.{◌≡◌, ℕ, ◌<◌, ◌≤◌, Bool, true, false, List, [], ◌∷◌, length, refl, sym, subst, ◌∙◌, arith, append-nil}
 use Rattle.std.specs.Prelude.{◌&&◌, nat_lt, nat_le, ⊤}
 use Rattle.std.specs.List.{list_all}
@@ -21,16 +21,16 @@ pub few_of_name : (name : List ℕ) → is_name name ≡ true → length name �
 few_of_name [] h = cc
 few_of_name (b ∷ bytes) h = let lt = ltb-true (length bytes) 16 (third (is_lower b) (list_all is_name_byte bytes) (nat_lt (length bytes) 16) h) in omega (arith, lt)
 
--- and so has a text
+-- a text has few bytes
 pub few_of_text : (text : List ℕ) → is_text text ≡ true → length text ≤ 64
 few_of_text text h = leb-true (length text) 64 (third (list_all is_text_byte text) (nat_le 1 (length text)) (nat_le (length text) 64) h)
 
--- count and bytes were read
+-- the count and the bytes were read
 pub counted_read : (old mid new : Position) (len : ℕ) (bytes : List ℕ) → Took old mid (len ∷ []) → Took mid new bytes → length bytes ≡ len → Took old new (counted bytes)
 counted_read old mid new len bytes first more same = subst (λ n. Took old new (n ∷ bytes)) (sym same) (took_both old mid new (len ∷ []) bytes first more)
 
 module _ (P : List ℕ → Type 0) (fault : LoadFault) (old : Position) where
-  -- the count isn't there
+  -- no count is ahead
   pub no_count : Fails (λ n. ⊤) (λ n. n ∷ []) fault old → Fails P counted fault old
   no_count h = fails_first P counted (λ n. ⊤) (λ n. n ∷ []) (λ t. length t) (λ t. t) fault old (λ t p. tt) (λ t p. refl) h
 
@@ -39,11 +39,11 @@ module _ (P : List ℕ → Type 0) (fault : LoadFault) (old : Position) where
     after_count : Fails (λ t. P t × (len ≡ length t)) (λ t. t) fault mid → Fails P counted fault old
     after_count h = fails_after P counted (len ∷ []) (λ t. len ≡ length t) (λ t. length t ∷ []) (λ t. t) fault old mid took (λ t p. says_byte len (length t)) (λ t p. refl) h
 
-    -- no text is so long
+    -- no text has this length
     pub no_length : (most : ℕ) → ((t : List ℕ) → P t → length t ≤ most) → most < len → Fails P counted fault old
     no_length most few h = after_count (fails_none (λ t. P t × (len ≡ length t)) (λ t. t) fault mid (λ t p. let short = few t p.0 in absurd (omega (arith, short, p.1, h))))
 
-    -- the bytes aren't there
+    -- the bytes aren't ahead
     pub no_bytes : Fails (λ bytes. length bytes ≡ len) (λ bytes. bytes) fault mid → Fails P counted fault old
     no_bytes h = after_count (fails_turn (λ t. P t × (len ≡ length t)) (λ t. t) (λ bytes. length bytes ≡ len) (λ bytes. bytes) (λ t. t) fault mid (λ t p. sym p.1) (λ t p. refl) h)
 

@@ -1,4 +1,4 @@
--- A grid of one type of values as a grid of any kind.
+-- Converts a grid of one type of values to a grid of any type, and back.
 use Rattle.std.proofs.Common.{◌≡◌, ℕ, ◌≤◌, Bool, true, false, List, [], ◌∷◌, ◌++◌, length, refl, sym, ap, subst, ◌∙◌, inl, inr}
 use Rattle.std.proofs.lemmas.Bool.{cases_Bool}
 use Rattle.vdb_coord.specs.Blocks.{vdb}
@@ -24,7 +24,7 @@ use Rattle.vdb_file.proofs.Fronts.{fails_after, fails_turn, took_both}
 use Rattle.vdb_file.proofs.MadeBodies.{made_keys, made_roots}
 use Rattle.vdb_file.proofs.Values.{says_kind}
 
--- a type of values among those of any kind
+-- a type of values among all types
 pub record IsKind {V : Type 0} (IsValue : V → Type 0) (eq : V → V → Bool) (bytes : V → List ℕ) (kind : Kind) (make : V → Scalar) (back : Scalar → V) : Type 0 where
   pub same_eq : (v w : V) → scalar_eq (make v) (make w) ≡ eq v w
   pub same_bytes : (v : V) → scalar_bytes (make v) ≡ bytes v
@@ -33,14 +33,14 @@ pub record IsKind {V : Type 0} (IsValue : V → Type 0) (eq : V → V → Bool) 
   pub back_value : (s : Scalar) → is_value_of kind s ≡ true → IsValue (back s)
   pub there_again : (s : Scalar) → is_value_of kind s ≡ true → make (back s) ≡ s
 
--- the cell of a field that is made
+-- a cell of a converted field
 made_inside : {V : Type 0} (background : V) (cells : Coord → Cell V) (p : Coord) → is_inside everywhere p ≡ true → (field background cells).cell p ≡ cells p
 made_inside background cells p e = rw e refl
 
 made_outside : {V : Type 0} (background : V) (cells : Coord → Cell V) (p : Coord) → is_inside everywhere p ≡ false → (field background cells).cell p ≡ off background
 made_outside background cells p e = rw e refl
 
--- a field that is the background past the coordinates is made of its own cells
+-- a field that is background beyond the coordinates is built from its own cells
 own_field : {V : Type 0} (f : Field V) → ((p : Coord) → is_inside everywhere p ≡ false → f.cell p ≡ off f.background) → field f.background f.cell ≡ f
 own_field f outside = λ j. record { background = f.background; cell = λ p. cells p j }
   where
@@ -52,11 +52,11 @@ own_field f outside = λ j. record { background = f.background; cell = λ p. cel
         ]
 
 module _ {V : Type 0} (IsValue : V → Type 0) (eq : V → V → Bool) (bytes : V → List ℕ) (kind : Kind) (make : V → Scalar) (back : Scalar → V) (is : IsKind IsValue eq bytes kind make back) where
-  -- the grid with each value made one of any kind
+  -- the grid with each value converted to a scalar of any type
   abbrev pub made_grid : LoadedGrid V → Grid
   made_grid g = record { field = as_field_of make g.field; limit = g.head.limit; pairs = g.head.pairs }
 
-  -- its root blocks and their bytes
+  -- the converted grid has the same root blocks and bytes
   same_roots : (f : Field V) → ((p : Coord) → is_inside everywhere p ≡ false → f.cell p ≡ off f.background) → roots scalar_eq vdb (as_field_of make f) ≡ roots eq vdb f
   same_roots f outside =
       subst (λ (d : Field V). roots scalar_eq vdb (as_field_of make d) ≡ roots eq vdb d) (own_field f outside)
@@ -67,7 +67,7 @@ module _ {V : Type 0} (IsValue : V → Type 0) (eq : V → V → Bool) (bytes : 
       subst (λ (d : Field V). roots_bytes scalar_eq scalar_bytes vdb (as_field_of make d) ≡ roots_bytes eq bytes vdb d) (own_field f outside)
       (made_roots make f.background f.cell eq scalar_eq is.same_eq bytes scalar_bytes is.same_bytes vdb)
 
-  -- its values are of the kind
+  -- the converted values have the type
   made_values : (f : Field V) → IsValue f.background → ((p : Coord) → IsValue (f.cell p).value) → (p : Coord) → is_value_of kind ((as_field_of make f).cell p).value ≡ true
   made_values f base each p =
       elim (cases_Bool (is_inside everywhere p)) [
@@ -75,7 +75,7 @@ module _ {V : Type 0} (IsValue : V → Type 0) (eq : V → V → Bool) (bytes : 
         | inr e ↦ ap (λ (c : Cell Scalar). is_value_of kind c.value) (made_outside (make f.background) (λ q. as_cell_of make (f.cell q)) p e) ∙ is.value f.background base
       ]
 
-  -- so a grid of the type may be a grid
+  -- a loaded grid of the type gives a grid that the version may have
   pub made_body : (version : Version) (g : LoadedGrid V) → IsLoadedGrid IsValue eq bytes version g → IsBody version (made_grid g)
   made_body version g h = record {
     field = record {
@@ -87,20 +87,20 @@ module _ {V : Type 0} (IsValue : V → Type 0) (eq : V → V → Bool) (bytes : 
     head = h.head;
   }
 
-  -- and has its bytes
+  -- the converted grid has the same bytes
   pub made_text : (version : Version) (g : LoadedGrid V) → IsLoadedGrid IsValue eq bytes version g → kind_code kind ∷ loaded_bytes IsValue eq bytes version g ≡ body_bytes version (made_grid g)
   made_text version g h =
       ap (λ k. kind_code k ∷ loaded_bytes IsValue eq bytes version g) (sym (is.same_kind g.field.background))
       ∙ ap (λ t. kind_code (kind_of (make g.field.background)) ∷ (t ++ (head_code version g.head ++ roots_bytes eq bytes vdb g.field))) (sym (is.same_bytes g.field.background))
       ∙ ap (λ t. kind_bytes (make g.field.background) ++ (head_code version g.head ++ t)) (sym (same_text g.field h.field.loaded.outside))
 
-  -- ---- and back
+  -- ---- the way back
 
-  -- the grid with each value made one of the type
+  -- the grid with each value converted to the type
   abbrev typed : Grid → LoadedGrid V
   typed g = record { field = as_field_of back g.field; head = head_of g }
 
-  -- a field of the kind, made one of the type and back
+  -- converting a field of the type there and back changes nothing
   same_field_again : (f : Field Scalar) → IsField f → kind_of f.background ≡ kind → as_field_of make (as_field_of back f) ≡ f
   same_field_again f field_is same = λ j. record { background = base j; cell = λ p. cells p j }
     where
@@ -116,7 +116,7 @@ module _ {V : Type 0} (IsValue : V → Type 0) (eq : V → V → Bool) (bytes : 
             | inr e ↦ made_outside (make (back f.background)) (λ q. as_cell_of make ((as_field_of back f).cell q)) p e ∙ ap off base ∙ sym (field_is.outside p e)
           ]
 
-  -- its values are of the type
+  -- the values of the converted field have the type
   typed_values : (f : Field Scalar) → IsField f → kind_of f.background ≡ kind → (p : Coord) → IsValue ((as_field_of back f).cell p).value
   typed_values f field_is same p =
       elim (cases_Bool (is_inside everywhere p)) [
@@ -141,7 +141,7 @@ module _ {V : Type 0} (IsValue : V → Type 0) (eq : V → V → Bool) (bytes : 
     };
   }
 
-  -- what follows the kind in the bytes of a grid
+  -- the bytes of a grid after its KIND
   abbrev behind_kind : Version → Grid → List ℕ
   behind_kind version g = scalar_bytes g.field.background ++ (head_code version (head_of g) ++ roots_bytes scalar_eq scalar_bytes vdb g.field)
 
@@ -152,7 +152,7 @@ module _ {V : Type 0} (IsValue : V → Type 0) (eq : V → V → Bool) (bytes : 
       ∙ ap (λ t. t ++ (head_code version (head_of g) ++ roots_bytes scalar_eq scalar_bytes vdb (as_field_of make (as_field_of back g.field)))) (is.same_bytes (back g.field.background))
       ∙ ap (λ t. bytes (back g.field.background) ++ (head_code version (head_of g) ++ t)) (same_text (as_field_of back g.field) (typed_outside g.field))
 
-  -- the kind was read, and no such grid is behind it
+  -- the KIND was read, and no such grid is ahead
   pub no_typed : (version : Version) (fault : LoadFault) (old mid : Position) → Took old mid (kind_code kind ∷ []) → Fails (IsLoadedGrid IsValue eq bytes version) (loaded_bytes IsValue eq bytes version) fault mid
       → Fails (IsBody version) (body_bytes version) fault old
   no_typed version fault old mid took h =
@@ -161,7 +161,7 @@ module _ {V : Type 0} (IsValue : V → Type 0) (eq : V → V → Bool) (bytes : 
       (fails_turn (λ g. IsBody version g × (kind ≡ kind_of g.field.background)) (behind_kind version) (IsLoadedGrid IsValue eq bytes version) (loaded_bytes IsValue eq bytes version) typed fault mid
       (λ g p. typed_loaded version g p.0 (sym p.1)) (λ g p. typed_text version g p.0 (sym p.1)) h)
 
-  -- kind and grid were read
+  -- the KIND and the grid were read
   pub typed_read : (version : Version) (old mid new : Position) (g : LoadedGrid V) → Took old mid (kind_code kind ∷ []) → IsLoadedGrid IsValue eq bytes version g → Took mid new (loaded_bytes IsValue eq bytes version g)
       → IsBody version (made_grid g) × Took old new (body_bytes version (made_grid g))
   typed_read version old mid new g first h more =
@@ -171,7 +171,7 @@ module _ {V : Type 0} (IsValue : V → Type 0) (eq : V → V → Bool) (bytes : 
   abbrev tree_grid : Layout V → Pairs → Grid
   tree_grid t pairs = record { field = as_field_of make (field_of vdb t); limit = t.limit; pairs = pairs }
 
-  -- kind and tree were read
+  -- the KIND and the tree were read
   pub tree_typed : (version : Version) (old mid new : Position) (t u : Layout V) (pairs : Pairs) → u ≡ t → Took old mid (kind_code kind ∷ []) → IsLoadedGrid IsValue eq bytes version (loaded t pairs)
       → Took mid new (loaded_bytes IsValue eq bytes version (loaded t pairs)) → IsBody version (tree_grid u pairs) × Took old new (body_bytes version (tree_grid u pairs))
   tree_typed version old mid new t u pairs e first h more =

@@ -1,4 +1,4 @@
--- Values of the three kinds: their bytes, their kinds, and when they are one.
+-- Values of the three types: their bytes, their types, and when they are equal.
 use Rattle.std.proofs.Common.{◌≡◌, ℤ, pos, negsuc, Bool, true, false, [], ◌∷◌, refl, ap, subst, arith}
 use Rattle.std.specs.Prelude.{FitsSigned}
 use Rattle.std.specs.Int.{w32, w64}
@@ -17,7 +17,7 @@ use Rattle.vdb_file.proofs.Numbers.{says_i32, says_i64, says_truth}
 
 -- ---- the bytes of a value
 
--- a number within its kind's range fits the kind's bits
+-- a number within its type's range fits the type's bits
 pub i32_fits : (z : ℤ) → has_number kinds.I32 z ≡ true → FitsSigned w32 z
 i32_fits (pos n) h = grind (arith, ints)
 i32_fits (negsuc n) h = grind (arith, ints)
@@ -26,47 +26,47 @@ pub i64_fits : (z : ℤ) → has_number kinds.I64 z ≡ true → FitsSigned w64 
 i64_fits (pos n) h = grind (arith, ints)
 i64_fits (negsuc n) h = grind (arith, ints)
 
--- the bytes of a value say which value of the kind it is
+-- the bytes of a value determine the value of the type
 pub says_scalar : (k : Kind) → IsCode (λ v. is_value_of k v ≡ true) scalar_bytes
 says_scalar kinds.Bool (truth a) (truth b) ha hb = says_map (ap truth) (says_truth a b tt tt)
 says_scalar kinds.I32 (I32 a) (I32 b) ha hb = says_map (ap I32) (says_i32 a b (i32_fits a ha) (i32_fits b hb))
 says_scalar kinds.I64 (I64 a) (I64 b) ha hb = says_map (ap I64) (says_i64 a b (i64_fits a ha) (i64_fits b hb))
 says_scalar k a b ha hb = absurd cc
 
--- ---- a value behind its kind
+-- ---- a value after its KIND
 
--- the code of a kind says which it is
+-- the code of a KIND determines it
 kind_exact : (k l : Kind) → kind_code k ≡ kind_code l → k ≡ l
 kind_exact kinds.Bool kinds.Bool e = refl
 kind_exact kinds.I32 kinds.I32 e = refl
 kind_exact kinds.I64 kinds.I64 e = refl
 kind_exact k l e = cc
 
--- and so does its byte
+-- the byte of a KIND determines it
 pub says_kind : (k l : Kind) → Says (kind_code k ∷ []) (kind_code l ∷ []) (k ≡ l)
 says_kind k l = says_map (kind_exact k l) (says_byte (kind_code k) (kind_code l))
 
--- the kind says how the bytes behind it are read
+-- the KIND determines how the bytes after it are read
 pub says_kinded : IsCode (λ v. is_value_of (kind_of v) v ≡ true) kind_bytes
 says_kinded a b ha hb = says_behind (says_kind (kind_of a) (kind_of b)) (λ e. says_scalar (kind_of b) a b (subst (λ k. is_value_of k a ≡ true) e ha) hb)
 
--- ---- equal values are one
+-- ---- values that compare equal are equal
 
--- truth values that are found equal are one
+-- booleans that compare equal are equal
 same_truth : (a b : Bool) → scalar_eq (truth a) (truth b) ≡ true → a ≡ b
 same_truth true true h = refl
 same_truth true false h = cc
 same_truth false true h = cc
 same_truth false false h = refl
 
--- and so are values of any kind
+-- values of any type that compare equal are equal
 pub scalar_exact : (a b : Scalar) → scalar_eq a b ≡ true → a ≡ b
 scalar_exact (truth a) (truth b) h = ap truth (same_truth a b h)
 scalar_exact (I32 y) (I32 z) h = ap I32 ((Decides-int_eq y z).0 h)
 scalar_exact (I64 y) (I64 z) h = ap I64 ((Decides-int_eq y z).0 h)
 scalar_exact a b h = absurd cc
 
--- a value is found equal to itself
+-- a value compares equal to itself
 pub scalar_itself : (a : Scalar) → scalar_eq a a ≡ true
 scalar_itself (truth true) = refl
 scalar_itself (truth false) = refl

@@ -1,4 +1,4 @@
--- What is known of all bytes of a reader once a file was read from it, or wasn't.
+-- What is known of all bytes of a reader after a file was read from it, or not.
 use Rattle.std.proofs.Common.{◌≡◌, inl, inr, ℕ, ◌<◌, ◌≤◌, List, [], ◌∷◌, ◌++◌, length, refl, sym, ap, subst, ◌∙◌, append-nil, arith}
 use Rattle.std.specs.Prelude.{Option, Some, None, IfSome}
 use Rattle.std.specs.List.{AllByRecursion}
@@ -18,7 +18,7 @@ use Rattle.vdb_file.proofs.Scenes.{no_prefix}
 
 -- ---- scenes and files of a version
 
--- what is so of each thing of a list by what is so of it already
+-- what each item of a list has, by a property that it already has
 all_map : {A : Type 0} (P Q : A → Type 0) → ((a : A) → P a → Q a) → (xs : List A) → AllByRecursion P xs → AllByRecursion Q xs
 all_map P Q f [] ps = tt
 all_map P Q f (x ∷ xs) ps = (f x ps.0, all_map P Q f xs ps.1)
@@ -27,18 +27,18 @@ both_map : {A : Type 0} (P Q R : A → Type 0) → ((a : A) → P a → Q a → 
 both_map P Q R f [] ps qs = tt
 both_map P Q R f (x ∷ xs) ps qs = (f x ps.0 qs.0, both_map P Q R f xs ps.1 qs.1)
 
--- a scene of a version is one
+-- a scene of a version is a scene
 pub scene_is : (version : Version) (s : Scene) → IsSceneOf version s → IsScene s
 scene_is version s h = record { few = h.few; in_order = h.in_order; grids = all_map (IsNamed version) IsGrid (named_grid version) s h.grids }
 
--- each scene is one of version 2
+-- each scene is a scene of version 2
 new_named : (e : List ℕ × Grid) → IsGrid e → IsNamed Two e
 new_named e h = record { name = h.name; body = record { field = h.field; roots = h.roots; head = record { positive = h.positive; limited = h.limited; pairs = h.pairs; old = tt } } }
 
 new_scene : (s : Scene) → IsScene s → IsSceneOf Two s
 new_scene s h = record { few = h.few; in_order = h.in_order; grids = all_map IsGrid (IsNamed Two) new_named s h.grids }
 
--- one that version 1 could hold is one of version 1
+-- a scene that version 1 can hold is a scene of version 1
 old_named : (e : List ℕ × Grid) → IsGrid e → IsOldGrid e → IsNamed One e
 old_named e h o = record { name = h.name; body = record { field = h.field; roots = h.roots; head = record { positive = h.positive; limited = h.limited; pairs = h.pairs; old = (o.limit, o.pairs) } } }
 
@@ -53,14 +53,14 @@ pub file_of : (file : Version × Scene) (bytes : List ℕ) → IsFile file → b
 file_of (One, s) bytes h e short = inr (record { grids = all_map (IsNamed One) IsOldGrid old_grid s h.grids; same = e; short = short })
 file_of (Two, s) bytes h e short = inl (e, short)
 
--- and back
+-- a file of a scene is a file of some version
 pub of_version : (bytes : List ℕ) (s : Scene) → IsScene s → IsFileOf bytes s → (version : Version) × IsFile (version, s) × (bytes ≡ bytes_of_file (version, s)) × (length bytes ≤ 268435456)
 of_version bytes s h (inl new) = (Two, new_scene s h, new.0, new.1)
 of_version bytes s h (inr old) = (One, old_scene s h old.grids, old.same, old.short)
 
 -- ---- all bytes of a reader
 
--- a fault that says something of the bytes says that they are no file
+-- a fault that claims something about the bytes shows that they are no file
 pub no_file : (fault : LoadFault) (known : Option (List ℕ)) → Fails IsFile bytes_of_file fault (record { known = prepend_known [] known; capacity = 268435456 })
     → Claims fault → IfSome known (λ bytes. (s : Scene) → IsScene s → IsFileOf bytes s → ⊥)
 no_file fault None h claims = tt
@@ -103,7 +103,7 @@ file_and_more file (Some bytes) rest mid unread is took kept some = more mid.kno
           begins = c ∙ ap (λ t. bytes_of_file file ++ t) (sym k);
         }
 
--- such bytes are no file
+-- bytes that go on after a file are no file
 pub begins_only : (known : Option (List ℕ)) → IfSome known BeginsWithFile → IfSome known (λ bytes. (s : Scene) → IsScene s → IsFileOf bytes s → ⊥)
 begins_only known h =
     some_turn known (λ bytes. (s : Scene) → IsScene s → IsFileOf bytes s → ⊥) BeginsWithFile
@@ -116,7 +116,7 @@ pub nothing_before : (known : Option (List ℕ)) (P : List ℕ → Type 0) → I
 nothing_before None P h = tt
 nothing_before (Some x) P h = h
 
--- where none is left at all, it has none
+-- if no byte is left in all, the reader has none
 pub reader_at_end : (unread : List ℕ) (known : Option (List ℕ)) → IsAtEnd (prepend_known unread known) → IsAtEnd known
 reader_at_end unread None h = tt
 reader_at_end [] (Some x) h = h

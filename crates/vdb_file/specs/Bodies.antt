@@ -1,4 +1,4 @@
--- How the blocks of a field are spelled.
+-- The encoding of the blocks of a field.
 use Rattle.std.specs.Prelude.{ℕ, Bool, not, if◌then◌else◌, List, ◌∷◌, ◌++◌, length, filter}
 use Rattle.std.specs.List.{flat_map}
 use Rattle.std.specs.Int.{w16, w32, to_be_bytes}
@@ -18,7 +18,7 @@ abbrev pub key_bytes : Coord → List ℕ
 key_bytes k = number_bytes w32 k.x ++ (number_bytes w32 k.y ++ number_bytes w32 k.z)
 
 module _ {V : Type 0} (eq : V → V → Bool) (value_bytes : V → List ℕ) where
-  -- one cell: 2 where it is active, else 1, and its value
+  -- a cell: the byte 2 if it is active, else 1, and then its value
   abbrev pub cell_bytes : Cell V → List ℕ
   cell_bytes c = (if c.on then 2 else 1) ∷ value_bytes c.value
 
@@ -27,20 +27,20 @@ module _ {V : Type 0} (eq : V → V → Bool) (value_bytes : V → List ℕ) whe
     abbrev pub listed : Level → Box → List ℕ
     listed level b = filter (λ i. not (is_background eq f (sub_block bits level b i))) (entry_numbers bits level)
 
-    -- how many they are, and each of them behind its number
+    -- the count of those entries, and then each entry after its number
     abbrev pub entries_bytes : (Box → List ℕ) → Level → Box → List ℕ
     entries_bytes entry level b =
         to_be_bytes w16 (length (listed level b)) ++ flat_map (λ i. to_be_bytes w16 i ++ entry (sub_block bits level b i)) (listed level b)
 
-    -- a block of one cell by that cell, another by 3 and its entries
+    -- a block of one cell as that cell, any other block as the byte 3 and its entries
     abbrev pub block_bytes : (Box → List ℕ) → Level → Box → List ℕ
     block_bytes entry level b = if is_constant eq f b then cell_bytes (f.cell b.min) else 3 ∷ entries_bytes entry level b
 
-    -- a voxel, which is one cell
+    -- the body of a voxel: its cell
     abbrev pub voxel_body : Box → List ℕ
     voxel_body b = cell_bytes (f.cell b.min)
 
-    -- a block of 8, of 128 and of 4,096 coordinates along each axis in the standard tree
+    -- the bodies of a leaf, lower and root block: in the standard tree 8, 128 and 4,096 voxels along each axis
     abbrev pub leaf_body : Box → List ℕ
     leaf_body = block_bytes voxel_body Leaf
 
@@ -50,6 +50,6 @@ module _ {V : Type 0} (eq : V → V → Bool) (value_bytes : V → List ℕ) whe
     abbrev pub root_body : Box → List ℕ
     root_body = block_bytes lower_body Upper
 
-    -- the root blocks that hold anything but the background: how many they are, and each behind its key
+    -- the count of the root blocks that hold anything but the background, and then each of them after its key
     unfoldable pub roots_bytes : List ℕ
     roots_bytes = to_be_bytes w32 (roots eq bits f) ++ flat_map (λ k. key_bytes k ++ root_body (block bits Upper k)) (root_keys eq bits f)

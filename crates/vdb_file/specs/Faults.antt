@@ -1,4 +1,4 @@
--- What the faults of loading and of saving say.
+-- The meaning of the faults of loading and of saving.
 use Rattle.std.specs.Prelude.{◌≡◌, ℕ, ◌<◌, ◌^◌, Bool, true, false, Result, Ok, Err, List, ◌++◌, length, codes, ⊤}
 use Rattle.std.specs.Int.{w16, to_be_bytes}
 use Rattle.vdb_file.specs.declared.fault.LoadFault.{LoadFault}
@@ -18,7 +18,7 @@ is_read_fault (Ok x) = false
 is_read_fault (Err loads.Read) = true
 is_read_fault (Err fault) = false
 
--- a fault says something of the bytes, unless a growth was refused or the reader failed
+-- a fault claims something about the bytes, unless an allocation or the reader failed
 abbrev pub Claims : LoadFault → Type 0
 Claims loads.Memory = ⊥
 Claims loads.Read = ⊥
@@ -32,7 +32,7 @@ pub record HasOtherMagic (bytes : List ℕ) : Type 0 where
   pub four : length magic ≡ 4
   pub differs : magic ≡ codes "VDBS" → ⊥
 
--- the first two bytes are no version's
+-- the first two bytes are no version number
 pub record StartsWithOther (bytes : List ℕ) : Type 0 where
   pub number : ℕ
   pub rest : List ℕ
@@ -41,7 +41,7 @@ pub record StartsWithOther (bytes : List ℕ) : Type 0 where
   pub not_one : number ≡ 1 → ⊥
   pub not_two : number ≡ 2 → ⊥
 
--- the two bytes behind `VDBS` are no version's
+-- the two bytes after `VDBS` are no version number
 pub record HasOtherVersion (bytes : List ℕ) : Type 0 where
   pub behind : List ℕ
   pub begins : bytes ≡ codes "VDBS" ++ behind

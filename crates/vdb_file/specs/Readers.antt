@@ -1,7 +1,7 @@
--- What is asked of a reader.
+-- How much a reader is asked for.
 use Rattle.std.specs.Prelude.{ℕ, ◌+◌, ◌≤◌, List, length, Option, None, Some, ⊤}
 
--- a reader gave at most n bytes, where the bytes that it has are known
+-- a reader gave at most n bytes, if the bytes that it has are known
 abbrev pub GaveAtMost : ℕ → Option (List ℕ) → Option (List ℕ) → Type 0
 GaveAtMost n None after = ⊤
 GaveAtMost n (Some before) None = ⊥

@@ -1,4 +1,4 @@
--- Which abstract scenes a scene can be: those that files spell.
+-- The abstract scenes that a scene can have: those that files encode.
 use Rattle.std.specs.Prelude.{◌≡◌, ◌≤◌, ℕ, Bool, true, false, List, ◌∷◌, ◌++◌, length}
 use Rattle.std.specs.List.{AllByRecursion}
 use Rattle.std.specs.List.Sorted.{IsStrictlySortedBy}
@@ -21,14 +21,14 @@ use Rattle.vdb_file.specs.Spelling.{IsFileOf}
 use Rattle.vdb_scene.specs.declared.scalar.Scalar.{Scalar}
 use Rattle.vdb_scene.specs.declared.scalar.Scalar.TheVariants.{Bool as truth, I32, I64}
 
--- whether it is a value of the kind, within its range
+-- whether the value has this type (KIND) and lies within its range
 abbrev pub is_value_of : Kind → Scalar → Bool
 is_value_of kinds.Bool (truth b) = true
 is_value_of kinds.I32 (I32 z) = has_number kinds.I32 z
 is_value_of kinds.I64 (I64 z) = has_number kinds.I64 z
 is_value_of _ _ = false
 
--- all values are of the background's kind, and past the range of coordinates there is nothing but the background
+-- all values have the background's type, and beyond the range of coordinates everything is background
 pub record IsField (f : Field Scalar) : Type 0 where
   pub background : is_value_of (kind_of f.background) f.background ≡ true
   pub values : (p : Coord) → is_value_of (kind_of f.background) (f.cell p).value ≡ true
@@ -39,13 +39,13 @@ pub record IsPair (pair : List ℕ × List ℕ) : Type 0 where
   pub key : is_name pair.0 ≡ true
   pub text : is_text pair.1 ≡ true
 
--- at most sixteen, by rising keys
+-- at most sixteen pairs, by rising keys
 pub record ArePairs (pairs : Pairs) : Type 0 where
   pub few : length pairs ≤ 16
   pub in_order : HasRisingKeys pairs
   pub each : AllByRecursion IsPair pairs
 
--- a grid keeps to its limit, which is 1 to 65,536
+-- a grid keeps to its root limit, which is 1 to 65,536
 pub record IsGrid (e : List ℕ × Grid) : Type 0 where
   pub name : is_name e.0 ≡ true
   pub field : IsField e.1.field
@@ -54,13 +54,13 @@ pub record IsGrid (e : List ℕ × Grid) : Type 0 where
   pub roots : roots scalar_eq vdb e.1.field ≤ e.1.limit
   pub pairs : ArePairs e.1.pairs
 
--- at most 64 grids, by rising names
+-- a scene has at most 64 grids, by rising names
 pub record IsScene (s : Scene) : Type 0 where
   pub few : length s ≤ 64
   pub in_order : IsStrictlySortedBy (slice_cmp nat_cmp) (keys_of s)
   pub grids : AllByRecursion IsGrid s
 
--- a file of some scene, and a byte or more behind it
+-- a file of some scene, followed by one byte or more
 pub record BeginsWithFile (bytes : List ℕ) : Type 0 where
   pub scene : Scene
   pub file : List ℕ

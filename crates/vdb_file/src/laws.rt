@@ -1,12 +1,12 @@
-//! The laws of spellings.
+//! States the laws of encodings.
 
 ghost use Rattle.std.specs.Prelude.{◌≡◌, ◌++◌, ℕ, List, []};
 ghost use Rattle.vdb_scene.specs.Scene.{Scene};
 ghost use Rattle.vdb_file.specs.Scenes.{IsScene};
 ghost use Rattle.vdb_file.specs.Spelling.{IsFileOf, spelling};
 
-/// Does nothing; its contract states what holds of files: one scene has one spelling, the bytes of one file spell one scene, in
-/// whatever version, and no file is the beginning of another.
+/// Does nothing; its contract states the laws of files. Each scene has one encoding, the bytes of one file encode one scene,
+/// whatever the version, and no file is the beginning of another.
 pub fn spelling_laws()
     ensures same { (a b : Scene) → a ≡ b → spelling a ≡ spelling b }
     ensures one_scene { (bytes : List ℕ) (a b : Scene) → IsScene a → IsScene b → IsFileOf bytes a → IsFileOf bytes b → a ≡ b }

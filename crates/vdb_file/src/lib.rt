@@ -1,4 +1,4 @@
-//! Scenes as files: one spelling for one scene.
+//! Saves and loads scenes as files. Each scene has exactly one encoding.
 #![tactic(auto)]
 
 mod fault;

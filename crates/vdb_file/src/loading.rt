@@ -1,4 +1,4 @@
-//! A scene, loaded from a file.
+//! Loads a scene from a file.
 
 ghost use Rattle.std.specs.Prelude.{◌≡◌, ◌+◌, ◌≤◌, ◌||◌, ℕ, List, codes, Err, IfErr, IfOk, IfSome, OnOk, Some};
 ghost use Rattle.std.specs.Int.{w16, to_be_bytes};
@@ -38,13 +38,14 @@ use std::io::Read;
 use vdb_pool::Steps;
 use vdb_scene::{GRID_LIMIT, Scene, Watched};
 
-/// Reads the scene of a file of either version (OpenVDB's `io::Stream`), all of whose bytes the reader has: after a scene the
-/// reader is at its end. 65,536 bytes at a time are asked for, and at most one beyond the 268,435,456 that a file may have.
+/// Reads the scene of a file of either version (OpenVDB's `io::Stream`). The file must be all of the reader's bytes: after a
+/// scene the reader is at its end. It asks for 65,536 bytes at a time, and for at most one byte beyond the 268,435,456 that a
+/// file may have.
 ///
-/// The fields are read in their order, and the first fault is answered: `TooLong` for a field that would end past the most bytes
-/// of a file, `Truncated` where the reader ends before the field does, or what its bytes are refused for. `Trailing` says that a
-/// byte follows the last field. `Memory` may stand in place of a scene or of a fault of a later field; `Read` says that the reader
-/// failed. A fault but those two comes only where no scene has a file of these bytes.
+/// It reads the fields in their order, and returns the first fault: `TooLong` if a field would end past the most bytes of a file,
+/// `Truncated` if the reader ends before the field does, or else the fault of the field's bytes. `Trailing` means that a byte
+/// follows the last field. `Memory` means that an allocation failed, and may replace a scene or the fault of a later field.
+/// `Read` means that the reader failed. Every fault except those two shows that the bytes are no file of any scene.
 pub fn load<R: Read>(
     alloc: Global,
     reader: &mut Watched<R>,
@@ -94,7 +95,7 @@ fn take_file<R: Read>(
     Ok((version, scene))
 }
 
-/// Reads the grids behind their count.
+/// Reads the count of the grids, and then the grids.
 fn take_scene<R: Read>(
     alloc: Global,
     input: &mut Input,
@@ -119,7 +120,7 @@ fn take_scene<R: Read>(
     Ok(scene)
 }
 
-/// Reads so many grids.
+/// Reads this many grids.
 fn take_grids<R: Read>(
     alloc: Global,
     input: &mut Input,
@@ -147,7 +148,7 @@ fn take_grids<R: Read>(
     Ok(scene)
 }
 
-/// Adds a grid whose name is greater than all others, of which there are few.
+/// Adds a grid to a scene. Its name is greater than all others, and the scene has room for it.
 fn add(scene: &mut Scene, named: Named) -> Result<(), LoadFault>
     ensures ok { OnOk result (scene_of scene.new ≡ with_grid (scene_of scene.old) named.name (grid_with named.grid named.metas)) }
     ensures err { IfErr result (λ fault. fault ≡ LoadFault.Memory) }

@@ -1,4 +1,4 @@
-//! A scene, saved as a file.
+//! Saves a scene as a file.
 
 ghost use Rattle.std.specs.Prelude.{◌≡◌, ◌<◌, ◌||◌, ◌∷◌, ◌++◌, ◌-◌, ◌^◌, ◌↔◌, Some, Err, map, option_map, is_err, length, min, List, ℕ, IfOk, IsOk, OnOk};
 ghost use Rattle.std.specs.List.{flat_map, slice_get};
@@ -31,13 +31,13 @@ use vdb_pool::Steps;
 use vdb_scene::{AnyGrid, MetaText, Metas, Name, Scene, Watched};
 use vdb_value::Voxel;
 
-/// The most bytes that a file may have.
+/// The most bytes that a file may have: 256 MiB.
 pub const FILE_LIMIT: u64 = 268_435_456;
 
 /// The first bytes of a file of version 2.
 const HEAD: [u8; 6] = [b'V', b'D', b'B', b'S', 0, 2];
 
-/// A writer that takes all bytes and keeps none.
+/// A writer that accepts all bytes and keeps none.
 #[derive(Drop)]
 struct Nowhere;
 
@@ -51,7 +51,7 @@ impl Write for Nowhere {
     }
 }
 
-/// How many bytes the scene's spelling has, or the greatest number where it has more. It takes no memory.
+/// Returns how many bytes the scene's encoding has, or `u64::MAX` if it has more. It allocates nothing.
 pub fn length(scene: &Scene, steps: &mut Steps) -> u64
     ensures { result ≡ min (length (spelling (scene_of scene.now))) (2 ^ 64 - 1) }
 {
@@ -61,11 +61,11 @@ pub fn length(scene: &Scene, steps: &mut Steps) -> u64
     out.total()
 }
 
-/// Writes the scene's spelling (OpenVDB's `io::Stream::write`), and answers how many bytes it has. It takes no memory, and writes
-/// 65,536 bytes at a time.
+/// Writes the scene's encoding (OpenVDB's `io::Stream::write`), and returns how many bytes it has. It allocates nothing, and
+/// writes 65,536 bytes at a time.
 ///
-/// `TooLong` says that the spelling has more than `FILE_LIMIT` bytes; none is written then. `Write` says that the writer failed or
-/// took no byte of some; what it has then is not told.
+/// Fails with `TooLong` if the encoding has more than `FILE_LIMIT` bytes; it then writes nothing. Fails with `Write` if the
+/// writer fails or takes no byte; the content of the writer is then unspecified.
 pub fn save<W: Write>(
     scene: &Scene,
     writer: &mut Watched<W>,
@@ -87,7 +87,7 @@ pub fn save<W: Write>(
     }
 }
 
-/// Writes the scene's spelling, however long it is.
+/// Writes the scene's encoding, whatever its length.
 fn write_scene<W: Write>(
     writer: &mut Watched<W>,
     scene: &Scene,
@@ -101,7 +101,7 @@ fn write_scene<W: Write>(
     out.flush(writer)
 }
 
-/// Puts bytes behind their count.
+/// Writes the count of some bytes, and then the bytes.
 fn put_counted<W: Write, const C: u32>(
     out: &mut Output<C>,
     writer: &mut Watched<W>,
@@ -117,7 +117,7 @@ fn put_counted<W: Write, const C: u32>(
     out.put(writer, bytes)
 }
 
-/// Puts a value behind the number of its kind.
+/// Writes the number of a value's type (its KIND), and then the value.
 fn put_kinded<V: Voxel, W: Write, const C: u32>(
     out: &mut Output<C>,
     writer: &mut Watched<W>,
@@ -133,7 +133,7 @@ fn put_kinded<V: Voxel, W: Write, const C: u32>(
     put_value(out, writer, value)
 }
 
-/// Puts a grid's background behind its kind.
+/// Writes the number of a grid's type (its KIND), and then its background.
 fn put_background<W: Write, const C: u32>(
     out: &mut Output<C>,
     writer: &mut Watched<W>,
@@ -151,7 +151,7 @@ fn put_background<W: Write, const C: u32>(
     }
 }
 
-/// Puts a grid's limit of root blocks.
+/// Writes a grid's root limit.
 fn put_limit<W: Write, const C: u32>(
     out: &mut Output<C>,
     writer: &mut Watched<W>,
@@ -170,7 +170,7 @@ fn put_limit<W: Write, const C: u32>(
     out.put(writer, limit.to_be_bytes().as_slice())
 }
 
-/// Puts a grid's root blocks that hold anything but the background.
+/// Writes a grid's root blocks that hold anything but the background.
 fn put_field<W: Write, const C: u32>(
     out: &mut Output<C>,
     writer: &mut Watched<W>,
@@ -189,7 +189,7 @@ fn put_field<W: Write, const C: u32>(
     }
 }
 
-/// Puts a text behind its key.
+/// Writes a key, and then its text.
 fn put_text<W: Write, const C: u32>(
     out: &mut Output<C>,
     writer: &mut Watched<W>,
@@ -205,7 +205,7 @@ fn put_text<W: Write, const C: u32>(
     put_counted(out, writer, text.bytes())
 }
 
-/// Puts the pair that has this many others before it: its text behind its key.
+/// Writes the metadata pair with index `i`: its key, and then its text.
 fn put_pair<W: Write, const C: u32>(
     out: &mut Output<C>,
     writer: &mut Watched<W>,
@@ -222,7 +222,7 @@ fn put_pair<W: Write, const C: u32>(
     put_text(out, writer, key, text)
 }
 
-/// Puts the metadata pairs of a grid behind their count.
+/// Writes the count of a grid's metadata pairs, and then the pairs.
 fn put_pairs<W: Write, const C: u32>(
     out: &mut Output<C>,
     writer: &mut Watched<W>,
@@ -237,7 +237,7 @@ fn put_pairs<W: Write, const C: u32>(
     put_each_pair(out, writer, metas)
 }
 
-/// Puts each metadata pair of a grid.
+/// Writes each metadata pair of a grid.
 fn put_each_pair<W: Write, const C: u32>(
     out: &mut Output<C>,
     writer: &mut Watched<W>,
@@ -254,7 +254,7 @@ fn put_each_pair<W: Write, const C: u32>(
     Ok(())
 }
 
-/// Puts a grid's limit and its metadata pairs.
+/// Writes a grid's root limit and its metadata pairs.
 fn put_head<W: Write, const C: u32>(
     out: &mut Output<C>,
     writer: &mut Watched<W>,
@@ -270,7 +270,7 @@ fn put_head<W: Write, const C: u32>(
     put_pairs(out, writer, metas)
 }
 
-/// Puts a grid's limit, its metadata pairs and its root blocks.
+/// Writes a grid's root limit, its metadata pairs and its root blocks.
 fn put_rest<W: Write, const C: u32>(
     out: &mut Output<C>,
     writer: &mut Watched<W>,
@@ -287,7 +287,7 @@ fn put_rest<W: Write, const C: u32>(
     put_field(out, writer, grid, steps)
 }
 
-/// Puts all of a grid but its name.
+/// Writes all of a grid except its name.
 fn put_grid<W: Write, const C: u32>(
     out: &mut Output<C>,
     writer: &mut Watched<W>,
@@ -304,7 +304,7 @@ fn put_grid<W: Write, const C: u32>(
     put_rest(out, writer, grid, metas, steps)
 }
 
-/// Puts a grid behind its name.
+/// Writes a name, and then its grid.
 fn put_entry<W: Write, const C: u32>(
     out: &mut Output<C>,
     writer: &mut Watched<W>,
@@ -322,7 +322,7 @@ fn put_entry<W: Write, const C: u32>(
     put_grid(out, writer, grid, metas, steps)
 }
 
-/// Puts the grid of a name, behind it.
+/// Writes a name, and then the scene's grid of that name.
 fn put_named<W: Write, const C: u32>(
     out: &mut Output<C>,
     writer: &mut Watched<W>,
@@ -344,14 +344,14 @@ fn put_named<W: Write, const C: u32>(
     put_entry(out, writer, name, grid, metas, steps)
 }
 
-/// How many grids a scene has.
+/// Returns how many grids a scene has.
 fn grid_count(scene: &Scene) -> usize
     ensures { result ≡ length (scene_of scene.now) }
 {
     scene.names().len()
 }
 
-/// The name that has this many others before it.
+/// Returns the name with index `i`, in rising order.
 fn name_at(scene: &Scene, i: usize) -> Option<&Name>
     ensures name { option_map (λ name. name.now) result ≡ slice_get (map (λ e. e.0) (scene_of scene.now)) i }
     ensures rising { IsStrictlySortedBy (slice_cmp nat_cmp) (map (λ e. e.0) (scene_of scene.now)) }
@@ -359,7 +359,7 @@ fn name_at(scene: &Scene, i: usize) -> Option<&Name>
     scene.names().nth(i)
 }
 
-/// Puts the grid that has this many others before it by rising names.
+/// Writes the grid with index `i`, by rising names.
 fn put_nth<W: Write, const C: u32>(
     out: &mut Output<C>,
     writer: &mut Watched<W>,
@@ -378,7 +378,7 @@ fn put_nth<W: Write, const C: u32>(
     }
 }
 
-/// Puts the grids of a scene, by rising names.
+/// Writes the grids of a scene, by rising names.
 fn put_grids<W: Write, const C: u32>(
     out: &mut Output<C>,
     writer: &mut Watched<W>,
@@ -396,7 +396,7 @@ fn put_grids<W: Write, const C: u32>(
     Ok(())
 }
 
-/// Puts how many grids a scene has, and each of them.
+/// Writes the count of a scene's grids, and then each grid.
 fn put_counted_grids<W: Write, const C: u32>(
     out: &mut Output<C>,
     writer: &mut Watched<W>,
@@ -409,11 +409,11 @@ fn put_counted_grids<W: Write, const C: u32>(
     ensures failed { has_failed writer.new ≡ (has_failed writer.old || is_err result) }
 {
     let count = (grid_count(scene) as u64).to_be_bytes();
-    out.put(writer, &count[6..])?; // a scene has few grids
+    out.put(writer, &count[6..])?; // a scene has at most 64 grids, so two bytes hold the count
     put_grids(out, writer, scene, steps)
 }
 
-/// Puts the scene's spelling.
+/// Writes the scene's encoding.
 fn put_scene<W: Write, const C: u32>(
     out: &mut Output<C>,
     writer: &mut Watched<W>,

@@ -1,4 +1,4 @@
-//! Tests of saved and loaded scenes, by public calls alone.
+//! Tests saving and loading of scenes, through public calls alone.
 #![tactic(auto)]
 
 #[cfg(test)]

@@ -1,4 +1,4 @@
-//! Scenes saved as files, and loaded from them.
+//! Saves scenes as files, and loads them.
 
 mod loading;
 mod readers;
@@ -12,10 +12,10 @@ use vdb_pool::Steps;
 use vdb_scene::{Name, Scalar, Scene, Watched};
 use vdb_value::Cell;
 
-/// The empty scene, in version 1.
+/// The file of the empty scene, in version 1.
 const OLD_EMPTY: &[u8] = b"VDBS\0\x01\0\0";
 
-/// The empty scene.
+/// The file of the empty scene.
 const EMPTY: &[u8] = b"VDBS\0\x02\0\0";
 
 /// Grid `a` of i32 with background 0, in which (1, 2, 3) is 5, active, in version 1.
@@ -26,7 +26,7 @@ const OLD_VOXEL: &[u8] =
 const VOXEL: &[u8] =
     b"VDBS\0\x02\0\x01\x01a\x01\0\0\0\0\0\0\x10\0\0\0\0\0\x01\0\0\0\0\0\0\0\0\0\0\0\0\x03\0\x01\0\0\x03\0\x01\0\0\x03\0\x01\0\x53\x02\0\0\0\x05";
 
-/// The same with the metadata pair `unit mm`.
+/// Grid `a` of i32 with background 0 and the metadata pair `unit mm`, in which (1, 2, 3) is 5, active.
 const WITH_PAIR: &[u8] =
     b"VDBS\0\x02\0\x01\x01a\x01\0\0\0\0\0\0\x10\0\x01\x04unit\x02mm\0\0\0\x01\0\0\0\0\0\0\0\0\0\0\0\0\x03\0\x01\0\0\x03\0\x01\0\0\x03\0\x01\0\x53\x02\0\0\0\x05";
 
@@ -34,15 +34,15 @@ const WITH_PAIR: &[u8] =
 const OLD_INACTIVE: &[u8] =
     b"VDBS\0\x01\0\x01\x01a\x01\0\0\0\0\0\0\0\x01\0\0\0\0\0\0\0\0\0\0\0\0\x03\0\x01\0\0\x03\0\x01\0\0\x03\0\x01\0\x53\x01\0\0\0\x05";
 
-/// The same in version 2.
+/// Grid `a` of i32 with background 0, in which (1, 2, 3) is 5, inactive.
 const INACTIVE: &[u8] =
     b"VDBS\0\x02\0\x01\x01a\x01\0\0\0\0\0\0\x10\0\0\0\0\0\x01\0\0\0\0\0\0\0\0\0\0\0\0\x03\0\x01\0\0\x03\0\x01\0\0\x03\0\x01\0\x53\x01\0\0\0\x05";
 
-/// Grid `m` of truth values with background true, in which (0, 0, 0) is true, active, in version 1.
+/// Grid `m` of booleans with background true, in which (0, 0, 0) is true, active, in version 1.
 const OLD_TRUTH: &[u8] =
     b"VDBS\0\x01\0\x01\x01m\0\x01\0\0\0\x01\0\0\0\0\0\0\0\0\0\0\0\0\x03\0\x01\0\0\x03\0\x01\0\0\x03\0\x01\0\0\x02\x01";
 
-/// The same in version 2.
+/// Grid `m` of booleans with background true, in which (0, 0, 0) is true, active.
 const TRUTH: &[u8] =
     b"VDBS\0\x02\0\x01\x01m\0\x01\0\0\x10\0\0\0\0\0\x01\0\0\0\0\0\0\0\0\0\0\0\0\x03\0\x01\0\0\x03\0\x01\0\0\x03\0\x01\0\0\x02\x01";
 
@@ -50,7 +50,7 @@ const TRUTH: &[u8] =
 const OLD_CORNER: &[u8] =
     b"VDBS\0\x01\0\x01\x01a\x01\0\0\0\0\0\0\0\x01\xff\xff\xff\xff\xff\xff\xff\xff\xff\xff\xff\xff\x03\0\x01\x7f\xff\x03\0\x01\x0f\xff\x03\0\x01\x01\xff\x02\0\0\0\x07";
 
-/// The same in version 2.
+/// Grid `a` of i32 with background 0, in which (-1, -1, -1) is 7, active.
 const CORNER: &[u8] =
     b"VDBS\0\x02\0\x01\x01a\x01\0\0\0\0\0\0\x10\0\0\0\0\0\x01\xff\xff\xff\xff\xff\xff\xff\xff\xff\xff\xff\xff\x03\0\x01\x7f\xff\x03\0\x01\x0f\xff\x03\0\x01\x01\xff\x02\0\0\0\x07";
 
@@ -58,17 +58,17 @@ const CORNER: &[u8] =
 const BLOCK: &[u8] =
     b"VDBS\0\x02\0\x01\x01a\x01\0\0\0\0\0\0\x10\0\0\0\0\0\x01\0\0\0\0\0\0\0\0\0\0\0\0\x03\0\x01\0\0\x02\0\0\0\x03";
 
-/// Grid `a` of i64 with background -1 and limit 2, whose voxel (-1, -1, -1) is 7, inactive, and grid `b_` of truth values, whose
-/// voxel (0, 0, 0) is true, active.
+/// Two grids: `a` of i64 with background -1 and root limit 2, in which (-1, -1, -1) is 7, inactive; and `b_` of booleans, in
+/// which (0, 0, 0) is true, active.
 const TWO: &[u8] =
     b"VDBS\0\x02\0\x02\x01a\x02\xff\xff\xff\xff\xff\xff\xff\xff\0\0\0\x02\0\0\0\0\x01\xff\xff\xff\xff\xff\xff\xff\xff\xff\xff\xff\xff\x03\0\x01\x7f\xff\x03\0\x01\x0f\xff\x03\0\x01\x01\xff\x01\0\0\0\0\0\0\0\x07\x02b_\0\0\0\0\x10\0\0\0\0\0\x01\0\0\0\0\0\0\0\0\0\0\0\0\x03\0\x01\0\0\x03\0\x01\0\0\x03\0\x01\0\0\x02\x01";
 
-/// A name.
+/// Returns a name.
 fn name(rt: &impl Abort, bytes: &[u8]) -> Name {
     Name::new(bytes).expect(rt, "the bytes are a name")
 }
 
-/// Bytes one after another.
+/// Returns the parts one after another.
 fn joined(rt: &(impl Abort + AllocGlobal), parts: &[&[u8]]) -> Vec<u8> {
     let mut bytes = Vec::new(rt.alloc());
     for part in parts {
@@ -77,7 +77,7 @@ fn joined(rt: &(impl Abort + AllocGlobal), parts: &[&[u8]]) -> Vec<u8> {
     bytes
 }
 
-/// Bytes of which some have other values, each at its place.
+/// Returns the bytes of a file with some of them changed, each at its index.
 fn changed(rt: &(impl Abort + AllocGlobal), file: &[u8], changes: &[(usize, u8)]) -> Vec<u8> {
     let mut bytes = joined(rt, [file].as_slice());
     for change in changes {
@@ -89,7 +89,7 @@ fn changed(rt: &(impl Abort + AllocGlobal), file: &[u8], changes: &[(usize, u8)]
     bytes
 }
 
-/// Whether saving the scene gives these bytes, as many as `length` says.
+/// Returns whether saving the scene writes exactly these bytes, and `length` returns their count.
 fn saves(rt: &(impl Abort + AllocGlobal), scene: &Scene, bytes: &[u8], steps: &mut Steps) -> bool {
     let mut writer = Watched::new(Vec::new(rt.alloc()));
     let saved = save(scene, &mut writer, steps);
@@ -99,7 +99,7 @@ fn saves(rt: &(impl Abort + AllocGlobal), scene: &Scene, bytes: &[u8], steps: &m
         && !writer.failed()
 }
 
-/// The scene of a file, all of which is read.
+/// Returns the scene of a file. The loader must read the whole file.
 fn loaded(rt: &(impl Abort + AllocGlobal), file: &[u8], steps: &mut Steps) -> Scene {
     let mut reader = Watched::new(file);
     let scene = load(rt.alloc(), &mut reader, steps).expect(rt, "the bytes spell a scene");
@@ -108,7 +108,7 @@ fn loaded(rt: &(impl Abort + AllocGlobal), file: &[u8], steps: &mut Steps) -> Sc
     scene
 }
 
-/// Why bytes aren't loaded; `None` where they are.
+/// Returns the fault of bytes that aren't loaded; `None` if they are loaded.
 fn fault_of(rt: &(impl Abort + AllocGlobal), file: &[u8], steps: &mut Steps) -> Option<LoadFault> {
     let mut reader = Watched::new(file);
     match load(rt.alloc(), &mut reader, steps) {
@@ -117,7 +117,7 @@ fn fault_of(rt: &(impl Abort + AllocGlobal), file: &[u8], steps: &mut Steps) -> 
     }
 }
 
-/// What a scene's grid holds at a coordinate; `None` where the scene has no such grid.
+/// Returns the cell of a scene's grid at a coordinate; `None` if the scene has no such grid.
 fn cell_of(
     rt: &impl Abort,
     scene: &Scene,

@@ -1,4 +1,4 @@
--- Active voxels of a box, counted from block to block.
+-- Counts the active voxels of a box block by block.
 use Rattle.std.proofs.Common.{◌≡◌, ◌⊎◌, inl, inr, sym, ap, ◌∙◌, refl, subst, ℕ, ◌+◌, ◌<◌, ◌≤◌, ◌^◌, Bool, true, false, not, ◌&&◌, arith, []}
 use Rattle.std.specs.Prelude.{IfSome, Option, Some, None}
 use Rattle.std.specs.List.{filter}
@@ -28,7 +28,7 @@ use Rattle.vdb_walk.proofs.Counts.{count_few, none_on, nothing_apart, volume_few
 use Rattle.vdb_walk.proofs.NonConstantBlocks.{false_true, from_on, left_from, past_both, true_or_false}
 use Rattle.vdb_walk.proofs.PartCounts.{count_listed, count_split, left_first}
 
--- ---- truth values: inside the box, active, left before, left now, inside the block
+-- ---- booleans: inside the box, active, left before, left now, inside the block
 
 never_and : (b : Bool) → (b && false) ≡ false
 never_and true = refl
@@ -105,7 +105,7 @@ module _ {V : Type 0} (bits : Bits) (t : Layout V) (box : Box) where
   from_none = count_listed box (λ p. on p && is_left bits None p) [] nothing_apart (λ p. none_on (is_inside box p) (on p && is_left bits None p) (λ i. never_and (on p)))
 
   module _ (p : Coord) where
-    -- where none is active from the coordinate on
+    -- if no voxel is active from the coordinate on
     pub inactive_end : IsSkippedTo bits t box Inactive p None → 0 + active_from bits t box None ≡ active_from bits t box (Some p)
     inactive_end inactive =
         let none = from_none in
@@ -131,7 +131,7 @@ module _ {V : Type 0} (bits : Bits) (t : Layout V) (box : Box) where
           let same = contiguous bits level r p q (not_both bits r p h) q_from (numbered r c) in
           starts.first r i h (sym same))
 
-      -- and not any more
+      -- the block is not left any more
       block_gone : (r : Coord) → is_inside box r ≡ true → is_inside (block_around bits level q) r ≡ true → is_left bits next r ≡ false
       block_gone r i c = by next is_next
         where

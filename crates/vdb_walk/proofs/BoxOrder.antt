@@ -106,7 +106,7 @@ inside_below_z b at p h = less_or_up_to p.z at (between_z (below_z b at) p h).1
 pub inside_from_z : (b : Box) (at : ℤ) (p : Coord) → is_inside (from_z b at) p ≡ true → at ≤ℤ p.z
 inside_from_z b at p h = (between_z (from_z b at) p h).0
 
--- one number all over a range, where its ends have it
+-- all numbers of a range lie in one block if its ends do
 same_between : (low : ℕ) (a b x y : ℤ) → number_at low b ≤ℤ number_at low a → (a ≤ℤ x) × (x ≤ℤ b) → (a ≤ℤ y) × (y ≤ℤ b) → number_at low x ≡ number_at low y
 same_between low a b x y one hx hy =
     let ax = number_mono low a x hx.0 in
@@ -121,7 +121,7 @@ same_between low a b x y one hx hy =
 less_through : (x y z : ℤ) → x <ℤ y → y ≤ℤ z → x <ℤ z
 less_through x y z h k = omega (arith, ints, h, k)
 
--- what lies below an edge lies in an earlier block than what lies from it on
+-- a number below an edge lies in an earlier block than a number from the edge on
 across : (low : ℕ) (x at y : ℤ) → first_of low (number_at low at) ≡ at → x <ℤ at → at ≤ℤ y → number_at low x <ℤ number_at low y
 across low x at y edge h k = less_through (number_at low x) (number_at low at) (number_at low y) (number_below low x at edge h) (number_mono low at y k)
 
@@ -210,7 +210,7 @@ position_same low bits x y same equal =
     alike : (a b s t : ℤ) (d e : ℕ) → a ≡ s +ℤ pos d → b ≡ t +ℤ pos e → s ≡ t → a ≡ b → d ≡ e
     alike a b s t d e h k same equal = omega (arith, ints, h, k, same, equal)
 
--- what a number of a coarser block is, where that of a finer one is known
+-- numbers in one finer block lie in one coarser block
 same_axis : (bits : Bits) (level : Level) (p q : Coord) → block_number bits level p ≡ block_number bits level q
     → let k = entry_bits bits level + node_bits bits level in (number_at k p.x ≡ number_at k q.x) × (number_at k p.y ≡ number_at k q.y) × (number_at k p.z ≡ number_at k q.z)
 same_axis bits level p q e =
@@ -308,7 +308,7 @@ module _ (bits : Bits) where
         let l = lower_from_leaf bits p q k in
         from_leaf bits p q (upper_from_lower bits p q l) (offset_from_entry bits Upper p q l) (offset_from_entry bits Lower p q k) (offset_less bits Leaf p q k (h p q hp hq))
 
--- the parts of a box in one leaf block, if it has any
+-- the parts of a box in one leaf block, if they exist, come in block order
 pub voxels_ordered : (bits : Bits) (b : Box) (parts : Option (Box × Box)) → IfSome parts (λ two. IsHalved b two.0 two.1) → numbers (block_bits bits Leaf) b.min ≡ numbers (block_bits bits Leaf) b.max → IfSome parts (λ two. AreOrdered 0 two.0 two.1)
     → IfSome parts (λ two. AreInBlockOrder bits two.0 two.1)
 voxels_ordered bits b (Some two) halved e h = voxel_ordered bits b two.0 two.1 halved e h

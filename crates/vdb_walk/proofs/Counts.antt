@@ -1,4 +1,4 @@
--- Active voxels of boxes, counted.
+-- Counts of the active voxels of boxes.
 use Rattle.std.proofs.Common.{◌≡◌, sym, ap, ◌∙◌, refl, ◌+◌, ◌≤◌, ◌^◌, Bool, true, false, not, ◌&&◌, ◌||◌, List, [], length, arith, IsTrue}
 use Rattle.std.specs.List.{IsDistinct, filter}
 use Rattle.std.proofs.lemmas.List.Filters.{length-filter_both}
@@ -18,9 +18,9 @@ use Rattle.vdb_tree.specs.Field.{Field}
 use Rattle.vdb_tree.specs.ConstantBlocks.{count}
 use Rattle.vdb_walk.specs.internal.Halves.{IsHalved}
 
--- ---- truth values
+-- ---- booleans
 
--- what passes and lies in the first part
+-- a voxel passes and lies in the first part
 in_first : (b c d t : Bool) → b ≡ (c || d) → ((b && t) && c) ≡ (c && t)
 in_first b true d true e = rw e refl
 in_first b true d false e = rw e refl
@@ -28,7 +28,7 @@ in_first b false true true e = rw e refl
 in_first b false true false e = rw e refl
 in_first b false false t e = rw e refl
 
--- and what passes and doesn't
+-- a voxel passes and doesn't lie in the first part
 in_second : (b c d t : Bool) → b ≡ (c || d) → (c && d) ≡ false → ((b && t) && not c) ≡ (d && t)
 in_second b true true t e f = cc
 in_second b true false true e f = rw e refl
@@ -58,13 +58,13 @@ module _ (t : Coord → Bool) where
   those_apart : (b : Box) → IsDistinct coord_eq (those b)
   those_apart b = distinct_filter coord_eq t (coordinates b) (distinct_coordinates b)
 
-  -- those of a box that lie in a part
+  -- the voxels of a box that lie in a part
   passing_within : (b c : Box) (s : Coord → Bool) → ((p : Coord) → ((is_inside b p && t p) && s p) ≡ (is_inside c p && t p)) → length (filter s (those b)) ≡ length (those c)
   passing_within b c s same =
       length-from_same_keys coord_equiv (filter s (those b)) (those c) (distinct_filter coord_eq s (those b) (those_apart b)) (those_apart c)
       (λ q. is_member-filter coord_equiv s q (λ x e. ap s (coord_exact q x e)) (those b) ∙ ap (λ i. i && s q) (member_passing b t q) ∙ same q ∙ sym (member_passing c t q))
 
-  -- those of a box are those of its halves
+  -- the voxels of a box are those of its halves
   pub halved : (b c d : Box) → IsHalved b c d → length (those b) ≡ length (those c) + length (those d)
   halved b c d h =
       let first = passing_within b c (is_inside c) (λ p. in_first (is_inside b p) (is_inside c p) (is_inside d p) (t p) (h.each p)) in
@@ -81,24 +81,24 @@ module _ {V : Type 0} (f : Field V) where
   counted : (b : Box) → count f b ≡ length (filter on (coordinates b))
   counted b = sym (length-filter on (coordinates b))
 
-  -- they are no more than its coordinates
+  -- the active voxels of a box are no more than its coordinates
   pub count_few : (b : Box) → count f b ≤ volume b
   count_few b = let few = count_by-le-length on (coordinates b) in let size = length_coordinates b in omega (arith, few, size)
 
-  -- all of a box
+  -- each voxel of the box is active
   pub count_all : (b : Box) → ((p : Coord) → IsTrue (is_inside b p) → (f.cell p).on ≡ true) → count f b ≡ volume b
   count_all b h =
       counted b
       ∙ count_by_members b on (coordinates b) (distinct_coordinates b) (λ p. member_coordinates b p ∙ all_on (is_inside b p) (on p) (h p))
       ∙ length_coordinates b
 
-  -- none of it
+  -- no voxel of the box is active
   pub count_none : (b : Box) → ((p : Coord) → IsTrue (is_inside b p) → (f.cell p).on ≡ false) → count f b ≡ 0
   count_none b h = counted b ∙ count_by_members b on [] nothing_apart (λ p. none_on (is_inside b p) (on p) (h p))
 
--- ---- how many there can be
+-- ---- the greatest count
 
--- a box within the range has no more coordinates than all
+-- a box within the range has no more coordinates than the whole range
 pub volume_few : (b : Box) → is_bounds b ≡ true → volume b ≤ 2 ^ 96
 volume_few b h =
     let inside = (both (is_box b) (is_within b everywhere) h).1 in

@@ -9,7 +9,7 @@ use Rattle.vdb_coord.proofs.Boxes.{both, three, together}
 use Rattle.vdb_coord.proofs.Meeting.{test_from_le}
 use Rattle.vdb_walk.specs.internal.Halves.{IsHalved}
 
--- what lies below a number along an axis, and what lies from it on
+-- the part of a box below a number along an axis, and the part from that number on
 abbrev pub below_x : Box → ℤ → Box
 below_x b x = record { min = b.min; max = coord (x -ℤ pos 1) b.max.y b.max.z }
 
@@ -45,7 +45,7 @@ high_less low high at h k = grind (arith, ints)
 low_ordered : (low high at : ℤ) → low <ℤ at → int_le low (at -ℤ pos 1) ≡ true
 low_ordered low high at h = grind (arith, ints)
 
--- ---- truth values
+-- ---- booleans
 
 split_x : (x l h y z : Bool) → x ≡ (l || h) → (x && y && z) ≡ ((l && y && z) || (h && y && z))
 split_x x true true true true e = rw e refl
@@ -133,11 +133,11 @@ module _ (b : Box) (at : ℤ) where
         let t = three (int_le b.min.x b.max.x) (int_le b.min.y b.max.y) (int_le b.min.z b.max.z) h in
         (together _ _ _ t.0 t.1 (low_ordered b.min.z b.max.z at low), together _ _ _ t.0 t.1 (test_from_le at b.max.z high))
 
--- a number of 32 bits before another
+-- the number before x, if x isn't the least of 32 bits
 pub lowered : (x m : ℤ) → SFits w32 x → SFits w32 m → m <ℤ x → to_z w32 (of_z w32 (to_z w32 (of_z w32 x) -ℤ pos 1)) ≡ x -ℤ pos 1
 lowered x m fx fm h = let fits : SFits w32 (x -ℤ pos 1) = grind (arith, ints) in simp to_z-of_z
 
--- boxes whose corners are found equal are one
+-- boxes are equal if their corners are
 pub same_boxes : (b c : Box) → let same : Coord → Coord → Bool = λ p q. int_eq p.x q.x && (int_eq p.y q.y && int_eq p.z q.z) in false ≡ not (same b.min c.min && same b.max c.max) → b ≡ c
 same_boxes b c h =
     let same : Coord → Coord → Bool = λ p q. int_eq p.x q.x && (int_eq p.y q.y && int_eq p.z q.z) in

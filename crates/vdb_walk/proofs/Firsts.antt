@@ -99,7 +99,7 @@ module _ (bits : Bits) where
   pub never_before_min : (b : Box) (q : Coord) → is_inside b q ≡ true → is_lt (block_cmp bits q b.min) ≡ false
   never_before_min b q i = up_to_never b.min q (from_min b q i)
 
-  -- nor past the greatest
+  -- none of its coordinates comes past the greatest corner
   pub never_past_max : (b : Box) (q : Coord) → is_inside b q ≡ true → is_lt (block_cmp bits b.max q) ≡ false
   never_past_max b q i = up_to_never q b.max (to_max b q i)
 
@@ -107,12 +107,12 @@ module _ (bits : Bits) where
   pub first_at_min : (Kind : Coord → Type 0) (b : Box) → is_box b ≡ true → Kind b.min → IsFirst bits Kind b (Some b.min)
   first_at_min Kind b h k = (min_inside b h, k, λ q inside _. up_to_never b.min q (from_min b q inside))
 
-  -- what comes past a coordinate that lies up to another, so does that
+  -- if a coordinate lies up to another and comes past the last one, so does the other
   past_on : (last : Option Coord) (p q : Coord) → IsUpTo p q → is_past bits last p ≡ true → is_past bits last q ≡ true
   past_on None p q h k = refl
   past_on (Some last) p q h k = elim (first_or_same p q h) [ inl c ↦ comes_on last p q k c | inr e ↦ subst (λ (c : Coord). is_past bits (Some last) c ≡ true) e k ]
 
-  -- none comes past the last one where the greatest corner doesn't
+  -- if the greatest corner doesn't come past the last one, none does
   pub none_past : (last : Option Coord) (b : Box) (q : Coord) → is_past bits last b.max ≡ false → is_inside b q ≡ true → is_past bits last q ≡ true → ⊥
   none_past last b q e inside past = false_true (sym e ∙ past_on last q b.max (to_max b q inside) past)
 
@@ -122,7 +122,7 @@ module _ (bits : Bits) where
     either_half : (q : Coord) → is_inside b q ≡ true → (is_inside first q ≡ true) ⊎ (is_inside second q ≡ true)
     either_half q h = or_cases (is_inside first q) (is_inside second q) (sym (halved.each q) ∙ h)
 
-    -- the first of the first part is that of the whole
+    -- the first coordinate of the first part is the first of the whole box
     pub of_first : (p : Coord) → AreInBlockOrder bits first second → IsFirst bits Kind first (Some p) → IsFirst bits Kind b (Some p)
     of_first p ordered h = (
       in_half b first second halved p h.0,
@@ -133,18 +133,18 @@ module _ (bits : Bits) where
       ],
     )
 
-    -- and that of the second part, where the first part has none
+    -- if the first part has none, the first of the second part is the first of the whole
     pub of_second : (found : Option Coord) → IsFirst bits Kind first None → IsFirst bits Kind second found → IsFirst bits Kind b found
     of_second (Some p) none h = (in_other b first second halved p h.0, h.1, λ q inside k. elim (either_half q inside) [ inl i ↦ absurd (none q i k) | inr i ↦ h.2 q i k ])
     of_second None none h = λ q inside k. elim (either_half q inside) [ inl i ↦ none q i k | inr i ↦ h q i k ]
 
--- the first of one kind is that of another, where the box has the same of both
+-- two properties that agree in the box have the same first coordinate
 pub first_same : (bits : Bits) (Kind Other : Coord → Type 0) (b : Box) → ((q : Coord) → is_inside b q ≡ true → Kind q → Other q) → ((q : Coord) → is_inside b q ≡ true → Other q → Kind q)
     → (found : Option Coord) → IsFirst bits Kind b found → IsFirst bits Other b found
 first_same bits Kind Other b to from (Some p) h = (h.0, to p h.0 h.1, λ q i k. h.2 q i (from q i k))
 first_same bits Kind Other b to from None h = λ q i k. h q i (from q i k)
 
--- what comes after a coordinate past the last one is past it too
+-- if a coordinate comes past the last one, so does each coordinate after it
 pub past_after : (bits : Bits) (last : Option Coord) (p q : Coord) → is_past bits last p ≡ true → is_lt (block_cmp bits p q) ≡ true → is_past bits last q ≡ true
 past_after bits None p q h c = refl
 past_after bits (Some last) p q h c = comes_on bits last p q h c

@@ -47,7 +47,7 @@ module _ (bits : Bits) where
   Below k [] = ⊤
   Below k (x ∷ xs) = (is_lt (block_cmp bits k x) ≡ true) × Below k xs
 
-  -- each comes before those after it
+  -- each coordinate comes before those after it
   abbrev pub Rises : List Coord → Type 0
   Rises [] = ⊤
   Rises (k ∷ ks) = Below k ks × Rises ks
@@ -154,7 +154,7 @@ module _ (bits : Bits) where
           by true e rest = absurd (h k (at_head k k ks refl) e)
           by false e rest = rw e rest
 
-      -- what is found is one of the list
+      -- an item that is found is one of the list
       found_member : (ks : List Coord) (item : Coord × V) → find passes (items ks) ≡ Some item → is_member coord_eq ks item.0 ≡ true
       found_member [] item e = cc
       found_member (k ∷ ks) item e = by (test k) refl (λ l. found_member ks item l)
@@ -172,7 +172,7 @@ module _ (bits : Bits) where
   past_later None k q h c = refl
   past_later (Some last) k q h c = comes_on bits last k q h c
 
-  -- what is past the last one is the first that is, and what is past that
+  -- the items past the last one are the first such item and the items past that
   module _ {V : Type 0} (v : Coord → V) (last : Option Coord) where
     pub past_step : (ks : List Coord) → Rises ks → (item : Coord × V) → find (λ (i : Coord × V). is_past bits last i.0) (items v ks) ≡ Some item
         → past bits last (items v ks) ≡ item ∷ past bits (Some item.0) (items v ks)
@@ -219,7 +219,7 @@ module _ {X : Type 0} (test : X → Bool) where
       by true t rest = cons_nil (rw t at f)
       by false t rest = rest (rw t at e) (rw t at f)
 
-  -- some are left exactly where one is found
+  -- some items are left exactly if one is found
   pub found_left : (xs left : List X) (found : Option X) (more : Bool) → left ≡ filter test xs → found ≡ find test xs → more ≡ is_some found → IsTrue more ↔ (left ≢ [])
   found_left xs left (Some x) more l f e = ((λ h none. some_left xs x (sym f) (sym l ∙ none)), (λ h. e))
   found_left xs left None more l f e = ((λ h none. false_true (sym e ∙ h)), (λ h. absurd (h (l ∙ none_left xs (sym f)))))
@@ -240,7 +240,7 @@ module _ {V : Type 0} (bits : Bits) (f : Field V) (box : Box) where
   member_keys : (q : Coord) → is_member coord_eq keys q ≡ (is_inside box q && (f.cell q).on)
   member_keys q = member_in_order bits q (filter (λ p. (f.cell p).on) (coordinates box)) ∙ member_passing box (λ p. (f.cell p).on) q
 
-  -- the first of them past a coordinate, coordinate by coordinate
+  -- the first active voxel past a coordinate, by coordinates
   pub first_found : (after : Option Coord) (result : Option (Coord × V)) → IsFirst bits (IsActivePast bits after f) box (option_map (λ item. item.0) result) → IfSome result (λ item. item.1 ≡ (f.cell item.0).value)
       → result ≡ find (λ item. is_past bits after item.0) (active bits f box)
   first_found after (Some item) first value =

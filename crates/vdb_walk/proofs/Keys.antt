@@ -1,4 +1,4 @@
--- Boxes without a key of the table: each of their voxels is the background, inactive.
+-- Boxes without a key of the table: each voxel is the inactive background.
 use Rattle.std.proofs.Common.{◌≡◌, ◌⊎◌, inl, inr, sym, ap, refl, ℤ, pos, ◌-ℤ◌, ◌≤ℤ◌, ◌<ℤ◌, Bool, true, false, int_le, arith}
 use Rattle.std.specs.Prelude.{Some, None, if◌then◌else◌}
 use Rattle.std.specs.Cmp.{int_cmp_is}
@@ -24,7 +24,7 @@ use Rattle.vdb_value.specs.declared.Cell.{Cell}
 
 -- ---- the order of coordinates
 
--- one lies below another along each axis, or beside it
+-- one coordinate lies below another along each axis, or equals it there
 abbrev pub IsUpTo : Coord → Coord → Type 0
 IsUpTo p q = (p.x ≤ℤ q.x) × (p.y ≤ℤ q.y) × (p.z ≤ℤ q.z)
 
@@ -39,14 +39,14 @@ compared x y h = by (int_cmp x y) refl
 less_int : (x y : ℤ) → x <ℤ y → int_cmp x y ≡ Less
 less_int x y h = sym (int_cmp_is x y Less h)
 
--- where the first of two comparisons says less or equal, and the second less
+-- if the first of two comparisons says less or equal, and the second less, the whole says less
 less_on : (o r : Ordering) → (o ≡ Less) ⊎ (o ≡ Equal) → r ≡ Less → ordering_then o r ≡ Less
 less_on Less r h e = refl
 less_on Equal r h e = e
 less_on Greater r (inl h) e = cc
 less_on Greater r (inr h) e = cc
 
--- what lies before a coordinate along z comes before all that lie beyond it
+-- the coordinate one below another along z comes before all that lie beyond that other one
 pub before_less : (p q : Coord) → IsUpTo p q → coord_cmp (coord p.x p.y (p.z -ℤ pos 1)) q ≡ Less
 before_less p q h =
     let z = h.2 in
@@ -67,7 +67,7 @@ same_or_greater k l q h e = by (int_cmp k q) refl
     by Equal f = inr (sym f)
     by Greater f = inl (sym f)
 
--- where a comparison says greater, so does one that says greater or the same and then greater
+-- if one comparison says greater, so does one that says greater or equal and then greater
 greater_on : (a b r s : Ordering) → (a ≡ Greater → b ≡ Greater) → (a ≡ Equal → (b ≡ Greater) ⊎ (b ≡ Equal)) → (r ≡ Greater → s ≡ Greater) → ordering_then a r ≡ Greater → ordering_then b s ≡ Greater
 greater_on Less b r s g e n h = cc
 greater_on Equal b r s g e n h = elim (e refl) [
@@ -76,7 +76,7 @@ greater_on Equal b r s g e n h = elim (e refl) [
 ]
 greater_on Greater b r s g e n h = rw (g refl) refl
 
--- what comes past a coordinate comes past all that lie up to it
+-- a coordinate past another comes past all that lie up to that one
 pub past_greater : (k l q : Coord) → IsUpTo q l → coord_cmp k l ≡ Greater → coord_cmp k q ≡ Greater
 past_greater k l q h =
     greater_on (int_cmp k.x l.x) (int_cmp k.x q.x) _ _ (greater_int k.x l.x q.x h.0) (same_or_greater k.x l.x q.x h.0)
@@ -105,7 +105,7 @@ module _ (bits : Bits) (b : Box) (q : Coord) (inside : is_inside b q ≡ true) w
   to_last = let k = block_bits bits Upper in (number_mono k q.x b.max.x parts.0.1, number_mono k q.y b.max.y parts.1.1, number_mono k q.z b.max.z parts.2.1)
 
 module _ {V : Type 0} (bits : Bits) (t : Layout V) where
-  -- each voxel under an absent key is the background, inactive
+  -- each voxel under an absent key is the inactive background
   absent_background : (q : Coord) → root_at t.root (key bits q) ≡ None → (field_of bits t).cell q ≡ off t.background
   absent_background q none = either (is_inside everywhere q) (cell_at bits t q) (absent_block bits t q none q refl)
     where
@@ -113,7 +113,7 @@ module _ {V : Type 0} (bits : Bits) (t : Layout V) where
       either true c e = e
       either false c e = refl
 
-  -- so none is active
+  -- so no voxel of the box is active
   pub off_from_background : (b : Box) → ((q : Coord) → is_inside b q ≡ true → (field_of bits t).cell q ≡ off t.background) → (q : Coord) → is_inside b q ≡ true → ((field_of bits t).cell q).on ≡ false
   off_from_background b h q inside = ap (λ (d : Cell V). d.on) (h q inside)
 
@@ -125,7 +125,7 @@ module _ {V : Type 0} (bits : Bits) (t : Layout V) where
     pub none_background : IsNextKey t.root (Some before) None → (q : Coord) → is_inside b q ≡ true → (field_of bits t).cell q ≡ off t.background
     none_background next q inside = absent_background q (next (key bits q) (before_less (key bits b.min) (key bits q) (from_first bits b q inside)))
 
-    -- or the first that does comes past those of the box
+    -- or the first key that does comes past those of the box
     pub past_background : (k : Coord) → IsNextKey t.root (Some before) (Some k) → is_le (coord_cmp k (key bits b.max)) ≡ false → (q : Coord) → is_inside b q ≡ true → (field_of bits t).cell q ≡ off t.background
     past_background k next past q inside =
         elim (some_or_none (root_at t.root (key bits q))) [

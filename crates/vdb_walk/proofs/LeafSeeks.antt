@@ -25,7 +25,7 @@ below_or_from : (m n : ℕ) → (m < n) ⊎ (n ≤ m)
 below_or_from m n = grind arith
 
 module _ (bits : Bits) where
-  -- in one leaf block, an entry from a voxel's on doesn't come before it
+  -- in one leaf block, a coordinate at an entry no earlier than a voxel's doesn't come before that voxel
   pub later_in_leaf : (p q : Coord) → block_number bits Leaf p ≡ block_number bits Leaf q → offset bits Leaf p ≤ offset bits Leaf q → is_lt (block_cmp bits q p) ≡ false
   later_in_leaf p q b h =
       elim (less_or_same _ _ h) [
@@ -43,7 +43,7 @@ module _ (bits : Bits) where
         let lower = lower_from_leaf bits p q b in
         from_leaf bits p q (upper_from_lower bits p q lower) (offset_from_entry bits Upper p q lower) (offset_from_entry bits Lower p q b) l
 
-    -- what is past one of its voxels stands after its entry
+    -- a coordinate past one of its voxels has a later entry
     pub past_entry : (p : Coord) → is_inside part p ≡ true → (from : ℕ) → from ≡ offset bits Leaf p + 1 → IsEntryPast bits (Some p) part from
     past_entry p i from e = λ q j. (
       λ past. elim (below_or_from (offset bits Leaf p) (offset bits Leaf q)) [
@@ -53,7 +53,7 @@ module _ (bits : Bits) where
       λ h. earlier p q i j (omega (arith, h, e)),
     )
 
-    -- and what is past the last one from the entry of the first of those on
+    -- a coordinate past the last one has an entry from the first such entry on
     module _ (after : Option Coord) (start : Coord) (first : IsFirst bits (IsPastLast bits after) part (Some start)) where
       from_past : (q : Coord) → is_inside part q ≡ true → IsPastLast bits after q → offset bits Leaf start ≤ offset bits Leaf q
       from_past q i past =
@@ -75,7 +75,7 @@ module _ (bits : Bits) where
         λ h. past_from q i (subst (λ n. n ≤ offset bits Leaf q) e h),
       )
 
-    -- the first that is on from there on is the first past the last one
+    -- the first coordinate from this entry on whose state is on is the first past the last one
     module _ (states : List Bool) (after : Option Coord) (from : ℕ) (split : IsEntryPast bits after part from) where
       pub set_is_first : (found : Option (ℕ × Coord)) → IsNextSet bits states part from found → IsFirst bits (IsOnPast bits after states) part (option_map (λ next. next.1) found)
       set_is_first (Some next) h = (

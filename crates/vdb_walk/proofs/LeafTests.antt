@@ -1,4 +1,4 @@
--- Whether the cells of a leaf block differ, told by its leaf.
+-- Whether the cells of a leaf block differ, found from its leaf.
 use Rattle.std.proofs.Common.{◌≡◌, sym, ap, ◌∙◌, refl, subst, ℕ, ◌+◌, Bool, true, false, not, IsTrue}
 use Rattle.std.specs.Prelude.{is_some, ◌↔◌, Option, Some, None}
 use Rattle.vdb_coord.specs.Blocks.{block_around, block_number, block_numbers, entries, node_bits, offset}
@@ -49,7 +49,7 @@ module _ {V : Type 0} (eq : V → V → Bool) (exact : (x y : V) → eq x y ≡ 
   from_cell c cells =
       uniform_from eq exact itself f box (f.cell box.min) (λ r j. cells r (number_in_block bits Leaf (block_number bits Leaf p) r j) ∙ sym (cells box.min (number_of_corner bits Leaf (block_number bits Leaf p))))
 
-  -- where there is no leaf
+  -- if the block has no leaf, all its cells are the same
   pub same_cells : ((r : Coord) → IsTrue (is_inside everywhere r) → block_number bits Leaf r ≡ block_number bits Leaf p → f.cell r ≡ f.cell p) → false ≡ not (is_constant eq f box)
   same_cells cells = sym (ap not (from_cell (f.cell p) (λ r b. cells r (in_range r b) b)))
 

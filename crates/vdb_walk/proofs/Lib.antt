@@ -1,4 +1,4 @@
--- Lemmas on boxes cut in two, on counts, on the keys of the table, on least boxes, and on block order.
+-- Lemmas on boxes cut in two, on counts, on the keys of the table, on bounding boxes, and on block order.
 pub mod Counts
 pub mod Cuts
 pub mod Keys

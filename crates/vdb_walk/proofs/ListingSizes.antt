@@ -1,4 +1,4 @@
--- A listing takes little memory itself, whatever their values: the hidden goal of each call on a listing.
+-- A listing takes little memory itself, whatever the values: the hidden goal of each call on a listing.
 use Rattle.std.proofs.Common.{◌+◌, ◌<◌, ◌≤◌, ℕ, max, arith}
 use Rattle.vdb_node.proofs.Sizes.{up_le}
 use prog.Memory.{up}

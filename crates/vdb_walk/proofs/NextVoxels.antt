@@ -113,7 +113,7 @@ module _ (bits : Bits) (part near : Box) (p : Coord) (inside : is_inside part p 
       let h = both (is_inside part q) (is_inside (block_around bits Leaf p) q) (sym (is q) ∙ i) in
       (h.0, number_in_block bits Leaf (block_number bits Leaf p) q h.1)
 
-  -- what isn't past p by x, y and z isn't past it
+  -- a coordinate that isn't past p by x, y and z isn't past p in block order
   not_past : (q : Coord) → block_number bits Leaf q ≡ block_number bits Leaf p → IsBefore q p ⊎ (q ≡ p) → ComesBefore bits p q → ⊥
   not_past q e h past = elim h [
     | inl b ↦ not_both bits p q past (by_voxel bits q p e b)

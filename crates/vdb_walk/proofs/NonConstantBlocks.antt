@@ -1,4 +1,4 @@
--- Blocks of a level whose cells differ, counted from a coordinate on.
+-- Counts of the blocks of a level, from a coordinate on, whose cells differ.
 use Rattle.std.proofs.Common.{◌≡◌, ◌⊎◌, inl, inr, sym, ap, ◌∙◌, refl, subst, ℕ, ◌+◌, ◌<◌, ◌≤◌, Bool, true, false, not, ◌&&◌, ◌||◌, cond, [], ◌∷◌, arith, IsTrue}
 use Rattle.std.specs.Prelude.{IfSome, Option, Some, None}
 use Rattle.std.specs.Ordering.{is_lt}
@@ -29,7 +29,7 @@ use Rattle.vdb_walk.specs.internal.BlocksFrom.{IsBlockAt, IsBoxStart, IsSkippedT
 use Rattle.vdb_walk.proofs.Counts.{none_on, nothing_apart}
 use Rattle.vdb_walk.proofs.PartCounts.{count_alike, count_listed, count_split}
 
--- ---- truth values
+-- ---- booleans
 
 pub false_true : {b : Bool} → b ≡ false → b ≡ true → ⊥
 false_true {b} h k = let e : false ≡ true = sym h ∙ k in cc
@@ -61,12 +61,12 @@ also false b h = refl
 pub no_more : {m n : ℕ} → m ≡ n → 0 + m ≡ n
 no_more {m} {n} h = omega (arith, h)
 
--- the one of a list of one that passes three tests
+-- the only item of a list, if it passes three tests
 pub one_of : (s i m l : Bool) → (s ≡ true → (i ≡ true) × (m ≡ true) × (l ≡ true)) → (s || false) ≡ ((i && (m && l)) && s)
 one_of true i m l h = let k = h refl in rw (k.0, k.1, k.2) refl
 one_of false i m l h = sym (never_and (i && (m && l)))
 
--- the others
+-- the other items of a list
 pub other_of : (s i m l n : Bool) → (s ≡ true → n ≡ false) → (i ≡ true → s ≡ false → m ≡ true → l ≡ n) → ((i && (m && l)) && not s) ≡ (i && (m && n))
 other_of s false m l n h k = refl
 other_of true true m l n h k = rw (h refl) (never_and (m && l) ∙ sym (never_and m))
@@ -77,14 +77,14 @@ other_of false true false l n h k = refl
 -- ---- coordinates from a coordinate on
 
 module _ (bits : Bits) where
-  -- what is left doesn't come before the coordinate
+  -- a coordinate that is left doesn't come before the start
   pub from_on : (p r : Coord) → is_left bits (Some p) r ≡ true → ComesBefore bits r p → ⊥
   from_on p r h = denied (is_lt (block_cmp bits r p)) h
 
   pub left_from : (p r : Coord) → (ComesBefore bits r p → ⊥) → is_left bits (Some p) r ≡ true
   left_from p r h = deny (is_lt (block_cmp bits r p)) h
 
-  -- not before what doesn't come before p
+  -- if c doesn't come before p, and r not before c, r doesn't come before p
   later_still : (p c r : Coord) → (ComesBefore bits c p → ⊥) → (ComesBefore bits r c → ⊥) → ComesBefore bits r p → ⊥
   later_still p c r from to h =
       elim (which_first bits c r) [
@@ -92,7 +92,7 @@ module _ (bits : Bits) where
         | inr w ↦ elim w [ inl e ↦ from (subst (λ (s : Coord). ComesBefore bits s p) (sym e) h) | inr b ↦ to b ]
       ]
 
-  -- what comes after q comes after p, if q does or is it
+  -- if q doesn't come before p, each coordinate past q comes past p
   pub past_both : (p q m : Coord) → (ComesBefore bits q p → ⊥) → ComesBefore bits q m → ComesBefore bits p m
   past_both p q m from h =
       elim (which_first bits p q) [
@@ -110,13 +110,13 @@ module _ {V : Type 0} (eq : V → V → Bool) (bits : Bits) (configured : AreBit
   start_inside : (n : Coord) → is_inside (block_numbers bits level) n ≡ true → is_inside everywhere (start n) ≡ true
   start_inside n i = corner_in_range bits level configured n i
 
-  -- at the first coordinate of all every block is counted
+  -- from the first coordinate of all, every block is counted
   pub non_constant_first : non_constant_from eq bits level f (Some everywhere.min) ≡ non_constant eq bits level f
   non_constant_first =
       count_alike (block_numbers bits level) (λ n. is_non_constant n && is_left bits (Some everywhere.min) (start n)) is_non_constant
       (λ n i. also (is_non_constant n) (is_left bits (Some everywhere.min) (start n)) (left_from bits everywhere.min (start n) (not_before_min bits everywhere (start n) (start_inside n i))))
 
--- where no coordinate is left none is
+-- if no coordinate is left, no block is counted
 pub non_constant_none : {V : Type 0} (eq : V → V → Bool) (bits : Bits) (level : Level) (f : Field V) → non_constant_from eq bits level f None ≡ 0
 non_constant_none eq bits level f =
     count_listed (block_numbers bits level) (λ n. not (is_constant eq f (block bits level n)) && is_left bits None (block bits level n).min) [] nothing_apart
@@ -140,7 +140,7 @@ module _ {V : Type 0} (eq : V → V → Bool) (exact : (x y : V) → eq x y ≡ 
   of_block : (n : Coord) → is_inside (block_numbers bits level) n ≡ true → (r : Coord) → is_inside (block bits level n) r ≡ true → is_inside everywhere r ≡ true
   of_block n i r j = numbered_in_range bits level configured r (subst (λ (m : Coord). is_inside (block_numbers bits level) m ≡ true) (sym (number_in_block bits level n r j)) i)
 
-  -- comes from p on if the block begins there
+  -- a coordinate of a block comes from p on if the block begins from p on
   left_in_block : (n : Coord) → is_left bits (Some p) (begin n) ≡ true → (r : Coord) → is_inside (block bits level n) r ≡ true → is_left bits (Some p) r ≡ true
   left_in_block n left r j = left_from bits p r (later_still bits p (begin n) r (from_on bits p (begin n) left) (not_before_min bits (block bits level n) r j))
 
@@ -157,7 +157,7 @@ module _ {V : Type 0} (eq : V → V → Bool) (exact : (x y : V) → eq x y ≡ 
   never_non_constant : (n : Coord) → is_constant eq f (block bits level n) ≡ true → differs_at n ≡ true → ⊥
   never_non_constant n c m = denied (is_constant eq f (block bits level n)) m c
 
-  -- where all that is left is the background no block is left
+  -- if all that is left is the background, no block is counted
   pub non_constant_end : IsSkippedTo bits t everywhere Background p None → 0 + non_constant_from eq bits level f None ≡ non_constant_from eq bits level f (Some p)
   non_constant_end background_cell =
       no_more (count_alike (block_numbers bits level) (λ n. differs_at n && is_left bits None (begin n)) (λ n. differs_at n && is_left bits (Some p) (begin n))
@@ -212,7 +212,7 @@ module _ {V : Type 0} (eq : V → V → Bool) (exact : (x y : V) → eq x y ≡ 
         starts.first (begin here) (start_inside eq bits configured level f here (number_in_range bits level q background_cell.0)) h (sym same))
 
     module _ (next : Option Coord) (is_next : IsNextCoord bits outer everywhere q next) where
-      -- what isn't left any more
+      -- a coordinate that isn't left any more lies up to q's block
       up_to : (c : Coord) → is_inside everywhere c ≡ true → is_left bits next c ≡ false → IsUpToBlock bits outer q c
       up_to c i gone = by next is_next gone
         where
@@ -227,7 +227,7 @@ module _ {V : Type 0} (eq : V → V → Bool) (exact : (x y : V) → eq x y ≡ 
           by None h = refl
           by (Some m) h = ap not (h.past c i same)
 
-      -- what is left still
+      -- a coordinate that is still left was left before
       left_before : (c : Coord) → is_left bits next c ≡ true → is_left bits (Some p) c ≡ true
       left_before c left = by next is_next left
         where
@@ -251,7 +251,7 @@ module _ {V : Type 0} (eq : V → V → Bool) (exact : (x y : V) → eq x y ≡ 
             ])
           ]
 
-      -- q's block is constant
+      -- the count is unchanged if q's block is constant
       none_here : differs ≡ false → non_constant_from eq bits level f next ≡ non_constant_from eq bits level f (Some p)
       none_here equal =
           sym (count_alike (block_numbers bits level) (λ n. differs_at n && is_left bits (Some p) (begin n)) (λ n. differs_at n && is_left bits next (begin n))
@@ -260,7 +260,7 @@ module _ {V : Type 0} (eq : V → V → Bool) (exact : (x y : V) → eq x y ≡ 
           apart : (n : Coord) → differs_at n ≡ true → n ≡ here → ⊥
           apart n m e = never_non_constant n (in_outer n (at.whole (begin n) q (number_of_corner bits level n ∙ e)) equal) m
 
-      -- or it differs
+      -- the count is one less if q's block differs
       one_here : differs ≡ true → 1 + non_constant_from eq bits level f next ≡ non_constant_from eq bits level f (Some p)
       one_here d =
           count_split (block_numbers bits level) (λ n. differs_at n && is_left bits (Some p) (begin n)) (λ n. coord_eq n here) (λ n. differs_at n && is_left bits next (begin n)) (here ∷ [])
@@ -351,14 +351,14 @@ sum_same total false rest before all h k e = omega (arith, h, k)
 pub sum_few : (total : ℕ) (rest all bound : ℕ) → total + 1 + rest ≡ all → all ≤ bound → total + 1 ≤ bound
 sum_few total rest all bound h k = omega (arith, h, k)
 
--- the loop begins
+-- the count at the loop's start
 pub first_counted : {V : Type 0} (eq : V → V → Bool) (bits : Bits) → AreBits bits → (level : Level) (f : Field V) (p : Coord) → p ≡ everywhere.min
     → IsBoxStart bits level everywhere p × (0 + non_constant_from eq bits level f (Some p) ≡ non_constant eq bits level f)
 first_counted eq bits configured level f p e =
     subst (λ (q : Coord). IsBoxStart bits level everywhere q × (0 + non_constant_from eq bits level f (Some q) ≡ non_constant eq bits level f)) (sym e)
     (first_start bits level refl, no_more (non_constant_first eq bits configured level f))
 
--- and ends
+-- the count at the loop's end
 pub all_counted : {V : Type 0} (eq : V → V → Bool) (bits : Bits) (level : Level) (f : Field V) (total : ℕ) (at : Option Coord) → ((p : Coord) → at ≡ Some p → ⊥) → total + non_constant_from eq bits level f at ≡ non_constant eq bits level f
     → total ≡ non_constant eq bits level f
 all_counted eq bits level f total None none h = let e = non_constant_none eq bits level f in omega (arith, e, h)

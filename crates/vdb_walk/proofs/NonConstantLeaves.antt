@@ -51,7 +51,7 @@ joined_zeros m x y z ex ey ez =
     let row : x * m + y ≡ 0 = ap (λ t. t * m + y) ex ∙ omega (arith, ey) in
     ap (λ t. t * m + z) row ∙ omega (arith, ez)
 
--- stands in its first entry
+-- the first coordinate of a leaf block has the first entry
 pub first_entry_of_leaf : (bits : Bits) (n : Coord) → offset bits Leaf (block bits Leaf n).min ≡ 0
 first_entry_of_leaf bits n =
     offset_is bits Leaf (block bits Leaf n).min
@@ -106,7 +106,7 @@ module _ {V : Type 0} (eq : V → V → Bool) (exact : (x y : V) → eq x y ≡ 
           by None h = absurd (h (begin n) leaf)
           by (Some k) h = ap not (h.1 (begin n) leaf)
 
-      -- what is left was left
+      -- a block that is left past the next leaf was left before
       was_left : (c : Coord) → is_left bits next c ≡ true → is_left bits (Some p) c ≡ true
       was_left c left = by next found left
         where

@@ -1,4 +1,4 @@
--- What a walk over parts tells of whether a box has one cell.
+-- When a walk over parts shows that a box has one cell.
 use Rattle.std.proofs.Common.{◌≡◌, ◌⊎◌, inl, inr, sym, ap, ◌∙◌, refl, subst, ℕ, ◌+◌, ◌<◌, ◌≤◌, Bool, true, false, not, arith, IsTrue}
 use Rattle.std.specs.Prelude.{◌↔◌, Option, Some, None}
 use Rattle.std.specs.Ordering.{is_lt}
@@ -49,28 +49,28 @@ unless false h = refl
 -- ---- tests of one cell
 
 module _ {V : Type 0} (eq : V → V → Bool) (exact : (x y : V) → eq x y ≡ true → x ≡ y) (itself : (x : V) → eq x x ≡ true) (f : Field V) (b : Box) (c : Cell V) where
-  -- of a box whose cells are one
+  -- a box whose cells are all one cell
   pub tile_uniform : (p : Coord) → is_inside b p ≡ true → (one : Cell V) → ((q : Coord) → IsTrue (is_inside b q) → f.cell q ≡ one) → (same : Bool) → same ≡ cell_eq eq one c → same ≡ is_uniform eq f b c
   tile_uniform p inside one cells same test =
       same_truth same (is_uniform eq f b c)
       (λ h. let is : one ≡ c = cell_exact eq exact itself one c (sym test ∙ h) in uniform_from eq exact itself f b c (λ q i. cells q i ∙ is))
       (λ h. let is : one ≡ c = sym (cells p inside) ∙ uniform_cells eq exact itself f b c h p inside in test ∙ ap (cell_eq eq one) (sym is) ∙ cell_itself eq exact itself one)
 
-  -- a voxel of it with another cell
+  -- a voxel of the box with another cell
   pub voxel_differs : (p : Coord) → is_inside b p ≡ true → (one : Cell V) → one ≡ f.cell p → (same : Bool) → same ≡ cell_eq eq one c → same ≡ false → is_uniform eq f b c ≡ false
   voxel_differs p inside one at same test other =
       not_true (is_uniform eq f b c) (λ h.
       let is : one ≡ c = at ∙ uniform_cells eq exact itself f b c h p inside in
       false_true other (test ∙ ap (cell_eq eq one) (sym is) ∙ cell_itself eq exact itself one))
 
-  -- by the test for another cell
+  -- a voxel with another cell, by the test
   pub other_voxel : (p : Coord) → is_inside b p ≡ true → (one : Cell V) → one ≡ f.cell p → (other : Bool) → other ≡ not (cell_eq eq one c) → other ≡ true → is_uniform eq f b c ≡ false
   other_voxel p inside one at other test h = voxel_differs p inside one at (cell_eq eq one c) refl (unless (cell_eq eq one c) (sym test ∙ h))
 
   pub same_voxel : (p : Coord) → is_inside b p ≡ true → (one : Cell V) → one ≡ f.cell p → (other : Bool) → other ≡ not (cell_eq eq one c) → other ≡ false → f.cell p ≡ c
   same_voxel p inside one at other test h = sym at ∙ cell_exact eq exact itself one c (denied (cell_eq eq one c) (sym test ∙ h))
 
-  -- a part of it with another cell
+  -- a part of the box with another cell
   pub part_differs : (part : Box) → ((q : Coord) → IsTrue (is_inside part q) → IsTrue (is_inside b q)) → (same : Bool) → same ≡ is_uniform eq f part c → same ≡ false → is_uniform eq f b c ≡ false
   part_differs part within same test other =
       not_true (is_uniform eq f b c) (λ h. false_true other (test ∙ uniform_from eq exact itself f part c (λ q i. uniform_cells eq exact itself f b c h q (within q i))))
@@ -78,7 +78,7 @@ module _ {V : Type 0} (eq : V → V → Bool) (exact : (x y : V) → eq x y ≡ 
 -- ---- the part of a leaf
 
 module _ {V : Type 0} (bits : Bits) (f : Field V) (b : Box) (leaf : LeafOf V) (part : IsPartOfLeaf bits f b leaf) where
-  -- the leaf's own cells are one
+  -- the leaf's own cells are all one cell
   pub constant_part : (c : Cell V) → IsConstantLeaf leaf (entry_count (node_bits bits Leaf)) c → (q : Coord) → IsTrue (is_inside b q) → f.cell q ≡ c
   constant_part c one q i = part.cells q i ∙ one (off f.background) (offset bits Leaf q) (rw (← entries_is bits Leaf) (offset_below bits Leaf q))
 
@@ -115,7 +115,7 @@ module _ {V : Type 0} (bits : Bits) (f : Field V) (b : Box) (leaf : LeafOf V) (p
 -- ---- a loop over the entries of a leaf
 
 module _ {V : Type 0} (bits : Bits) (f : Field V) (b : Box) (c : Cell V) where
-  -- the coordinates of the box at entries below an index
+  -- the coordinates of the box at entries below an index have the cell
   abbrev pub IsCellBelow : ℕ → Type 0
   IsCellBelow n = (q : Coord) → IsTrue (is_inside b q) → offset bits Leaf q < n → f.cell q ≡ c
 
@@ -138,7 +138,7 @@ module _ {V : Type 0} (bits : Bits) (f : Field V) (b : Box) (c : Cell V) where
 -- ---- a walk over the parts of a box
 
 module _ {V : Type 0} (bits : Bits) (t : Layout V) (b : Box) (c : Cell V) (skip : Skip) where
-  -- what is not left any more
+  -- each coordinate that is no longer left has the cell or was skipped
   pub record IsGone (walk : TreeWalk V) : Type 0 where
     pub box : walk.box ≡ b
     pub skips : walk.skip ≡ skip
@@ -182,7 +182,7 @@ module _ {V : Type 0} (bits : Bits) (t : Layout V) (b : Box) (c : Cell V) (skip 
 -- ---- a walk over the root blocks of a box
 
 module _ {V : Type 0} (bits : Bits) (t : Layout V) (b : Box) (c : Cell V) where
-  -- those before that of a coordinate of the box
+  -- the root blocks before the one around a coordinate of the box
   pub record HaveBefore (p : Coord) : Type 0 where
     pub inside : IsTrue (is_inside b p)
     pub done : (q : Coord) → IsTrue (is_inside b q) → IsBlockBefore bits Upper q p → (r : Coord) × (key bits r ≡ key bits q) × ((field_of bits t).cell r ≡ c)
@@ -204,11 +204,11 @@ module _ {V : Type 0} (bits : Bits) (t : Layout V) (b : Box) (c : Cell V) where
 -- ---- the box
 
 module _ {V : Type 0} (eq : V → V → Bool) (exact : (x y : V) → eq x y ≡ true → x ≡ y) (itself : (x : V) → eq x x ≡ true) (bits : Bits) (t : Layout V) (b : Box) (c : Cell V) where
-  -- the cell is the background, inactive, and only that was passed over
+  -- if the cell is the inactive background, the walk skipped only that
   pub background_uniform : c ≡ off t.background → IsCellOrSkipped bits t b c Background → is_uniform eq (field_of bits t) b c ≡ true
   background_uniform is cells = uniform_from eq exact itself (field_of bits t) b c (λ q i. elim (cells q i) [ inl e ↦ e | inr e ↦ e ∙ sym is ])
 
-  -- each root block has the cell somewhere, and those without an entry have it everywhere
+  -- each root block has the cell somewhere, and a root block without an entry has it everywhere
   pub rooted_uniform : IsInEachRoot bits t b c → IsCellOrSkipped bits t b c Absent → is_uniform eq (field_of bits t) b c ≡ true
   rooted_uniform rooted cells =
       uniform_from eq exact itself (field_of bits t) b c (λ q i.

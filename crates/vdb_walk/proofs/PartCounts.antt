@@ -1,4 +1,4 @@
--- Active voxels counted part by part.
+-- Counts active voxels part by part.
 use Rattle.std.proofs.Common.{◌≡◌, sym, ap, ◌∙◌, refl, subst, ℕ, ◌+◌, ◌^◌, ◌≤◌, Bool, true, false, not, ◌&&◌, List, [], length, arith}
 use Rattle.std.specs.Prelude.{Option, Some, None}
 use Rattle.std.specs.List.{IsDistinct, count_by, filter}
@@ -24,11 +24,11 @@ use Rattle.vdb_walk.proofs.Counts.{count_few, none_on, nothing_apart, volume_few
 
 -- ---- any test
 
--- those of a box that pass a test are as many as those of a list that pass another, if they are the same
+-- the coordinates of a box that pass a test are as many as the items of a list that pass another, if both are the same
 pub count_listed : (b : Box) (t : Coord → Bool) (keys : List Coord) → IsDistinct coord_eq keys → ((p : Coord) → is_member coord_eq keys p ≡ (is_inside b p && t p)) → count_by t (coordinates b) ≡ length keys
 count_listed b t keys apart same = sym (length-filter t (coordinates b)) ∙ count_by_members b t keys apart same
 
--- of those of a box that pass a test, the ones of a list, which pass a second too, and the others
+-- the coordinates of a box that pass a test are the listed ones, which also pass a second test, and the others
 pub count_split : (b : Box) (t s v : Coord → Bool) (keys : List Coord) → IsDistinct coord_eq keys → ((p : Coord) → is_member coord_eq keys p ≡ ((is_inside b p && t p) && s p))
     → ((p : Coord) → ((is_inside b p && t p) && not (s p)) ≡ (is_inside b p && v p)) → length keys + count_by v (coordinates b) ≡ count_by t (coordinates b)
 count_split b t s v keys apart first others =
@@ -45,7 +45,7 @@ count_split b t s v keys apart first others =
         (distinct_filter coord_eq r (filter t (coordinates b)) (distinct_filter coord_eq t (coordinates b) (distinct_coordinates b))) distinct
         (λ q. is_member-filter coord_equiv r q (λ x e. ap r (coord_exact q x e)) (filter t (coordinates b)) ∙ ap (λ i. i && r q) (member_passing b t q) ∙ same q)
 
--- tests that agree in a box count alike
+-- tests that agree in a box give the same count
 pub count_alike : (b : Box) (t u : Coord → Bool) → ((p : Coord) → is_inside b p ≡ true → t p ≡ u p) → count_by t (coordinates b) ≡ count_by u (coordinates b)
 count_alike b t u same =
     count_listed b t (filter u (coordinates b)) (distinct_filter coord_eq u (coordinates b) (distinct_coordinates b))
@@ -56,7 +56,7 @@ count_alike b t u same =
     step true x y h = sym (h refl)
     step false x y h = refl
 
--- ---- truth values: inside the box, active, left before, left now, inside the part
+-- ---- booleans: inside the box, active, left before, left now, inside the part
 
 pub first_way : (i o l c : Bool) → (c ≡ true → i ≡ true) → (c ≡ true → l ≡ true) → ((i && (o && l)) && c) ≡ (c && o)
 first_way i o l true h k = rw (h refl, k refl) (step o)
@@ -80,7 +80,7 @@ other_way true true true false false gone later passed = passed refl refl refl r
 other_way true true false true c gone later passed = absurd (let never : false ≡ true = later refl in cc)
 other_way true true false false c gone later passed = refl
 
--- ---- a walk that passes over what is inactive
+-- ---- a walk that skips inactive parts
 
 module _ {V : Type 0} (bits : Bits) (t : Layout V) where
   abbrev on : Coord → Bool
@@ -90,7 +90,7 @@ module _ {V : Type 0} (bits : Bits) (t : Layout V) where
   abbrev pub active_left : Option Coord → Box → ℕ
   active_left at box = count_by (λ p. on p && is_left bits at p) (coordinates box)
 
-  -- at its start all are
+  -- at the walk's start all active voxels are left
   pub left_first : (box : Box) → active_left (Some box.min) box ≡ count (field_of bits t) box
   left_first box = count_alike box (λ p. on p && is_left bits (Some box.min) p) on (λ p i. also (on p) (is_left bits (Some box.min) p) (from_min p i))
     where
@@ -109,7 +109,7 @@ module _ {V : Type 0} (bits : Bits) (t : Layout V) where
     was_off : (but : Coord → Bool) → Passes bits t old new but → (p : Coord) → is_inside old.box p ≡ true → is_left bits old.at p ≡ true → is_left bits new.at p ≡ false → but p ≡ false → on p ≡ false
     was_off but passes p i l gone out = subst (λ (s : Skip). IsSkipped bits s t p) skip (passes.passed p i l gone out)
 
-    -- a part takes its own
+    -- a part reduces the count by its own active voxels
     pub left_less : (part : Box) → YieldsBox bits t old new part → count (field_of bits t) part + active_left new.at old.box ≡ active_left old.at old.box
     left_less part y =
         let mine = filter on (coordinates part) in
@@ -120,7 +120,7 @@ module _ {V : Type 0} (bits : Bits) (t : Layout V) where
         let few = length-filter on (coordinates part) in
         omega (arith, split, few)
 
-    -- at its end none is
+    -- at the walk's end no active voxel is left
     pub left_last : Passes bits t old new (λ p. false) → new.at ≡ None → active_left old.at old.box ≡ 0
     left_last passes none =
         count_listed old.box (λ p. on p && is_left bits old.at p) [] nothing_apart
@@ -131,7 +131,7 @@ module _ {V : Type 0} (bits : Bits) (t : Layout V) where
         inactive true false h = refl
         inactive false l h = refl
 
-    -- ---- a sum of what the parts have
+    -- ---- the sum over the parts
 
     module _ (box : Box) (same : old.box ≡ box) (total : ℕ) (counted : total + active_left old.at box ≡ count (field_of bits t) box) where
       pub counted_more : (part : Box) → YieldsBox bits t old new part → (more : ℕ) → more ≡ count (field_of bits t) part → total + more + active_left new.at box ≡ count (field_of bits t) box
@@ -139,7 +139,7 @@ module _ {V : Type 0} (bits : Bits) (t : Layout V) where
           let less = subst (λ (b : Box). count (field_of bits t) part + active_left new.at b ≡ active_left old.at b) same (left_less part y) in
           omega (arith, less, is, counted)
 
-      -- it is no more than all
+      -- the sum is no more than the whole count
       pub counted_few : (part : Box) → YieldsBox bits t old new part → (more : ℕ) → more ≡ count (field_of bits t) part → is_bounds box ≡ true → total + more ≤ 2 ^ 96
       counted_few part y more is bounds =
           let all = counted_more part y more is in
@@ -147,7 +147,7 @@ module _ {V : Type 0} (bits : Bits) (t : Layout V) where
           let bound = volume_few box bounds in
           omega (arith, all, few, bound)
 
-      -- at its end it is all
+      -- at the walk's end the sum is the whole count
       pub counted_all : Passes bits t old new (λ p. false) → new.at ≡ None → total ≡ count (field_of bits t) box
       counted_all passes none =
           let last = subst (λ (b : Box). active_left old.at b ≡ 0) same (left_last passes none) in

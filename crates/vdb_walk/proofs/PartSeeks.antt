@@ -36,7 +36,7 @@ false_true e = cc
 
 -- ---- in a tile
 
--- past the last one, in a tile of this cell
+-- a coordinate past the last one, in a tile of this cell
 abbrev pub IsTilePast : {V : Type 0} → Bits → Option Coord → Cell V → Coord → Type 0
 IsTilePast bits after cell q = IsPastLast bits after q × (cell.on ≡ true)
 
@@ -63,7 +63,7 @@ module _ {V : Type 0} (bits : Bits) (f : Field V) (part : Box) (leaf : LeafOf V)
 
 -- ---- along a walk
 
--- what is left comes after what is gone
+-- the coordinates that are left come after those that are gone
 left_later : (bits : Bits) (at : Option Coord) (p q : Coord) → is_left bits at p ≡ false → IsTrue (is_left bits at q) → is_lt (block_cmp bits q p) ≡ false
 left_later bits None p q gone left = absurd (false_true left)
 left_later bits (Some n) p q gone left = by (is_lt (block_cmp bits q p)) refl (is_lt (block_cmp bits p n)) refl (is_lt (block_cmp bits q n)) refl gone left
@@ -83,7 +83,7 @@ module _ {V : Type 0} (bits : Bits) (t : Layout V) (after : Option Coord) where
       let inactive : ((field_of bits t).cell q).on ≡ false = subst (λ (x : Skip). IsSkipped bits x t q) e s in
       false_true (sym inactive ∙ k.1)
 
-  -- at the start
+  -- a listing at the start of a walk
   pub listing_start : (walk : TreeWalk V) → IsWalk bits t walk → walk.skip ≡ Inactive → ((q : Coord) → IsTrue (is_inside walk.box q) → IsPastLast bits after q → IsTrue (is_left bits walk.at q)) → IsListing bits t after walk None
   listing_start walk is skip left = record { walk = is; skip = skip; part = tt; rest = λ q i k. inr (left q i k.0) }
 
@@ -112,7 +112,7 @@ module _ {V : Type 0} (bits : Bits) (t : Layout V) (after : Option Coord) where
           ];
     }
 
-  -- the first in the part is the first of all
+  -- the first coordinate in the part is the first of all
   module _ (walk : TreeWalk V) (part : Held V) (listing : IsListing bits t after walk (Some part)) where
     pub first_of_all : (p : Coord) → IsFirst bits (IsActivePast bits after (field_of bits t)) part.bounds (Some p) → IsFirst bits (IsActivePast bits after (field_of bits t)) walk.box (Some p)
     first_of_all p h = (
@@ -124,7 +124,7 @@ module _ {V : Type 0} (bits : Bits) (t : Layout V) (after : Option Coord) where
       ],
     )
 
-    -- where it has none, that is left of the walk
+    -- if the part has none, the voxel is in the rest of the walk
     pub none_in_part : IsFirst bits (IsActivePast bits after (field_of bits t)) part.bounds None → IsListing bits t after walk None
     none_in_part h = record {
       walk = listing.walk;
@@ -133,7 +133,7 @@ module _ {V : Type 0} (bits : Bits) (t : Layout V) (after : Option Coord) where
       rest = λ q i k. elim (listing.rest q i k) [ inl within ↦ absurd (h q within k) | inr left ↦ inr left ];
     }
 
-    -- and past a later one
+    -- a listing past one coordinate is a listing past a later one
     pub listing_past : (p : Coord) → IsPastLast bits after p → IsListing bits t (Some p) walk (Some part)
     listing_past p h = record {
       walk = listing.walk;
@@ -158,7 +158,7 @@ module _ {V : Type 0} (bits : Bits) (t : Layout V) (after : Option Coord) where
       rest = λ q i k. absurd (none_at_end q (subst (λ (b : Box). IsTrue (is_inside b q)) passes.box i) k);
     }
 
--- ---- where a walk begins
+-- ---- the start of a walk
 
 module _ {V : Type 0} (bits : Bits) (t : Layout V) (walk : TreeWalk V) (box : Box) (is : IsWalk bits t walk) (skip : walk.skip ≡ Inactive) (same : walk.box ≡ box) where
   pub listing_from : (after : Coord) → ((q : Coord) → IsTrue (is_inside box q) → is_left bits walk.at q ≡ false → ComesBefore bits q after) → IsListing bits t (Some after) walk None
@@ -192,7 +192,7 @@ module _ {V : Type 0} (bits : Bits) (t : Layout V) where
       of_leaf (TileContent cell) bounds h = tt
       of_leaf (LeafContent leaf) bounds h = h.block
 
-  -- a part that is of no tile lies in one leaf block
+  -- a part of no tile lies in one leaf block
   pub in_one_block : (held : Held V) → IsHeld bits t held → ((cell : Cell V) → held.tile ≡ Some cell → ⊥) → IsInLeafBlock bits held.bounds
   in_one_block held is none = by held.tile none is.leaf
     where
@@ -209,7 +209,7 @@ module _ {V : Type 0} (bits : Bits) (t : Layout V) where
         around q (within_each part everywhere q h.1 i) (block q part.min i (min_inside part h.0));
   }
 
-  -- and one cell where the block has one
+  -- the part has one cell if the block has one
   pub part_of_cell : (part : Box) (corner : Coord) (cell : Cell V) → is_bounds part ≡ true → IsInLeafBlock bits part → corner ≡ part.min
       → ((q : Coord) → IsTrue (is_inside everywhere q) → block_number bits Leaf q ≡ block_number bits Leaf corner → (field_of bits t).cell q ≡ (field_of bits t).cell corner)
       → (field_of bits t).cell corner ≡ cell → (q : Coord) → IsTrue (is_inside part q) → (field_of bits t).cell q ≡ cell
@@ -217,7 +217,7 @@ module _ {V : Type 0} (bits : Bits) (t : Layout V) where
       let h = both (is_box part) (is_within part everywhere) bounds in
       tile q (within_each part everywhere q h.1 i) (block q part.min i (min_inside part h.0) ∙ ap (block_number bits Leaf) (sym same)) ∙ here
 
--- ---- where one was looked for in a part
+-- ---- a part that was searched
 
 module _ {V : Type 0} (bits : Bits) (t : Layout V) (after : Option Coord) (walk : TreeWalk V) (part : Held V) (listing : IsListing bits t after walk (Some part)) where
   pub found_in_part : (found : Option (Coord × V)) → is_some found ≡ true → IsFirst bits (IsActivePast bits after (field_of bits t)) part.bounds (option_map (λ item. item.0) found)

@@ -40,7 +40,7 @@ none_some (Some x) e h = cc
 none_some None e h = false_true h
 
 module _ {V : Type 0} (bits : Bits) (t : Layout V) where
-  -- no entry lies past a key that the table ends before
+  -- no entry lies past a key if the table ends before
   pub none_of_key : (after : Option Coord) → IsNextKey t.root after None → IsFirst bits (IsEntered bits t after) everywhere None
   none_of_key after none = λ q i k. none_some (root_at t.root (key bits q)) (none (key bits q) k.1) k.0
 
@@ -66,14 +66,14 @@ module _ {V : Type 0} (bits : Bits) (t : Layout V) where
       )
 
   module _ (last : Coord) where
-    -- what comes past the last one lies in its root block, or under a later key
+    -- a coordinate past the last one lies in its root block, or under a later key
     here_or_later : (q : Coord) → IsPastLast bits (Some last) q → (key bits q ≡ key bits last) ⊎ (coord_cmp (key bits last) (key bits q) ≡ Less)
     here_or_later q h = elim (precedes bits last q h) [ inl l ↦ inr l | inr s ↦ inl (sym s.0) ]
 
     in_block : (q : Coord) → key bits q ≡ key bits last → is_inside (block_around bits Upper last) q ≡ true
     in_block q e = inside_numbered bits Upper (key bits last) q e
 
-    -- the first of its own root block
+    -- the first coordinate past the last one in its own root block
     pub first_here : AreBits bits → IsTrue (is_inside everywhere last) → IsSome (root_at t.root (key bits last)) → (p : Coord) → IsFirst bits (IsPastLast bits (Some last)) (block_around bits Upper last) (Some p)
         → IsFirst bits (IsEnteredPast bits t (Some last)) everywhere (Some p)
     first_here configured inside entry p h =
@@ -86,7 +86,7 @@ module _ {V : Type 0} (bits : Bits) (t : Layout V) where
           ],
         )
 
-    -- or the first under a later key
+    -- or the first coordinate under a later key
     pub first_later : IsFirst bits (IsPastLast bits (Some last)) (block_around bits Upper last) None → (found : Option Coord) → IsFirst bits (IsEntered bits t (Some (key bits last))) everywhere found
         → IsFirst bits (IsEnteredPast bits t (Some last)) everywhere found
     first_later none (Some p) h =
@@ -100,7 +100,7 @@ up_from bits Upper p q e = e
 up_from bits Lower p q e = upper_from_lower bits p q e
 up_from bits Leaf p q e = upper_from_lower bits p q (lower_from_leaf bits p q e)
 
--- what doesn't come before one coordinate of a block, but before another, lies in the block
+-- a coordinate between two of one block, from the first on and before the second, lies in the block
 pub together : (bits : Bits) (level : Level) (m n q : Coord) → block_number bits level m ≡ block_number bits level n → is_lt (block_cmp bits q m) ≡ false → is_lt (block_cmp bits q n) ≡ true
     → block_number bits level q ≡ block_number bits level n
 together bits level m n q same not_before before = by level same (precedes bits q n before)
@@ -146,7 +146,7 @@ max_inside b h =
     itself x = grind (arith, ints)
 
 module _ {V : Type 0} (bits : Bits) (t : Layout V) where
-  -- a piece is a tile's block, all of whose coordinates have it
+  -- a piece is a tile's block, and all its coordinates have that piece
   pub record IsTileOver (level : Level) (n : Coord) : Type 0 where
     pub box : piece_around bits t n ≡ block_around bits level n
     pub each : (q : Coord) → block_number bits level q ≡ block_number bits level n → piece_around bits t q ≡ block_around bits level q
@@ -197,7 +197,7 @@ module _ {V : Type 0} (bits : Bits) (t : Layout V) where
   tile_or_voxel : (n : Coord) → ((level : Level) × IsTileOver level n) ⊎ (piece_around bits t n ≡ record { min = n; max = n })
   tile_or_voxel n = by_root n (root_entry bits t n) refl
 
-  -- all coordinates of a piece have it
+  -- all coordinates of a piece have that piece
   pub one_piece : (n q : Coord) → is_inside (piece_around bits t n) q ≡ true → (piece_around bits t q ≡ piece_around bits t n) × (key bits q ≡ key bits n)
   one_piece n q i =
       elim (tile_or_voxel n) [
@@ -268,6 +268,6 @@ module _ {V : Type 0} (bits : Bits) (t : Layout V) where
     pub no_piece : IsFirst bits (IsEnteredPast bits t last) everywhere None → IsNextPiece bits passage None
     no_piece none p ahead = none p ahead.inside (ahead.entry, ahead.past)
 
-  -- all are past no last one
+  -- without a last one, all coordinates are ahead
   pub all_ahead : (found : Option Coord) → IsFirst bits (IsEntered bits t None) everywhere found → IsFirst bits (IsEnteredPast bits t None) everywhere found
   all_ahead found h = first_same bits (IsEntered bits t None) (IsEnteredPast bits t None) everywhere (λ q i k. (k.0, refl)) (λ q i k. (k.0, tt)) found h

@@ -1,4 +1,4 @@
--- The coordinate from which on a walk may not pass over what comes: where its next part begins.
+-- The coordinate at which a walk's next part begins: a walk may not skip from there on.
 use Rattle.std.proofs.Common.{◌≡◌, inl, inr, sym, ap, ◌∙◌, refl, subst, true, false, not, IsTrue}
 use Rattle.std.specs.Prelude.{Option, Some, None}
 use Rattle.std.specs.Ordering.{is_lt}

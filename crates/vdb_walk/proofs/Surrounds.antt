@@ -1,4 +1,4 @@
--- Least boxes: two joined, and one found part by part.
+-- Bounding boxes: of two boxes, and found part by part.
 use Rattle.std.proofs.Common.{◌≡◌, ◌⊎◌, sym, ap, ◌∙◌, refl, subst, ℕ, ◌+◌, ◌<◌, ◌≤◌, ℤ, ◌-ℤ◌, unsigned_abs, Bool, true, false, not, ◌&&◌, ◌||◌, inl, inr, int_le, List, Option, Some, None, arith, IsTrue}
 use Rattle.std.specs.Int.{int_max, int_min}
 use Rattle.std.specs.Ordering.{is_lt}
@@ -25,7 +25,7 @@ use Rattle.vdb_walk.specs.Reports.{IsActiveBounds}
 use Rattle.vdb_walk.specs.internal.Surround.{Surrounds, is_in, is_wanted, is_wanted_by}
 use Rattle.vdb_walk.proofs.VoxelRows.{run_inside}
 
--- ---- two boxes joined
+-- ---- the bounding box of two boxes
 
 first_along : (l h m k x : ℤ) → is_between l h x ≡ true → is_between (int_min l m) (int_max h k) x ≡ true
 first_along l h m k x i = grind (arith, ints)
@@ -106,7 +106,7 @@ module _ (a b : Box) where
   never : true ≡ false → ⊥
   never e = cc
 
-  -- their corners never fail to make a box
+  -- the corners of the two boxes always give a box
   pub joined_never : is_box a ≡ true → box_of least_corner greatest_corner ≡ None → ⊥
   joined_never order e = never (sym (joined_ordered order) ∙ box_of_none least_corner greatest_corner e)
 
@@ -115,7 +115,7 @@ module _ (a b : Box) where
 
 -- ---- part by part
 
--- what surrounds coordinates surrounds the same ones told otherwise
+-- a box that surrounds coordinates also surrounds the same ones given by another test
 pub same_wanted : (v w : Coord → Bool) (found : Option Box) → ((p : Coord) → v p ≡ true → w p ≡ true) → ((p : Coord) → w p ≡ true → v p ≡ true) → Surrounds v found → Surrounds w found
 same_wanted v w found there back s = record {
   holds = λ p h. s.holds p (back p h);
@@ -127,7 +127,7 @@ module _ {V : Type 0} (f : Field V) where
   on p = (f.cell p).on
 
   module _ (found : Option Box) (part : Box) where
-    -- a part that adds nothing
+    -- a part that adds no coordinate
     pub kept : ((p : Coord) → is_inside part p ≡ true → on p ≡ true → is_in found p ≡ true) → Surrounds (is_wanted f found part) found
     kept h = record {
       holds = λ p w. elim (or_cases (is_in found p) (is_inside part p && on p) w) [
@@ -140,11 +140,11 @@ module _ {V : Type 0} (f : Field V) where
     no_state : (p : Coord) → on p ≡ false → on p ≡ true → is_in found p ≡ true
     no_state p e h = absurd (let never : false ≡ true = sym e ∙ h in cc)
 
-    -- an inactive part
+    -- an inactive part adds no coordinate
     pub kept_off : ((p : Coord) → is_inside part p ≡ true → on p ≡ false) → Surrounds (is_wanted f found part) found
     kept_off h = kept (λ p i e. no_state p (h p i) e)
 
-    -- an active part
+    -- an active part extends the box
     pub grown : (result : Option Box) → Surrounds (λ p. is_in found p || is_inside part p) result → ((p : Coord) → is_inside part p ≡ true → on p ≡ true) → Surrounds (is_wanted f found part) result
     grown result s h =
         same_wanted (λ p. is_in found p || is_inside part p) (is_wanted f found part) result
@@ -164,7 +164,7 @@ module _ {V : Type 0} (bits : Bits) (t : Layout V) where
   abbrev whole_field : Field V
   whole_field = field_of bits t
 
-  -- no voxel past the range is active
+  -- no voxel outside the range is active
   in_space : (p : Coord) → (whole_field.cell p).on ≡ true → is_inside everywhere p ≡ true
   in_space p = either (is_inside everywhere p) (cell_at bits t p)
     where
@@ -185,7 +185,7 @@ module _ {V : Type 0} (bits : Bits) (t : Layout V) where
         and_true (is_inside other box.min) (is_inside other box.max) (each box.min (min_inside box order)) (each box.max (max_inside box order)),
   )
 
--- ---- a walk that passes over what is inactive
+-- ---- a walk that skips inactive parts
 
 turned : (b : Bool) → b ≡ false → not b ≡ true
 turned b h = rw h refl
@@ -201,7 +201,7 @@ module _ {V : Type 0} (bits : Bits) (t : Layout V) where
   abbrev active : Coord → Bool
   active p = ((field_of bits t).cell p).on
 
-  -- whether the coordinate is active, and isn't left
+  -- whether the coordinate is active and no longer left
   abbrev pub is_found : Option Coord → Coord → Bool
   is_found at p = is_inside everywhere p && (active p && not (is_left bits at p))
 
@@ -214,7 +214,7 @@ module _ {V : Type 0} (bits : Bits) (t : Layout V) where
       let rest = both (active p) (not (is_left bits at p)) first.1 in
       (first.0, rest.0, unturned (is_left bits at p) rest.1)
 
-  -- at its start nothing is found
+  -- at the walk's start no coordinate is found
   pub found_first : Surrounds (is_found (Some everywhere.min)) None
   found_first = record {
     holds = λ p w. let h = is_parts (Some everywhere.min) p w in absurd (not_before_min bits everywhere p h.0 (before (is_lt (block_cmp bits p everywhere.min)) h.2));
@@ -230,7 +230,7 @@ module _ {V : Type 0} (bits : Bits) (t : Layout V) where
     off_now but passes p i l gone out =
         subst (λ (s : Skip). IsSkipped bits s t p) skip (passes.passed p (subst (λ (b : Box). is_inside b p ≡ true) (sym box) i) l gone out)
 
-    -- a part adds its own
+    -- a part adds its own coordinates
     pub found_more : (part : Box) → YieldsBox bits t old new part → (found result : Option Box) → Surrounds (is_found old.at) found → Surrounds (is_wanted (field_of bits t) found part) result → Surrounds (is_found new.at) result
     found_more part y found result first second = record {
       holds = λ p w. let h = is_parts new.at p w in elim (bool_cases (is_left bits old.at p)) [
@@ -255,7 +255,7 @@ module _ {V : Type 0} (bits : Bits) (t : Layout V) where
             never_left true n = absurd (n refl)
             never_left false n = refl
 
-    -- at its end all is found
+    -- at the walk's end all coordinates are found
     pub found_all : Passes bits t old new (λ q. false) → new.at ≡ None → (found : Option Box) → Surrounds (is_found old.at) found → Surrounds (is_wanted (field_of bits t) None everywhere) found
     found_all passes none found s =
         same_wanted (is_found old.at) (is_wanted (field_of bits t) None everywhere) found
@@ -286,13 +286,13 @@ only_self p box is q inside =
     λ i. record { x = x i; y = y i; z = z i }
 
 module _ (bits : Bits) (states : List Bool) (found : Option Box) (part : Box) where
-  -- the box around what was found and the voxels of the part before an entry
+  -- the bounding box of what was found and of the part's voxels before an entry
   pub record Reaches (from : ℕ) (around : Option Box) : Type 0 where
     pub former : (p : Coord) → is_in found p ≡ true → is_in around p ≡ true
     pub passed : (p : Coord) → is_inside part p ≡ true → is_set bits states p ≡ true → offset bits Leaf p < from → is_in around p ≡ true
     pub least : (other : Box) → ((p : Coord) → is_wanted_by bits states found part p ≡ true → is_inside other p ≡ true) → (p : Coord) → is_in around p ≡ true → is_inside other p ≡ true
 
-  -- the next one, and voxels of the box that follow it
+  -- the next voxel, and voxels of the box that follow it
   pub reaches_next : IsInFirstBlock bits part → (from entry : ℕ) (p : Coord) (voxel : Box) (around : Option Box) (grown : Box) (past : ℕ) → Reaches from around → IsNextSetAt bits states part from entry p
       → voxel ≡ record { min = p; max = p } → Surrounds (λ q. is_in around q || is_inside voxel q) (Some grown)
       → past ≤ entry + unsigned_abs (int_min part.max.z grown.max.z -ℤ p.z) + 1 → Reaches past (Some grown)
@@ -317,7 +317,7 @@ module _ (bits : Bits) (states : List Bool) (found : Option Box) (part : Box) wh
           let at = next.at in
           run_inside bits part grown block p next.inside there q i (omega (arith, at, later)) (omega (arith, at, to, run))
 
-  -- no further one
+  -- no voxel is left
   pub reaches_all : (from : ℕ) (around : Option Box) → Reaches from around → IsNextSet bits states part from None → Surrounds (is_wanted_by bits states found part) around
   reaches_all from around old none = record {
     holds = λ p w. elim (or_cases (is_in found p) (is_inside part p && is_set bits states p) w) [

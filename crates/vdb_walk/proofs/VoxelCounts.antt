@@ -1,4 +1,4 @@
--- The voxels of a leaf in a box counted by the states of the leaf.
+-- Counts the voxels of a leaf in a box by the states of the leaf.
 use Rattle.std.proofs.Common.{◌≡◌, inl, inr, refl, zero, suc, pos, ◌+ℤ◌, ◌-ℤ◌, unsigned_abs, sym, ap, ◌∙◌, subst, ℕ, ◌+◌, ◌<◌, ◌≤◌, Bool, true, false, not, ◌&&◌, ◌||◌, List, [], ◌∷◌, arith, nat_lt}
 use Rattle.std.specs.Prelude.{None}
 use Rattle.std.specs.Int.{int_min}
@@ -65,7 +65,7 @@ module _ (bits : Bits) (states : List Bool) (part : Box) where
   abbrev pub set_from : ℕ → ℕ
   set_from from = count_by (λ q. is_set bits states q && is_from from q) (coordinates part)
 
-  -- none is left
+  -- if no such voxel is left, the count is 0
   pub set_end : (from : ℕ) → IsNextSet bits states part from None → set_from from ≡ 0
   set_end from none =
       count_listed part (λ q. is_set bits states q && is_from from q) [] nothing_apart
@@ -87,7 +87,7 @@ module _ (bits : Bits) (states : List Bool) (part : Box) where
       | inr e ↦ absurd (let never : false ≡ true = sym out ∙ ap (λ r. coord_eq r p) (same_entry bits part block q p i next.inside (e ∙ sym next.at)) ∙ coord_equiv.refl p in cc)
     ]
 
-    -- past the next there is one less
+    -- past the next voxel the count is one less
     pub set_less : 1 + set_from (entry + 1) ≡ set_from from
     set_less =
         count_split part (λ q. is_set bits states q && is_from from q) (λ q. coord_eq q p) (λ q. is_set bits states q && is_from (entry + 1) q) (p ∷ []) (one_apart p)
@@ -114,7 +114,7 @@ module _ (bits : Bits) (states : List Bool) (part : Box) where
     })
 
     module _ (from entry : ℕ) (p : Coord) (next : IsNextSetAt bits states part from entry p) where
-      -- past a run of such voxels along z there are as many less as it has
+      -- past a run of k such voxels along z the count is k less
       pub set_run_less : (k : ℕ) → k ≤ unsigned_abs (int_min part.max.z part.max.z -ℤ p.z) → ((i : ℕ) → entry < i → i < entry + k + 1 → is_on states i ≡ true)
           → (k + 1) + set_from (entry + k + 1) ≡ set_from from
       set_run_less zero near on = let less = set_less block from entry p next in let e = counted_from in omega (arith, less, e)
@@ -136,11 +136,11 @@ module _ {V : Type 0} (bits : Bits) (f : Field V) (part : Box) (leaf : LeafOf V)
   pub has_states : (p : Coord) → is_inside part p ≡ true → (f.cell p).on ≡ is_set bits leaf.states p
   has_states p i = ap (λ (c : Cell V). c.on) (of_leaf.cells p i)
 
-  -- a part of it
+  -- the count of a part of the leaf
   pub cut_counted : set_count bits leaf.states part ≡ count f part
   cut_counted = sym (count_alike part (λ p. (f.cell p).on) (is_set bits leaf.states) has_states)
 
-  -- it lies in one block
+  -- the part lies in one block
   pub in_one_block : is_box part ≡ true → IsInFirstBlock bits part
   in_one_block order q j = of_leaf.block q part.min j (min_inside part order)
 
@@ -148,7 +148,7 @@ module _ {V : Type 0} (bits : Bits) (f : Field V) (part : Box) (leaf : LeafOf V)
     corner_in : is_inside part part.min ≡ true
     corner_in = min_inside part (both (is_box part) (is_within part everywhere) bounds).0
 
-    -- its whole block
+    -- the count of the leaf's whole block
     pub whole_counted : AreBits bits → part ≡ block_around bits Leaf part.min → on_count leaf.states (entries bits Leaf) ≡ count f part
     whole_counted configured block =
         leaf_counted bits configured f part.min leaf (within_each part everywhere part.min (both (is_box part) (is_within part everywhere) bounds).1 corner_in)

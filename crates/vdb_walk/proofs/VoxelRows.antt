@@ -1,4 +1,4 @@
--- Where a leaf's voxels are: their coordinates by entry, and the entries of voxels that follow one another along z.
+-- The voxels of a leaf: their coordinates by entry, and the entries of voxels that follow one another along z.
 use Rattle.std.proofs.Common.{◌≡◌, ◌∙◌, sym, ap, subst, ℕ, ℤ, pos, ◌+◌, ◌-◌, ◌*◌, ◌/◌, ◌%◌, ◌<◌, ◌≤◌, ◌^◌, ◌+ℤ◌, ◌-ℤ◌, ◌≤ℤ◌, unsigned_abs, SFits, w32, true, arith}
 use Rattle.std.specs.Int.{int_min}
 use Rattle.std.proofs.Math.Nat.{div-div-eq-div-mul}
@@ -19,7 +19,7 @@ use Rattle.vdb_walk.proofs.VoxelSeeks.{same_entry}
 
 -- ---- the voxel of an entry
 
--- a position of a block fits as the block does
+-- a position in a block fits if the block does
 pub position_fits : (bits : ℕ) (x : ℤ) (position : ℕ) → bits ≤ 5 → SFits w32 x → position < 2 ^ bits → SFits w32 (first_of bits (number_at bits x) +ℤ pos position)
 position_fits bits x position few f less =
     let whole : bits ≤ 31 = omega (arith, few) in
@@ -60,7 +60,7 @@ position_further b x k h =
 regrouped : (a c k : ℕ) → a + (c + k) ≡ a + c + k
 regrouped a c k = omega arith
 
--- so is the entry
+-- k numbers further along z, the entry is k further
 entry_further : (bits : Bits) (p : Coord) (k : ℕ) → (p.z +ℤ pos k) ≤ℤ last_of bits.leaf (number_at bits.leaf p.z) → offset bits Leaf (coord p.x p.y (p.z +ℤ pos k)) ≡ offset bits Leaf p + k
 entry_further bits p k h =
     let n = 2 ^ bits.leaf in
@@ -77,7 +77,7 @@ on_from : (y x : ℤ) (k : ℕ) → y ≤ℤ x → y ≤ℤ (x +ℤ pos k)
 on_from y x k h = omega (arith, ints, h)
 
 module _ (bits : Bits) (part other : Box) (block : IsInFirstBlock bits part) (p : Coord) (inside : is_inside part p ≡ true) (both : is_inside other p ≡ true) where
-  -- a coordinate that many further along z lies in both boxes
+  -- a coordinate k further along z lies in both boxes
   further_inside : (k : ℕ) → k ≤ unsigned_abs (int_min part.max.z other.max.z -ℤ p.z)
       → (is_inside part (coord p.x p.y (p.z +ℤ pos k)) ≡ true) × (is_inside other (coord p.x p.y (p.z +ℤ pos k)) ≡ true)
   further_inside k h =
@@ -88,14 +88,14 @@ module _ (bits : Bits) (part other : Box) (block : IsInFirstBlock bits part) (p 
         inside_from other (coord p.x p.y (p.z +ℤ pos k)) b.0.0 b.0.1 b.1.0 b.1.1 (on_from other.min.z p.z k b.2.0) ends.1,
       )
 
-  -- it is in the block of the part
+  -- the coordinate k further lies in the block of the part
   further_in_block : (k : ℕ) → is_inside part (coord p.x p.y (p.z +ℤ pos k)) ≡ true → (p.z +ℤ pos k) ≤ℤ last_of bits.leaf (number_at bits.leaf p.z)
   further_in_block k i =
       let z = p.z +ℤ pos k in
       let same : number_at bits.leaf z ≡ number_at bits.leaf p.z = ap (λ (t : Coord). t.z) (block (coord p.x p.y z) i ∙ sym (block p inside)) in
       subst (λ (t : ℤ). z ≤ℤ last_of bits.leaf t) same (own_end bits.leaf z)
 
-  -- and so its entry is that much further
+  -- the entry of the coordinate k further is k further
   pub further_voxel : (k : ℕ) → k ≤ unsigned_abs (int_min part.max.z other.max.z -ℤ p.z)
       → (is_inside part (coord p.x p.y (p.z +ℤ pos k)) ≡ true) × (offset bits Leaf (coord p.x p.y (p.z +ℤ pos k)) ≡ offset bits Leaf p + k)
   further_voxel k h = let i = (further_inside k h).0 in (i, entry_further bits p k (further_in_block k i))

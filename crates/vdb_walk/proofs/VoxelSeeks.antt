@@ -20,7 +20,7 @@ below_or_from m n = grind arith
 pub before_or_at : (o entry : ℕ) → o < entry + 1 → (o < entry) ⊎ (o ≡ entry)
 before_or_at o entry h = grind arith
 
--- in one leaf block the voxel of an entry is one alone
+-- in one leaf block only one voxel has a given entry
 pub same_entry : (bits : Bits) (part : Box) → IsInFirstBlock bits part → (p q : Coord) → is_inside part p ≡ true → is_inside part q ≡ true → offset bits Leaf p ≡ offset bits Leaf q → p ≡ q
 same_entry bits part block p q i j e = voxel_from_leaf bits p q (block p i ∙ sym (block q j)) e
 
@@ -51,7 +51,7 @@ module _ (bits : Bits) (states : List Bool) (part : Box) (from : ℕ) where
           at_index : offset bits Leaf p ≡ index
           at_index = ap (offset bits Leaf) corner ∙ (corner_of_entry bits Leaf part.min index set_below).1
 
-          -- its voxel is the next, where it lies in the part
+          -- the entry's voxel is the next if it lies in the part
           pub set_found : is_inside part p ≡ true → IsNextSet bits states part from (Some (index, p))
           set_found i = record {
             from_on = let first = done.from_on in let on = next.from_on in omega (arith, first, on);
@@ -61,7 +61,7 @@ module _ (bits : Bits) (states : List Bool) (part : Box) (from : ℕ) where
             before = before;
           }
 
-          -- and elsewhere it is passed
+          -- the entry is passed if its voxel lies outside the part
           pub set_passed : IsInFirstBlock bits part → is_inside part p ≡ false → IsInactiveTo (index + 1)
           set_passed block beside = record {
             from_on = let first = done.from_on in let on = next.from_on in omega (arith, first, on);
@@ -71,11 +71,11 @@ module _ (bits : Bits) (states : List Bool) (part : Box) (from : ℕ) where
             ];
           }
 
--- the first from the start on is an entry of the leaf
+-- the first entry from the start on whose state is on is an entry of the leaf
 pub near_below : (bits : Bits) (states : List Bool) (part : Box) (from n index : ℕ) → IsNextAt true states n from index → IsOffFrom states (entries bits Leaf) → index < entries bits Leaf
 near_below bits states part from n index next past_end = set_below bits states part from from n (inactive_first bits states part from) index next past_end
 
--- and the next voxel of the part, where it lies in it
+-- and its voxel is the next voxel of the part if it lies in the part
 pub near_found : (bits : Bits) (states : List Bool) (part : Box) (from n index : ℕ) → IsNextAt true states n from index → IsOffFrom states (entries bits Leaf)
     → (p : Coord) → p ≡ (sub_block bits Leaf (block_around bits Leaf part.min) index).min → is_inside part p ≡ true → IsNextSetAt bits states part from index p
 near_found bits states part from n index next past_end p corner inside = set_found bits states part from from n (inactive_first bits states part from) index next past_end p corner inside

@@ -1,4 +1,4 @@
--- What a listing yields first is the first of what it has before it.
+-- The first voxel that a listing yields is the first of those left before.
 use Rattle.std.proofs.Common.{◌≡◌, inl, inr, sym, ap, ◌∙◌, refl, Bool, true, false, List, [], ◌∷◌}
 use Rattle.std.specs.Prelude.{Option, Some, None, filter}
 use Rattle.std.specs.List.{find}

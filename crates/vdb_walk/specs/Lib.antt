@@ -1,4 +1,4 @@
--- Boxes cut in two, reports on a field, and a tree's pieces in turn.
+-- Boxes cut in two, reports on a field, and the pieces of a tree one after another.
 pub mod Reports
 pub mod Passing
 pub mod internal

@@ -9,20 +9,20 @@ use Rattle.vdb_tree.specs.Layout.{Layout, field_of, root_at}
 use Rattle.vdb_tree.specs.Pieces.{piece_around}
 use Rattle.vdb_tree.specs.declared.queries.pieces.Piece.{Piece}
 
--- How far a passage through a tree's pieces has come.
+-- The state of a passage through a tree's pieces.
 pub record Passage (V : Type 0) : Type 0 where
   pub tree : Layout V
   -- the last coordinate, in block order, of the piece that was yielded last
   pub last : Option Coord
 
 module _ {V : Type 0} (bits : Bits) where
-  -- p lies in a root block that has an entry, past all pieces that were yielded
+  -- p lies in a root block that has an entry, and comes past all pieces that were yielded
   pub record IsAhead (passage : Passage V) (p : Coord) : Type 0 where
     pub inside : IsTrue (is_inside everywhere p)
     pub entry : IsSome (root_at passage.tree.root (key bits p))
     pub past : IsTrue (is_past bits passage.last p)
 
-  -- the tree's piece around the first coordinate that is ahead, or none where none is
+  -- the tree's piece around the first coordinate ahead, or none if none is ahead
   abbrev pub IsNextPiece : Passage V → Option (Piece V) → Type 0
   IsNextPiece passage None = (p : Coord) → IsAhead passage p → ⊥
   IsNextPiece passage (Some piece) =

@@ -1,4 +1,4 @@
-//! Active voxels counted.
+//! Counts active voxels.
 
 ghost use Rattle.std.specs.Prelude.{◌≡◌, ◌+◌, ◌*◌, ◌<◌, ◌≤◌, ◌^◌, false, IfSome, IsTrue, Some};
 ghost use Rattle.std.specs.Option.{unwrap_or};
@@ -24,9 +24,10 @@ use vdb_pool::Steps;
 use vdb_tree::{Content, Part, Skip, TreeOf};
 use vdb_value::Cell;
 
-/// How many voxels of the box are active, or of all coordinates where there is no box (OpenVDB's `tools::countActiveVoxels` and
-/// `Tree::activeVoxelCount`). Root blocks that lie within the box are counted along the masks of their nodes. Of the others what
-/// the box has of an active tile counts at once, and so does a leaf that lies within the box. It takes no memory.
+/// Returns how many voxels of the box are active, or how many of all coordinates if `bounds` is `None` (OpenVDB's
+/// `tools::countActiveVoxels` and `Tree::activeVoxelCount`). It counts an upper extent that lies within the box along the masks
+/// of its nodes. In the others it counts each active tile's part of the box in one go, and each leaf that lies within the box by
+/// its states. It allocates nothing.
 pub fn count<
     V: Stored<WU> + Stored<WL> + Stored<WF>,
     const U: u32,
@@ -45,8 +46,8 @@ pub fn count<
     }
 }
 
-/// How many voxels of the box are active, from root block to root block: those that the box covers are counted along their
-/// nodes, and of the others what the box has of them.
+/// Returns how many voxels of the box are active. It visits root block after root block: it counts a block that the box covers
+/// along its nodes, and of each other block the part that lies in the box.
 fn count_blocks<
     V: Stored<WU> + Stored<WL> + Stored<WF>,
     const U: u32,
@@ -69,8 +70,8 @@ fn count_blocks<
     total
 }
 
-/// How many voxels are active that the box has of the first root block with an active one from `p` on, and its first coordinate past
-/// that block.
+/// Returns two things: how many voxels of the box are active in the first root block from `p` on with an active one, and the
+/// first coordinate of the box past that block.
 fn count_next<
     V: Stored<WU> + Stored<WL> + Stored<WF>,
     const U: u32,
@@ -100,7 +101,7 @@ fn count_next<
     }
 }
 
-/// How many voxels that the box has of the root block around a coordinate are active.
+/// Returns how many voxels of the box are active in the root block around a coordinate.
 fn count_around<
     V: Stored<WU> + Stored<WL> + Stored<WF>,
     const U: u32,
@@ -122,7 +123,7 @@ fn count_around<
     }
 }
 
-/// How many voxels of the box are active.
+/// Returns how many voxels of the box are active.
 fn count_in<
     V: Stored<WU> + Stored<WL> + Stored<WF>,
     const U: u32,
@@ -135,7 +136,7 @@ fn count_in<
     ensures value { result ≡ active_count (field_of (bits_of U L F) tree.now) bounds }
     ensures bound { result ≤ 2 ^ 96 }
 {
-    let _ = (tree.mask_words(), bounds.min()); // no nodes are too great, nor does the sum overflow
+    let _ = (tree.mask_words(), bounds.min()); // no node is too large, and the sum does not overflow
     let mut walk = tree.parts(bounds, Skip::Inactive);
     let mut total = 0;
     'parts: while let Some(part) = tree.next_part(&mut walk, steps) {
@@ -148,7 +149,7 @@ fn count_in<
     total
 }
 
-/// How many voxels of the part are active, if each has this cell.
+/// Returns how many voxels of the part are active, if each voxel has this cell.
 fn count_tile<
     V: Stored<WU> + Stored<WL> + Stored<WF>,
     const U: u32,
@@ -165,7 +166,7 @@ fn count_tile<
     if cell.on { part.volume() } else { 0 }
 }
 
-/// How many voxels of the part, which lies in the block of the leaf, are active.
+/// Returns how many voxels of the part are active. The part lies in the leaf's extent.
 fn count_leaf<
     V: Stored<WU> + Stored<WL> + Stored<WF>,
     const U: u32,
@@ -186,8 +187,8 @@ fn count_leaf<
     u128::from(leaf.count_on())
 }
 
-/// How many voxels of the part, which lies in the block of the leaf with these states, are on. A run of them along z counts at
-/// once.
+/// Returns how many voxels of the part have their state on. The part lies in the extent of the leaf with these states. A run of
+/// such voxels along z counts in one go.
 fn count_states<const W: usize>(states: &Mask<W>, bits: Bits, part: Bounds) -> u32
     requires configured { AreBits bits }
     requires few_words { W ≤ 512 }

@@ -1,4 +1,4 @@
-//! The box around the active voxels.
+//! Finds the bounding box of the active voxels.
 
 ghost use Rattle.std.specs.Prelude.{◌≡◌, ◌*◌, ◌≤◌, ◌||◌, IfSome, IsTrue};
 ghost use Rattle.vdb_coord.specs.Blocks.{entries};
@@ -21,9 +21,9 @@ use vdb_pool::Steps;
 use vdb_tree::{Content, Part, Skip, TreeOf};
 use vdb_value::Cell;
 
-/// The least box that holds every active voxel, those inside active tiles too; `None` where no voxel is active (OpenVDB's
-/// `Tree::evalActiveVoxelBoundingBox`). What lies within the box found so far is passed over at once, and a tile counts at
-/// once. It takes no memory.
+/// Returns the bounding box of all active voxels, those inside active tiles too, or `None` if no voxel is active (OpenVDB's
+/// `Tree::evalActiveVoxelBoundingBox`). It skips each part that lies within the box found so far, and takes a tile in one go. It
+/// allocates nothing.
 pub fn active_bounds<
     V: Stored<WU> + Stored<WL> + Stored<WF>,
     const U: u32,
@@ -48,7 +48,7 @@ pub fn active_bounds<
     found
 }
 
-/// The least box that holds what was found so far and every active voxel of the part, if each of its voxels has this cell.
+/// Returns the bounding box of what was found so far and of the part's active voxels, if each voxel of the part has this cell.
 fn around_tile<
     V: Stored<WU> + Stored<WL> + Stored<WF>,
     const U: u32,
@@ -75,7 +75,7 @@ fn around_tile<
     }
 }
 
-/// The least box that holds what was found so far and every active voxel of the part, which lies in the block of the leaf.
+/// Returns the bounding box of what was found so far and of the part's active voxels. The part lies in the leaf's extent.
 fn around_leaf<
     V: Stored<WU> + Stored<WL> + Stored<WF>,
     const U: u32,
@@ -101,9 +101,9 @@ fn around_leaf<
     around_voxels(&leaf.states().copied(), tree.bits(), part, found)
 }
 
-/// The least box that holds what was found so far and every voxel of the part, which lies in the block of the leaf with these
-/// states, whose state is on. It finds them by the words of the states, and passes over what follows along z within the box
-/// found so far.
+/// Returns the bounding box of what was found so far and of the part's voxels whose state is on. The part lies in the extent of
+/// the leaf with these states. The function finds the voxels by the words of the states, and skips those that follow along z
+/// within the box found so far.
 fn around_voxels<const W: usize>(
     states: &Mask<W>,
     bits: Bits,
@@ -130,7 +130,7 @@ fn around_voxels<const W: usize>(
     around
 }
 
-/// Whether the part lies within the box found so far.
+/// Returns whether the part lies within the box found so far.
 fn lies_within(part: Bounds, found: &Option<Bounds>) -> bool
     ensures { IsTrue result → (p : _) → IsTrue (is_inside part p) → IsTrue (is_in found.now p) }
 {
@@ -140,7 +140,7 @@ fn lies_within(part: Bounds, found: &Option<Bounds>) -> bool
     }
 }
 
-/// The least box that holds the part and what was found so far.
+/// Returns the bounding box of the part and of what was found so far.
 fn joined(found: Option<Bounds>, part: Bounds) -> Bounds
     ensures least { Surrounds (λ p. is_in found p || is_inside part p) (Some result) }
     ensures order { IsTrue (is_box result) }

@@ -1,4 +1,4 @@
-//! The next active voxel in block order.
+//! Finds the next active voxel in block order.
 
 ghost use Rattle.std.specs.Prelude.{◌≡◌, ◌≤◌, ◌*◌, IfNone, IfSome, None, Some, true};
 ghost use Rattle.std.specs.List.{find};
@@ -27,8 +27,9 @@ use vdb_pool::Steps;
 use vdb_tree::{Content, Part, Skip, TreeOf, Walk};
 use vdb_value::Cell;
 
-/// The first active voxel of the box past `after` in block order, or the first of all, with its value; `None` where there is
-/// none. It takes no memory, passes an inactive tile at once, and tells the voxels of a leaf by the words of its states.
+/// Returns the first active voxel of the box past `after` in block order, with its value, or the first of all if `after` is
+/// `None`. It returns `None` if no such voxel exists. It allocates nothing, skips an inactive tile in one go, and finds the
+/// voxels of a leaf by the words of its states.
 pub fn next_active<
     V: Stored<WU> + Stored<WL> + Stored<WF>,
     const U: u32,
@@ -49,7 +50,7 @@ pub fn next_active<
     listing.next(steps)
 }
 
-/// A walk over the parts with active voxels, from the one around `after` on.
+/// Returns a walk over the parts with active voxels, from the one around `after` on.
 pub(crate) fn begun<
     V: Stored<WU> + Stored<WL> + Stored<WF>,
     const U: u32,
@@ -73,7 +74,8 @@ pub(crate) fn begun<
     }
 }
 
-/// The first active voxel past `after` in what is left of the walk, with the part that it is in, which the walk yields last.
+/// Finds the first active voxel past `after` in the rest of the walk. Returns it with its part, which is then the last that the
+/// walk yielded.
 pub(crate) fn next_found<
     V: Stored<WU> + Stored<WL> + Stored<WF>,
     const U: u32,
@@ -104,7 +106,8 @@ pub(crate) fn next_found<
     None
 }
 
-/// The first active voxel past `after` of a part that the walk has yielded, by one visit where the walk's path ends in its leaf.
+/// Returns the first active voxel past `after` in a part that the walk has yielded. It needs one visit if the walk's path ends in
+/// the part's leaf.
 pub(crate) fn first_held<
     V: Stored<WU> + Stored<WL> + Stored<WF>,
     const U: u32,
@@ -143,7 +146,7 @@ pub(crate) fn first_held<
     }
 }
 
-/// The first active voxel of the part past `after`.
+/// Returns the first active voxel of the part past `after`.
 fn first_in<
     V: Stored<WU> + Stored<WL> + Stored<WF>,
     const U: u32,
@@ -172,7 +175,7 @@ fn first_in<
     }
 }
 
-/// The first active voxel of the part past `after`, where the part has this cell all over.
+/// Returns the first active voxel of the part past `after`, if each voxel of the part has this cell.
 fn first_in_tile<V: Copy>(
     cell: Cell<V>,
     bits: Bits,
@@ -192,7 +195,7 @@ fn first_in_tile<V: Copy>(
     }
 }
 
-/// The first active voxel of the part past `after`, where the part lies in the leaf's block.
+/// Returns the first active voxel of the part past `after`. The part lies in the leaf's extent.
 fn first_in_leaf<V: Stored<W>, const F: u32, const W: usize>(
     leaf: &Leaf<V, F, W>,
     bits: Bits,
@@ -217,8 +220,8 @@ fn first_in_leaf<V: Stored<W>, const F: u32, const W: usize>(
     }
 }
 
-/// What `first_in_leaf` answers where `after` lies in the part and so does the next voxel of the leaf whose state is on; `None`
-/// where it isn't so, and then there may be a later one. This is the short way, for most of the voxels of a leaf.
+/// Returns the answer of `first_in_leaf` if `after` and the leaf's next voxel whose state is on both lie in the part. Otherwise
+/// it returns `None`, and a later voxel may still exist. It is the fast path, for most voxels of a leaf.
 fn near_in_leaf<V: Stored<W>, const F: u32, const W: usize>(
     leaf: &Leaf<V, F, W>,
     bits: Bits,
@@ -255,8 +258,8 @@ fn near_in_leaf<V: Stored<W>, const F: u32, const W: usize>(
     Some((voxel, leaf.entry(index).value))
 }
 
-/// The first entry of the leaf past `after`, for the coordinates of the part, which lies in the leaf's block; `None` where none
-/// of them comes past it.
+/// Returns the leaf's first entry past `after` among the coordinates of the part, which lies in the leaf's extent. Returns `None`
+/// if none of them comes past `after`.
 fn entry_past(bits: Bits, after: Option<Coord>, part: Bounds) -> Option<u32>
     requires configured { AreBits bits }
     requires block { IsInLeafBlock bits part }
@@ -276,7 +279,7 @@ fn entry_past(bits: Bits, after: Option<Coord>, part: Bounds) -> Option<u32>
     }
 }
 
-/// That entry, where the last one may lie beside the part.
+/// Returns the same entry as `entry_past`, also if `after` lies outside the part.
 fn first_entry(bits: Bits, after: Option<Coord>, part: Bounds) -> Option<u32>
     requires configured { AreBits bits }
     requires block { IsInLeafBlock bits part }

@@ -1,4 +1,4 @@
-//! Boxes cut in two, along the edges of blocks.
+//! Cuts boxes in two along the edges of blocks.
 
 ghost use Rattle.std.specs.Prelude.{◌≡◌, ◌≤◌, ◌^◌, ◌≤ℤ◌, ◌<ℤ◌, pos, IfSome, IsNone, IsTrue};
 ghost use Rattle.vdb_coord.specs.Components.{first_of, number_at};
@@ -9,8 +9,8 @@ ghost use Rattle.vdb_walk.specs.internal.Halves.{AreInBlockOrder, AreOrdered, Is
 
 use vdb_coord::{Bits, Bounds, Coord, Level};
 
-/// The box in two parts, cut along the edge of root blocks if there is one within it, else of lower blocks, else of leaf
-/// blocks, else of voxels; `None` where it is one voxel. So no tile is cut before the part lies within its block, and the first
+/// Cuts the box in two along an edge of root blocks if one lies within it, else of lower blocks, else of leaf blocks, else of
+/// voxels. Returns `None` if the box is one voxel. So it cuts no tile before the part lies within the tile's block, and the first
 /// part comes before the second in block order.
 pub(crate) fn halves(part: Bounds, bits: Bits) -> Option<(Bounds, Bounds)>
     requires { AreBits bits }
@@ -30,7 +30,7 @@ pub(crate) fn halves(part: Bounds, bits: Bits) -> Option<(Bounds, Bounds)>
     cut(part, 0)
 }
 
-/// The box cut along an edge of blocks of 2 to the power `least`, along x, else along y, else along z.
+/// Cuts the box along an edge of blocks of 2 to the power `least`: along x, else along y, else along z.
 pub(crate) fn cut(part: Bounds, least: u32) -> Option<(Bounds, Bounds)>
     requires { least ≤ 15 }
     ensures some { IfSome result (λ parts. IsHalved part parts.0 parts.1) }
@@ -50,7 +50,7 @@ pub(crate) fn cut(part: Bounds, least: u32) -> Option<(Bounds, Bounds)>
     }
 }
 
-/// The box cut along x: what lies below a number, and what lies from it on.
+/// Cuts the box along x: the voxels below a number, and those from it on.
 fn cut_x(part: Bounds, x: i32) -> (Bounds, Bounds)
     requires { (part.min.x <ℤ x) × (x ≤ℤ part.max.x) }
     ensures halved { IsHalved part result.0 result.1 }
@@ -65,7 +65,7 @@ fn cut_x(part: Bounds, x: i32) -> (Bounds, Bounds)
     two(part, last, first)
 }
 
-/// The box cut along y: what lies below a number, and what lies from it on.
+/// Cuts the box along y: the voxels below a number, and those from it on.
 fn cut_y(part: Bounds, y: i32) -> (Bounds, Bounds)
     requires { (part.min.y <ℤ y) × (y ≤ℤ part.max.y) }
     ensures halved { IsHalved part result.0 result.1 }
@@ -80,7 +80,7 @@ fn cut_y(part: Bounds, y: i32) -> (Bounds, Bounds)
     two(part, last, first)
 }
 
-/// The box cut along z: what lies below a number, and what lies from it on.
+/// Cuts the box along z: the voxels below a number, and those from it on.
 fn cut_z(part: Bounds, z: i32) -> (Bounds, Bounds)
     requires { (part.min.z <ℤ z) × (z ≤ℤ part.max.z) }
     ensures halved { IsHalved part result.0 result.1 }
@@ -95,7 +95,7 @@ fn cut_z(part: Bounds, z: i32) -> (Bounds, Bounds)
     two(part, last, first)
 }
 
-/// The boxes from the part's least corner to `last`, and from `first` to its greatest.
+/// Returns the boxes from the part's least corner to `last`, and from `first` to its greatest corner.
 fn two(part: Bounds, last: Coord, first: Coord) -> (Bounds, Bounds)
     requires low { IsTrue (is_box (record { min = part.min; max = last })) }
     requires high { IsTrue (is_box (record { min = first; max = part.max })) }
@@ -111,7 +111,7 @@ fn two(part: Bounds, last: Coord, first: Coord) -> (Bounds, Bounds)
     }
 }
 
-/// The first number of a block of 2 to the power `least` that begins above `low`, up to `high`: the one in the middle.
+/// Returns the first number of a block of 2 to the power `least` that begins above `low` and not above `high`: the middle one.
 fn edge(low: i32, high: i32, least: u32) -> Option<i32>
     requires { least ≤ 15 }
     ensures some { IfSome result (λ at. (low <ℤ at) × (at ≤ℤ high)) }
@@ -125,7 +125,7 @@ fn edge(low: i32, high: i32, least: u32) -> Option<i32>
     Some(middle(first, last) * span(least))
 }
 
-/// Which block of 2 to the power `bits` holds the component, counted in such blocks.
+/// Returns the number of the block of 2 to the power `bits` that holds the component, counted in such blocks.
 fn number(component: i32, bits: u32) -> i32
     requires { bits ≤ 15 }
     ensures { result ≡ number_at bits component }
@@ -133,7 +133,7 @@ fn number(component: i32, bits: u32) -> i32
     component >> bits
 }
 
-/// How many numbers such a block holds.
+/// Returns how many numbers a block of 2 to the power `bits` holds.
 fn span(bits: u32) -> i32
     requires { bits ≤ 15 }
     ensures { result ≡ pos (2 ^ bits) }
@@ -141,7 +141,7 @@ fn span(bits: u32) -> i32
     1 << bits
 }
 
-/// A number above the first, up to the last, as far from both.
+/// Returns the number halfway between the first and the last, rounded up: above the first, up to the last.
 fn middle(first: i32, last: i32) -> i32
     requires { first <ℤ last }
     ensures { (first <ℤ result) × (result ≤ℤ last) }

@@ -1,4 +1,4 @@
-//! The part of a tree that a listing is in.
+//! Defines the part of a tree that a listing is in.
 
 ghost use Rattle.std.specs.Prelude.{◌≡◌};
 ghost use Rattle.vdb_walk.specs.internal.Listings.{tile_of};
@@ -7,14 +7,14 @@ use vdb_coord::Bounds;
 use vdb_tree::{Content, Part};
 use vdb_value::Cell;
 
-/// A part of a tree without its leaf: its bounds, and the cell where it is of a tile.
+/// A part of a tree without its leaf: its bounds, and its cell if it is part of a tile.
 #[derive(Clone, Copy)]
 pub(crate) struct Held<V> {
     pub(crate) bounds: Bounds,
     pub(crate) tile: Option<Cell<V>>,
 }
 
-/// The part without its leaf.
+/// Returns the part without its leaf.
 pub(crate) fn without_leaf<V: Copy, L: Copy>(part: &Part<V, L>) -> Held<V>
     ensures bounds { result.bounds ≡ part.now.bounds }
     ensures tile { result.tile ≡ tile_of part.now.content }

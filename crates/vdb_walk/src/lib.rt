@@ -1,4 +1,4 @@
-//! What a tree holds, told piece by piece: a tile at once, a leaf by the words of its states.
+//! Reads the contents of a tree piece by piece: each tile in one go, each leaf by the words of its states.
 #![tactic(auto)]
 
 mod active_count;

@@ -1,4 +1,4 @@
-//! The active voxels of a box in block order, one after another.
+//! Lists the active voxels of a box in block order, one after another.
 
 ghost use Rattle.std.specs.Prelude.{◌≡◌, ◌≢◌, ◌↔◌, [], IfNone, IfSome, IsTrue, Some};
 ghost use Rattle.vdb_tree.specs.Layout.{bits_of, field_of};
@@ -15,8 +15,8 @@ use vdb_node::{Internal, Leaf, Stored};
 use vdb_pool::Steps;
 use vdb_tree::{Skip, TreeOf, Walk};
 
-/// The active voxels of a box in block order, each with its value, up to a limit on how many are yielded (what OpenVDB's
-/// `Tree::cbeginValueOn` walks, a tile voxel by voxel). It reads the tree as it goes and takes no memory.
+/// The active voxels of a box in block order, each with its value, up to a limit on how many are yielded (OpenVDB's
+/// `Tree::cbeginValueOn`, with a tile voxel by voxel). It reads the tree as it goes and allocates nothing.
 #[derive(Drop)]
 pub struct Listing<
     'a,
@@ -59,7 +59,7 @@ impl<
     ghost invariant = { λ l. IsListing (bits_of U L F) l.tree.now l.last l.walk l.part };
 }
 
-/// The active voxels of the box in block order: at most `limit` of them are yielded.
+/// Returns the listing of the box's active voxels in block order. It yields at most `limit` voxels.
 pub fn list<
     'a,
     V: Stored<WU> + Stored<WL> + Stored<WF>,
@@ -86,7 +86,7 @@ pub fn list<
     }
 }
 
-/// The active voxels of the box past the last one in block order: at most `limit` of them are yielded.
+/// Returns the listing of the box's active voxels past `last` in block order. It yields at most `limit` voxels.
 pub(crate) fn list_past<
     'a,
     V: Stored<WU> + Stored<WL> + Stored<WF>,
@@ -125,7 +125,7 @@ impl<
     const WL: usize,
     const WF: usize,
 > Listing<'a, V, U, L, F, WU, WL, WF> {
-    /// The next voxel with its value; `None` where no more are left, or the limit is reached.
+    /// Returns the next voxel with its value, or `None` if no voxel is left or the limit is reached.
     pub fn next(&mut self, steps: &mut Steps) -> Option<(Coord, V)>
         ensures { Yields self.old result self.new }
     {
@@ -143,8 +143,8 @@ impl<
         }
     }
 
-    /// Whether an active voxel of the box follows the last one that was yielded, or there is one at all before the first. The
-    /// limit does not count.
+    /// Returns whether an active voxel of the box follows the last one that was yielded. Before the first, it returns whether the
+    /// box has an active voxel. It ignores the limit.
     pub fn more(&self, steps: &mut Steps) -> bool
         ensures { IsTrue result ↔ (self.now.rest ≢ []) }
     {
@@ -152,8 +152,8 @@ impl<
     }
 }
 
-/// The first active voxel past the last one: in the part that the walk yielded last, or else in what is left of it. The part
-/// becomes the one that it is in.
+/// Returns the first active voxel past the last one: from the part that the walk yielded last, or else from the rest of the walk.
+/// It sets the part to the one that holds the voxel.
 fn yield_next<
     V: Stored<WU> + Stored<WL> + Stored<WF>,
     const U: u32,

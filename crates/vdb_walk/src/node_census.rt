@@ -1,4 +1,4 @@
-//! The entries and nodes that a field needs, counted in a tree.
+//! Counts the entries and nodes that a field needs.
 
 ghost use Rattle.std.specs.Prelude.{◌≡◌, ◌+◌, ◌<◌, ◌≤◌, cond, not, IfSome, Some};
 ghost use Rattle.vdb_coord.specs.Blocks.{block_around};
@@ -18,11 +18,11 @@ use vdb_node::Stored;
 use vdb_pool::Steps;
 use vdb_tree::{Skip, TreeOf};
 
-/// The entries and nodes that the tree's field needs: what `node_counts` says after a prune, found without one (OpenVDB's
-/// `Tree::nodeCount` after `tools::prune`). For upper and lower blocks it goes along the tree's entries and nodes: from the
-/// table's entries down to the blocks of the level that aren't the background, each of which it visits up to the first
-/// difference that is found in it; a tile of a level above counts at once, and nothing is visited where there is no entry. For
-/// leaf blocks it goes from leaf to leaf, past the tiles between them. It takes no memory.
+/// Returns how many entries and nodes the tree's field needs: the counts that `node_counts` has after a prune, but without
+/// pruning (OpenVDB's `Tree::nodeCount` after `tools::prune`). For the upper and lower extents it follows the tree's entries and
+/// nodes, from the root table down to the blocks that are not the background. It visits each such block up to the first
+/// difference that it finds. It counts a tile of a higher level in one go, and visits nothing if the table has no entry there.
+/// For the leaf extents it goes from leaf to leaf and skips the tiles between them. It allocates nothing.
 pub fn census<
     V: Stored<WU> + Stored<WL> + Stored<WF>,
     const U: u32,
@@ -46,7 +46,7 @@ pub fn census<
     }
 }
 
-/// How many blocks of the level have cells that differ.
+/// Returns how many blocks of the level have cells that differ.
 fn non_constant_blocks<
     V: Stored<WU> + Stored<WL> + Stored<WF>,
     const U: u32,
@@ -74,7 +74,7 @@ fn non_constant_blocks<
     total
 }
 
-/// How many nodes of the level there are, each over a block of its own: no fewer than blocks whose cells differ.
+/// Returns how many nodes the level has, each over a block of its own: no fewer than the blocks whose cells differ.
 fn node_count<
     V: Stored<WU> + Stored<WL> + Stored<WF>,
     const U: u32,
@@ -94,9 +94,9 @@ fn node_count<
     }
 }
 
-/// Whether the cells differ of the first block from `p` on that isn't passed over, and a coordinate past it. Passed over are blocks
-/// of the background, inactive, and a tile of a level above counts as one block; past a leaf block the coordinate is that of the
-/// next leaf.
+/// Finds the first block from `p` on that isn't skipped. Returns whether its cells differ, and a coordinate past it. The function
+/// skips blocks of inactive background, and takes a tile of a higher level as one block. Past a leaf block the coordinate is that
+/// of the next leaf.
 fn next_block<
     V: Stored<WU> + Stored<WL> + Stored<WF>,
     const U: u32,
@@ -129,7 +129,7 @@ fn next_block<
     }
 }
 
-/// Whether the cells of the leaf block around a coordinate differ, and the first leaf that begins past the coordinate.
+/// Returns whether the cells of the leaf block around a coordinate differ, and the first leaf that begins past the coordinate.
 fn leaf_at<
     V: Stored<WU> + Stored<WL> + Stored<WF>,
     const U: u32,
@@ -146,7 +146,7 @@ fn leaf_at<
     (differs, tree.next_leaf(Some(p), steps))
 }
 
-/// Whether the cells of the leaf block around a coordinate differ, by at most three visits.
+/// Returns whether the cells of the leaf block around a coordinate differ, by at most three visits.
 fn leaf_differs<
     V: Stored<WU> + Stored<WL> + Stored<WF>,
     const U: u32,
@@ -169,7 +169,8 @@ fn leaf_differs<
     }
 }
 
-/// The level's block around a coordinate, or the upper one if that lies in a tile; and whether its cells differ.
+/// Returns a level, and whether the cells of that level's block around a coordinate differ. The level is the given one, or the
+/// upper one if the upper block lies in a tile.
 fn block_at<
     V: Stored<WU> + Stored<WL> + Stored<WF>,
     const U: u32,

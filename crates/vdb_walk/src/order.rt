@@ -1,4 +1,4 @@
-//! The coordinates of a box in block order.
+//! Orders the coordinates of a box in block order.
 
 ghost use Rattle.std.specs.Prelude.{◌≡◌, IsTrue, Some};
 ghost use Rattle.vdb_coord.specs.Blocks.{is_past};
@@ -9,7 +9,7 @@ ghost use Rattle.vdb_walk.specs.internal.Firsts.{IsFirst, IsNextVoxel, IsPastLas
 use crate::halves::halves;
 use vdb_coord::{Bits, Bounds, Coord, Level};
 
-/// Whether a coordinate comes past the last one in block order; each does where there is no last one.
+/// Returns whether a coordinate comes past the last one in block order. Each coordinate does if `last` is `None`.
 pub(crate) fn is_past(bits: Bits, last: Option<Coord>, p: Coord) -> bool
     requires { AreBits bits }
     ensures { result ≡ is_past bits last p }
@@ -20,7 +20,7 @@ pub(crate) fn is_past(bits: Bits, last: Option<Coord>, p: Coord) -> bool
     }
 }
 
-/// The first coordinate of the part past the last one, in block order.
+/// Returns the first coordinate of the part past the last one, in block order.
 pub(crate) fn first_past(bits: Bits, last: Option<Coord>, part: Bounds) -> Option<Coord>
     requires { AreBits bits }
     ensures { IsFirst bits (IsPastLast bits last) part result }
@@ -37,7 +37,8 @@ pub(crate) fn first_past(bits: Bits, last: Option<Coord>, part: Bounds) -> Optio
     }
 }
 
-/// The first coordinate of the part past one of its own, in block order: in the leaf block around that, or else in the next.
+/// Returns the first coordinate of the part past `p`, which lies in it, in block order: in the leaf block around `p`, or else in
+/// the next.
 fn next_in(bits: Bits, part: Bounds, p: Coord) -> Option<Coord>
     requires bits { AreBits bits }
     requires inside { IsTrue (is_inside part p) }
@@ -52,7 +53,7 @@ fn next_in(bits: Bits, part: Bounds, p: Coord) -> Option<Coord>
     }
 }
 
-/// The first coordinate of the part past one of its own: by x, then by y, then by z.
+/// Returns the first coordinate of the part past `p`, which lies in it: by x, then by y, then by z.
 fn next_voxel(part: Bounds, p: Coord) -> Option<Coord>
     requires { IsTrue (is_inside part p) }
     ensures { IsNextVoxel part p result }
@@ -82,8 +83,8 @@ fn next_voxel(part: Bounds, p: Coord) -> Option<Coord>
     None
 }
 
-/// That coordinate, where the last one may lie beside the part. It halves the part until its least corner, which is its
-/// first coordinate, comes past the last one.
+/// Returns the first coordinate of the part past the last one, also if the last one lies outside the part. It halves the part
+/// until its least corner, which is its first coordinate, comes past the last one.
 fn first_beyond(bits: Bits, last: Option<Coord>, part: Bounds) -> Option<Coord>
     requires { AreBits bits }
     ensures { IsFirst bits (IsPastLast bits last) part result }

@@ -1,4 +1,4 @@
-//! Where the next part of a walk begins.
+//! Finds the coordinate at which the next part of a walk begins.
 
 ghost use Rattle.std.specs.Prelude.{◌≤◌, IsTrue};
 ghost use Rattle.vdb_coord.specs.Space.{is_inside};
@@ -11,8 +11,8 @@ use vdb_node::{Internal, Leaf, Stored};
 use vdb_pool::Steps;
 use vdb_tree::{Skip, TreeOf, Walk};
 
-/// The first coordinate, from `p` on, of what the box has of the tiles and leaves that aren't passed over; `None` where there is
-/// none.
+/// Returns the first coordinate, from `p` on, of the box's parts of the tiles and leaves that aren't skipped, or `None` if no
+/// such part is left.
 pub(crate) fn start_from<
     V: Stored<WU> + Stored<WL> + Stored<WF>,
     const U: u32,
@@ -45,7 +45,7 @@ pub(crate) fn start_from<
     }
 }
 
-/// The first coordinate of the next part of a walk.
+/// Returns the first coordinate of the next part of a walk.
 fn part_from<
     V: Stored<WU> + Stored<WL> + Stored<WF>,
     const U: u32,

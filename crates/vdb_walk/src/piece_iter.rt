@@ -1,4 +1,4 @@
-//! The pieces of a tree in block order, one after another.
+//! Yields the pieces of a tree in block order, one after another.
 
 ghost use Rattle.std.specs.Prelude.{◌≡◌, ◌+◌, ◌≤◌, IfSome, IsSome, IsTrue};
 ghost use Rattle.std.specs.Option.{option_map, option_or};
@@ -17,7 +17,7 @@ use vdb_pool::Steps;
 use vdb_tree::{Piece, TreeOf};
 
 /// The pieces under the entries of a tree's root table in block order: its tiles, active or not, and the voxels of its leaves
-/// (what OpenVDB's `Tree::cbeginValueAll` walks). It reads the tree as it goes and takes no memory.
+/// (OpenVDB's `Tree::cbeginValueAll`). It reads the tree as it goes and allocates nothing.
 #[derive(Drop)]
 pub struct Pieces<
     'a,
@@ -65,14 +65,14 @@ impl<
     const WL: usize,
     const WF: usize,
 > Pieces<'a, V, U, L, F, WU, WL, WF> {
-    /// All pieces under the entries of the tree's root table.
+    /// Returns an iterator over all pieces under the entries of the tree's root table.
     pub fn new(tree: &'a TreeOf<V, U, L, F, WU, WL, WF>) -> Self
         ensures { result ≡ record { tree = tree.now; last = None } }
     {
         Pieces { tree, last: None }
     }
 
-    /// The next piece, by at most three visits; `None` where no more are left.
+    /// Returns the next piece, by at most three visits, or `None` if no piece is left.
     pub fn next(&mut self, steps: &mut Steps) -> Option<Piece<V>>
         ensures piece { IsNextPiece (bits_of U L F) self.old result }
         ensures tree { self.new.tree ≡ self.old.tree }
@@ -90,7 +90,8 @@ impl<
     }
 }
 
-/// The first coordinate past the last one in the root blocks that have an entry, or of all of them.
+/// Returns the first coordinate past the last one in the root blocks that have an entry, or the first of all if there is no last
+/// one.
 fn first_ahead<
     V: Stored<WU> + Stored<WL> + Stored<WF>,
     const U: u32,
@@ -110,7 +111,8 @@ fn first_ahead<
     }
 }
 
-/// The first coordinate past the last one in the root blocks that have an entry, of which its own is one.
+/// Returns the first coordinate past the last one in the root blocks that have an entry. The last one's own root block has an
+/// entry.
 fn first_past_piece<
     V: Stored<WU> + Stored<WL> + Stored<WF>,
     const U: u32,
@@ -132,7 +134,8 @@ fn first_past_piece<
     }
 }
 
-/// The first coordinate of the root blocks past a key that have an entry, or of all of them.
+/// Returns the first coordinate of the root blocks that have an entry and a key past the given one, or of all of them without a
+/// key.
 fn first_of_key<
     V: Stored<WU> + Stored<WL> + Stored<WF>,
     const U: u32,

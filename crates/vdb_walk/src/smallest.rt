@@ -1,15 +1,15 @@
-//! How large the smallest tree of a field is.
+//! Defines the size of the smallest tree of a field.
 
-/// How many root blocks hold anything but the background, and how many blocks of each level aren't constant: the entries and
-/// nodes of the smallest tree with these cells, whatever nodes there are.
+/// The size of the smallest tree with these cells, whatever nodes the tree itself has: how many root blocks hold anything but the
+/// background, and how many blocks of each level aren't constant.
 #[derive(Clone, Copy, Debug, PartialEq, Eq)]
 pub struct Census {
-    /// Root blocks with a cell that isn't the background, inactive.
+    /// Root blocks with a cell other than the inactive background.
     pub roots: u64,
-    /// Root blocks whose cells aren't all equal.
+    /// Upper extents (root blocks) whose cells aren't all equal.
     pub upper: u64,
-    /// Blocks of lower nodes whose cells aren't all equal.
+    /// Lower extents whose cells aren't all equal.
     pub lower: u64,
-    /// Blocks of leaves whose cells aren't all equal.
+    /// Leaf extents whose cells aren't all equal.
     pub leaf: u64,
 }

@@ -1,4 +1,4 @@
-//! Boxes of one cell.
+//! Tests whether a box has only one cell.
 
 ghost use Rattle.std.specs.Prelude.{◌≡◌, ◌<◌, ◌≤◌, ◌↔◌, false, IfSome, IsNone, IsTrue, Some};
 ghost use Rattle.vdb_coord.specs.Blocks.{entries};
@@ -16,10 +16,10 @@ use vdb_pool::Steps;
 use vdb_tree::{Content, Skip, TreeOf, Walk};
 use vdb_value::Cell;
 
-/// The one cell that each voxel of the box has, or `None` where two differ in value or state (what OpenVDB's
-/// `LeafNode::isConstant` says of a leaf, of any box and without a tolerance). What the box has of a tile counts at once, and a
-/// leaf of one cell by the words of its states and then its values. It stops at the first difference that it finds, and takes
-/// no memory.
+/// Returns the cell that each voxel of the box has, or `None` if two voxels differ in value or state. OpenVDB's
+/// `LeafNode::isConstant` does that for a leaf; this is for any box, and without a tolerance. It tests a tile's part of the box
+/// in one go, and a leaf of one cell by the words of its states and then its values. It stops at the first difference, and
+/// allocates nothing.
 pub fn uniform<
     V: Stored<WU> + Stored<WL> + Stored<WF>,
     const U: u32,
@@ -40,8 +40,8 @@ pub fn uniform<
     }
 }
 
-/// Whether each voxel of the box has this cell. Where that is the background, inactive, it passes over whatever has it too;
-/// otherwise no root block of the box may be absent.
+/// Returns whether each voxel of the box has this cell. If the cell is the inactive background, it skips the parts with that
+/// cell; otherwise each root block of the box needs an entry.
 fn has_only<
     V: Stored<WU> + Stored<WL> + Stored<WF>,
     const U: u32,
@@ -66,7 +66,7 @@ fn has_only<
     parts_are(tree, bounds, Skip::Absent, cell, steps)
 }
 
-/// Whether a voxel in each root block that meets the box has this cell, of which it looks at one for each.
+/// Returns whether, in each root block that meets the box, a voxel has this cell. It looks at one voxel of each block.
 fn roots_have<
     V: Stored<WU> + Stored<WL> + Stored<WF>,
     const U: u32,
@@ -92,7 +92,7 @@ fn roots_have<
     }
 }
 
-/// Whether each part of the box has only this cell, but for what is passed over.
+/// Returns whether each part of the box that isn't skipped has only this cell.
 fn parts_are<
     V: Stored<WU> + Stored<WL> + Stored<WF>,
     const U: u32,
@@ -116,7 +116,7 @@ fn parts_are<
     rest_is(tree, &mut walk, cell, steps)
 }
 
-/// Whether each coordinate of the parts of a walk that begins has the cell.
+/// Returns whether each coordinate in the parts of a walk at its start has the cell.
 fn rest_is<
     V: Stored<WU> + Stored<WL> + Stored<WF>,
     const U: u32,
@@ -147,7 +147,7 @@ fn rest_is<
     true
 }
 
-/// Whether each voxel of the part has this cell.
+/// Returns whether each voxel of the part has this cell.
 fn part_is<
     V: Stored<WU> + Stored<WL> + Stored<WF>,
     const U: u32,
@@ -173,7 +173,7 @@ fn part_is<
     }
 }
 
-/// Whether each voxel of the part of a tile has this cell.
+/// Returns whether each voxel of a tile's part has this cell.
 fn tile_is<
     V: Stored<WU> + Stored<WL> + Stored<WF>,
     const U: u32,
@@ -191,7 +191,7 @@ fn tile_is<
     tile == cell
 }
 
-/// Whether each voxel of the part of a leaf has this cell: the leaf at once if its own are all one, else voxel by voxel.
+/// Returns whether each voxel of a leaf's part has this cell: in one step if the leaf has only one cell, else voxel by voxel.
 fn leaf_is<
     V: Stored<WU> + Stored<WL> + Stored<WF>,
     const U: u32,
@@ -212,7 +212,7 @@ fn leaf_is<
     }
 }
 
-/// Whether each voxel of a part of a leaf has the cell, voxel by voxel.
+/// Returns whether each voxel of a leaf's part has the cell, voxel by voxel.
 fn voxels_are<
     V: Stored<WU> + Stored<WL> + Stored<WF>,
     const U: u32,
@@ -234,7 +234,7 @@ fn voxels_are<
     true
 }
 
-/// Whether the voxel of the leaf's entry has this cell, if it lies in the part.
+/// Returns whether the voxel of the leaf's entry has this cell, if it lies in the part; true otherwise.
 fn voxel_is<
     V: Stored<WU> + Stored<WL> + Stored<WF>,
     const U: u32,

@@ -1,4 +1,4 @@
-//! The voxels of a leaf that lie in a box, one after another.
+//! Finds the voxels of a leaf that lie in a box, one after another.
 
 ghost use Rattle.std.specs.Prelude.{◌≡◌, ◌+◌, ◌*◌, ◌<◌, ◌≤◌, ◌^◌, ◌+ℤ◌, ◌-ℤ◌, ℕ, pos, true, unsigned_abs, IfSome};
 ghost use Rattle.std.specs.Int.{int_min};
@@ -13,8 +13,8 @@ ghost use Rattle.vdb_walk.specs.internal.Voxels.{IsInFirstBlock, IsNextSet};
 use vdb_coord::{Bits, Bounds, Coord, Level};
 use vdb_mask::Mask;
 
-/// The first voxel of the part, which lies in the block of the leaf with these states, from an entry of the leaf on whose state
-/// is on, after its entry; `None` where there is none.
+/// Returns the entry and the voxel of the part's first voxel whose state is on, from an entry of the leaf on, or `None` if no
+/// such voxel exists. The part lies in the extent of the leaf with these states.
 pub(crate) fn next_set<const W: usize>(
     states: &Mask<W>,
     bits: Bits,
@@ -33,8 +33,8 @@ pub(crate) fn next_set<const W: usize>(
     next_set_in(states, bits, part, block_corner(bits, part), from)
 }
 
-/// The first voxel of the part from an entry of the leaf on whose state is on, after its entry; `None` where there is none. The
-/// part lies in the leaf's block, which has this least corner.
+/// Returns the entry and the voxel of the part's first voxel whose state is on, from an entry of the leaf on, or `None` if no
+/// such voxel exists. The part lies in the leaf's extent, which has this least corner.
 pub(crate) fn next_set_in<const W: usize>(
     states: &Mask<W>,
     bits: Bits,
@@ -63,7 +63,7 @@ pub(crate) fn next_set_in<const W: usize>(
     None
 }
 
-/// The least corner of the leaf block around the part's least corner.
+/// Returns the least corner of the leaf block around the part's least corner.
 pub(crate) fn block_corner(bits: Bits, part: Bounds) -> Coord
     requires { AreBits bits }
     ensures { result ≡ (block_around bits leaf_level part.min).min }
@@ -72,7 +72,7 @@ pub(crate) fn block_corner(bits: Bits, part: Bounds) -> Coord
     number.numbered_block_in(bits, Level::Leaf).min()
 }
 
-/// The voxel of an entry of the leaf around a coordinate, whose block has this least corner.
+/// Returns the voxel of an entry of the leaf around a coordinate. The leaf's extent has this least corner.
 fn voxel_at(bits: Bits, p: Coord, corner: Coord, entry: u32) -> Coord
     requires configured { AreBits bits }
     requires corner { corner ≡ (block_around bits leaf_level p).min }
@@ -89,7 +89,7 @@ fn voxel_at(bits: Bits, p: Coord, corner: Coord, entry: u32) -> Coord
     }
 }
 
-/// How many voxels a leaf has along an axis.
+/// Returns how many voxels a leaf has along an axis.
 fn width(leaf: u32) -> u32
     requires { leaf ≤ 5 }
     ensures value { result ≡ 2 ^ leaf }
@@ -98,7 +98,8 @@ fn width(leaf: u32) -> u32
     1 << leaf
 }
 
-/// The number in this position of the block of `2 ^ bits` numbers around a component, whose first number is given.
+/// Returns the number at this position of the block of `2 ^ bits` numbers around a component. The caller gives the block's first
+/// number.
 fn component_at(first: i32, component: i32, bits: u32, position: u32) -> i32
     requires few { bits ≤ 5 }
     requires first { first ≡ first_of bits (number_at bits component) }
@@ -109,7 +110,8 @@ fn component_at(first: i32, component: i32, bits: u32, position: u32) -> i32
     first + position as i32
 }
 
-/// The entry past the voxels that follow `p` along z in both boxes, where `p` is at this entry; the limit where it comes first.
+/// Returns the entry past the voxels that follow `p` along z in both boxes, or the limit if that comes first. `p` is at the given
+/// entry.
 pub(crate) fn past_run(part: Bounds, other: Bounds, p: Coord, entry: u32, limit: u32) -> u32
     requires { entry < limit }
     ensures past { entry < result }
@@ -123,7 +125,8 @@ pub(crate) fn past_run(part: Bounds, other: Bounds, p: Coord, entry: u32, limit:
         .min(limit)
 }
 
-/// The entry past a run of voxels along z in the part whose states are on. The run begins with `p`, which is at this entry.
+/// Returns the entry past a run of voxels along z in the part whose states are on. The run begins with `p`, which is at the given
+/// entry.
 pub(crate) fn run_end<const W: usize>(states: &Mask<W>, part: Bounds, p: Coord, entry: u32) -> u32
     requires few_words { W ≤ 512 }
     requires within { entry < 64 * W }

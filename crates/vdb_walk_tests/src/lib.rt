@@ -1,4 +1,4 @@
-//! Tests of counts, bounds, lists, pieces and the census, by public calls alone.
+//! Tests counts, bounds, lists, pieces and the census, through public calls alone.
 #![tactic(auto)]
 
 #[cfg(test)]

@@ -1,4 +1,4 @@
-//! Trees of both layouts and of the smallest nodes. Expected values are worked out by hand.
+//! Tests trees of both layouts and of the smallest nodes. Expected values are worked out by hand.
 mod acts;
 mod bounding_box;
 mod census;
@@ -64,7 +64,7 @@ fn single_voxels(rt: HostRuntime) {
     play_433(&rt, rt.alloc(), 0, &acts, &mut Steps::new(&rt));
 }
 
-// A tile of each level: a root block of 4,096 cubed, a lower block of 128 cubed beside it, and a leaf block of 8 cubed.
+// A tile of each level: a root block of 4,096 voxels along each axis, a lower block of 128 beside it, and a leaf block of 8.
 #[test]
 fn tiles_of_each_level(rt: HostRuntime) {
     let acts = [
@@ -139,7 +139,7 @@ fn boxes_within_large_leaves(rt: HostRuntime) {
     play_leaves16(&rt, rt.alloc(), 0, &acts, &mut Steps::new(&rt));
 }
 
-// A leaf within the box counts by its states alone: two visits find it and one reads it, and one of each node over it finds no
+// A leaf within the box counts by its states alone. Two visits find it and one reads it; one visit of each node over it finds no
 // other part.
 #[test]
 fn leaves_count_at_once(rt: HostRuntime) {
@@ -149,7 +149,7 @@ fn leaves_count_at_once(rt: HostRuntime) {
         Act::Write(at(15, -1, 22), Write::Off(3)),
         Act::Mark,
         Act::CountIn(at(8, -8, 16), at(15, -1, 23), 2),
-        // one walk to the first active part of the root block, and one over what the box has of it
+        // one walk to the first active part of the root block, and one over the box's part of that block
         Act::Visits(11),
         Act::CountIn(at(8, -8, 16), at(15, -1, 22), 1),
         Act::CountIn(at(9, -8, 16), at(15, -1, 23), 1),

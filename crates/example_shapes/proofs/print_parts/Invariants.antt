@@ -2,7 +2,7 @@ use Rattle.vdb_tree.specs.Layout.{bits_of}
 use Rattle.vdb_tree.specs.Parts.{IsWalk, left_count}
 use Rattle.example_shapes.proofs.print_parts.Given as goal
 
--- the walk is one of the tree
+-- the walk is a walk over this tree
 abbrev pub invariant-parts : goal.invariant-parts
 invariant-parts g l = IsWalk (bits_of 5 4 3) l.tree l.walk
 

@@ -1,4 +1,4 @@
--- The voxels of a leaf block that is read.
+-- The voxels of a leaf block while they are read.
 use Rattle.std.specs.Prelude.{◌≡◌, ℕ, Bool, false, if◌then◌else◌, List, ◌++◌, length, Option}
 use Rattle.std.specs.Int.{w16, to_be_bytes}
 use Rattle.vdb_coord.specs.Blocks.{block_around, block_number, offset, sub_block}
@@ -14,13 +14,13 @@ use Rattle.vdb_file.specs.Bodies.{cell_bytes, listed, voxel_body}
 use Rattle.vdb_file.specs.internal.Loading.{IsIndex, IsSpelled}
 use Rattle.vdb_file.specs.internal.Written.{numbered}
 
--- the background of a field, and what its values have
+-- a field has this background, and its values have P
 pub record HasValues {V : Type 0} (P : V → Type 0) (background : V) (f : Field V) : Type 0 where
   pub same : f.background ≡ background
   pub values : (p : Coord) → P (f.cell p).value
 
 module _ {V : Type 0} where
-  -- the field with the cells of a leaf in p's leaf block, and nothing but the background elsewhere
+  -- the field with the cells of a leaf in p's leaf block, and with the background elsewhere
   abbrev pub leaf_field : Bits → Coord → V → LeafOf V → Field V
   leaf_field bits p background leaf = record {
     background = background;
@@ -28,7 +28,7 @@ module _ {V : Type 0} where
   }
 
   module _ (eq : V → V → Bool) (is_value : V → Type 0) (background : V) where
-    -- a voxel that may come next, of a leaf with this many: its number is past the one before, and it isn't the background
+    -- a voxel that may come next in a leaf of this many: its number is past the one before, and its cell isn't the background
     pub record IsVoxel (most : ℕ) (before : Option ℕ) (e : ℕ × Cell V) : Type 0 where
       pub index : IsIndex most before e.0
       pub cell : IsSpelled eq is_value background e.1
@@ -39,11 +39,11 @@ module _ {V : Type 0} where
       pub differs : is_constant eq f (block_around bits Leaf p) ≡ false
 
   module _ (eq : V → V → Bool) (value_bytes : V → List ℕ) where
-    -- a voxel behind its number
+    -- the number of a voxel, and then its cell
     abbrev pub voxel_bytes : ℕ × Cell V → List ℕ
     voxel_bytes e = to_be_bytes w16 e.0 ++ cell_bytes eq value_bytes e.1
 
-    -- the voxels of p's leaf block that are listed, and how many they are
+    -- the listed voxels of p's leaf block, each after its number
     abbrev pub voxels_bytes : Bits → Coord → Field V → List ℕ
     voxels_bytes bits p f = let b = block_around bits Leaf p in numbered (λ i. voxel_body eq value_bytes bits f (sub_block bits Leaf b i)) (listed eq value_bytes bits f Leaf b)
 

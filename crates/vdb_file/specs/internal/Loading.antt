@@ -1,4 +1,4 @@
--- What stands at the front of the blocks of a file and of their entries.
+-- The heads of blocks, and the numbers of entries.
 use Rattle.std.specs.Prelude.{◌≡◌, ℕ, ◌<◌, ◌≤◌, Bool, true, false, List, ◌∷◌, Option}
 use Rattle.std.specs.Int.{w16, to_be_bytes}
 use Rattle.std.specs.Ordering.{nat_cmp}
@@ -15,7 +15,7 @@ use Rattle.vdb_file.specs.declared.loading.block_head.Head.{Head}
 use Rattle.vdb_file.specs.declared.loading.block_head.Head.TheVariants.{Node, One}
 use Rattle.vdb_file.specs.internal.Following.{Follows}
 
--- the number of an entry, of so many, that comes after the one before
+-- the number of an entry, below `most`, that comes after the one before
 pub record IsIndex (most : ℕ) (before : Option ℕ) (i : ℕ) : Type 0 where
   pub within : i < most
   pub later : Follows nat_cmp before i
@@ -26,12 +26,12 @@ pub record IsKey (bits : Bits) (before : Option Coord) (k : Coord) : Type 0 wher
   pub later : Follows coord_cmp before k
 
 module _ {V : Type 0} (eq : V → V → Bool) where
-  -- a cell that is written out: its value is one of the type's, and it isn't the background
+  -- a cell that a file lists: its value has the type, and it isn't the background
   pub record IsSpelled (is_value : V → Type 0) (background : V) (c : Cell V) : Type 0 where
     pub value : is_value c.value
     pub other : cell_eq eq c (off background) ≡ false
 
-  -- what stands at the front of a block with so many entries
+  -- the head of a block with `most` entries
   abbrev pub IsHead : (V → Type 0) → V → ℕ → Head V → Type 0
   IsHead is_value background most (One c) = IsSpelled is_value background c
   IsHead is_value background most (Node n) = (1 ≤ n) × (n ≤ most)

@@ -1,4 +1,4 @@
-//! What stands at the front of the blocks of a file and of their entries.
+//! Reads the heads of blocks and the numbers of their entries.
 
 ghost use Rattle.std.specs.Prelude.{◌≡◌, ℕ, ◌≤◌, ◌||◌, ◌↔◌, Err, FitsSigned, IfErr, IsTrue, Some};
 ghost use Rattle.std.specs.Int.{w16, w32, to_be_bytes};
@@ -23,16 +23,16 @@ use vdb_coord::{Bits, Bounds, Coord, Level};
 use vdb_scene::Watched;
 use vdb_value::{Cell, Voxel};
 
-/// What stands at the front of a block.
+/// The head of a block.
 #[derive(Clone, Copy)]
 pub(crate) enum Head<V> {
-    /// The one cell of the block.
+    /// The block's one cell.
     One(Cell<V>),
-    /// How many of its entries hold anything but the background, where its cells differ.
+    /// The number of entries that hold anything but the background, if the block's cells differ.
     Node(u16),
 }
 
-/// Reads the value of a cell of this state, which isn't the background.
+/// Reads the value of a cell with this state. The cell must not be the background.
 fn take_state<V: Voxel, R: Read>(
     on: bool,
     background: V,
@@ -55,7 +55,7 @@ fn take_state<V: Voxel, R: Read>(
     Ok(Cell { value, on })
 }
 
-/// Reads a cell that isn't the background.
+/// Reads a cell, which must not be the background.
 pub(crate) fn take_cell<V: Voxel, R: Read>(
     background: V,
     input: &mut Input,
@@ -78,7 +78,7 @@ pub(crate) fn take_cell<V: Voxel, R: Read>(
     }
 }
 
-/// Reads how many entries of a block are listed, one at least and this many at most.
+/// Reads the count of a block's listed entries: at least one and at most `most`.
 fn take_count<R: Read>(
     most: u16,
     input: &mut Input,
@@ -103,7 +103,7 @@ fn take_count<R: Read>(
     Ok(count)
 }
 
-/// Reads what stands at the front of a block with this many entries.
+/// Reads the head of a block with this many entries.
 pub(crate) fn take_head<V: Voxel, R: Read>(
     background: V,
     most: u16,
@@ -128,7 +128,7 @@ pub(crate) fn take_head<V: Voxel, R: Read>(
     }
 }
 
-/// Reads the number of an entry, of this many, that comes after the one before.
+/// Reads the number of an entry, below `most`, which must come after the one before.
 pub(crate) fn take_index<R: Read>(
     most: u16,
     before: Option<u16>,
@@ -154,7 +154,7 @@ pub(crate) fn take_index<R: Read>(
     Ok(i)
 }
 
-/// Reads the number of an entry of one of the level's nodes, which comes after the one before.
+/// Reads the number of an entry of one of the level's nodes, which must come after the one before.
 pub(crate) fn take_entry_number<R: Read>(
     bits: Bits,
     level: Level,
@@ -176,7 +176,7 @@ pub(crate) fn take_entry_number<R: Read>(
     take_index(most, before, input, reader)
 }
 
-/// Whether the number of an entry comes after the one before.
+/// Returns whether the number of an entry comes after the one before.
 fn index_follows(before: Option<u16>, i: u16) -> bool
     ensures { IsTrue result ↔ Follows nat_cmp before i }
 {
@@ -206,7 +206,7 @@ fn take_coord<R: Read>(input: &mut Input, reader: &mut Watched<R>) -> Result<Coo
     Ok(Coord { x, y, z })
 }
 
-/// Reads the key of a root block, which comes after the one before.
+/// Reads the key of a root block, which must come after the one before.
 pub(crate) fn take_key<R: Read>(
     bits: Bits,
     before: Option<Coord>,
@@ -234,7 +234,7 @@ pub(crate) fn take_key<R: Read>(
     Ok(key)
 }
 
-/// Whether a key comes after the one before.
+/// Returns whether a key comes after the one before.
 fn key_follows(before: Option<Coord>, key: &Coord) -> bool
     ensures { IsTrue result ↔ Follows coord_cmp before key.now }
 {

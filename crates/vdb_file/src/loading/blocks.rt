@@ -1,4 +1,4 @@
-//! The blocks above the leaf blocks, as they are read from a file: lower blocks and root blocks.
+//! Reads the blocks above the leaf blocks from a file: lower blocks and root blocks.
 
 ghost use Rattle.std.specs.Prelude.{◌≡◌, ℕ, ◌<◌, ◌||◌, false, Err, IfErr, IfOk, OnOk, Some};
 ghost use Rattle.std.specs.Int.{w16, to_be_bytes};
@@ -28,7 +28,7 @@ use vdb_pool::Steps;
 use vdb_scene::Watched;
 use vdb_tree::TreeOf;
 
-/// The least corner of an entry of the level's block around a coordinate.
+/// Returns the least corner of an entry of the level's block around a coordinate.
 fn entry_corner(p: Coord, bits: Bits, level: Level, i: u16) -> Coord
     requires configured { AreBits bits }
     requires within { i < entries bits level }
@@ -73,7 +73,7 @@ fn take_leaf_block_at<
     take_leaf_block(corner, tree, input, reader, steps)
 }
 
-/// Reads an entry of the lower block around a coordinate behind its number, which comes after the one before.
+/// Reads the number of an entry of the lower block around a coordinate, which must come after the one before, and then the entry.
 fn take_next_leaf_block<
     V: Stored<WU> + Stored<WL> + Stored<WF>,
     R: Read,
@@ -109,7 +109,7 @@ fn take_next_leaf_block<
     Ok(i)
 }
 
-/// Reads so many entries of the lower block around a coordinate, each behind its number.
+/// Reads this many entries of the lower block around a coordinate, each after its number.
 fn take_leaf_blocks<
     V: Stored<WU> + Stored<WL> + Stored<WF>,
     R: Read,
@@ -147,7 +147,7 @@ fn take_leaf_blocks<
     Ok(())
 }
 
-/// Reads so many entries of the lower block around a coordinate, whose cells differ.
+/// Reads this many entries of the lower block around a coordinate. The block's cells must differ.
 fn take_lower_node<
     V: Stored<WU> + Stored<WL> + Stored<WF>,
     R: Read,
@@ -184,7 +184,7 @@ fn take_lower_node<
     Ok(())
 }
 
-/// Reads the lower block around a coordinate, which holds nothing but the background yet.
+/// Reads the lower block around a coordinate, which still holds nothing but the background.
 fn take_lower_block<
     V: Stored<WU> + Stored<WL> + Stored<WF>,
     R: Read,
@@ -256,7 +256,7 @@ fn take_lower_block_at<
     take_lower_block(corner, tree, input, reader, steps)
 }
 
-/// Reads an entry of the upper block around a coordinate behind its number, which comes after the one before.
+/// Reads the number of an entry of the upper block around a coordinate, which must come after the one before, and then the entry.
 fn take_next_lower_block<
     V: Stored<WU> + Stored<WL> + Stored<WF>,
     R: Read,
@@ -292,7 +292,7 @@ fn take_next_lower_block<
     Ok(i)
 }
 
-/// Reads so many entries of the upper block around a coordinate, each behind its number.
+/// Reads this many entries of the upper block around a coordinate, each after its number.
 fn take_lower_blocks<
     V: Stored<WU> + Stored<WL> + Stored<WF>,
     R: Read,
@@ -330,7 +330,7 @@ fn take_lower_blocks<
     Ok(())
 }
 
-/// Reads so many entries of the upper block around a coordinate, whose cells differ.
+/// Reads this many entries of the upper block around a coordinate. The block's cells must differ.
 fn take_upper_node<
     V: Stored<WU> + Stored<WL> + Stored<WF>,
     R: Read,
@@ -367,7 +367,7 @@ fn take_upper_node<
     Ok(())
 }
 
-/// Reads the upper block around a coordinate, which holds nothing but the background yet.
+/// Reads the upper block around a coordinate, which still holds nothing but the background.
 pub(crate) fn take_root_block<
     V: Stored<WU> + Stored<WL> + Stored<WF>,
     R: Read,

@@ -1,4 +1,4 @@
-//! The fields of a file.
+//! Reads the fields of a file.
 
 ghost use Rattle.std.specs.Prelude.{◌≡◌, ℕ, ◌<◌, ◌^◌, ◌∷◌, ◌||◌, [], length, Err, IfErr, ⊤, Some};
 ghost use Rattle.std.specs.Int.{w16, w32, to_be_bytes};
@@ -14,7 +14,7 @@ use std::io::Read;
 use vdb_scene::Watched;
 use vdb_value::{Kind, Voxel};
 
-/// Reads a field of as many bytes as the array has.
+/// Reads a field with as many bytes as the array.
 pub(crate) fn take_field<R: Read>(
     input: &mut Input,
     reader: &mut Watched<R>,
@@ -44,7 +44,7 @@ pub(crate) fn take_field<R: Read>(
     Ok(())
 }
 
-/// Reads a field of as many bytes as an array has, at once where they are unread.
+/// Reads a field with as many bytes as the array, in one step if that many are unread.
 pub(crate) fn take_bytes<R: Read, const N: usize>(
     input: &mut Input,
     reader: &mut Watched<R>,
@@ -81,7 +81,7 @@ pub(crate) fn take_u8<R: Read>(input: &mut Input, reader: &mut Watched<R>) -> Re
     Ok(byte)
 }
 
-/// Reads a number of two bytes.
+/// Reads a number of two bytes, big-endian.
 pub(crate) fn take_u16<R: Read>(
     input: &mut Input,
     reader: &mut Watched<R>,
@@ -99,7 +99,7 @@ pub(crate) fn take_u16<R: Read>(
     Ok(u16::from_be_bytes(bytes))
 }
 
-/// Reads a number of four bytes.
+/// Reads a number of four bytes, big-endian.
 pub(crate) fn take_u32<R: Read>(
     input: &mut Input,
     reader: &mut Watched<R>,
@@ -117,7 +117,7 @@ pub(crate) fn take_u32<R: Read>(
     Ok(u32::from_be_bytes(bytes))
 }
 
-/// Reads a value of a type.
+/// Reads a value of a grid's type.
 pub(crate) fn take_value<V: Voxel, R: Read>(
     input: &mut Input,
     reader: &mut Watched<R>,

@@ -1,4 +1,4 @@
-//! What a file has between a grid's background and its root blocks.
+//! Reads the part of a grid between its background and its root blocks.
 
 ghost use Rattle.std.specs.Prelude.{◌≡◌, ℕ, ◌↔◌, ◌||◌, Err, IfErr, IsTrue, Some};
 ghost use Rattle.std.specs.Int.{w32, to_be_bytes};
@@ -18,21 +18,21 @@ use std::alloc::Global;
 use std::io::Read;
 use vdb_scene::{MOST_ROOT_LIMIT, Metas, ROOT_LIMIT, Watched};
 
-/// The limit of a grid's root blocks, and its metadata pairs.
+/// A grid's root limit and its metadata pairs.
 #[derive(Drop)]
 pub(crate) struct Head {
     pub(crate) limit: u32,
     pub(crate) metas: Metas,
 }
 
-/// Whether a grid may have this limit.
+/// Returns whether a grid may have this root limit.
 fn is_limit(limit: u32) -> bool
     ensures { IsTrue result ↔ IsLimit limit }
 {
     0 < limit && limit <= MOST_ROOT_LIMIT
 }
 
-/// Reads a limit.
+/// Reads a root limit: four bytes.
 fn take_limit<R: Read>(input: &mut Input, reader: &mut Watched<R>) -> Result<u32, LoadFault>
     requires ends { EndsWith input.old (R.remaining (source reader.old)) }
     ensures ends { EndsWith input.new (R.remaining (source reader.new)) }
@@ -50,7 +50,7 @@ fn take_limit<R: Read>(input: &mut Input, reader: &mut Watched<R>) -> Result<u32
     Ok(limit)
 }
 
-/// Reads what version 2 has there.
+/// Reads the root limit and the pairs of a grid in version 2.
 fn take_new_head<R: Read>(
     alloc: Global,
     input: &mut Input,
@@ -70,7 +70,8 @@ fn take_new_head<R: Read>(
     Ok(Head { limit, metas })
 }
 
-/// Reads what a version has there: nothing in version 1, all of whose grids have one limit and no pairs.
+/// Reads the root limit and the pairs of a grid in this version. Version 1 has no bytes for them: all its grids have one limit
+/// and no pairs.
 pub(crate) fn take_head<R: Read>(
     alloc: Global,
     input: &mut Input,

@@ -1,4 +1,4 @@
-//! The grids of a file.
+//! Reads the grids of a file.
 
 ghost use Rattle.std.specs.Prelude.{◌≡◌, ℕ, ◌||◌, Err, IfErr, Some};
 ghost use Rattle.std.specs.Io.KnownBytes.{IsAtEnd};
@@ -25,7 +25,7 @@ use vdb_pool::Steps;
 use vdb_scene::{AnyGrid, Metas, Name, Watched};
 use vdb_tree::Tree;
 
-/// Reads a grid of one type of values behind its kind: a tree and its metadata pairs.
+/// Reads the rest of a grid after the number of its type: a tree and its metadata pairs.
 fn take_tree<V: Stored<512> + Stored<64> + Stored<8>, R: Read>(
     alloc: Global,
     input: &mut Input,
@@ -49,7 +49,7 @@ fn take_tree<V: Stored<512> + Stored<64> + Stored<8>, R: Read>(
     Ok((tree, head.metas))
 }
 
-/// Reads a grid behind its name.
+/// Reads a grid after its name.
 fn take_grid<R: Read>(
     alloc: Global,
     input: &mut Input,
@@ -84,7 +84,7 @@ fn take_grid<R: Read>(
     }
 }
 
-/// A grid under its name, with its metadata pairs.
+/// A grid with its name and its metadata pairs.
 #[derive(Drop)]
 pub(crate) struct Named {
     pub(crate) name: Name,
@@ -92,7 +92,7 @@ pub(crate) struct Named {
     pub(crate) metas: Metas,
 }
 
-/// Reads a grid under its name, which comes after `before`.
+/// Reads a name, which must come after `before`, and then its grid.
 pub(crate) fn take_named<R: Read>(
     alloc: Global,
     input: &mut Input,

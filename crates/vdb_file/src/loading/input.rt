@@ -1,4 +1,4 @@
-//! The bytes of a file on their way from a reader.
+//! Buffers the bytes of a file on their way from a reader.
 
 ghost use Rattle.std.specs.Prelude.{◌≡◌, ℕ, ◌+◌, ◌++◌, ◌-◌, ◌<◌, ◌≤◌, ◌||◌, true, false, List, [], Option, is_err, length, min, take, drop, IfErr, IfNone, IfSome, Ok, OnOk, Some};
 ghost use Rattle.std.specs.Io.KnownBytes.{IsAtEnd, Keeps, prepend_known};
@@ -11,14 +11,14 @@ use std::io::Read;
 use std::marker::Model;
 use vdb_scene::Watched;
 
-/// The most bytes that are asked for at once.
+/// The most bytes that one call asks the reader for.
 const PAGE: usize = 65536;
 
-/// The most bytes that the fields of a file may have.
+/// The most bytes that the fields of a file may have: 256 MiB.
 const MOST_BYTES: usize = 268_435_456;
 
-/// Bytes that a reader gave and that no field has yet, and how many bytes the fields may still have. At most one byte beyond those
-/// is asked for.
+/// The bytes that a reader gave and that no field has read yet, and how many more bytes the fields may have. It asks for at most
+/// one byte more than those.
 #[derive(Drop)]
 pub(crate) struct Input {
     page: [u8; PAGE],
@@ -40,7 +40,7 @@ impl Model for Input {
 }
 
 impl Input {
-    /// No bytes, with capacity for all of a file.
+    /// Returns an input without bytes, with capacity for all of a file.
     pub(crate) fn new() -> Self
         ensures { result ≡ record { unread = []; capacity = MOST_BYTES; ended = false } }
     {
@@ -53,14 +53,14 @@ impl Input {
         }
     }
 
-    /// How many bytes the fields that are still to come may have.
+    /// Returns how many bytes the remaining fields may have.
     pub(crate) fn capacity(&self) -> usize
         ensures { result ≡ self.now.capacity }
     {
         self.capacity
     }
 
-    /// Whether there is an unread byte. Where there is none the reader is asked for more, unless it has said that it has none.
+    /// Returns whether an unread byte exists. If none does, it first asks the reader for more, unless the reader has ended.
     pub(crate) fn fill<R: Read>(&mut self, reader: &mut Watched<R>) -> Result<bool, LoadFault>
         requires ends { EndsWith self.old (R.remaining (source reader.old)) }
         ensures ends { EndsWith self.new (R.remaining (source reader.new)) }
@@ -81,7 +81,7 @@ impl Input {
         Ok(self.start < self.end)
     }
 
-    /// Asks the reader for bytes where none is unread, unless it has said that it has no more.
+    /// Asks the reader for bytes, unless the reader has ended. No byte is unread.
     fn refill<R: Read>(&mut self, reader: &mut Watched<R>) -> Result<(), LoadFault>
         requires unread { self.old.unread ≡ [] }
         requires ends { EndsWith self.old (R.remaining (source reader.old)) }
@@ -97,7 +97,7 @@ impl Input {
         if self.ended {
             return Ok(());
         }
-        let wanted = (self.capacity + 1).min(PAGE); // a byte beyond the capacity tells a file that is too long
+        let wanted = (self.capacity + 1).min(PAGE); // a byte beyond the capacity shows that the file is too long
         let came = match reader.read(&mut self.page[..wanted]) {
             Ok(came) => came,
             Err(_) => return Err(LoadFault::Read),
@@ -108,7 +108,8 @@ impl Input {
         Ok(())
     }
 
-    /// Takes the next unread bytes, as many as an array has: `None` where fewer are unread or the fields may not have so many.
+    /// Reads the next unread bytes, as many as the array has. Returns `None` if fewer are unread or the fields may not have that
+    /// many.
     pub(crate) fn take_array<const N: usize>(&mut self) -> Option<[u8; N]>
         ensures some { IfSome result (λ bytes. self.old.unread ≡ bytes ++ self.new.unread) }
         ensures capacity { IfSome result (λ bytes. N + self.new.capacity ≡ self.old.capacity) }
@@ -126,7 +127,7 @@ impl Input {
         Some(bytes)
     }
 
-    /// Takes as many unread bytes as there are and as a field, from one position on, still wants, and answers how many.
+    /// Copies unread bytes into a field from one position on, as many as are unread and the field needs. Returns how many.
     pub(crate) fn run(&mut self, field: &mut [u8], at: usize) -> usize
         requires within { at ≤ length field.old }
         requires fits { length field.old ≤ at + self.old.capacity }

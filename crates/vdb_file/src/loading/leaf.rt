@@ -1,4 +1,4 @@
-//! The voxels of a leaf block, as they are read.
+//! Reads the voxels of a leaf block.
 
 ghost use Rattle.std.specs.Prelude.{◌≡◌, ℕ, ◌*◌, ◌≤◌, ◌||◌, Err, IfErr, Some};
 ghost use Rattle.std.specs.Io.KnownBytes.{IsAtEnd};
@@ -21,7 +21,8 @@ use vdb_node::{Leaf, Stored};
 use vdb_scene::Watched;
 use vdb_value::{Cell, Voxel};
 
-/// Reads so many voxels of a leaf block whose cells differ, all that aren't the background. It gives a leaf with them.
+/// Reads this many voxels of a leaf block whose cells differ: all voxels that aren't the background. Returns a leaf with these
+/// cells.
 pub(crate) fn take_listed_voxels<V: Stored<WF>, R: Read, const F: u32, const WF: usize>(
     alloc: Global,
     bits: Bits,
@@ -67,7 +68,7 @@ pub(crate) fn take_listed_voxels<V: Stored<WF>, R: Read, const F: u32, const WF:
     }
 }
 
-/// Reads a voxel behind its number, which comes after the one before. It isn't the background.
+/// Reads the number of a voxel, which must come after the one before, and then its cell, which must not be the background.
 fn take_voxel<V: Voxel, R: Read>(
     most: u16,
     before: Option<u16>,

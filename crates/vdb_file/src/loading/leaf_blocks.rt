@@ -1,4 +1,4 @@
-//! The leaf blocks of a tree, as they are read from a file.
+//! Reads the leaf blocks of a tree from a file.
 
 ghost use Rattle.std.specs.Prelude.{◌≡◌, ℕ, ◌||◌, Err, IfErr, OnOk, Some};
 ghost use Rattle.std.specs.Io.KnownBytes.{IsAtEnd};
@@ -28,7 +28,8 @@ use vdb_scene::Watched;
 use vdb_tree::{TreeOf, TreeRefusal};
 use vdb_value::Cell;
 
-/// Gives the level's block around a coordinate one cell. A fault says that memory was refused: its root block has capacity.
+/// Gives one cell to the level's block around a coordinate. The table has room for its root block, so an error can only be an
+/// allocation failure.
 pub(crate) fn fill_block<
     V: Stored<WU> + Stored<WL> + Stored<WF>,
     const U: u32,
@@ -57,7 +58,8 @@ pub(crate) fn fill_block<
     }
 }
 
-/// Gives the leaf block around a coordinate the cells of a leaf. A fault says that memory was refused: its root block has capacity.
+/// Gives the cells of a leaf to the leaf block around a coordinate. The table has room for its root block, so an error can only
+/// be an allocation failure.
 fn write_leaf_block<
     V: Stored<WU> + Stored<WL> + Stored<WF>,
     const U: u32,
@@ -77,7 +79,7 @@ fn write_leaf_block<
     ensures field { OnOk result (field_of (bits_of U L F) tree.new ≡ with_leaf (bits_of U L F) p leaf.now (field_of (bits_of U L F) tree.old)) }
     ensures limit { OnOk result (tree.new.limit ≡ tree.old.limit) }
 {
-    let _ = tree.bits(); // the proof learns from it how many bits there are
+    let _ = tree.bits(); // the proof learns from it how large the blocks are
     match tree.write_leaf(p, leaf, steps) {
         Ok(()) => Ok(()),
         Err(TreeRefusal::Memory) => Err(LoadFault::Memory),
@@ -85,7 +87,7 @@ fn write_leaf_block<
     }
 }
 
-/// Reads so many voxels of the leaf block around a coordinate, whose cells differ.
+/// Reads this many voxels of the leaf block around a coordinate. The block's cells must differ.
 fn take_leaf<
     V: Stored<WU> + Stored<WL> + Stored<WF>,
     R: Read,
@@ -129,7 +131,7 @@ fn take_leaf<
     write_leaf_block(p, &leaf, tree, steps)
 }
 
-/// Reads the leaf block around a coordinate, which holds nothing but the background yet.
+/// Reads the leaf block around a coordinate, which still holds nothing but the background.
 pub(crate) fn take_leaf_block<
     V: Stored<WU> + Stored<WL> + Stored<WF>,
     R: Read,

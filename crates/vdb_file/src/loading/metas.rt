@@ -1,4 +1,4 @@
-//! The metadata pairs of a file.
+//! Reads the metadata pairs of a file.
 
 ghost use Rattle.std.specs.Prelude.{◌≡◌, ℕ, ◌||◌, true, Err, IfErr, OnOk, Some};
 ghost use Rattle.std.specs.Io.KnownBytes.{IsAtEnd};
@@ -20,7 +20,7 @@ use std::alloc::Global;
 use std::io::Read;
 use vdb_scene::{META_LIMIT, MetaText, Metas, Name, TEXT_LIMIT, Watched};
 
-/// Reads a text.
+/// Reads the text of a pair.
 fn take_text<R: Read>(input: &mut Input, reader: &mut Watched<R>) -> Result<MetaText, LoadFault>
     requires ends { EndsWith input.old (R.remaining (source reader.old)) }
     ensures ends { EndsWith input.new (R.remaining (source reader.new)) }
@@ -45,7 +45,7 @@ fn take_text<R: Read>(input: &mut Input, reader: &mut Watched<R>) -> Result<Meta
     }
 }
 
-/// Reads a text behind its key, which comes after `before`.
+/// Reads a key, which must come after `before`, and then its text.
 fn take_pair<R: Read>(
     input: &mut Input,
     reader: &mut Watched<R>,
@@ -65,7 +65,7 @@ fn take_pair<R: Read>(
     Ok((key, text))
 }
 
-/// Reads so many pairs.
+/// Reads this many pairs.
 fn take_each_pair<R: Read>(
     alloc: Global,
     input: &mut Input,
@@ -91,7 +91,7 @@ fn take_each_pair<R: Read>(
     Ok(metas)
 }
 
-/// Puts a text under a key that is greater than all others, of which there are few.
+/// Adds a text under a key. The key is greater than all others, and the pairs have room for it.
 fn put(metas: &mut Metas, key: Name, text: MetaText) -> Result<(), LoadFault>
     ensures ok { OnOk result (metas.new ≡ with_pair metas.old key text) }
     ensures err { IfErr result (λ fault. fault ≡ LoadFault.Memory) }
@@ -102,7 +102,7 @@ fn put(metas: &mut Metas, key: Name, text: MetaText) -> Result<(), LoadFault>
     }
 }
 
-/// Reads the pairs behind their count.
+/// Reads the count of the pairs, and then the pairs.
 pub(crate) fn take_pairs<R: Read>(
     alloc: Global,
     input: &mut Input,

@@ -1,4 +1,4 @@
-//! Names and keys that a file has one after another.
+//! Reads names and keys, which a file has in rising order.
 
 ghost use Rattle.std.specs.Prelude.{◌≡◌, ℕ, ◌↔◌, ◌||◌, true, Err, IfErr, IsTrue, Some};
 ghost use Rattle.std.specs.Ordering.{nat_cmp};
@@ -18,7 +18,7 @@ use crate::loading::input::Input;
 use std::io::Read;
 use vdb_scene::{NAME_LIMIT, Name, Watched};
 
-/// Reads a name that comes after `before`. `fault` says that it has another form or doesn't come after it.
+/// Reads a name, which must come after `before`. Returns `fault` if it has another form or doesn't come after it.
 pub(crate) fn take_name<R: Read>(
     input: &mut Input,
     reader: &mut Watched<R>,
@@ -54,7 +54,7 @@ pub(crate) fn take_name<R: Read>(
     }
 }
 
-/// Whether a name may come after `before`.
+/// Returns whether a name may come after `before`.
 fn follows(before: Option<Name>, name: &Name) -> bool
     ensures { IsTrue result ↔ Follows (slice_cmp nat_cmp) before name.now }
 {

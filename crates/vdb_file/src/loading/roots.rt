@@ -1,4 +1,4 @@
-//! The root blocks of a tree, as they are read from a file.
+//! Reads the root blocks of a tree from a file.
 
 ghost use Rattle.std.specs.Prelude.{◌≡◌, ℕ, ◌≤◌, ◌++◌, ◌||◌, Err, IfErr, IfOk, IsTrue, OnOk, Some};
 ghost use Rattle.std.specs.Io.KnownBytes.{IsAtEnd};
@@ -30,8 +30,8 @@ use vdb_pool::Steps;
 use vdb_scene::Watched;
 use vdb_tree::TreeOf;
 
-/// Reads the root blocks of a tree that holds nothing but the background: how many they are, which is at most the tree's limit,
-/// and each behind its key.
+/// Reads the count of the root blocks, which must not exceed the tree's root limit, and then each block after its key. The tree
+/// still holds nothing but the background.
 pub(crate) fn take_roots<
     V: Stored<WU> + Stored<WL> + Stored<WF>,
     R: Read,
@@ -67,7 +67,7 @@ pub(crate) fn take_roots<
     take_keyed_roots(count, tree, input, reader, steps)
 }
 
-/// Reads so many root blocks, each behind its key.
+/// Reads this many root blocks, each after its key.
 fn take_keyed_roots<
     V: Stored<WU> + Stored<WL> + Stored<WF>,
     R: Read,
@@ -98,7 +98,7 @@ fn take_keyed_roots<
     ensures ended { result ≡ Err LoadFault.Truncated → IsAtEnd (position input.new (R.remaining (source reader.new))).known }
     ensures failed { has_failed reader.new ≡ (has_failed reader.old || is_read_fault result) }
 {
-    let _ = tree.bits(); // the proof learns from it how many bits there are
+    let _ = tree.bits(); // the proof learns from it how large the blocks are
     let mut before = None;
     for _ in 0..count {
         let key = take_next_root(before, tree, input, reader, steps)?;
@@ -107,7 +107,7 @@ fn take_keyed_roots<
     Ok(())
 }
 
-/// Reads a root block behind its key, which comes after the one before.
+/// Reads the key of a root block, which must come after the one before, and then the block.
 fn take_next_root<
     V: Stored<WU> + Stored<WL> + Stored<WF>,
     R: Read,
@@ -177,7 +177,7 @@ fn take_root_at<
     take_root_block(corner, tree, input, reader, steps)
 }
 
-/// The least corner of the root block of a key.
+/// Returns the least corner of the root block of a key.
 fn root_corner(key: Coord, bits: Bits) -> Coord
     requires configured { AreBits bits }
     requires within { IsTrue (is_inside (block_numbers bits Upper) key) }

@@ -1,4 +1,4 @@
-//! What a file begins with.
+//! Reads the beginning of a file.
 
 ghost use Rattle.std.specs.Prelude.{◌≡◌, ℕ, ◌<◌, ◌∷◌, ◌||◌, [], codes, length, Err, IfErr, IfSome, ⊤, Some};
 ghost use Rattle.std.specs.Int.{w16, to_be_bytes};
@@ -15,16 +15,16 @@ use crate::loading::input::Input;
 use std::io::Read;
 use vdb_scene::Watched;
 
-/// A version of files.
+/// A version of the file format.
 #[derive(Clone, Copy, Drop)]
 pub(crate) enum Version {
-    /// It has no limits and no metadata.
+    /// Version 1, without root limits and metadata.
     One,
-    /// It has both.
+    /// Version 2, with both.
     Two,
 }
 
-/// Reads the bytes that a file begins with.
+/// Reads the four bytes `VDBS` at the start of a file.
 pub(crate) fn take_magic<R: Read>(
     input: &mut Input,
     reader: &mut Watched<R>,
@@ -47,7 +47,7 @@ pub(crate) fn take_magic<R: Read>(
     Ok(())
 }
 
-/// Reads the number of the version.
+/// Reads the number of the version: two bytes.
 pub(crate) fn take_version<R: Read>(
     input: &mut Input,
     reader: &mut Watched<R>,

@@ -1,4 +1,4 @@
-//! The cells, voxels and leaf blocks of a tree, as a file spells them.
+//! Writes the cells, voxels and leaf blocks of a tree.
 
 ghost use Rattle.std.specs.Prelude.{◌≡◌, ◌≤◌, ◌∷◌, ◌++◌, ◌||◌, true, not, is_err, is_some, length, IfSome, IsOk, OnOk};
 ghost use Rattle.std.specs.Int.{w16, to_be_bytes};
@@ -28,7 +28,7 @@ use vdb_value::{Cell, Voxel};
 /// The byte before the entries of a block whose cells differ.
 const NODE: u8 = 3;
 
-/// Puts a cell: a byte for its state, and its value.
+/// Writes a cell: one byte for its state, and then its value.
 pub(crate) fn put_cell<V: Voxel, W: Write, const C: u32>(
     out: &mut Output<C>,
     writer: &mut Watched<W>,
@@ -43,7 +43,7 @@ pub(crate) fn put_cell<V: Voxel, W: Write, const C: u32>(
     put_value(out, writer, cell.value)
 }
 
-/// Puts the bytes of a value.
+/// Writes the bytes of a value.
 pub(crate) fn put_value<V: Voxel, W: Write, const C: u32>(
     out: &mut Output<C>,
     writer: &mut Watched<W>,
@@ -58,7 +58,7 @@ pub(crate) fn put_value<V: Voxel, W: Write, const C: u32>(
     out.put(writer, &bytes[..count])
 }
 
-/// Puts what stands before the entries of a block: its tag, and how many they are.
+/// Writes the head of a block whose cells differ, before its entries: its tag, and the count of its entries.
 pub(crate) fn put_head<W: Write, const C: u32>(
     out: &mut Output<C>,
     writer: &mut Watched<W>,
@@ -73,7 +73,7 @@ pub(crate) fn put_head<W: Write, const C: u32>(
     out.put(writer, count.to_be_bytes().as_slice())
 }
 
-/// The first entry, from this one on, of the block around a coordinate that holds anything but the background.
+/// Returns the first entry, from this one on, that holds anything but the background, of the block around a coordinate.
 pub(crate) fn next_listed<
     V: Stored<WU> + Stored<WL> + Stored<WF>,
     const U: u32,
@@ -111,7 +111,7 @@ pub(crate) fn next_listed<
     None
 }
 
-/// How many entries of the block around a coordinate hold anything but the background.
+/// Returns how many entries of the block around a coordinate hold anything but the background.
 pub(crate) fn count_listed<
     V: Stored<WU> + Stored<WL> + Stored<WF>,
     const U: u32,
@@ -130,7 +130,7 @@ pub(crate) fn count_listed<
     requires { IsNextAbove level below }
     ensures { result ≡ length (listed V.eq V.bytes_of (bits_of U L F) (field_of (bits_of U L F) tree.now) level (block_around (bits_of U L F) level p)) }
 {
-    let _ = tree.bits(); // the proof learns from it how many entries there are at most
+    let _ = tree.bits(); // the proof learns from it how many entries a block has at most
     let mut count = 0;
     let mut from = 0;
     while let Some(i) = next_listed(tree, level, below, p, from, steps) {
@@ -140,7 +140,7 @@ pub(crate) fn count_listed<
     count
 }
 
-/// How many of the first voxels of a leaf aren't the background.
+/// Returns how many of the first voxels of a leaf aren't the background.
 fn count_voxels<V: Stored<WF>, const F: u32, const WF: usize>(
     leaf: &Leaf<V, F, WF>,
     background: Cell<V>,
@@ -159,7 +159,7 @@ fn count_voxels<V: Stored<WF>, const F: u32, const WF: usize>(
     count
 }
 
-/// Puts a voxel behind its number.
+/// Writes the number of a voxel, and then its cell.
 fn put_voxel<V: Voxel, W: Write, const C: u32>(
     out: &mut Output<C>,
     writer: &mut Watched<W>,
@@ -175,7 +175,7 @@ fn put_voxel<V: Voxel, W: Write, const C: u32>(
     put_cell(out, writer, cell)
 }
 
-/// Puts the first voxels of a leaf that aren't the background, each behind its number.
+/// Writes those of the first voxels of a leaf that aren't the background, each after its number.
 fn put_voxels<V: Stored<WF>, W: Write, const F: u32, const WF: usize, const C: u32>(
     out: &mut Output<C>,
     writer: &mut Watched<W>,
@@ -199,7 +199,7 @@ fn put_voxels<V: Stored<WF>, W: Write, const F: u32, const WF: usize, const C: u
     Ok(())
 }
 
-/// The one cell of the leaf block around a coordinate, if it has one.
+/// Returns the cell of the leaf block around a coordinate if all its voxels have that cell.
 fn one_cell<
     V: Stored<WU> + Stored<WL> + Stored<WF>,
     const U: u32,
@@ -219,7 +219,7 @@ fn one_cell<
     leaf.constant()
 }
 
-/// Puts the body of the leaf block around a coordinate, which has a leaf.
+/// Writes the body of the leaf block around a coordinate, which has a leaf.
 fn put_leaf_cells<
     V: Stored<WU> + Stored<WL> + Stored<WF>,
     W: Write,
@@ -257,7 +257,7 @@ fn put_leaf_cells<
     put_voxels(out, writer, leaf, background, n)
 }
 
-/// Puts the body of the leaf block around a coordinate.
+/// Writes the body of the leaf block around a coordinate.
 pub(crate) fn put_leaf<
     V: Stored<WU> + Stored<WL> + Stored<WF>,
     W: Write,

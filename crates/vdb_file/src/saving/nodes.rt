@@ -1,4 +1,4 @@
-//! The lower blocks and root blocks of a tree, as a file spells them.
+//! Writes the lower blocks and root blocks of a tree.
 
 ghost use Rattle.std.specs.Prelude.{◌≡◌, ◌++◌, ◌||◌, is_err, IsOk, OnOk};
 ghost use Rattle.std.specs.Int.{w16, to_be_bytes};
@@ -22,7 +22,7 @@ use vdb_scene::Watched;
 use vdb_tree::TreeOf;
 use vdb_value::Cell;
 
-/// Puts the number of an entry and the leaf block around a coordinate.
+/// Writes the number of an entry, and then the leaf block around a coordinate.
 fn put_leaf_entry<
     V: Stored<WU> + Stored<WL> + Stored<WF>,
     W: Write,
@@ -50,7 +50,7 @@ fn put_leaf_entry<
     put_leaf(out, writer, tree, p, steps)
 }
 
-/// Puts each entry of the lower block around a coordinate that holds anything but the background.
+/// Writes each entry of the lower block around a coordinate that holds anything but the background.
 fn put_leaf_entries<
     V: Stored<WU> + Stored<WL> + Stored<WF>,
     W: Write,
@@ -83,7 +83,7 @@ fn put_leaf_entries<
     Ok(())
 }
 
-/// Puts the body of the lower block around a coordinate.
+/// Writes the body of the lower block around a coordinate.
 fn put_lower<
     V: Stored<WU> + Stored<WL> + Stored<WF>,
     W: Write,
@@ -115,7 +115,7 @@ fn put_lower<
     put_leaf_entries(out, writer, tree, p, steps)
 }
 
-/// Puts the number of an entry and the lower block around a coordinate.
+/// Writes the number of an entry, and then the lower block around a coordinate.
 fn put_lower_entry<
     V: Stored<WU> + Stored<WL> + Stored<WF>,
     W: Write,
@@ -143,7 +143,7 @@ fn put_lower_entry<
     put_lower(out, writer, tree, p, steps)
 }
 
-/// Puts each entry of the upper block around a coordinate that holds anything but the background.
+/// Writes each entry of the upper block around a coordinate that holds anything but the background.
 fn put_lower_entries<
     V: Stored<WU> + Stored<WL> + Stored<WF>,
     W: Write,
@@ -176,7 +176,7 @@ fn put_lower_entries<
     Ok(())
 }
 
-/// Puts the body of the upper block around a coordinate.
+/// Writes the body of the upper block around a coordinate.
 fn put_root<
     V: Stored<WU> + Stored<WL> + Stored<WF>,
     W: Write,
@@ -208,7 +208,7 @@ fn put_root<
     put_lower_entries(out, writer, tree, p, steps)
 }
 
-/// Puts the key of a root block.
+/// Writes the key of a root block: twelve bytes.
 fn put_key<W: Write, const C: u32>(
     out: &mut Output<C>,
     writer: &mut Watched<W>,
@@ -224,7 +224,7 @@ fn put_key<W: Write, const C: u32>(
     out.put(writer, key.z.to_be_bytes().as_slice())
 }
 
-/// Puts the key of the root block around a coordinate, and the block.
+/// Writes the key of the root block around a coordinate, and then the block.
 fn put_keyed_root<
     V: Stored<WU> + Stored<WL> + Stored<WF>,
     W: Write,
@@ -252,7 +252,7 @@ fn put_keyed_root<
     put_root(out, writer, tree, p, steps)
 }
 
-/// Puts the root blocks that hold anything but the background: how many they are, and each behind its key.
+/// Writes the count of the root blocks that hold anything but the background, in four bytes, and then each of them after its key.
 #[tactic(auto, unfolding(crate::specs::Bodies::roots_bytes))]
 pub(crate) fn put_roots<
     V: Stored<WU> + Stored<WL> + Stored<WF>,
@@ -280,7 +280,7 @@ pub(crate) fn put_roots<
     put_each_root(out, writer, tree, steps)
 }
 
-/// Puts each root block that holds anything but the background behind its key.
+/// Writes each root block that holds anything but the background, after its key.
 fn put_each_root<
     V: Stored<WU> + Stored<WL> + Stored<WF>,
     W: Write,

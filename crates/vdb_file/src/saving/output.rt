@@ -1,4 +1,4 @@
-//! The bytes of a file on their way to a writer.
+//! Buffers the bytes of a file on their way to a writer.
 
 ghost use Rattle.std.specs.Prelude.{◌≡◌, ◌≤◌, ◌||◌, [], is_err, length, IsOk, OnOk};
 ghost use Rattle.std.specs.Io.KnownBytes.{Appends};
@@ -11,17 +11,17 @@ use std::io::Write;
 use std::marker::Model;
 use vdb_scene::Watched;
 
-/// The most bytes that are kept back before they are written.
+/// The most bytes that wait in the buffer before they are written.
 const PAGE: usize = 65536;
 
-/// Outputs that write.
+/// The mode of an output that writes.
 pub(crate) const WRITING: u32 = 0;
 
-/// Outputs that only count.
+/// The mode of an output that only counts.
 pub(crate) const COUNTING: u32 = 1;
 
-/// Bytes that are kept back to be written together, and how many there were in all. Where `COUNTS` is
-/// `COUNTING` they are counted alone, and none is kept or written.
+/// A buffer of bytes to be written together, and the count of all bytes so far. If `COUNTS` is `COUNTING`, it only counts the
+/// bytes: it keeps and writes none.
 #[derive(Drop)]
 pub(crate) struct Output<const COUNTS: u32> {
     page: ArrayVec<u8, PAGE>,
@@ -37,7 +37,7 @@ impl<const COUNTS: u32> Model for Output<COUNTS> {
 }
 
 impl<const COUNTS: u32> Output<COUNTS> {
-    /// No bytes.
+    /// Returns an output without bytes.
     pub(crate) fn new() -> Self
         ensures { result ≡ record { pending = []; total = 0 } }
     {
@@ -47,14 +47,14 @@ impl<const COUNTS: u32> Output<COUNTS> {
         }
     }
 
-    /// How many bytes there were in all, or the greatest number where there were more.
+    /// Returns how many bytes were added in all, or `u64::MAX` if there were more.
     pub(crate) fn total(&self) -> u64
         ensures { result ≡ self.now.total }
     {
         self.total
     }
 
-    /// Puts a few bytes behind the others. Where there is no capacity for them, the others are written first.
+    /// Appends a few bytes. If the buffer has no room for them, it first writes the bytes in the buffer.
     pub(crate) fn put<W: Write>(
         &mut self,
         writer: &mut Watched<W>,
@@ -76,7 +76,7 @@ impl<const COUNTS: u32> Output<COUNTS> {
         Ok(())
     }
 
-    /// Writes what is kept back.
+    /// Writes the bytes in the buffer.
     pub(crate) fn flush<W: Write>(&mut self, writer: &mut Watched<W>) -> Result<(), SaveFault>
         ensures empty { OnOk result (self.new ≡ record { pending = []; total = self.old.total }) }
         ensures puts { OnOk result (Appends (W.contents (source writer.old)) (W.contents (source writer.new)) self.old.pending) }
@@ -88,8 +88,8 @@ impl<const COUNTS: u32> Output<COUNTS> {
     }
 }
 
-/// Writes all of the bytes, in one call where the writer takes them all at once. A writer that fails or takes no byte of some
-/// isn't tried again.
+/// Writes all of the bytes, in one call if the writer takes them all at once. It never retries a writer that fails or that takes
+/// no byte.
 fn write_bytes<W: Write>(writer: &mut Watched<W>, bytes: &[u8]) -> Result<(), SaveFault>
     ensures appends { OnOk result (Appends (W.contents (source writer.old)) (W.contents (source writer.new)) bytes.now) }
     ensures failed { has_failed writer.new ≡ (has_failed writer.old || is_err result) }

@@ -1,4 +1,4 @@
-//! Scenes that are loaded, and saved again.
+//! Loads scenes, and saves them again.
 
 use super::{
     BLOCK, CORNER, EMPTY, INACTIVE, OLD_CORNER, OLD_EMPTY, OLD_INACTIVE, OLD_TRUTH, OLD_VOXEL,
@@ -11,15 +11,15 @@ use vdb_pool::Steps;
 use vdb_scene::{Metas, Scalar, Scene};
 use vdb_value::Cell;
 
-/// Grid `a` of i32 with background 0 in version 2, before its root blocks.
+/// The beginning of a file in version 2 of grid `a` of i32 with background 0, before its root blocks.
 const GRID: &[u8] = b"VDBS\0\x02\0\x01\x01a\x01\0\0\0\0\0\0\x10\0\0";
 
-/// A coordinate.
+/// Returns a coordinate.
 fn at(x: i32, y: i32, z: i32) -> Coord {
     Coord { x, y, z }
 }
 
-/// Whether a grid of a scene holds a cell at a coordinate.
+/// Returns whether a grid of a scene holds a cell at a coordinate.
 fn holds(
     rt: &impl Abort,
     scene: &Scene,
@@ -32,7 +32,7 @@ fn holds(
     cell_of(rt, scene, grid, at, steps) == Some(Cell { value, on })
 }
 
-/// Whether the metadata pairs are one, of this key and text.
+/// Returns whether the metadata pairs are exactly this key and text.
 fn are_one_pair(metas: &Metas, key: &[u8], text: &[u8]) -> bool {
     if metas.len() != 1 {
         return false;
@@ -186,7 +186,7 @@ fn loaded_limits_and_pairs_are_those_of_the_file(rt: HostRuntime) {
 #[test]
 fn tiles_of_each_level_are_loaded(rt: HostRuntime) {
     let mut steps = Steps::new(&rt);
-    // two root blocks: a tile that is inactive, and a node with a lower block, and in the next one a leaf block
+    // two root blocks: an inactive tile, and a node with two entries: a lower block, and in the next one a leaf block
     let file = joined(
         &rt,
         [

@@ -1,4 +1,4 @@
-//! Files from readers that fail, that give little at a time, or that never end.
+//! Loads files from readers that fail, that give little at a time, or that never end.
 ghost use Rattle.std.specs.Prelude.{Some};
 
 use super::{EMPTY, OLD_VOXEL, TWO, VOXEL, WITH_PAIR, saves};
@@ -8,8 +8,7 @@ use vdb_file::{LoadFault, load};
 use vdb_pool::Steps;
 use vdb_scene::Watched;
 
-/// A reader over memory that gives at most `step` bytes at once, and fails where it has given `left` bytes. It counts the calls that
-/// failed.
+/// A reader over memory that gives at most `step` bytes at once, and fails after `left` bytes. It counts the calls that failed.
 #[derive(Drop)]
 struct Failing<'a> {
     bytes: &'a [u8],
@@ -31,7 +30,7 @@ impl<'a> Read for Failing<'a> {
     }
 }
 
-/// A reader that gives its bytes, and then one byte for ever; it counts the bytes that it gave.
+/// A reader that gives its bytes, and then zeros for ever. It counts the bytes that it gave.
 #[derive(Drop)]
 struct Endless<'a> {
     bytes: &'a [u8],
@@ -91,7 +90,7 @@ fn a_file_may_come_in_small_pieces(rt: HostRuntime) {
 fn a_reader_that_fails_is_told_and_not_asked_again(rt: HostRuntime) {
     let mut steps = Steps::new(&rt);
     for file in [OLD_VOXEL, VOXEL, WITH_PAIR] {
-        // the byte after the last field is asked for too
+        // the loader also asks for a byte after the last field
         for left in 0..=file.len() {
             for step in [1usize, 4096] {
                 let mut reader = Watched::new(Failing {

@@ -1,4 +1,4 @@
-//! Bytes that are no file of a scene, each with its fault.
+//! Loads bytes that are no file of a scene; each fails with its fault.
 
 use super::{
     EMPTY, OLD_CORNER, OLD_EMPTY, OLD_INACTIVE, OLD_TRUTH, OLD_VOXEL, TWO, VOXEL, WITH_PAIR,
@@ -9,24 +9,25 @@ use vdb_file::{LoadFault, load};
 use vdb_pool::Steps;
 use vdb_scene::Watched;
 
-/// A file of two grids in version 1, before them.
+/// The beginning of a file of two grids in version 1, before the grids.
 const TWO_GRIDS: &[u8] = b"VDBS\0\x01\0\x02";
 
-/// Grid `a` of truth values with two metadata pairs, before these.
+/// The beginning of a file of grid `a` of booleans with two metadata pairs, before the pairs.
 const TWO_PAIRS: &[u8] = b"VDBS\0\x02\0\x01\x01a\0\0\0\0\x10\0\x02";
 
-/// Grid `a` of i32 with background 0 and two root blocks in version 1, before these.
+/// The beginning of a file in version 1 of grid `a` of i32 with background 0 and two root blocks, before the root blocks.
 const TWO_KEYS: &[u8] = b"VDBS\0\x01\0\x01\x01a\x01\0\0\0\0\0\0\0\x02";
 
-/// The same with one root block, before the two entries of its upper node.
+/// The beginning of a file in version 1 of grid `a` of i32 with background 0 and one root block, before the two entries of its
+/// upper node.
 const TWO_BLOCKS: &[u8] =
     b"VDBS\0\x01\0\x01\x01a\x01\0\0\0\0\0\0\0\x01\0\0\0\0\0\0\0\0\0\0\0\0\x03\0\x02";
 
-/// The same, before the two entries of a lower node.
+/// The beginning of a file in version 1 of grid `a` of i32 with background 0, before the two entries of a lower node.
 const TWO_LEAVES: &[u8] =
     b"VDBS\0\x01\0\x01\x01a\x01\0\0\0\0\0\0\0\x01\0\0\0\0\0\0\0\0\0\0\0\0\x03\0\x01\0\0\x03\0\x02";
 
-/// The same, before the two voxels of a leaf.
+/// The beginning of a file in version 1 of grid `a` of i32 with background 0, before the two voxels of a leaf.
 const TWO_VOXELS: &[u8] =
     b"VDBS\0\x01\0\x01\x01a\x01\0\0\0\0\0\0\0\x01\0\0\0\0\0\0\0\0\0\0\0\0\x03\0\x01\0\0\x03\0\x01\0\0\x03\0\x02";
 
@@ -50,7 +51,7 @@ fn a_wrong_byte_has_its_fault(rt: HostRuntime) {
         (OLD_VOXEL, [(10, 3)].as_slice(), LoadFault::Kind),
         (OLD_TRUTH, [(11, 2)].as_slice(), LoadFault::Value),
         (OLD_TRUTH, [(44, 2)].as_slice(), LoadFault::Value),
-        // limits, the number of pairs, keys and texts
+        // limits, the count of pairs, keys and texts
         (VOXEL, [(17, 0)].as_slice(), LoadFault::Limit),
         (
             VOXEL,
@@ -66,7 +67,7 @@ fn a_wrong_byte_has_its_fault(rt: HostRuntime) {
         (WITH_PAIR, [(25, 65)].as_slice(), LoadFault::Meta),
         (WITH_PAIR, [(26, b' ')].as_slice(), LoadFault::Meta),
         (WITH_PAIR, [(27, 0x7f)].as_slice(), LoadFault::Meta),
-        // numbers of root blocks, and keys
+        // counts of root blocks, and keys
         (
             OLD_VOXEL,
             [(17, 16), (18, 1)].as_slice(),
@@ -109,7 +110,7 @@ fn a_wrong_byte_has_its_fault(rt: HostRuntime) {
             [(41, 1), (42, 0), (43, 0), (45, 0)].as_slice(),
             LoadFault::Background,
         ),
-        // what is left behind the last field
+        // bytes after the last field
         (OLD_VOXEL, [(7, 0)].as_slice(), LoadFault::Trailing),
         (OLD_VOXEL, [(5, 2)].as_slice(), LoadFault::Trailing),
         (VOXEL, [(7, 0)].as_slice(), LoadFault::Trailing),
@@ -236,14 +237,15 @@ fn what_comes_twice_or_too_early_has_its_fault(rt: HostRuntime) {
             found == Some(fault),
             "{first:?}, {second:?}: {found:?}, not {fault}"
         );
-        // the first alone is as it should be
+        // without the second, the first causes no fault but the end of the file
         let once = joined(&rt, [front, first].as_slice());
         let found = fault_of(&rt, once.as_slice(), &mut steps);
         assert!(rt; found == Some(LoadFault::Truncated), "{first:?}: {found:?}");
     }
 }
 
-/// The front of a file, then a node with so many entries: each is 5 and of this tag, but for the last, which is `last`.
+/// Returns the beginning of a file, and then a node with this many entries. Each entry has this tag and the value 5; only the
+/// last has the value `last`.
 fn node(rt: &(impl Abort + AllocGlobal), front: &[u8], entries: u16, tag: u8, last: u8) -> Vec<u8> {
     let mut bytes = joined(rt, [front, b"\x03".as_slice()].as_slice());
     bytes

@@ -1,4 +1,4 @@
-//! Scenes that are saved.
+//! Saves scenes.
 
 use super::{BLOCK, EMPTY, TWO, VOXEL, WITH_PAIR, name, saves};
 use std::io;
@@ -9,7 +9,7 @@ use vdb_pool::Steps;
 use vdb_scene::{Answer, Command, Corners, Literal, MetaText, Name, Num, Point, Scene, Watched};
 use vdb_value::Kind;
 
-/// A writer that takes so many bytes and then fails; it counts the calls that failed.
+/// A writer that takes `left` bytes and then fails. It counts the calls that failed.
 #[derive(Drop)]
 struct Short {
     left: usize,
@@ -32,12 +32,12 @@ impl Write for Short {
     }
 }
 
-/// A number of a line.
+/// Returns a number as a line of a script gives it.
 fn near(value: i64) -> Literal {
     Literal::Number(Num::Near(value))
 }
 
-/// A coordinate of a line.
+/// Returns a coordinate as a line of a script gives it.
 fn point(x: i64, y: i64, z: i64) -> Point {
     Point {
         x: Num::Near(x),
@@ -46,7 +46,7 @@ fn point(x: i64, y: i64, z: i64) -> Point {
     }
 }
 
-/// Carries out a command that isn't refused.
+/// Runs a command, which must succeed.
 fn carry_out(rt: &impl Abort, scene: &mut Scene, command: &Command, steps: &mut Steps) {
     match scene.apply(command, steps) {
         Answer::Done => {}
@@ -54,7 +54,7 @@ fn carry_out(rt: &impl Abort, scene: &mut Scene, command: &Command, steps: &mut 
     }
 }
 
-/// Makes a grid.
+/// Adds a grid.
 fn add(
     rt: &impl Abort,
     scene: &mut Scene,
@@ -73,7 +73,7 @@ fn add(
     carry_out(rt, scene, &command, steps);
 }
 
-/// A scene with grid `a` of i32 with background 0.
+/// Returns a scene with grid `a` of i32 with background 0.
 fn with_grid(rt: &(impl Abort + AllocGlobal), steps: &mut Steps) -> Scene {
     let mut scene = Scene::new(rt.alloc());
     let a = name(rt, b"a");
@@ -81,7 +81,7 @@ fn with_grid(rt: &(impl Abort + AllocGlobal), steps: &mut Steps) -> Scene {
     scene
 }
 
-/// The same, in which (1, 2, 3) is 5, active.
+/// Returns a scene with grid `a` of i32 with background 0, in which (1, 2, 3) is 5, active.
 fn with_voxel(rt: &(impl Abort + AllocGlobal), steps: &mut Steps) -> Scene {
     let mut scene = with_grid(rt, steps);
     let set = Command::Set {

@@ -1,4 +1,4 @@
--- The first coordinate of a box in block order, of those of some kind. The calls of this crate alone speak of it.
+-- The first coordinate of a box, in block order, that has a property. Only contracts of this crate use these definitions.
 use Rattle.std.specs.Prelude.{◌≡◌, ◌⊎◌, ◌↔◌, ◌≤◌, ℕ, Bool, true, false, IsTrue, List, Option, Some, None, IsSome}
 use Rattle.std.specs.Ordering.{is_lt}
 use Rattle.vdb_coord.specs.Blocks.{block_cmp, block_number, is_past, key, offset}
@@ -13,12 +13,12 @@ use Rattle.vdb_tree.specs.Layout.{Layout, root_at}
 use Rattle.vdb_tree.specs.Pieces.{piece_around}
 use Rattle.vdb_tree.specs.Table.{IsPast}
 
--- the first of the box of this kind, if there is one
+-- the first coordinate of the box with this property, if one exists
 abbrev pub IsFirst : Bits → (Coord → Type 0) → Box → Option Coord → Type 0
 IsFirst bits Kind box None = (q : Coord) → IsTrue (is_inside box q) → Kind q → ⊥
 IsFirst bits Kind box (Some p) = IsTrue (is_inside box p) × Kind p × ((q : Coord) → IsTrue (is_inside box q) → Kind q → is_lt (block_cmp bits q p) ≡ false)
 
--- past the last coordinate
+-- the coordinate comes past the last one
 abbrev pub IsPastLast : Bits → Option Coord → Coord → Type 0
 IsPastLast bits after q = IsTrue (is_past bits after q)
 
@@ -27,15 +27,15 @@ abbrev pub IsNextVoxel : Box → Coord → Option Coord → Type 0
 IsNextVoxel box p None = (q : Coord) → IsTrue (is_inside box q) → IsBefore q p ⊎ (q ≡ p)
 IsNextVoxel box p (Some next) = IsTrue (is_inside box next) × IsBefore p next × ((q : Coord) → IsTrue (is_inside box q) → IsBefore q next → IsBefore q p ⊎ (q ≡ p))
 
--- and active
+-- the coordinate comes past the last one and is active
 abbrev pub IsActivePast : {V : Type 0} → Bits → Option Coord → Field V → Coord → Type 0
 IsActivePast bits after f q = IsPastLast bits after q × ((f.cell q).on ≡ true)
 
--- past it, and on in the leaf's states
+-- the coordinate comes past the last one, and its state is on in the leaf
 abbrev pub IsOnPast : Bits → Option Coord → List Bool → Coord → Type 0
 IsOnPast bits after states q = IsPastLast bits after q × (is_on states (offset bits Leaf q) ≡ true)
 
--- of the box, what comes past the last coordinate is in the leaf from this entry on
+-- the coordinates of the box past the last one are in the leaf from this entry on
 abbrev pub IsEntryPast : Bits → Option Coord → Box → ℕ → Type 0
 IsEntryPast bits after box from = (q : Coord) → IsTrue (is_inside box q) → IsPastLast bits after q ↔ (from ≤ offset bits Leaf q)
 
@@ -50,7 +50,7 @@ module _ {V : Type 0} (bits : Bits) (t : Layout V) where
   abbrev pub IsEntered : Option Coord → Coord → Type 0
   IsEntered after q = IsSome (root_at t.root (key bits q)) × IsPast after (key bits q)
 
-  -- it has an entry, and q comes past the last coordinate
+  -- q's root block has an entry, and q comes past the last coordinate
   abbrev pub IsEnteredPast : Option Coord → Coord → Type 0
   IsEnteredPast last q = IsSome (root_at t.root (key bits q)) × IsPastLast bits last q
 

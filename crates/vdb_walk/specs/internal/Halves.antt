@@ -12,7 +12,7 @@ use Rattle.vdb_coord.specs.declared.Coord.{Coord}
 abbrev pub reach : Box → ℕ
 reach b = unsigned_abs (b.max.x -ℤ b.min.x) + unsigned_abs (b.max.y -ℤ b.min.y) + unsigned_abs (b.max.z -ℤ b.min.z)
 
--- each coordinate of a box lies in one of two others, which reach less far
+-- each coordinate of the box lies in one of two others, and each of those reaches less far
 pub record IsHalved (b first second : Box) : Type 0 where
   pub each : (p : Coord) → is_inside b p ≡ (is_inside first p || is_inside second p)
   pub apart : (p : Coord) → (is_inside first p && is_inside second p) ≡ false

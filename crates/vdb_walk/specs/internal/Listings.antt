@@ -1,4 +1,4 @@
--- What is active past a coordinate, in the part that a walk has yielded and in what is left of it.
+-- The active voxels past a coordinate: in the part that a walk has yielded, and in the rest of the walk.
 use Rattle.std.specs.Prelude.{◌≡◌, ◌⊎◌, false, Option, Some, None, IfNone, IfSome, IsTrue}
 use Rattle.std.specs.Borrow.{Bor}
 use Rattle.vdb_coord.specs.Space.{is_inside}
@@ -15,12 +15,12 @@ use Rattle.vdb_value.specs.declared.Cell.{Cell}
 use Rattle.vdb_walk.specs.internal.Firsts.{IsActivePast, IsInLeafBlock}
 use Rattle.vdb_walk.specs.declared.held.Held.{Held}
 
--- a tile's cell
+-- the cell of a tile; none for a leaf
 abbrev pub tile_of : {V L : Type 0} → Content V L → Option (Cell V)
 tile_of (Tile cell) = Some cell
 tile_of (Leaf leaf) = None
 
--- whether q lies in the part, if there is one
+-- q lies in the part, if one is given
 abbrev pub IsInPart : {V : Type 0} → Option (Held V) → Coord → Type 0
 IsInPart None q = ⊥
 IsInPart (Some held) q = IsTrue (is_inside held.bounds q)
@@ -31,7 +31,7 @@ module _ {V : Type 0} (bits : Bits) (t : Layout V) where
     pub tile : OnTile part.content (λ cell. (q : Coord) → IsTrue (is_inside part.bounds q) → (field_of bits t).cell q ≡ cell)
     pub leaf : OnLeaf part.content (λ leaf. IsPartOfLeaf bits (field_of bits t) part.bounds leaf.now)
 
-  -- its tile's cell is that of the field all over it, or it lies in one leaf block
+  -- the field has the tile's cell all over the part, or the part lies in one leaf block
   pub record IsHeld (held : Held V) : Type 0 where
     pub tile : IfSome held.tile (λ cell. (q : Coord) → IsTrue (is_inside held.bounds q) → (field_of bits t).cell q ≡ cell)
     pub leaf : IfNone held.tile (IsInLeafBlock bits held.bounds)
@@ -42,7 +42,7 @@ module _ {V : Type 0} (bits : Bits) (t : Layout V) where
     pub inside : (q : Coord) → IsTrue (is_inside held.bounds q) → IsTrue (is_inside walk.box q)
     pub gone : (q : Coord) → IsTrue (is_inside held.bounds q) → is_left bits walk.at q ≡ false
 
-  -- what is active past the last one is in the part, or is left of the walk
+  -- an active voxel past the last one lies in the part or in the rest of the walk
   pub record IsListing (last : Option Coord) (w : TreeWalk V) (held : Option (Held V)) : Type 0 where
     pub walk : IsWalk bits t w
     pub skip : w.skip ≡ Inactive

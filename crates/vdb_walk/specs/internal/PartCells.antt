@@ -1,4 +1,4 @@
--- What tells that a box has one cell. Only proofs and private functions speak of these.
+-- When a box has one cell. Only proofs and private functions use these definitions.
 use Rattle.std.specs.Prelude.{◌≡◌, ◌⊎◌, ℕ, IsTrue}
 use Rattle.vdb_coord.specs.Blocks.{key, offset}
 use Rattle.vdb_coord.specs.Space.{Box, is_inside}
@@ -12,7 +12,7 @@ use Rattle.vdb_tree.specs.Parts.{IsSkipped}
 use Rattle.vdb_tree.specs.declared.queries.parts.Skip.{Skip}
 
 module _ {V : Type 0} (bits : Bits) (t : Layout V) (box : Box) (cell : Cell V) where
-  -- each coordinate of the box has the cell, or a walk may pass over it
+  -- each coordinate of the box has the cell, or a walk may skip it
   abbrev pub IsCellOrSkipped : Skip → Type 0
   IsCellOrSkipped skip = (q : Coord) → IsTrue (is_inside box q) → ((field_of bits t).cell q ≡ cell) ⊎ IsSkipped bits skip t q
 

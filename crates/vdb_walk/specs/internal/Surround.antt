@@ -1,4 +1,4 @@
--- Least boxes around coordinates, of which private functions and proofs alone speak.
+-- Bounding boxes of coordinates. Only private functions and proofs use these definitions.
 use Rattle.std.specs.Prelude.{Bool, false, ◌&&◌, ◌||◌, List, Option, Some, None, IsTrue}
 use Rattle.vdb_coord.specs.Space.{Box, is_inside}
 use Rattle.vdb_coord.specs.declared.Bits.{Bits}
@@ -6,7 +6,7 @@ use Rattle.vdb_coord.specs.declared.Coord.{Coord}
 use Rattle.vdb_tree.specs.Field.{Field}
 use Rattle.vdb_walk.specs.internal.Voxels.{is_set}
 
--- whether the box, if there is one, holds the coordinate
+-- whether a box is given and holds the coordinate
 abbrev pub is_in : Option Box → Coord → Bool
 is_in None p = false
 is_in (Some box) p = is_inside box p
@@ -15,11 +15,11 @@ is_in (Some box) p = is_inside box p
 abbrev pub is_wanted : {V : Type 0} → Field V → Option Box → Box → Coord → Bool
 is_wanted f found part p = is_in found p || (is_inside part p && (f.cell p).on)
 
--- the box holds each of these coordinates, and lies within every box that does; there is none only where they are none
+-- the box holds each of these coordinates and lies within every box that does; none only if no coordinate is wanted
 pub record Surrounds (wanted : Coord → Bool) (found : Option Box) : Type 0 where
   pub holds : (p : Coord) → IsTrue (wanted p) → IsTrue (is_in found p)
   pub least : (other : Box) → ((p : Coord) → IsTrue (wanted p) → IsTrue (is_inside other p)) → (p : Coord) → IsTrue (is_in found p) → IsTrue (is_inside other p)
 
--- whether the coordinate lies in the box found so far, or is a voxel of the part of a leaf whose state is on
+-- whether the coordinate lies in the box found so far, or is a voxel of the leaf's part whose state is on
 abbrev pub is_wanted_by : Bits → List Bool → Option Box → Box → Coord → Bool
 is_wanted_by bits states found part p = is_in found p || (is_inside part p && is_set bits states p)

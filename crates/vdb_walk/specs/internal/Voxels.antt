@@ -1,4 +1,4 @@
--- The voxels of a leaf in a box, told by the states of the leaf. The calls of this crate alone speak of them.
+-- The voxels of a leaf in a box, by the states of the leaf. Only contracts of this crate use these definitions.
 use Rattle.std.specs.Prelude.{◌≡◌, ◌≤◌, ◌<◌, ℕ, Bool, true, false, List, Option, Some, None, IsTrue, count_by}
 use Rattle.vdb_coord.specs.Blocks.{block_number, offset}
 use Rattle.vdb_coord.specs.Space.{Box, coordinates, is_inside}
@@ -20,7 +20,7 @@ module _ (bits : Bits) (states : List Bool) where
   abbrev pub set_count : Box → ℕ
   set_count box = count_by is_set (coordinates box)
 
-  -- of the voxels of the box from one entry of the leaf on, p at this entry is the first whose state is on
+  -- p, at this entry, is the first voxel of the box from the entry `from` on whose state is on
   pub record IsNextSetAt (box : Box) (from entry : ℕ) (p : Coord) : Type 0 where
     pub from_on : from ≤ entry
     pub inside : IsTrue (is_inside box p)
@@ -28,7 +28,7 @@ module _ (bits : Bits) (states : List Bool) where
     pub here : is_set p ≡ true
     pub before : (q : Coord) → IsTrue (is_inside box q) → from ≤ offset bits Leaf q → offset bits Leaf q < entry → is_set q ≡ false
 
-  -- that entry and that voxel; none where no such state is on
+  -- the entry and the voxel found; none if no such state is on
   abbrev pub IsNextSet : Box → ℕ → Option (ℕ × Coord) → Type 0
   IsNextSet box from (Some next) = IsNextSetAt box from next.0 next.1
   IsNextSet box from None = (q : Coord) → IsTrue (is_inside box q) → from ≤ offset bits Leaf q → is_set q ≡ false

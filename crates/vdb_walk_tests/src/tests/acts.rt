@@ -1,6 +1,6 @@
-//! Tests as lists of acts: what is done to a tree, and what the walks are then expected to tell of it. A list costs the proof
-//! next to nothing, where a call of a generic function costs it much: so each is called here alone, and each type of trees has
-//! one function that plays a list on a tree of its own.
+//! Writes tests as lists of acts: changes of a tree, and answers that the walks must then give. A list costs the proof next to
+//! nothing, but each call of a generic function costs much. So only this module calls them, and each type of tree has one
+//! function that plays a list on a tree of its own.
 
 use std::alloc::Global;
 use std::process::Abort;
@@ -20,35 +20,35 @@ type Leaves4<V> = TreeOf<V, 1, 1, 2, 1, 1, 1>;
 /// A tree whose leaves span 16 voxels along each axis.
 type Leaves16<V> = TreeOf<V, 1, 1, 4, 1, 1, 64>;
 
-/// One thing done to a tree, or expected of it. A box is given by its first voxel and its last one.
+/// One change of a tree, or one expected answer. A box is given by its first voxel and its last one.
 #[derive(Drop)]
 pub(super) enum Act<'a, V> {
-    /// A write of a voxel, which is accepted.
+    /// Writes a voxel; the tree accepts it.
     Write(Coord, Write<V>),
-    /// Each voxel of a box is given a cell, which is accepted.
+    /// Gives each voxel of a box a cell; the tree accepts it.
     Fill(Coord, Coord, Cell<V>),
-    /// A box is given leaves, which is accepted.
+    /// Gives a box leaves; the tree accepts it.
     Voxelise(Coord, Coord),
     Prune,
-    /// From here on visits count.
+    /// Starts the count of visits anew.
     Mark,
-    /// How many nodes were visited since the last mark.
+    /// The number of node visits since the last mark.
     Visits(u64),
-    /// How many entries the root table has, and how many upper, lower and leaf nodes there are.
+    /// The numbers of root table entries and of upper, lower and leaf nodes.
     Nodes([u64; 4]),
-    /// The root blocks that hold anything but the background, and the upper, lower and leaf blocks whose cells differ.
+    /// The numbers of root blocks that hold anything but the background, and of upper, lower and leaf blocks whose cells differ.
     Census([u64; 4]),
-    /// How many voxels are active.
+    /// The number of active voxels.
     Count(u128),
-    /// How many voxels of a box are active.
+    /// The number of active voxels in a box.
     CountIn(Coord, Coord, u128),
-    /// The least and the greatest corner of the box around the active voxels.
+    /// The least and the greatest corner of the active voxels' bounding box.
     Around(Option<(Coord, Coord)>),
     /// The one cell that a box has.
     Uniform(Coord, Coord, Option<Cell<V>>),
     /// The active voxels of a box.
     List(Coord, Coord, &'a [(Coord, V)]),
-    /// What a listing of a box with a limit hands out, and whether more are left then.
+    /// The voxels that a listing of a box with a limit yields, and whether more are left after them.
     Limited(Coord, Coord, u32, &'a [(Coord, V)], bool),
     /// The first active voxel of a box past a coordinate.
     Next(Coord, Coord, Coord, Option<(Coord, V)>),
@@ -123,8 +123,8 @@ fn expect_next<V: Voxel>(
     assert!(rt; found == wanted, "act {number}, past {after:?}");
 }
 
-// What a listing told at one of its items, or past the last: whether more were left, what came next in the box, and what it
-// handed out.
+// Checks what a listing said at one of its items, or past the last: whether more were left, what came next in the box, and the
+// item it yielded.
 fn expect_listed<V: Voxel>(
     rt: &impl Abort,
     place: (usize, usize),
@@ -158,8 +158,8 @@ fn expect_piece<V: Voxel>(
     assert!(rt; found == wanted, "act {number}, piece {index}");
 }
 
-// A listing of the box hands out these items, and then twice nothing; before each, more is left, and the first past the one
-// before is this one. After the last, more is left in the box or not.
+// Checks that a listing of the box yields these items, and then twice nothing. Before each item, more must be left, and the first
+// voxel past the item before must be this one. After the last, more is left in the box or not, as given.
 fn expect_listing<
     V: Stored<WU> + Stored<WL> + Stored<WF>,
     const U: u32,
@@ -198,7 +198,7 @@ fn expect_listing<
     expect_listed(rt, place, (left, ahead, next), None, more);
 }
 
-// The pieces of a tree are these, and then twice none.
+// Checks that a tree's pieces are these, and then twice none.
 fn expect_pieces<
     V: Stored<WU> + Stored<WL> + Stored<WF>,
     const U: u32,
@@ -221,7 +221,7 @@ fn expect_pieces<
     }
 }
 
-// What the voxels one after another are expected to be; another act expects nothing of them.
+// Checks what an act expects of the voxels one after another; any other act expects nothing of them.
 fn expect_order<
     V: Stored<WU> + Stored<WL> + Stored<WF>,
     const U: u32,
@@ -255,7 +255,7 @@ fn expect_order<
     }
 }
 
-// What is expected of a tree; an act that changes it expects nothing.
+// Checks what an act expects of a tree; an act that changes it expects nothing.
 fn expect_act<
     V: Stored<WU> + Stored<WL> + Stored<WF>,
     const U: u32,
@@ -319,7 +319,7 @@ fn act_once<
     }
 }
 
-// Each act in turn, of a tree that is given up then. They are numbered from 0 in the texts of what fails.
+// Plays each act in turn on a tree, which is dropped afterwards. The messages of failures number the acts from 0.
 fn play<
     V: Stored<WU> + Stored<WL> + Stored<WF>,
     const U: u32,
@@ -347,7 +347,7 @@ fn play<
     }
 }
 
-/// Acts on a fresh tree of the standard layout.
+/// Plays acts on a fresh tree of the standard layout.
 pub(super) fn play_standard(
     rt: &impl Abort,
     alloc: Global,
@@ -358,7 +358,7 @@ pub(super) fn play_standard(
     play(rt, Tree::new(alloc, background, 4096), acts, steps);
 }
 
-/// Acts on a fresh tree of the standard layout, of truth values.
+/// Plays acts on a fresh tree of booleans with the standard layout.
 pub(super) fn play_truths(
     rt: &impl Abort,
     alloc: Global,
@@ -369,7 +369,7 @@ pub(super) fn play_truths(
     play(rt, Tree::new(alloc, background, 4096), acts, steps);
 }
 
-/// Acts on a fresh tree of the layout 4-3-3, of large numbers.
+/// Plays acts on a fresh tree of `i64` values with the layout 4-3-3.
 pub(super) fn play_433(
     rt: &impl Abort,
     alloc: Global,
@@ -380,7 +380,7 @@ pub(super) fn play_433(
     play(rt, Tree433::new(alloc, background, 4096), acts, steps);
 }
 
-/// Acts on a fresh tree of the smallest nodes.
+/// Plays acts on a fresh tree of the smallest nodes.
 pub(super) fn play_tiny(
     rt: &impl Abort,
     alloc: Global,
@@ -391,7 +391,7 @@ pub(super) fn play_tiny(
     play(rt, Tiny::new(alloc, background, 4096), acts, steps);
 }
 
-/// Acts on a fresh tree whose leaves span 4 voxels along each axis.
+/// Plays acts on a fresh tree whose leaves span 4 voxels along each axis.
 pub(super) fn play_leaves4(
     rt: &impl Abort,
     alloc: Global,
@@ -402,7 +402,7 @@ pub(super) fn play_leaves4(
     play(rt, Leaves4::new(alloc, background, 4096), acts, steps);
 }
 
-/// Acts on a fresh tree whose leaves span 16 voxels along each axis.
+/// Plays acts on a fresh tree whose leaves span 16 voxels along each axis.
 pub(super) fn play_leaves16(
     rt: &impl Abort,
     alloc: Global,

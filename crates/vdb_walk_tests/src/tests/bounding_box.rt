@@ -1,4 +1,4 @@
-//! Boxes around active voxels.
+//! Tests the bounding box of active voxels.
 
 use super::acts::{
     Act, play_433, play_leaves4, play_leaves16, play_standard, play_tiny, play_truths,
@@ -9,7 +9,7 @@ use vdb_coord::Coord;
 use vdb_pool::Steps;
 use vdb_tree::Write;
 
-// Neither the background nor the values count, but the states alone.
+// Only the states count, neither the background nor the values.
 #[test]
 fn states_alone_count(rt: HostRuntime) {
     let acts = [
@@ -58,7 +58,7 @@ fn tiles_count_at_once(rt: HostRuntime) {
     play_standard(&rt, rt.alloc(), 0, &acts, &mut Steps::new(&rt));
 }
 
-// The same field by tiles, by leaves, and made small again.
+// The same field in tiles, in leaves, and after a prune.
 #[test]
 fn nodes_make_no_difference(rt: HostRuntime) {
     let acts = [
@@ -74,7 +74,7 @@ fn nodes_make_no_difference(rt: HostRuntime) {
     play_standard(&rt, rt.alloc(), 0, &acts, &mut Steps::new(&rt));
 }
 
-// Voxels of one leaf, and what they leave of a leaf block.
+// The bounding box of a leaf's voxels is smaller than the leaf's extent; an inactive voxel does not count.
 #[test]
 fn a_leaf_counts_by_its_voxels(rt: HostRuntime) {
     let acts = [
@@ -86,12 +86,12 @@ fn a_leaf_counts_by_its_voxels(rt: HostRuntime) {
     play_433(&rt, rt.alloc(), 0, &acts, &mut Steps::new(&rt));
 }
 
-// The next of a row of numbers without order, by a linear congruence.
+// Returns the next of a sequence of pseudo-random numbers, by a linear congruence.
 fn next_number(number: u32) -> u32 {
     number.wrapping_mul(1_664_525).wrapping_add(1_013_904_223)
 }
 
-// A component between -half and half - 1, of the number's upper bits.
+// Returns a component between -half and half - 1, from the number's upper bits.
 fn component(number: u32, half: i32) -> i32 {
     match i32::try_from(number >> 16) {
         Ok(high) => high
@@ -109,7 +109,7 @@ fn voxel(numbers: [u32; 3], half: i32) -> Coord {
     )
 }
 
-// The box from its least to its greatest corner, widened to hold a voxel.
+// Returns the box from its least to its greatest corner, widened to hold a voxel.
 fn widened(corners: Option<(Coord, Coord)>, p: Coord) -> Option<(Coord, Coord)> {
     match corners {
         Some((min, max)) => Some((min.lesser(p), max.greater(p))),
@@ -117,8 +117,8 @@ fn widened(corners: Option<(Coord, Coord)>, p: Coord) -> Option<(Coord, Coord)> 
     }
 }
 
-// Adds voxels here and there, two of three of them active: the box is that of their least and greatest components. No active
-// voxel is written again as an inactive one.
+// Adds writes of scattered voxels, two of three of them active. The bounding box has their least and greatest components. No
+// active voxel is written again as an inactive one.
 fn add_voxels(
     acts: &mut Vec<Act<'static, i32>>,
     alloc: Global,

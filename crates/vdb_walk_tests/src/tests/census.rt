@@ -1,4 +1,5 @@
-//! Boxes of one cell, and how large a field's smallest tree is. Expected values are worked out by hand, or in a map of cells.
+//! Tests boxes of one cell, and the size of a field's smallest tree. Expected values are worked out by hand, or in a map of
+//! cells.
 
 ghost use Rattle.std.specs.Prelude.{◌<◌};
 
@@ -67,7 +68,7 @@ fn an_inactive_root_block_is_counted(rt: HostRuntime) {
     play_standard(&rt, rt.alloc(), 0, &acts, &mut Steps::new(&rt));
 }
 
-// A sheet of one voxel's height through a root block: 32 by 32 lower blocks, of 16 by 16 leaves each.
+// A sheet of one voxel's height through a root block: 32 by 32 lower blocks with 16 by 16 leaves each.
 #[test]
 fn a_sheet(rt: HostRuntime) {
     let acts = [
@@ -110,7 +111,7 @@ fn boxes_of_one_cell(rt: HostRuntime) {
         Act::Uniform(all(13), all(i32::MAX), Some(off(0))),
         Act::Uniform(all(i32::MIN), all(2), Some(off(0))),
         Act::Uniform(all(i32::MIN), all(3), None),
-        // a state alone, then a value alone
+        // the state alone differs, then the value alone
         Act::Write(all(7), Write::State(false)),
         Act::Uniform(all(3), all(12), None),
         Act::Uniform(all(7), all(7), Some(off(1))),
@@ -125,7 +126,7 @@ fn boxes_of_one_cell(rt: HostRuntime) {
     play_tiny(&rt, rt.alloc(), 0, &acts, &mut Steps::new(&rt));
 }
 
-// A leaf is decided by itself: three visits find its first voxel, twice, and three the leaf.
+// A leaf is decided by itself, in nine visits: three find its first voxel, twice, and three find the leaf.
 #[test]
 fn leaves_are_decided_at_once(rt: HostRuntime) {
     let acts = [
@@ -149,7 +150,7 @@ struct Draws {
 }
 
 impl Draws {
-    // A number below `bound`, by the upper bits.
+    // Returns a number below `bound`, from the upper bits.
     fn below(&mut self, bound: u64) -> u64
         requires { 0 < bound }
         ensures { result < bound }
@@ -161,12 +162,12 @@ impl Draws {
         (self.state >> 33) % bound
     }
 
-    // A component from -9 to 12.
+    // Returns a component from -9 to 12.
     fn component(&mut self) -> i32 {
         (self.below(22) as i32).wrapping_sub(9)
     }
 
-    // Two corners from -9 to 12, as a box; half of the boxes span one to four voxels along each axis.
+    // Returns the box of two corners from -9 to 12. Half of the boxes span one to four voxels along each axis.
     fn bounds(&mut self) -> Option<Bounds> {
         let p = at(self.component(), self.component(), self.component());
         let q = if self.below(2) == 0 {
@@ -179,7 +180,7 @@ impl Draws {
         Bounds::new(p.lesser(q), p.greater(q))
     }
 
-    // Often the background, so that blocks are all background again.
+    // Returns a cell, often the background, so that blocks become all background again.
     fn cell(&mut self) -> Cell<i32> {
         let value = self.below(2) as i32;
         let on = self.below(2) == 0;
@@ -187,7 +188,7 @@ impl Draws {
     }
 }
 
-/// What a tree with background 0 is to hold. The rest is the background.
+/// The cells that a tree with background 0 must hold. The rest is the background.
 #[derive(Drop)]
 struct Wanted {
     alloc: Global,
@@ -214,7 +215,7 @@ impl Wanted {
         Ok(())
     }
 
-    // The one cell of a box, voxel by voxel.
+    // Returns the one cell of a box, found voxel by voxel.
     fn uniform(&self, bounds: Bounds) -> Option<Cell<i32>> {
         let (min, max) = (bounds.min(), bounds.max());
         let first = self.cell(min);
@@ -230,8 +231,8 @@ impl Wanted {
         Some(first)
     }
 
-    // Of the blocks of so many voxels along each axis, from -16 to 15: how many hold anything but the background, and how many
-    // aren't of one cell.
+    // Counts two things among the blocks of `span` voxels along each axis from -16 to 15: those that hold anything but the
+    // background, and those that aren't of one cell.
     fn blocks(&self, span: i32) -> (u64, u64) {
         let (mut non_background, mut non_constant) = (0u64, 0u64);
         let last = span.wrapping_sub(1);
@@ -258,14 +259,14 @@ impl Wanted {
         (non_background, non_constant)
     }
 
-    // The census of blocks of 8, 4 and 2 voxels along each axis.
+    // Returns the census of blocks of 8, 4 and 2 voxels along each axis.
     fn census(&self) -> [u64; 4] {
         let (roots, upper) = self.blocks(8);
         [roots, upper, self.blocks(4).1, self.blocks(2).1]
     }
 }
 
-// Adds whether boxes that are drawn are of one cell.
+// Adds tests of whether random boxes have one cell.
 fn add_parts(
     acts: &mut Vec<Act<'static, i32>>,
     wanted: &Wanted,
@@ -280,7 +281,7 @@ fn add_parts(
     Ok(())
 }
 
-// Adds a box that is drawn and a cell for it, and now and then leaves. Every fourth time the tree is pruned.
+// Adds a random box and a cell for it, and now and then leaves. Every fourth time it prunes the tree.
 fn add_box(
     acts: &mut Vec<Act<'static, i32>>,
     wanted: &mut Wanted,

@@ -46,7 +46,7 @@ fn five_voxels(rt: HostRuntime) {
     play_standard(&rt, rt.alloc(), 0, &acts, &mut Steps::new(&rt));
 }
 
-// A limit ends a listing early, and more tells of the box alone.
+// A limit ends a listing early; `more` ignores the limit.
 #[test]
 fn limits(rt: HostRuntime) {
     let two = [(at(0, 0, 0), 0), (at(0, 0, 4), 1)];
@@ -64,7 +64,7 @@ fn limits(rt: HostRuntime) {
     play_standard(&rt, rt.alloc(), 0, &acts, &mut Steps::new(&rt));
 }
 
-// A limit of as many voxels as there are, or more, ends no listing.
+// A limit equal to the number of voxels, or greater, ends no listing.
 #[test]
 fn limits_that_are_not_passed(rt: HostRuntime) {
     let five = [
@@ -87,7 +87,7 @@ fn limits_that_are_not_passed(rt: HostRuntime) {
     play_standard(&rt, rt.alloc(), 0, &acts, &mut Steps::new(&rt));
 }
 
-// Both lie in one lower block where lower blocks span 128 voxels.
+// Both voxels lie in one lower block, which spans 128 voxels along each axis.
 #[test]
 fn one_lower_block(rt: HostRuntime) {
     let wanted = [(at(0, 0, 64), 1), (at(63, 0, 0), 1)];
@@ -99,7 +99,7 @@ fn one_lower_block(rt: HostRuntime) {
     play_standard(&rt, rt.alloc(), 0, &acts, &mut Steps::new(&rt));
 }
 
-// The same two lie in two lower blocks where those span 64 voxels.
+// The same two voxels lie in two lower blocks, which span 64 voxels along each axis.
 #[test]
 fn two_lower_blocks(rt: HostRuntime) {
     let wanted = [(at(63, 0, 0), 1), (at(0, 0, 64), 1)];
@@ -130,7 +130,7 @@ fn ends_of_the_range(rt: HostRuntime) {
     play_tiny(&rt, rt.alloc(), 0, &acts, &mut Steps::new(&rt));
 }
 
-// An active tile is listed voxel by voxel: here the eight about an edge of two leaf blocks, of which one is a tile.
+// An active tile is listed voxel by voxel: here the eight voxels about an edge of two leaf blocks, one of them a tile.
 #[test]
 fn tiles(rt: HostRuntime) {
     let wanted = [
@@ -148,7 +148,7 @@ fn tiles(rt: HostRuntime) {
     play_standard(&rt, rt.alloc(), 0, &acts, &mut Steps::new(&rt));
 }
 
-// The first voxel past a coordinate outside of the box, and past one that isn't active.
+// The first voxel past a coordinate outside of the box, and past an inactive one.
 #[test]
 fn past_any_coordinate(rt: HostRuntime) {
     let (min, max) = (at(0, 2, 2), at(9, 5, 4096));
@@ -173,7 +173,7 @@ struct Draws {
 }
 
 impl Draws {
-    // A number below `bound`, by the upper bits.
+    // Returns a number below `bound`, from the upper bits.
     fn below(&mut self, bound: u64) -> u64
         requires { 0 < bound }
         ensures { result < bound }
@@ -186,7 +186,8 @@ impl Draws {
     }
 }
 
-// Where a voxel comes in block order, where blocks span 2, 4 and 8 voxels and components count from the first of the blocks.
+// Returns the rank of a voxel in block order. Blocks span 2, 4 and 8 voxels along each axis, and components count from the first
+// block.
 fn rank(x: u64, y: u64, z: u64) -> u64 {
     let mut rank = 0u64;
     for bits in [3, 2, 1, 0] {
@@ -199,17 +200,17 @@ fn rank(x: u64, y: u64, z: u64) -> u64 {
     rank
 }
 
-// The coordinate of these components, where each block of 8 from -8 on counts from 0.
+// Returns the coordinate of these components. The blocks of 8 start at -8, which counts as 0.
 fn placed(x: u64, y: u64, z: u64) -> Coord
     requires { (x < 24) × (y < 24) × (z < 24) }
 {
     at(x as i32 - 8, y as i32 - 8, z as i32 - 8)
 }
 
-/// The active voxels that changes leave, in the order of ranks.
+/// The active voxels after some changes, by their ranks.
 type Active = BTreeMap<u64, (Coord, i32)>;
 
-// Adds a write of a voxel that is drawn.
+// Adds a write of a voxel that is drawn at random.
 fn add_write(
     acts: &mut Vec<Act<'_, i32>>,
     active: &mut Active,
@@ -245,7 +246,7 @@ fn add_block(
     Ok(())
 }
 
-// Random voxels and boxes of a tree, pruned now and then.
+// Adds random voxels and boxes to a tree, and prunes it now and then.
 fn add_changes(
     acts: &mut Vec<Act<'_, i32>>,
     active: &mut Active,
@@ -270,7 +271,7 @@ fn add_items(items: &mut Vec<(Coord, i32)>, active: &Active) -> Result<(), Alloc
     Ok(())
 }
 
-// The listing of the blocks from -8 to 15 is that of the map, also where some of them have leaves.
+// Checks that the listing of the blocks from -8 to 15 is that of the map, also if some blocks have leaves.
 fn try_state(
     rt: &impl Abort,
     alloc: Global,

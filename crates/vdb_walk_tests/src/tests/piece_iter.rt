@@ -1,4 +1,4 @@
-//! The pieces of a tree, one after another.
+//! Tests the pieces of a tree, one after another.
 
 use super::acts::{Act, bounds, play_tiny};
 use super::{all, at, off, on};
@@ -7,8 +7,8 @@ use std::process::Abort;
 use vdb_pool::Steps;
 use vdb_tree::{Piece, Write};
 
-// Adds the blocks of so many voxels along each axis, in a block of twice as many at `all(0)`: the first of them, if that is one
-// piece, and the other seven.
+// Adds the pieces of a block at `all(0)` that span `span` voxels along each axis, half of the block's: all eight if `span` is 1,
+// else all but the first.
 fn add_blocks(rt: &impl Abort, pieces: &mut Vec<Piece<i32>>, span: i32) -> Result<(), AllocError> {
     let first = if span == 1 { 0 } else { 1 };
     for number in first..8i32 {

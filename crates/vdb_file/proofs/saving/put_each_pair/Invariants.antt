@@ -5,7 +5,7 @@ use Rattle.vdb_file.specs.Spelling.{counted}
 use Rattle.vdb_file.specs.internal.Written.{Puts, sent}
 use Rattle.vdb_file.proofs.saving.put_each_pair.Given as goal
 
--- the first pairs are put
+-- the first `i` pairs are written
 abbrev pub invariant-loop-i : goal.invariant-loop-i
 invariant-loop-i g l = record {
   puts : Puts (sent g.row.C l.fn.out (g.W.Write.contents (source l.fn.writer))) (sent g.row.C l.out (g.W.Write.contents (source l.writer))) (flat_map (λ pair. counted pair.0 ++ counted pair.1) (take l.i l.metas));

@@ -1,4 +1,4 @@
--- Where a block begins between two numbers.
+-- The edge of a block between two numbers.
 use Rattle.std.proofs.Common.{SFits, rules, w32}
 use Rattle.std.proofs.lemmas.Int.{to_z-of_z}
 use Rattle.vdb_coord.specs.Components.{first_of}

@@ -4,7 +4,7 @@ use Rattle.std.proofs.lemmas.Int.{ints, to_z-of_z}
 use Rattle.vdb_walk.proofs.NextVoxels.{next_x, next_y, next_z, no_next}
 use Rattle.vdb_walk.proofs.order.next_voxel.Goals as goal
 
--- a number behind another that has one above it
+-- the number after x, if 32 bits hold a greater one
 bumped : (x m : ℤ) → SFits w32 x → SFits w32 m → lt_z (to_z w32 (of_z w32 x)) (to_z w32 (of_z w32 m)) ≡ true
     → (to_z w32 (of_z w32 (to_z w32 (of_z w32 x) +ℤ pos 1)) ≡ x +ℤ pos 1) × (x <ℤ m) × SFits w32 (x +ℤ pos 1)
 bumped x m fx fm h =

@@ -1,4 +1,4 @@
--- What comes after p along z is as far as the lesser of the boxes' ends.
+-- A run along z from p ends at the lesser of the boxes' ends.
 use Rattle.std.proofs.Common.{◌≡◌, SFits, w32, rules, arith, unsigned_abs, ◌-ℤ◌}
 use Rattle.std.specs.Int.{int_min}
 use Rattle.std.proofs.lemmas.Int.{to_z-of_z}

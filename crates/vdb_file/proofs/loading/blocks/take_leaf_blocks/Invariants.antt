@@ -11,7 +11,7 @@ use Rattle.vdb_file.proofs.RowInstances.{node_row}
 use Rattle.vdb_file.proofs.RowLoops.{IsUnderway}
 use Rattle.vdb_file.proofs.loading.blocks.take_leaf_blocks.Given as goal
 
--- so many entries were read, and the next ones are loadable
+-- this many entries were read, and the next ones are loadable
 abbrev pub invariant-loop : goal.invariant-loop
 invariant-loop g l = let bits = bits_of g.row.U g.row.L g.row.F in record {
   underway : IsUnderway g.V.PartialEq.eq g.V.Voxel.is_value (node_row bits Lower (block_around bits Lower l.fn.p) (leaf_body g.V.PartialEq.eq g.V.Voxel.bytes_of bits)) l.fn.tree.background (block_around bits Lower l.fn.p)

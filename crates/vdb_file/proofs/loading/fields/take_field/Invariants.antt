@@ -15,6 +15,6 @@ invariant-loop-at g l = record {
   failed : has_failed l.reader ≡ has_failed l.fn.reader;
 }
 
--- the bytes that are wanted
+-- the bytes that are still needed decrease
 abbrev pub decreases-loop-at : goal.decreases-loop-at
 decreases-loop-at g l = length l.field - l.at

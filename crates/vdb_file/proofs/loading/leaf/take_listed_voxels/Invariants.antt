@@ -5,7 +5,7 @@ use Rattle.vdb_file.specs.internal.Reading.{EndsWith, byte_total, position}
 use Rattle.vdb_file.proofs.LeafReads.{AreCells, HasRead}
 use Rattle.vdb_file.proofs.loading.leaf.take_listed_voxels.Given as goal
 
--- the voxels so far were read into the leaf, whichever block it is that of, and the next is to follow the last of them
+-- the voxels so far were read into the leaf, whatever the leaf's block, and the next must follow the last of them
 abbrev pub invariant-loop : goal.invariant-loop
 invariant-loop g l = record {
   ends : EndsWith l.input (g.R.Read.remaining (source l.reader));

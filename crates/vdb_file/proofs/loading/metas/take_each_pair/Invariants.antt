@@ -8,7 +8,7 @@ use Rattle.vdb_file.specs.internal.Reading.{EndsWith, Took, byte_total, position
 use Rattle.vdb_file.proofs.Items.{IsChain, last_of}
 use Rattle.vdb_file.proofs.loading.metas.take_each_pair.Given as goal
 
--- the pairs so far were read, and the next is to follow the last of them
+-- the pairs so far were read, and the next must follow the last of them
 abbrev pub invariant-loop : goal.invariant-loop
 invariant-loop g l = record {
   took : Took (position l.fn.input (g.R.Read.remaining (source l.fn.reader))) (position l.input (g.R.Read.remaining (source l.reader))) (flat_map pair_bytes l.metas);

@@ -11,7 +11,7 @@ use Rattle.vdb_file.proofs.RowInstances.{root_row}
 use Rattle.vdb_file.proofs.RowLoops.{IsUnderway}
 use Rattle.vdb_file.proofs.loading.roots.take_keyed_roots.Given as goal
 
--- so many root blocks were read, and while there are fewer than that, the next ones are loadable
+-- this many root blocks were read, and the next ones are loadable while fewer than the count were read
 abbrev pub invariant-loop : goal.invariant-loop
 invariant-loop g l = let bits = bits_of g.row.U g.row.L g.row.F in record {
   underway : IsUnderway g.V.PartialEq.eq g.V.Voxel.is_value (root_row g.V.PartialEq.eq g.V.Voxel.bytes_of bits) l.fn.tree.background everywhere (field_of bits l.fn.tree)

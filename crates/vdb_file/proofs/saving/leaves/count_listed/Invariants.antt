@@ -5,7 +5,7 @@ use Rattle.vdb_tree.specs.Layout.{bits_of, field_of}
 use Rattle.vdb_file.specs.internal.Written.{passing}
 use Rattle.vdb_file.proofs.saving.leaves.count_listed.Given as goal
 
--- those of the entries passed that are listed are counted
+-- the listed entries among those passed are counted
 abbrev pub invariant-loop-i : goal.invariant-loop-i
 invariant-loop-i g l = let bits = bits_of g.row.U g.row.L g.row.F in record {
   within : l.from ≤ entries bits l.level;

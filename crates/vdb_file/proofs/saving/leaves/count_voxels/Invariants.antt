@@ -5,6 +5,6 @@ use Rattle.vdb_value.specs.declared.Cell.{Cell}
 use Rattle.vdb_file.specs.internal.Written.{passing}
 use Rattle.vdb_file.proofs.saving.leaves.count_voxels.Given as goal
 
--- those of the voxels passed that aren't the background are counted
+-- the voxels passed that aren't the background are counted
 abbrev pub invariant-loop-i : goal.invariant-loop-i
 invariant-loop-i g l = (d : Cell g.row.V.Denot) → l.count ≡ length (passing (λ i. not (cell_eq g.V.PartialEq.eq (cell_in d l.leaf i) l.background)) l.i)

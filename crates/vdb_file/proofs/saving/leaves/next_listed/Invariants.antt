@@ -4,7 +4,7 @@ use Rattle.vdb_tree.specs.ConstantBlocks.{is_background}
 use Rattle.vdb_tree.specs.Layout.{bits_of, field_of}
 use Rattle.vdb_file.proofs.saving.leaves.next_listed.Given as goal
 
--- the entries passed over are background
+-- the entries before this one are background
 abbrev pub invariant-loop-i : goal.invariant-loop-i
 invariant-loop-i g l = let bits = bits_of g.row.U g.row.L g.row.F in record {
   within : l.at ≤ entries bits l.level;

@@ -7,7 +7,7 @@ use Rattle.vdb_file.specs.internal.Written.{Puts, numbered, passing, sent}
 use Rattle.vdb_file.proofs.LeafVoxels.{stands}
 use Rattle.vdb_file.proofs.saving.leaves.put_voxels.Given as goal
 
--- those of the voxels passed that aren't the background are put
+-- the voxels passed that aren't the background are written
 abbrev pub invariant-loop-i : goal.invariant-loop-i
 invariant-loop-i g l = record {
   puts : (d : Cell g.row.V.Denot) → Puts (sent g.row.C l.fn.out (g.W.Write.contents (source l.fn.writer))) (sent g.row.C l.out (g.W.Write.contents (source l.writer)))

@@ -10,7 +10,7 @@ use Rattle.vdb_file.specs.internal.Written.{Puts, sent}
 use Rattle.vdb_file.proofs.PutRoots.{put_keys}
 use Rattle.vdb_file.proofs.saving.nodes.put_each_root.Given as goal
 
--- those of the keys passed whose root blocks hold something are put
+-- the root blocks that hold something, among those whose keys were passed, are written
 abbrev pub invariant-loop-key : goal.invariant-loop-key
 invariant-loop-key g l = let bits = bits_of g.row.U g.row.L g.row.F in record {
   puts : Puts (sent g.row.C l.fn.out (g.W.Write.contents (source l.fn.writer))) (sent g.row.C l.out (g.W.Write.contents (source l.writer)))

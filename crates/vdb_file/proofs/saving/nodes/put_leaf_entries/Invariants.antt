@@ -9,7 +9,7 @@ use Rattle.vdb_file.proofs.ListedEntries.{around, flat}
 use Rattle.vdb_file.proofs.Passing.{others}
 use Rattle.vdb_file.proofs.saving.nodes.put_leaf_entries.Given as goal
 
--- those of the entries passed that are listed are put
+-- the listed entries among those passed are written
 abbrev pub invariant-loop-i : goal.invariant-loop-i
 invariant-loop-i g l = let bits = bits_of g.row.U g.row.L g.row.F in record {
   within : l.from ≤ entries bits Lower;

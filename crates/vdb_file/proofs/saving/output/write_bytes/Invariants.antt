@@ -3,7 +3,7 @@ use Rattle.std.specs.Io.KnownBytes.{Appends}
 use Rattle.vdb_scene.specs.Watched.{has_failed, source}
 use Rattle.vdb_file.proofs.saving.output.write_bytes.Given as goal
 
--- what was taken so far
+-- the bytes that the writer took so far
 abbrev pub invariant-loop-at : goal.invariant-loop-at
 invariant-loop-at g l = record {
   appends : Appends (g.W.Write.contents (source l.fn.writer)) (g.W.Write.contents (source l.writer)) (take l.at l.bytes);
@@ -11,6 +11,6 @@ invariant-loop-at g l = record {
   failed : has_failed l.writer ≡ has_failed l.fn.writer;
 }
 
--- the bytes that are left
+-- the bytes that are left decrease
 abbrev pub decreases-loop-at : goal.decreases-loop-at
 decreases-loop-at g l = length l.bytes - l.at
