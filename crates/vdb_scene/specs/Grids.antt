@@ -26,7 +26,7 @@ grid_field (Bool g) = as_field_of scalars.Bool (field_of vdb g.tree)
 grid_field (I32 g) = as_field_of scalars.I32 (field_of vdb g.tree)
 grid_field (I64 g) = as_field_of scalars.I64 (field_of vdb g.tree)
 
--- the maximum number of its root blocks with a cell other than the background, inactive
+-- the maximum number of its root blocks with a cell other than the inactive background
 abbrev pub grid_root_limit : AnyGrid → ℕ
 grid_root_limit (Bool g) = g.tree.limit
 grid_root_limit (I32 g) = g.tree.limit

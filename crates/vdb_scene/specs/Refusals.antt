@@ -26,7 +26,7 @@ of_tree Memory = refusals.Memory
 abbrev pub refused_if : Bool → Refusal → Option Refusal
 refused_if test r = if test then Some r else None
 
--- more root blocks of a field than a number hold a cell other than the background, inactive
+-- more root blocks of a field than the given number hold a cell other than the inactive background
 abbrev pub beyond_limit : ℕ → Field Scalar → Option Refusal
 beyond_limit limit f = refused_if (nat_lt limit (roots scalar_eq vdb f)) refusals.RootLimit
 
@@ -43,7 +43,7 @@ module _ (s : Scene) where
   abbrev pub too_many_grids : Option Refusal
   too_many_grids = refused_if (nat_le 64 (length s)) refusals.GridLimit
 
-  -- after this change more root blocks than the grid's limit would hold a cell other than the background, inactive
+  -- after this change more root blocks than the grid's limit would hold a cell other than the inactive background
   abbrev pub root_limit : List ℕ → (Field Scalar → Field Scalar) → Option Refusal
   root_limit name change = beyond_limit (limit_at s name) (change (field_at s name))
 
@@ -67,11 +67,11 @@ no_accessor k = refused_if (not (is_accessor k)) refusals.NoAccessor
 abbrev pub no_box : Corners → Option Refusal
 no_box c = refused_if (not (is_box (box_between c))) refusals.Box
 
--- a box has more voxels than a number
+-- a box has more voxels than the given number
 abbrev pub too_large : ℕ → Box → Option Refusal
 too_large most box = refused_if (nat_lt most (volume box)) refusals.TooLarge
 
--- a slice has more columns or rows than a number
+-- a slice has more columns or rows than the given number
 abbrev pub too_wide : ℕ → Box → Option Refusal
 too_wide most box = refused_if (nat_lt most (extent box.min.x box.max.x) || nat_lt most (extent box.min.y box.max.y)) refusals.TooLarge
 

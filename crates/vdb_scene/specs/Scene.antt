@@ -12,7 +12,7 @@ use Rattle.vdb_scene.specs.declared.scalar.Scalar.{Scalar}
 use Rattle.vdb_scene.specs.declared.scalar.Scalar.TheVariants.{Bool as truth}
 
 -- what a name stands for: one total function from coordinates to cells, whose background has its type, the maximum number of its
--- root blocks with a cell other than the background, inactive, and its metadata pairs
+-- root blocks with a cell other than the inactive background, and its metadata pairs
 pub record Grid : Type 0 where
   pub field : Field Scalar
   pub limit : ℕ

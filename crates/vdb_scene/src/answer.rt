@@ -37,7 +37,7 @@ pub enum Refusal {
     NoSum,
     /// A sum lies outside the range of the grid's type.
     SumRange,
-    /// More root blocks of the grid than its limit would hold a cell other than the background, inactive.
+    /// More root blocks of the grid than its limit would hold a cell other than the inactive background.
     RootLimit,
     /// The grid has 16 metadata pairs, and none of them has the key.
     MetaLimit,

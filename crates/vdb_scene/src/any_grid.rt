@@ -37,7 +37,7 @@ pub enum AnyGrid {
 
 impl AnyGrid {
     /// Creates a grid of the background's type that has never been written. At most `limit` of its root blocks may have a cell
-    /// other than the background, inactive. Allocates nothing.
+    /// other than the inactive background. Allocates nothing.
     pub fn new(alloc: Global, background: Scalar, limit: u32) -> AnyGrid
         ensures field { grid_field result ≡ new background }
         ensures limit { grid_root_limit result ≡ limit }
@@ -91,7 +91,7 @@ impl AnyGrid {
     /// Writes a voxel, with a value of the grid's type, through an accessor or without one. The accessor then caches the path to
     /// the voxel, also if the write fails.
     ///
-    /// Fails with `RootLimit` if more root blocks than the limit would have a cell other than the background, inactive, and with
+    /// Fails with `RootLimit` if more root blocks than the limit would have a cell other than the inactive background, and with
     /// `Memory` if an allocation fails. Both leave every cell unchanged. `Memory` is only possible if the cell changes and all
     /// cells of its leaf extent are equal.
     pub fn write(
@@ -117,7 +117,7 @@ impl AnyGrid {
 
     /// Sets each voxel of a box to one cell, with a value of the grid's type.
     ///
-    /// Fails with `RootLimit` if more root blocks than the limit would have a cell other than the background, inactive, and with
+    /// Fails with `RootLimit` if more root blocks than the limit would have a cell other than the inactive background, and with
     /// `Memory` if an allocation fails. Both leave every cell unchanged.
     pub fn fill(
         &mut self,
@@ -155,7 +155,7 @@ impl AnyGrid {
     /// Activates, in each of `turns` iterations, every voxel that has an active face neighbour, and keeps the values. The number
     /// of iterations is 1 to 16.
     ///
-    /// Fails with `RootLimit` if more root blocks than the limit would have a cell other than the background, inactive, and with
+    /// Fails with `RootLimit` if more root blocks than the limit would have a cell other than the inactive background, and with
     /// `Memory` if an allocation fails. `Memory` may also hide a `RootLimit`. Both leave every cell unchanged.
     pub fn dilate(&mut self, turns: u32, steps: &mut Steps) -> Result<(), TreeRefusal>
         requires some { 1 ≤ turns }
@@ -192,7 +192,7 @@ impl AnyGrid {
     ///
     /// Fails with `Kind` if values are combined and the grids have different types, with `NoSum` for a sum of booleans, with
     /// `SumRange` if a sum lies outside the type at some coordinate, with `RootLimit` if more root blocks than the limit would
-    /// have a cell other than the background, inactive, and with `Memory` if an allocation fails. Each error leaves every cell
+    /// have a cell other than the inactive background, and with `Memory` if an allocation fails. Each error leaves every cell
     /// and the background unchanged.
     pub(crate) fn combine(
         &mut self,
@@ -234,7 +234,7 @@ impl AnyGrid {
         }
     }
 
-    /// Returns the number of root blocks with a cell other than the background, inactive, and the number of blocks of each level
+    /// Returns the number of root blocks with a cell other than the inactive background, and the number of blocks of each level
     /// that aren't constant. Both depend on the cells alone, not on the nodes. Allocates nothing.
     pub fn census(&self, steps: &mut Steps) -> Census
         ensures { result ≡ census_of scalar_eq vdb (grid_field self.now) }

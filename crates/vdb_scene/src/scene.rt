@@ -18,8 +18,9 @@ use std::collections::btree_map::Keys;
 /// The maximum number of grids of a scene.
 pub const GRID_LIMIT: usize = 64;
 
-/// The root limit of a grid whose command names none: the maximum number of root blocks with a cell other than the background,
-/// inactive.
+/// The root limit of a grid whose command names none: the maximum number of root blocks with a cell other than the inactive
+
+/// background.
 pub const ROOT_LIMIT: u32 = 4096;
 
 /// The greatest root limit that a command may name.

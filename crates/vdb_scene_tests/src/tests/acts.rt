@@ -76,7 +76,7 @@ pub(super) fn spans(command: Command, corners: Option<(Coord, Coord)>) -> Act {
     }
 }
 
-/// Returns the census of a grid: root blocks with a cell other than the background, inactive, and blocks of each level that
+/// Returns the census of a grid: root blocks with a cell other than the inactive background, and blocks of each level that
 /// aren't constant.
 pub(super) fn blocks(name: Name, [roots, upper, lower, leaf]: [u64; 4]) -> Act {
     Act {
