@@ -190,10 +190,12 @@ impl AnyGrid {
 
     /// Combines this grid with another one by an operation. The other grid is unchanged.
     ///
-    /// Fails with `Kind` if values are combined and the grids have different types, with `NoSum` for a sum of booleans, with
-    /// `SumRange` if a sum lies outside the type at some coordinate, with `RootLimit` if more root blocks than the limit would
-    /// have a cell other than the inactive background, and with `Memory` if an allocation fails. Each error leaves every cell
-    /// and the background unchanged.
+    /// Each error leaves every cell and the background unchanged:
+    /// - `Kind` if values are combined and the grids have different types,
+    /// - `NoSum` for a sum of booleans,
+    /// - `SumRange` if a sum lies outside the type at some coordinate,
+    /// - `RootLimit` if more root blocks than the limit would have a cell other than the inactive background,
+    /// - `Memory` if an allocation fails.
     pub(crate) fn combine(
         &mut self,
         operation: Operation,

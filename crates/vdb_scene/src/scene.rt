@@ -19,7 +19,6 @@ use std::collections::btree_map::Keys;
 pub const GRID_LIMIT: usize = 64;
 
 /// The root limit of a grid whose command names none: the maximum number of root blocks with a cell other than the inactive
-
 /// background.
 pub const ROOT_LIMIT: u32 = 4096;
 
@@ -74,8 +73,8 @@ impl Scene {
 
     /// Inserts a grid without metadata under a name.
     ///
-    /// Fails, in this order, if the name is taken, if the scene has `GRID_LIMIT` grids, or if an allocation fails. An error drops
-    /// the grid and leaves the scene unchanged.
+    /// Fails, in this order, with `NameTaken` if the name is taken, with `GridLimit` if the scene has `GRID_LIMIT` grids, and with
+    /// `Memory` if an allocation fails. An error drops the grid and leaves the scene unchanged.
     pub fn insert(&mut self, name: Name, grid: AnyGrid) -> Result<(), Refusal>
         ensures scene { Inserts (scene_of self.old) name (grid_alone grid) result (scene_of self.new) }
         ensures added { OnOk result (AddsGrid self.old name (record { grid = grid; metas = [] }) self.new) }
@@ -87,8 +86,8 @@ impl Scene {
 
     /// Inserts a grid with its metadata under a name.
     ///
-    /// Fails, in this order, if the name is taken, if the scene has `GRID_LIMIT` grids, or if an allocation fails. An error drops
-    /// the grid and leaves the scene unchanged.
+    /// Fails, in this order, with `NameTaken` if the name is taken, with `GridLimit` if the scene has `GRID_LIMIT` grids, and with
+    /// `Memory` if an allocation fails. An error drops the grid and leaves the scene unchanged.
     pub fn insert_with(&mut self, name: Name, grid: AnyGrid, metas: Metas) -> Result<(), Refusal>
         ensures scene { Inserts (scene_of self.old) name (grid_with grid metas) result (scene_of self.new) }
         ensures added { OnOk result (AddsGrid self.old name (record { grid = grid; metas = metas }) self.new) }
@@ -117,7 +116,7 @@ impl Scene {
         self.grids.len() >= GRID_LIMIT
     }
 
-    /// Inserts an entry under a name that isn't taken. Fails only if an allocation fails.
+    /// Inserts an entry under a name that isn't taken. Fails with `Memory` if an allocation fails, and leaves the scene unchanged.
     pub(crate) fn put(&mut self, name: Name, entry: GridEntry) -> Result<(), Refusal>
         ensures ok { OnOk result (scene_of self.new ≡ with_grid (scene_of self.old) name (grid_of entry)) }
         ensures err { OnErr result (scene_of self.new ≡ scene_of self.old) }

@@ -50,7 +50,7 @@ Plays s script (Some (Script script_faults.TooLong)) given written replies last 
 -- a failed reader: the whole lines of the bytes that it gave
 Plays s script (Some (Script script_faults.Read)) given written replies last =
     (length given ≤ 2 ^ 24) × Run s (whole_lines given) replies last × (written ≡ answers_text replies)
--- a failed writer: a prefix of the lines, no longer than the reader gave; all answers but the last are written whole, and a part of the last
+-- a failed writer: a prefix of the lines that the reader gave; each answer but the last is written whole, and of the last a part
 Plays s script (Some Answers) given written replies last =
     (n : ℕ) × (before : List Reply) × (final : Reply) × (part : List ℕ)
     × (n ≤ length (lines given)) × Run s (take n (script_lines script)) replies last

@@ -14,7 +14,10 @@ use vdb_pool::Steps;
 use vdb_scene::{Scene, Watched};
 
 /// Returns the scene that a session begins with: the one that a scene file encodes, if a file is given, otherwise the empty
-/// scene. Fails if the file encodes no scene, if an allocation fails, or if the reader fails.
+/// scene.
+///
+/// Fails with `Read` if the reader fails, with `Memory` if an allocation fails, and with another `LoadFault` if the file encodes
+/// no scene.
 pub fn start<R: Read>(
     alloc: Global,
     load: &mut Option<Watched<R>>,
@@ -37,7 +40,10 @@ pub fn start<R: Read>(
     }
 }
 
-/// Saves the scene that a session ends with, if a file for it is given. Writes nothing if the scene's encoding is too long.
+/// Saves the scene that a session ends with, if a file for it is given.
+///
+/// Fails with `TooLong` if the scene's encoding has more bytes than a file may have, and writes nothing then. Fails with `Write` if
+/// the writer fails or takes no byte; the content of the file is unspecified then.
 pub fn finish<W: Write>(
     scene: &Scene,
     save: &mut Option<Watched<W>>,

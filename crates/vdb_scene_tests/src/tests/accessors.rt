@@ -135,8 +135,8 @@ fn play_turns(rt: &(impl Abort + AllocGlobal), acts: &[Act], turns: &[Turn], ste
     }
 }
 
-/// Returns acts that create grids of 32-bit numbers: `a` with a voxel given to accessor 3, `b` with a line through its leaf
-/// extent, `e`, which holds its background, and `x`, whose background is too great for a sum. The grid `m` is boolean.
+/// Returns acts that create grids of 32-bit numbers and the boolean grid `m`. The grid `a` has a voxel given to accessor 3, `b` a
+/// line through its leaf extent. The grid `e` holds its background, and the background of `x` is too great for a sum.
 fn with_line(rt: &impl Abort) -> [Act; 7] {
     let (a, b, e) = (letter(rt, b'a'), letter(rt, b'b'), letter(rt, b'e'));
     let (m, x) = (letter(rt, b'm'), letter(rt, b'x'));
@@ -264,8 +264,8 @@ fn no_refused_command_makes_an_accessor_forget(rt: HostRuntime) {
     play_turns(&rt, &acts, &turns, &mut steps);
 }
 
-/// Returns acts that create a grid `s` of at most one root block, full of inactive cells except a voxel at its end that accessor
-/// 3 was given, and `b` with a voxel in another root block.
+/// Returns acts that create the grids `s` and `b`. The grid `s` may have one root block, and all its cells are inactive except a voxel
+/// at its end that accessor 3 was given. The grid `b` has a voxel in another root block.
 fn with_full_table(rt: &impl Abort) -> [Act; 5] {
     let (s, b) = (letter(rt, b's'), letter(rt, b'b'));
     let small = Command::Grid {
