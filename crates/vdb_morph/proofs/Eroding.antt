@@ -71,7 +71,7 @@ module _ {V : Type 0} (f : Field V) where
   }
 
   module _ (s t : Field Bool) (erodes : Erodes f s t) (q : Coord) where
-    -- a state from after the iteration stays so
+    -- a state from after the iteration is kept
     pub still_eroded : IsEroded f s q → IsEroded f t q
     still_eroded done = elim (erodes.each q) [ inl kept ↦ kept ∙ done | inr now ↦ now ]
 

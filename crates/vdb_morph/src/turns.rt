@@ -19,8 +19,8 @@ use vdb_tree::{TreeOf, TreeRefusal};
 /// `tools::dilateActiveValues` with `NN_FACE`). An iteration reads the states from before it. The number of iterations is 1 to
 /// 16.
 ///
-/// Fails with `RootLimit` if more root blocks than the limit would have a cell that isn't the background, and with `Memory` if an
-/// allocation fails. `Memory` may also hide a `RootLimit`. Both leave every cell unchanged.
+/// Fails with `RootLimit` if more root blocks than the limit would have a cell other than the inactive background, and with
+/// `Memory` if an allocation fails. `Memory` may also hide a `RootLimit`. Both leave every cell unchanged.
 pub fn dilate<
     V: Stored<WU> + Stored<WL> + Stored<WF>,
     const U: u32,
