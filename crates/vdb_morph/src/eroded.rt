@@ -43,7 +43,7 @@ pub(crate) fn eroded<
     Ok(states)
 }
 
-/// Sets the voxels of a part of the tree to the states after one iteration of erosion, if each had the state from before or after
+/// Sets each voxel of a part of the tree to its state after one iteration of erosion, if it had the state from before or after
 /// it. Any other voxel keeps its state or gets the one from after the iteration. Returns an error if an allocation fails.
 fn erode_part<
     V: Stored<WU> + Stored<WL> + Stored<WF>,
@@ -96,9 +96,9 @@ fn erode_leaf<
     erode_block(tree, states, part.min(), steps)
 }
 
-/// Sets the voxels of a box, which all have this cell in the tree, to the states after one iteration of erosion, if each had the
-/// state from before or after it. Any other voxel keeps its state or gets the one from after the iteration. Returns an error if
-/// an allocation fails.
+/// Sets each voxel of a box to its state after one iteration of erosion, if it had the state from before or after it. All voxels
+/// of the box have this cell in the tree. Any other voxel keeps its state or gets the one from after the iteration. Returns an
+/// error if an allocation fails.
 fn erode_tile<
     V: Stored<WU> + Stored<WL> + Stored<WF>,
     const U: u32,
@@ -128,9 +128,9 @@ fn erode_tile<
     erode_block(tree, states, corner, steps)
 }
 
-/// Sets the voxels of a box, which are all active in the tree, to the states after one iteration of erosion, if each had the
-/// state from before or after it. Any other voxel keeps its state or gets the one from after the iteration. Returns an error if
-/// an allocation fails.
+/// Sets each voxel of a box to its state after one iteration of erosion, if it had the state from before or after it. All voxels
+/// of the box are active in the tree. Any other voxel keeps its state or gets the one from after the iteration. Returns an error
+/// if an allocation fails.
 fn erode_box<
     V: Stored<WU> + Stored<WL> + Stored<WF>,
     const U: u32,
@@ -155,9 +155,9 @@ fn erode_box<
     Ok(())
 }
 
-/// Sets the voxels along a face of a box, which are all active in the tree, to the states after one iteration of erosion, unless
-/// everything behind that face is active. Any other voxel keeps its state or gets the one from after the iteration. Returns an
-/// error if an allocation fails.
+/// Sets the voxels along a face of a box to their states after one iteration of erosion, unless everything behind that face is
+/// active. All voxels of the box are active in the tree. Any other voxel keeps its state or gets the one from after the
+/// iteration. Returns an error if an allocation fails.
 fn erode_face<
     V: Stored<WU> + Stored<WL> + Stored<WF>,
     const U: u32,
