@@ -1,6 +1,7 @@
-//! `vdb` plays a script on sparse voxel grids: it loads a scene file, if one is named, reads the script from a file or from
-//! standard input, writes the answer to each command to standard output before it reads the next, and saves the scene in the
-//! end, if a file for it is named.
+//! `vdb` plays a script on sparse voxel grids.
+//!
+//! It loads a scene file, if one is named, and reads the script from a file or from standard input. It writes the answer to each
+//! command to standard output before it reads the next one. At the end it saves the scene, if a file for it is named.
 #![tactic(auto)]
 
 ghost use Rattle.std.specs.Prelude.{◌≡◌, IfOk, false};
@@ -15,7 +16,7 @@ use vdb_scene::{Scene, Watched};
 use vdb_script::ScriptFault;
 use vdb_shell::{Fault, Played, Words, finish, play, start, status, words};
 
-/// The exit status of a command line that is refused.
+/// The exit status of a faulty command line.
 const USAGE: u8 = 2;
 
 fn main(rt: HostRuntime) -> ExitCode {
@@ -25,12 +26,12 @@ fn main(rt: HostRuntime) -> ExitCode {
     }
 }
 
-/// The words of the command line, the program's name first.
+/// Returns the words of the command line, the program's name first.
 fn collected(rt: &HostRuntime) -> io::Result<Vec<String>> {
     Ok(env::args(rt)?.collect(rt.alloc())?)
 }
 
-/// Reads the command line, and does what it says.
+/// Reads the command line, and carries it out.
 fn run(rt: &HostRuntime, given: &[String]) -> ExitCode {
     let texts: Vec<&str> = match given.iter().map(|word| word.as_str()).collect(rt.alloc()) {
         Ok(texts) => texts,
@@ -42,19 +43,19 @@ fn run(rt: &HostRuntime, given: &[String]) -> ExitCode {
     }
 }
 
-/// Tells that there is too little memory to read the command line.
+/// Reports an allocation failure while the command line is read.
 fn out_of_memory(rt: &HostRuntime) -> ExitCode {
     let _ = eprintln!(rt; "error: out of memory");
     ExitCode::from(USAGE)
 }
 
-/// Prints why there is nothing to do: help and the version to standard output, a fault to standard error.
+/// Prints why no session runs: help and the version to standard output, a fault of the command line to standard error.
 fn refused(rt: &HostRuntime, fault: &clap::Error) -> ExitCode {
     let _ = fault.print(rt);
     ExitCode::from(if fault.use_stderr() { USAGE } else { 0 })
 }
 
-/// Tells what ended the session early, if anything did.
+/// Reports the fault that ended the session early, if any.
 fn told(rt: &HostRuntime, played: Played) -> ExitCode {
     if let Some(fault) = &played.fault {
         let _ = eprintln!(rt; "{fault}");
@@ -62,7 +63,7 @@ fn told(rt: &HostRuntime, played: Played) -> ExitCode {
     ExitCode::from(status(played.refused, played.fault.as_ref()))
 }
 
-/// Loads, plays and saves what the words name, each file opened only when it is its turn.
+/// Loads, plays and saves the named files. Each file is opened only when it is needed.
 fn carry_out(rt: &HostRuntime, named: &Words<'_>) -> Played {
     let mut steps = Steps::new(rt);
     let mut scene = match load(rt, named.load, &mut steps) {
@@ -87,13 +88,13 @@ fn carry_out(rt: &HostRuntime, named: &Words<'_>) -> Played {
     }
 }
 
-/// The scene that the script begins with. A file that can't be opened can't be read.
+/// Returns the scene that the script begins with. A file that can't be opened counts as one that can't be read.
 fn load(rt: &HostRuntime, path: Option<&str>, steps: &mut Steps) -> Result<Scene, LoadFault> {
     let mut file = opened(rt, path)?;
     start(rt.alloc(), &mut file, steps)
 }
 
-/// The scene file, if one is named.
+/// Opens the scene file, if one is named.
 fn opened(rt: &HostRuntime, path: Option<&str>) -> Result<Option<Watched<File>>, LoadFault>
     ensures { IfOk result (λ file. any_failed file ≡ false) }
 {
@@ -106,7 +107,7 @@ fn opened(rt: &HostRuntime, path: Option<&str>) -> Result<Option<Watched<File>>,
     }
 }
 
-/// Plays the script, which is standard input where no file is named. A file that can't be opened can't be read.
+/// Plays the script, or standard input if no file is named. A file that can't be opened counts as one that can't be read.
 fn play_named(
     rt: &HostRuntime,
     path: Option<&str>,
@@ -130,7 +131,7 @@ fn play_named(
     }
 }
 
-/// Saves the scene, where a file for it is named. A file that can't be created can't be written.
+/// Saves the scene, if a file for it is named. A file that can't be created counts as one that can't be written.
 fn save(
     rt: &HostRuntime,
     path: Option<&str>,
@@ -141,7 +142,7 @@ fn save(
     finish(scene, &mut file, steps)
 }
 
-/// The file to save in, made anew, if one is named.
+/// Creates the file to save in, if one is named. An existing file is overwritten.
 fn created(rt: &HostRuntime, path: Option<&str>) -> Result<Option<Watched<File>>, SaveFault>
     ensures { IfOk result (λ file. any_failed file ≡ false) }
 {

@@ -24,17 +24,17 @@ use Rattle.vdb_morph.proofs.Crossings.{back, forth}
 -- ---- one test after another
 
 module _ {V : Type 0} where
-  -- tests that agree within the range make one field
+  -- tests that agree within the range give the same field
   pub active_same : (f : Field V) (s t : Coord → Bool) → ((q : Coord) → IsTrue (is_inside everywhere q) → s q ≡ t q) → with_active s f ≡ with_active t f
   active_same f s t h = same_cells f.background _ _ (λ q inside i. record { value = (f.cell q).value; on = (f.cell q).on || h q inside i })
 
-  -- a test that holds nowhere in the range leaves a field as it is
+  -- a test that passes nowhere in the range leaves the field unchanged
   pub active_nowhere : (background : V) (cell : Coord → Cell V) (t : Coord → Bool) → ((q : Coord) → IsTrue (is_inside everywhere q) → t q ≡ false)
       → with_active t (field background cell) ≡ field background cell
   active_nowhere background cell t h = same_cells background _ _ (λ q inside.
       rw (inside, h q inside) (λ i. record { value = (cell q).value; on = or-false (cell q).on i }))
 
-  -- one test after another is one that holds where either does
+  -- two tests one after another are one test that passes if either does
   pub active_twice : (f : Field V) (s t : Coord → Bool) → with_active t (with_active s f) ≡ with_active (λ q. s q || t q) f
   active_twice f s t = same_cells f.background _ _ (λ q inside. rw inside (λ i. record { value = (f.cell q).value; on = or_assoc (f.cell q).on (s q) (t q) i }))
 
@@ -47,7 +47,7 @@ module _ {V : Type 0} where
 
 -- ---- neighbours
 
--- a test of the neighbours that holds nowhere outside the range is one of what lies behind the faces
+-- a test of the neighbours that passes nowhere outside the range equals a test of the voxels behind the faces
 module _ (t : Coord → Bool) (q : Coord) (beyond : (p : Coord) → is_inside everywhere p ≡ false → t p ≡ false) where
   any_of : (xs : List Face) → list_any t (filter_map (λ face. neighbour face q) xs) ≡ list_any (λ face. t (toward face q)) xs
   any_of [] = refl
@@ -60,7 +60,7 @@ module _ (t : Coord → Bool) (q : Coord) (beyond : (p : Coord) → is_inside ev
   pub any_neighbour : list_any t (neighbours q) ≡ list_any (λ face. t (toward face q)) faces
   any_neighbour = any_of faces
 
--- so is what is spread by it
+-- spreading by both tests gives the same field
 pub spread_is : {V : Type 0} (f : Field V) (t : Coord → Bool) → ((p : Coord) → is_inside everywhere p ≡ false → t p ≡ false)
     → spread t f ≡ with_active (λ q. list_any (λ face. t (toward face q)) faces) f
 spread_is f t beyond = active_same f _ _ (λ q inside. any_neighbour t q beyond)
@@ -78,7 +78,7 @@ any_opposite g = exchanged (g MinusX) (g PlusX) (g MinusY) (g PlusY) (g MinusZ) 
     exchanged : (a b c d e f : Bool) → (b || (a || (d || (c || (f || (e || false)))))) ≡ (a || (b || (c || (d || (e || (f || false))))))
     exchanged a b c d e f = pair a b _ _ (pair c d _ _ (pair e f false false refl))
 
--- r lies behind a face of q where q lies behind the opposite face of r
+-- r lies behind a face of q if q lies behind the opposite face of r
 across : (face : Face) (q r : Coord) → coord_eq (toward (opposite face) q) r ≡ coord_eq q (toward face r)
 across face q r = same_truth _ _
     (λ e. like_coords q (toward face r) (sym (ap (toward face) (sym (coord_exact _ r e)) ∙ forth face q)))
@@ -121,7 +121,7 @@ write_is f r = same_cells f.background _ _ (λ q inside. at (f.cell q) (coord_eq
     at c true = λ i. record { value = c.value; on = sym (or_right c.on true refl) i }
     at c false = λ i. record { value = c.value; on = sym (or-false c.on) i }
 
--- a coordinate outside the range is none in it
+-- a coordinate outside the range equals none inside it
 pub none_there : (r : Coord) → is_inside everywhere r ≡ false → (q : Coord) → IsTrue (is_inside everywhere q) → coord_eq r q ≡ false
 none_there r out q inside =
     elim (cases_Bool (coord_eq r q)) [

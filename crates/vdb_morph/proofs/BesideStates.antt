@@ -68,7 +68,7 @@ module _ (x : ℤ) where
   more_out : rest 8 x ≡ 7 → (quotient 8 (x +ℤ pos 1) ≡ quotient 8 x +ℤ pos 1) × (rest 8 (x +ℤ pos 1) ≡ 0)
   more_out h = at_position (quotient 8 x +ℤ pos 1) 0 (x +ℤ pos 1) some (first_after (quotient 8 x) x (rest 8 x) own_parts h)
 
--- ---- one axis: of a coordinate that moves along it, the number of its block and its index in that
+-- ---- one axis: block number and index in the block of a coordinate that moves along it
 
 module _ (own other : List Bool) (x : ℤ) (number : ℤ → Coord) (component : Coord → ℤ) (is : (n : ℤ) → component (number n) ≡ n) (step : ℕ) (index : ℕ → ℕ)
     (row : index (rest 8 x) / step % 8 ≡ rest 8 x) where
@@ -106,12 +106,12 @@ module _ (own other : List Bool) (x : ℤ) (number : ℤ → Coord) (component :
 
 -- ---- lists of tests
 
--- tests that agree at each element find one in the same lists
+-- tests that agree at each element pass in the same lists
 any_same : {X : Type 0} (s t : X → Bool) → ((x : X) → s x ≡ t x) → (xs : List X) → list_any s xs ≡ list_any t xs
 any_same s t same [] = refl
 any_same s t same (x ∷ xs) = rw (same x, any_same s t same xs) refl
 
--- with nothing on in the other block
+-- if nothing is on in the other block
 on_in_own : (near : Bool) (own : List Bool) (i : ℕ) → is_on (if near then own else []) i ≡ (near && is_on own i)
 on_in_own true own i = refl
 on_in_own false own i = refl

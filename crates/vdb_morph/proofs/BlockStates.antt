@@ -1,4 +1,4 @@
--- A leaf block that takes the cells of another field, and its states in a mask.
+-- A leaf extent with the cells of another field, and its states in a mask.
 use Rattle.std.proofs.Common.{◌≡◌, refl, sym, ap, subst, ◌∙◌, ℕ, ◌*◌, ◌<◌, ◌≤◌, arith, Bool, true, false, cond, List, inl, inr, IsTrue}
 use Rattle.std.specs.Prelude.{slice_index_or}
 use Rattle.std.proofs.Math.Bool.{beq}
@@ -23,7 +23,7 @@ use Rattle.vdb_tree.proofs.Uniform.{cell_exact}
 use Rattle.vdb_morph.specs.internal.BlockStates.{HasStates, of_mask}
 use Rattle.vdb_morph.specs.internal.Turning.{is_around, taken, topology}
 
--- what lies around p has the number of its block
+-- a coordinate in p's leaf extent has p's block number
 pub around_number : (bits : Bits) (p q : Coord) → IsTrue (is_around bits p q) → block_number bits Leaf q ≡ block_number bits Leaf p
 around_number bits p q h = coord_exact (block_number bits Leaf q) (block_number bits Leaf p) h
 
@@ -34,7 +34,7 @@ number_around bits p q e = like_coords (block_number bits Leaf q) (block_number 
 pub offset_within : (bits : Bits) (q : Coord) → offset bits Leaf q < entry_count bits.leaf
 offset_within bits q = subst (λ k. offset bits Leaf q < k) (entries_is bits Leaf) (offset_below bits Leaf q)
 
--- so within its words
+-- and within the words of its mask
 pub within_words : (bits : Bits) (q : Coord) (words : ℕ) → entry_count bits.leaf ≤ 64 * words → offset bits Leaf q < 64 * words
 within_words bits q words capacity = let small = offset_within bits q in omega (arith, small, capacity)
 
@@ -43,11 +43,11 @@ under true x y z h = h refl
 under false x y z h = refl
 
 module _ {V : Type 0} where
-  -- what is taken needs to agree only where it is
+  -- fields that agree if the test passes give the same result
   pub same_taken : (test : Coord → Bool) (f g h : Field V) → ((q : Coord) → IsTrue (is_inside everywhere q) → IsTrue (test q) → g.cell q ≡ h.cell q) → taken test g f ≡ taken test h f
   same_taken test f g h same = same_cells f.background _ _ (λ q inside. under (test q) (g.cell q) (h.cell q) (f.cell q) (same q inside))
 
-  -- what is there already may be taken
+  -- cells that the field already has may be copied into it
   pub stands_taken : (background : V) (cells : Coord → Cell V) (test : Coord → Bool) (g : Field V)
       → ((q : Coord) → IsTrue (is_inside everywhere q) → IsTrue (test q) → (field background cells).cell q ≡ g.cell q) → field background cells ≡ taken test g (field background cells)
   stands_taken background cells test g same = same_cells background cells _ (λ q inside.
@@ -57,24 +57,24 @@ module _ {V : Type 0} where
         | inr e ↦ rw e (sym at)
       ])
 
-  -- nor does the test matter where it is the same
+  -- tests that agree everywhere give the same result
   pub same_test : (s t : Coord → Bool) (f g : Field V) → ((q : Coord) → s q ≡ t q) → taken s g f ≡ taken t g f
   same_test s t f g same = same_cells f.background _ _ (λ q inside. ap (λ b. cond b (g.cell q) (f.cell q)) (same q))
 
--- cells of truth values that compare alike are one
+-- boolean cells that compare equal are equal
 pub same_truths : (c d : Cell Bool) (r : Bool) → r ≡ cell_eq beq c d → IsTrue r → c ≡ d
 same_truths c d r is holds = cell_exact beq (λ x y. (booleans_Decides x y).0) bool_eq_equiv.refl c d (sym is ∙ holds)
 
--- ---- a leaf of truth values that are false
+-- ---- a boolean leaf whose values are false
 
--- with the values of another, of one cell
+-- with the values of a constant leaf
 pub false_values : (n : ℕ) (constant leaf : LeafOf Bool) → IsConstantLeaf constant n (off false) → leaf.values ≡ constant.values → (d : Cell Bool) (i : ℕ) → i < n → (cell_in d leaf i).value ≡ false
 false_values n constant leaf same values d i small = ap (λ (vs : List Bool). slice_index_or vs i d.value) values ∙ ap (λ (c : Cell Bool). c.value) (same d i small)
 
 module _ (bits : Bits) (p : Coord) (leaf : LeafOf Bool) (mask : List Bool)
     (values : (d : Cell Bool) (i : ℕ) → i < entry_count bits.leaf → (cell_in d leaf i).value ≡ false)
     (states : (i : ℕ) → i < entry_count bits.leaf → is_on leaf.states i ≡ is_on mask i) where
-  -- it has the cells that the mask stands for
+  -- it has the cells that the mask encodes
   masked_cell : (d : Cell Bool) (q : Coord) → IsTrue (is_inside everywhere q) → cell_in d leaf (offset bits Leaf q) ≡ (of_mask bits mask).cell q
   masked_cell d q inside =
       let small = offset_within bits q in
@@ -82,7 +82,7 @@ module _ (bits : Bits) (p : Coord) (leaf : LeafOf Bool) (mask : List Bool)
       let on = states (offset bits Leaf q) small in
       rw inside (λ i. record { value = value i; on = on i })
 
-  -- written whole
+  -- written as a whole
   pub leaf_taken : (f : Field Bool) → with_leaf bits p leaf f ≡ taken (is_around bits p) (of_mask bits mask) f
   leaf_taken f = same_cells f.background _ _ (λ q inside. elim (coord_cases (block_number bits Leaf q) (block_number bits Leaf p)) [
     | inl e ↦
@@ -95,14 +95,14 @@ module _ (bits : Bits) (p : Coord) (leaf : LeafOf Bool) (mask : List Bool)
         rw (there, here) refl
   ])
 
-  -- and where all its cells are that of the tile
+  -- also if all its cells equal that of the tile
   pub tile_taken : (background : Bool) (cells : Coord → Cell Bool) (cell : Cell Bool) → IsConstantLeaf leaf (entry_count bits.leaf) cell
       → ((q : Coord) → IsTrue (is_inside everywhere q) → IsTrue (is_around bits p q) → (field background cells).cell q ≡ cell)
       → field background cells ≡ taken (is_around bits p) (of_mask bits mask) (field background cells)
   tile_taken background cells cell constant tile = stands_taken background cells (is_around bits p) (of_mask bits mask)
       (λ q inside around. tile q inside around ∙ sym (constant cell (offset bits Leaf q) (offset_within bits q)) ∙ masked_cell cell q inside)
 
--- the states of a block are those of a field
+-- the states of a block equal those of a field
 pub states_taken : {V : Type 0} (bits : Bits) (p : Coord) (mask : List Bool) (f : Field Bool) (g : Field V) → HasStates bits g p mask
     → taken (is_around bits p) (of_mask bits mask) f ≡ taken (is_around bits p) (topology g) f
 states_taken bits p mask f g has = same_taken (is_around bits p) f (of_mask bits mask) (topology g)

@@ -1,4 +1,4 @@
--- What a step behind a face leads to: into the same leaf block or into the one behind that face.
+-- A step behind a face leads into the same leaf extent or into the one behind that face.
 use Rattle.std.proofs.Common.{◌≡◌, ◌∙◌, sym, refl, ap, ℕ, ℤ, pos, ◌-◌, ◌<◌, ◌^◌, ◌+ℤ◌, ◌-ℤ◌, ◌*ℤ◌, inl, inr, ◌⊎◌, arith}
 use Rattle.std.specs.Prelude.{false, Option, Some, None, IfSome, IsNone}
 use Rattle.std.proofs.Math.IntN.{pred_ℤ-*ℤ, suc_ℤ-*ℤ, -ℤ_one, +ℤ_one, +ℤ_idr, +ℤ-neg_ℤ_cancel, -ℤ-+ℤ_cancel}
@@ -24,7 +24,7 @@ use Rattle.vdb_morph.proofs.Layers.{apart, no_neighbour, some_neighbour}
 
 -- ---- there and back
 
--- the voxel behind the opposite face of the one behind a face
+-- the voxel behind the opposite face of the voxel behind a face
 pub back : (face : Face) (p : Coord) → toward (opposite face) (toward face p) ≡ p
 back MinusX p = ap (λ t. coord t p.y p.z) (-ℤ-+ℤ_cancel p.x (pos 1))
 back PlusX p = ap (λ t. coord t p.y p.z) (+ℤ-neg_ℤ_cancel p.x (pos 1))
@@ -42,7 +42,7 @@ twice PlusY = refl
 twice MinusZ = refl
 twice PlusZ = refl
 
--- and with the two exchanged
+-- and the two exchanged
 pub forth : (face : Face) (p : Coord) → toward face (toward (opposite face) p) ≡ p
 forth face p = ap (λ other. toward other (toward (opposite face) p)) (sym (twice face)) ∙ back (opposite face) p
 
@@ -52,7 +52,7 @@ less_apart x e = omega (arith, ints, e)
 more_apart : (x : ℤ) → x +ℤ pos 1 ≡ x → ⊥
 more_apart x e = omega (arith, ints, e)
 
--- what lies behind a face is another
+-- the voxel behind a face is another voxel
 pub toward_apart : (face : Face) (p : Coord) → toward face p ≡ p → ⊥
 toward_apart MinusX p e = less_apart p.x (ap (λ (q : Coord). q.x) e)
 toward_apart PlusX p e = more_apart p.x (ap (λ (q : Coord). q.x) e)
@@ -100,12 +100,12 @@ number_more k x =
       | inr e ↦ inr (one_up (number_at k x) (number_at k next) (here ∙ e))
     ]
 
--- made of either of two
+-- the step leads to either of two blocks
 either : {A B : Type 0} {x y z : A} (f : A → B) → (x ≡ y) ⊎ (x ≡ z) → (f x ≡ f y) ⊎ (f x ≡ f z)
 either f (inl e) = inl (ap f e)
 either f (inr e) = inr (ap f e)
 
--- the leaf block of what lies behind a face of q is q's own, or that behind this face of q's
+-- the leaf extent of the voxel behind a face of q is q's own, or the one behind this face of q's leaf extent
 pub crosses : (bits : Bits) (face : Face) (q : Coord) → (block_number bits Leaf (toward face q) ≡ block_number bits Leaf q) ⊎ (block_number bits Leaf (toward face q) ≡ toward face (block_number bits Leaf q))
 crosses bits MinusX q = either (λ t. coord t (number_at bits.leaf q.y) (number_at bits.leaf q.z)) (number_less bits.leaf q.x)
 crosses bits PlusX q = either (λ t. coord t (number_at bits.leaf q.y) (number_at bits.leaf q.z)) (number_more bits.leaf q.x)
@@ -177,7 +177,7 @@ module _ (bits : Bits) where
     block_there None e = tt
     block_there (Some r) e = ap (block_number bits Leaf) (some_neighbour (is_inside everywhere (toward face corner)) (toward face corner) r (sym e)) ∙ led
 
-    -- and where it has none, there is no such block
+    -- and if it has no neighbour, there is no such block
     pub block_nowhere : AreBits bits → (o : Option Coord) → o ≡ neighbour face corner → IsNone o → is_inside (block_numbers bits Leaf) (toward face (block_number bits Leaf p)) ≡ false
     block_nowhere few (Some r) e none = absurd (apart (sym none))
     block_nowhere few None e none =

@@ -1,4 +1,4 @@
--- Erosion face by face, in a leaf block and at a voxel.
+-- Erosion face by face, in a leaf extent and at a voxel.
 use Rattle.std.proofs.Common.{◌≡◌, refl, sym, ap, ◌∙◌, ℕ, ◌+◌, ◌<◌, Bool, true, false, cond, List, [], ◌∷◌, take, get_or, inl, inr, IsTrue}
 use Rattle.std.specs.Prelude.{◌&&◌, if◌then◌else◌, Some, None}
 use Rattle.std.specs.List.{filter_map, list_all}
@@ -33,7 +33,7 @@ kept s q (face ∷ xs) =
     ]
 
 module _ {V : Type 0} (f : Field V) where
-  -- whether a voxel is active and so is what lies behind each of these faces
+  -- whether a voxel is active and the voxels behind each of these faces are active
   abbrev pub stays_by : List Face → Coord → Bool
   stays_by xs q = (f.cell q).on && list_all (λ face. state_behind f face q) xs
 
@@ -55,7 +55,7 @@ module _ {V : Type 0} (f : Field V) where
       and_more (f.cell q).on (list_all (λ x. state_behind f x q) (take i faces)) (state_behind f (get_or faces i face) q)
       ∙ ap (λ b. (f.cell q).on && b) (sym (list_all_more (λ x. state_behind f x q) faces i face few))
 
-  -- all of the first faces' voxels are active, and so is one more
+  -- the voxels behind the first faces are all active, and so is one more
   pub behind_more : (i : ℕ) (face : Face) (q : Coord) → i < 6 → list_all (λ x. state_behind f x q) (take i faces) ≡ true → state_behind f (get_or faces i face) q ≡ true
       → list_all (λ x. state_behind f x q) (take (i + 1) faces) ≡ true
   behind_more i face q few before here = list_all_more (λ x. state_behind f x q) faces i face few ∙ rw (before, here) refl
@@ -69,7 +69,7 @@ module _ {V : Type 0} (f : Field V) where
       and_false true = refl
       and_false false = refl
 
-  -- none is
+  -- no voxel behind a face is inactive
   pub behind_on : (q : Coord) → IsTrue (is_inside everywhere q) → list_all (λ x. state_behind f x q) faces ≡ true → (f.cell q).on ≡ ((erode f).cell q).on
   behind_on q inside all = sym (and-true (f.cell q).on) ∙ ap (λ b. (f.cell q).on && b) (sym all) ∙ eroded_is q inside
 
@@ -81,12 +81,12 @@ module _ {V : Type 0} (f : Field V) where
       chosen true x y h = (refl, same_Some x y h)
       chosen false x y h = cc
 
-  -- an inactive voxel stays so
+  -- an inactive voxel stays inactive
   pub off_eroded : (q : Coord) → IsTrue (is_inside everywhere q) → (f.cell q).on ≡ false → ((erode f).cell q).on ≡ false
   off_eroded q inside e = sym (eroded_is q inside) ∙ ap (λ b. b && list_all (λ face. state_behind f face q) faces) e
 
 module _ {V : Type 0} (bits : Bits) (configured : AreBits bits) (f : Field V) (face : Face) (p : Coord) where
-  -- what lies behind the face of a voxel of p's block, past that block, lies in the one behind the block's face
+  -- the voxel behind the face of a voxel of p's block, if it leaves that block, lies in the block behind the block's face
   next_block : (q : Coord) → IsTrue (is_around bits p q) → is_around bits q (toward face q) ≡ false → block_number bits Leaf (toward face q) ≡ toward face (block_number bits Leaf p)
   next_block q around past =
       elim (crosses bits face q) [
@@ -97,14 +97,14 @@ module _ {V : Type 0} (bits : Bits) (configured : AreBits bits) (f : Field V) (f
       unlike : {b : Bool} → b ≡ false → b ≡ true → ⊥
       unlike n y = let never : false ≡ true = sym n ∙ y in cc
 
-  -- so that block has its state
+  -- so its state is in that block
   pub there_behind : (r : Coord) (mask : List Bool) → IsTrue (is_inside everywhere r) → block_number bits Leaf r ≡ toward face (block_number bits Leaf p) → HasStates bits f r mask → HasStatesBehind bits f face p mask
   there_behind r mask inside_r behind has q inside around past =
       let e : block_number bits Leaf (toward face q) ≡ block_number bits Leaf r = next_block q around past ∙ sym behind in
       let inside_there = block_in_range bits Leaf configured r (toward face q) inside_r e in
       rw inside_there (has (toward face q) inside_there (number_around bits r (toward face q) e))
 
-  -- and where there is none, the voxel behind lies past the range
+  -- and if there is no such block, the voxel lies past the range
   pub nowhere_behind : (mask : List Bool) → ((q : Coord) → is_on mask (offset bits Leaf q) ≡ true) → is_inside (block_numbers bits Leaf) (toward face (block_number bits Leaf p)) ≡ false
       → HasStatesBehind bits f face p mask
   nowhere_behind mask on nowhere q inside around past =

@@ -1,4 +1,4 @@
--- The states of a field in the course of a turn of erosion, from block to block and from part to part.
+-- The states of a field in the course of an iteration of erosion, from block to block and from part to part.
 use Rattle.std.proofs.Common.{◌≡◌, ◌⊎◌, ◌<◌, arith, inl, inr, refl, ap, subst, sym, ◌∙◌, Bool, true, false, not, cond, ◌&&◌, IsTrue}
 use Rattle.std.specs.List.{list_all}
 use Rattle.std.specs.Prelude.{Option, Some, None, IfSome}
@@ -35,28 +35,28 @@ use Rattle.vdb_morph.specs.internal.Turning.{is_around, taken, topology}
 pub bounds_within : (box : Box) → IsTrue (is_bounds box) → (q : Coord) → IsTrue (is_inside box q) → IsTrue (is_inside everywhere q)
 bounds_within box is q i = within_each box everywhere q (both (is_box box) (is_within box everywhere) is).1 i
 
--- and has its corner
+-- the box contains its corner
 pub bounds_corner : (box : Box) → IsTrue (is_bounds box) → IsTrue (is_inside box box.min)
 bounds_corner box is = min_inside box (both (is_box box) (is_within box everywhere) is).0
 
--- coordinates with one block number lie in one leaf block
+-- coordinates with one block number lie in one leaf extent
 pub is_around_same : (bits : Bits) (p q : Coord) → block_number bits Leaf q ≡ block_number bits Leaf p → is_around bits p q ≡ true
 is_around_same bits p q e = subst (λ (n : Coord). coord_eq (block_number bits Leaf q) n ≡ true) e (coord_equiv.refl (block_number bits Leaf q))
 
--- a box that is the leaf block around a coordinate lies in that block
+-- a box that is the leaf extent around a coordinate lies in that block
 pub is_around_block : (bits known : Bits) → known ≡ bits → (p : Coord) (box block : Box) → box ≡ block → block ≡ block_around known Leaf p → (q : Coord) → IsTrue (is_inside box q) → is_around bits p q ≡ true
 is_around_block bits known same p box block e is q i =
     let inside : is_inside (block_around bits Leaf p) q ≡ true = subst (λ (b : Bits). is_inside (block_around b Leaf p) q ≡ true) same (subst (λ (b : Box). is_inside b q ≡ true) (e ∙ is) i) in
     is_around_same bits p q (number_in_block bits Leaf (block_number bits Leaf p) q inside)
 
--- a part of a leaf lies in the leaf block of its corner
+-- a part of a leaf lies in the leaf extent of its corner
 pub is_around_part : {V : Type 0} (bits : Bits) (f : Field V) (part : Box) (leaf : LeafOf V) → IsPartOfLeaf bits f part leaf → IsTrue (is_bounds part) → (p : Coord) → p ≡ part.min → (q : Coord) → IsTrue (is_inside part q) → is_around bits p q ≡ true
 is_around_part bits f part leaf of bounds p e q i = is_around_same bits p q (of.block q p i (subst (λ (r : Coord). is_inside part r ≡ true) (sym e) (bounds_corner part bounds)))
 
--- ---- states kept or made those from after the turn
+-- ---- states kept, or set to those from after the iteration
 
 module _ {V : Type 0} (f : Field V) where
-  -- where nothing is done
+  -- if nothing is done
   pub erodes_none : (s : Field Bool) → Erodes f s s
   erodes_none s = record { background = refl; each = λ q. inl refl }
 
@@ -71,7 +71,7 @@ module _ {V : Type 0} (f : Field V) where
   }
 
   module _ (s t : Field Bool) (erodes : Erodes f s t) (q : Coord) where
-    -- a state from after the turn stays so
+    -- a state from after the iteration is kept
     pub still_eroded : IsEroded f s q → IsEroded f t q
     still_eroded done = elim (erodes.each q) [ inl kept ↦ kept ∙ done | inr now ↦ now ]
 
@@ -81,7 +81,7 @@ module _ {V : Type 0} (f : Field V) where
       | inr now ↦ inr now
     ]
 
-  -- the states of a field are those from before the turn or from after it, where they are the same
+  -- the states of a field are those from before the iteration, or from after it if both agree
   one_state : (b s u : Bool) (v w : V) → u ≡ s → cond b (as_cell_of (λ (x : V). false) (record { value = v; on = s })) (off false) ≡ cond b (as_cell_of (λ (x : V). false) (cond b (record { value = v; on = u }) (off w))) (off false)
   one_state true s u v w e = ap (λ (on : Bool). record { value = false; on = on }) (sym e)
   one_state false s u v w e = refl
@@ -113,7 +113,7 @@ module _ {V : Type 0} (f : Field V) where
   chosen false t x y d = inl refl
 
   module _ (test : Coord → Bool) (background : Bool) (cells : Coord → Cell Bool) (new : Field Bool) (is : new ≡ taken test (topology (erode f)) (field background cells)) where
-    -- the coordinates that pass the test are made those from after the turn
+    -- the coordinates that pass the test get the states from after the iteration
     pub erodes_taken : Erodes f (field background cells) new
     erodes_taken = record {
       background = ap (λ (g : Field Bool). g.background) is;
@@ -128,7 +128,7 @@ module _ {V : Type 0} (f : Field V) where
 
   -- ---- block after block of a box
 
-  -- the box's coordinates up to one of them have the states from after the turn
+  -- the box's coordinates up to one of them have the states from after the iteration
   pub record IsDoneTo (bits : Bits) (box : Box) (states : Field Bool) (at : Option Coord) : Type 0 where
     pub inside : IfSome at (λ p. IsTrue (is_inside box p))
     pub done : (q : Coord) → IsTrue (is_inside box q) → is_left bits at q ≡ false → IsEroded f states q
@@ -168,7 +168,7 @@ nearer_left bits p at next e h = rw e (by next h)
 -- ---- part after part of a tree
 
 module _ {V : Type 0} (bits : Bits) (t : Layout V) where
-  -- what a walk has passed has the states from after the turn
+  -- the voxels that a walk has passed have the states from after the iteration
   pub record IsUnderway (states : Field Bool) (at : Option Coord) : Type 0 where
     pub background : states.background ≡ false
     pub either : (q : Coord) → IsTrue (is_inside everywhere q) → IsEither (field_of bits t) states q

@@ -13,7 +13,7 @@ use Rattle.vdb_morph.specs.internal.Behind.{is_behind, layer}
 
 -- ---- one axis
 
--- what comes right before some numbers, and right after them
+-- the numbers right before some numbers, and right after them
 before : (a b x : ℤ) → int_le a b ≡ true → is_between (a -ℤ pos 1) (a -ℤ pos 1) x ≡ (is_between a b (x +ℤ pos 1) && not (is_between a b x))
 before a b x h = grind (arith, ints)
 
@@ -47,11 +47,11 @@ along_z true true s z = refl
 
 -- ---- boxes
 
--- the layer at a face, a step on
+-- the layer at a face, moved by a step
 abbrev slab : Face → Box → Box
 slab face b = record { min = toward face (layer face b).min; max = toward face (layer face b).max }
 
--- has what lies behind the face
+-- contains the voxels behind the face
 slab_inside : (b : Box) → is_box b ≡ true → (face : Face) (q : Coord) → is_inside (slab face b) q ≡ is_behind face b q
 slab_inside b is MinusX q =
     let ordered = (three (int_le b.min.x b.max.x) (int_le b.min.y b.max.y) (int_le b.min.z b.max.z) is).0 in
@@ -107,7 +107,7 @@ ranged PlusY q h = (three (in_range q.x) (in_range q.y) (in_range q.z) h).1
 ranged MinusZ q h = (three (in_range q.x) (in_range q.y) (in_range q.z) h).2
 ranged PlusZ q h = (three (in_range q.x) (in_range q.y) (in_range q.z) h).2
 
--- and is all that a step behind the face changes
+-- and a step behind the face changes only this component
 kept : (face : Face) (q : Coord) → is_inside everywhere q ≡ true → in_range (component face (toward face q)) ≡ true → is_inside everywhere (toward face q) ≡ true
 kept MinusX q h k = let hs = three (in_range q.x) (in_range q.y) (in_range q.z) h in together (in_range (q.x -ℤ pos 1)) (in_range q.y) (in_range q.z) k hs.1 hs.2
 kept PlusX q h k = let hs = three (in_range q.x) (in_range q.y) (in_range q.z) h in together (in_range (q.x +ℤ pos 1)) (in_range q.y) (in_range q.z) k hs.1 hs.2
@@ -116,7 +116,7 @@ kept PlusY q h k = let hs = three (in_range q.x) (in_range q.y) (in_range q.z) h
 kept MinusZ q h k = let hs = three (in_range q.x) (in_range q.y) (in_range q.z) h in together (in_range q.x) (in_range q.y) (in_range (q.z -ℤ pos 1)) hs.0 hs.1 k
 kept PlusZ q h k = let hs = three (in_range q.x) (in_range q.y) (in_range q.z) h in together (in_range q.x) (in_range q.y) (in_range (q.z +ℤ pos 1)) hs.0 hs.1 k
 
--- it is the same all over the slab
+-- it is the same everywhere in the slab
 level : (face : Face) (b : Box) (q : Coord) → is_inside (slab face b) q ≡ true → (component face q ≡ component face (slab face b).min) × (component face q ≡ component face (slab face b).max)
 level MinusX b q h = let e = only (b.min.x -ℤ pos 1) q.x (three (is_between (b.min.x -ℤ pos 1) (b.min.x -ℤ pos 1) q.x) (is_between b.min.y b.max.y q.y) (is_between b.min.z b.max.z q.z) h).0 in (e, e)
 level PlusX b q h = let e = only (b.max.x +ℤ pos 1) q.x (three (is_between (b.max.x +ℤ pos 1) (b.max.x +ℤ pos 1) q.x) (is_between b.min.y b.max.y q.y) (is_between b.min.z b.max.z q.z) h).0 in (e, e)
@@ -160,7 +160,7 @@ module _ (b : Box) (bounds : is_bounds b ≡ true) where
   layered MinusZ = (corners.0, together (in_range b.max.x) (in_range b.max.y) (in_range b.min.z) high.0 high.1 low.2)
   layered PlusZ = (together (in_range b.min.x) (in_range b.min.y) (in_range b.max.z) low.0 low.1 high.2, corners.1)
 
-  -- where a coordinate of the range lies behind the face, the corners of the slab do
+  -- if a coordinate of the range lies behind the face, the corners of the slab do
   reached : (face : Face) (q : Coord) → is_inside everywhere q ≡ true → is_behind face b q ≡ true
       → (is_inside everywhere (slab face b).min ≡ true) × (is_inside everywhere (slab face b).max ≡ true)
   reached face q inside h =
@@ -180,7 +180,7 @@ module _ (b : Box) (bounds : is_bounds b ≡ true) where
   pub no_greatest : (face : Face) (p : Coord) → p ≡ (layer face b).max → neighbour face p ≡ None → (q : Coord) → is_inside everywhere q ≡ true → is_behind face b q ≡ false
   no_greatest face p e none q inside = stuck face q inside (layer face b).max (λ h. (reached face q inside h).1) (ap (neighbour face) (sym e) ∙ none)
 
-  -- the neighbours of the corners make the slab
+  -- the neighbours of the corners are the corners of the slab
   module _ (face : Face) (p q r s : Coord) (least : p ≡ (layer face b).min) (greatest : q ≡ (layer face b).max) (one : neighbour face p ≡ Some r) (other : neighbour face q ≡ Some s) where
     ends : record { min = r; max = s } ≡ slab face b
     ends =

@@ -112,7 +112,7 @@ module _ (j : ℕ) where
 
 -- ---- words written
 
--- a mask of which word k has been written, where the words below it stand
+-- a mask whose word k has been written, if the words below it are right
 pub more_below : (mask : List Bool) (bit : ℕ → Bool) (new : List Bool) (k word : ℕ) → ((i : ℕ) → i < 64 * k → is_on mask i ≡ bit i) → IsWord new k word
     → ((i : ℕ) → i / 64 ≢ k → is_on new i ≡ is_on mask i) → ((j : ℕ) → j < 64 → bit (64 * k + j) ≡ has_bit word j) → (i : ℕ) → i < 64 * (k + 1) → is_on new i ≡ bit i
 more_below mask bit new k word below here others is i h =

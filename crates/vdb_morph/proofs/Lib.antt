@@ -1,4 +1,4 @@
--- Lemmas on what lies behind faces, on marks in trees of states, and on the states of leaf blocks.
+-- Lemmas on what lies behind faces, on marks in trees of states, and on the states of leaf extents.
 pub mod Layers
 pub mod Crossings
 pub mod Marks

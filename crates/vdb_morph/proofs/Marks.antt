@@ -1,4 +1,4 @@
--- What becomes of a field of states where a leaf block gets marks.
+-- A field of states after marks are added to a leaf extent.
 use Rattle.std.proofs.Common.{◌≡◌, ◌≢◌, ◌∙◌, sym, refl, ap, ◌<◌, ℕ, Bool, true, false, ◌&&◌, ◌||◌, cond, List, IsTrue, inl, inr}
 use Rattle.std.specs.Prelude.{slice_index_or, IsOk, Result, Ok, Err}
 use Rattle.vdb_coord.specs.Blocks.{block_number, offset}
@@ -19,16 +19,16 @@ use Rattle.vdb_tree.proofs.Fields.{cell_inside, same_cells}
 use Rattle.vdb_tree.proofs.Levels.{coord_cases, like_coords, unlike_coords}
 use Rattle.vdb_morph.specs.internal.Turning.{is_marked, topology, with_active}
 
--- a field's states, joined to none
+-- a field's states, joined to an empty field
 pub united_new : {V : Type 0} (f : Field V) → unite (new false) f ≡ topology f
 united_new f = same_cells false _ _ (λ q inside. let at = cell_inside false (λ _. off false) q inside in rw at refl)
 
--- a call that isn't refused changes the field
+-- a call without an error changes the field
 pub changed_if_ok : {V : Type 0} (old changed new : Field V) (result : Result (Unit {0}) TreeRefusal) → IsOk result → ChangesIfOk old changed new result → new ≡ changed
 changed_if_ok old changed new (Ok done) ok change = change
 changed_if_ok old changed new (Err refusal) ok change = cc
 
--- a cell stays where nothing makes it active
+-- a cell stays unless something activates it
 pub kept_cell : {V : Type 0} (x : Cell V) (t : Bool) → t ≡ false → x ≡ record { value = x.value; on = x.on || t }
 kept_cell x t e = ap (λ s. record { value = x.value; on = s }) (sym (or_false x.on t e))
   where
@@ -44,7 +44,7 @@ module _ {V : Type 0} (bits : Bits) (p : Coord) (marks : List Bool) (background 
   abbrev marked_cell : Coord → Cell V
   marked_cell q = record { value = (f.cell q).value; on = (f.cell q).on || is_on marks (offset bits Leaf q) }
 
-  -- cells that are so in the block, and elsewhere stay
+  -- cells that change so in the block, and stay elsewhere
   marked_by : (g : Coord → Cell V)
       → ((q : Coord) → IsTrue (is_inside everywhere q) → block_number bits Leaf q ≡ block_number bits Leaf p → g q ≡ marked_cell q)
       → ((q : Coord) → IsTrue (is_inside everywhere q) → block_number bits Leaf q ≢ block_number bits Leaf p → g q ≡ f.cell q)
@@ -59,7 +59,7 @@ module _ {V : Type 0} (bits : Bits) (p : Coord) (marks : List Bool) (background 
             there q inside d ∙ kept_cell (f.cell q) (is_marked bits p marks q) (ap (λ t. t && is_on marks (offset bits Leaf q)) no)
       ])
 
-  -- the same, where a test of the block chooses the cells
+  -- the same, if a test of the block chooses the cells
   chosen : (g : Coord → Cell V)
       → ((q : Coord) → IsTrue (is_inside everywhere q) → block_number bits Leaf q ≡ block_number bits Leaf p → g q ≡ marked_cell q)
       → field background (λ q. cond (coord_eq (block_number bits Leaf p) (block_number bits Leaf q)) (g q) (f.cell q)) ≡ with_active (is_marked bits p marks) f
@@ -92,7 +92,7 @@ module _ {V : Type 0} (bits : Bits) (p : Coord) (marks : List Bool) (background 
         ∙ ap (λ (c : Cell V). record { value = c.value; on = c.on || is_on marks (offset bits Leaf q) }) (sym here))
         (λ q inside d. sym (cell_inside background cells q inside))
 
-    -- an inactive one, in place of which comes a leaf
+    -- an inactive one, which a leaf replaces
     pub marked_inactive : tile.on ≡ false → (constant leaf : LeafOf V) → IsConstantLeaf constant (entry_count bits.leaf) tile → leaf.values ≡ constant.values
         → ((i : ℕ) → i < entry_count bits.leaf → is_on leaf.states i ≡ is_on marks i) → with_leaf bits p leaf f ≡ with_active (is_marked bits p marks) f
     marked_inactive off_tile constant leaf same values states = chosen _ (λ q inside e.

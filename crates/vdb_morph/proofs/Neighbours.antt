@@ -19,7 +19,7 @@ module _ {X : Type 0} (P : X → Type 0) (s t : X → Bool) where
     | inr there ↦ or_second (t x) (list_any t xs) (any_weaker xs all.1 h there)
   ]
 
-  -- tests that are one where P holds
+  -- tests that agree if P holds
   any_alike : (xs : List X) → AllByRecursion P xs → ((x : X) → P x → s x ≡ t x) → list_any s xs ≡ list_any t xs
   any_alike [] all h = refl
   any_alike (x ∷ xs) all h = rw (h x all.0, any_alike xs all.1 h) refl
@@ -67,18 +67,18 @@ module _ (q : Coord) where
   all_inside : AllByRecursion InRange (neighbours q)
   all_inside = behind_inside faces
 
-  -- tests that are one within the range are so of the neighbours
+  -- tests that agree within the range agree for the neighbours
   pub any_near : (s t : Coord → Bool) → ((p : Coord) → InRange p → s p ≡ t p) → list_any s (neighbours q) ≡ list_any t (neighbours q)
   any_near s t h = any_alike InRange s t (neighbours q) all_inside h
 
   pub all_near : (s t : Coord → Bool) → ((p : Coord) → InRange p → s p ≡ t p) → list_all s (neighbours q) ≡ list_all t (neighbours q)
   all_near s t h = all_alike InRange s t (neighbours q) all_inside h
 
-  -- a neighbour that passes a test passes what follows from it within the range
+  -- if a neighbour passes a test, it also passes each test that follows from it within the range
   pub some_near : (s t : Coord → Bool) → ((p : Coord) → InRange p → s p ≡ true → t p ≡ true) → list_any s (neighbours q) ≡ true → list_any t (neighbours q) ≡ true
   some_near s t h = any_weaker InRange s t (neighbours q) all_inside h
 
-  -- no neighbour passes what nothing passes within the range
+  -- no neighbour passes a test that nothing passes within the range
   pub none_near : (s : Coord → Bool) → ((p : Coord) → InRange p → s p ≡ false) → list_any s (neighbours q) ≡ false
   none_near s h = any_near s (λ p. false) h ∙ any_never (neighbours q)
 

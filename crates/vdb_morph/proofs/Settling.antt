@@ -1,4 +1,4 @@
--- A box of active voxels in a turn of erosion, face by face.
+-- A box of active voxels in an iteration of erosion, face by face.
 use Rattle.std.proofs.Common.{◌≡◌, ◌⊎◌, inl, inr, refl, ap, subst, sym, ◌∙◌, ℕ, ◌+◌, ◌<◌, ◌≤◌, ℤ, pos, ◌+ℤ◌, ◌-ℤ◌, Bool, true, false, not, cond, ◌&&◌, List, [], ◌∷◌, length, arith, IsTrue}
 use Rattle.std.specs.List.{count_by, filter_map, list_all}
 use Rattle.std.specs.Prelude.{get_or}
@@ -21,7 +21,7 @@ use Rattle.vdb_morph.specs.internal.Behind.{is_behind, opposite}
 use Rattle.vdb_morph.specs.internal.Eroding.{Erodes, IsEither, IsEroded, IsSettled}
 use Rattle.vdb_morph.proofs.Eroding.{on_eroded, still_eroded}
 
--- ---- a box whose voxels are as many as its active ones
+-- ---- a box that has as many active voxels as voxels
 
 module _ (p : Coord → Bool) where
   one_less : (b : Bool) (n m : ℕ) → n ≤ m → cond b 1 0 + n ≡ 1 + m → (b ≡ true) × (n ≡ m)
@@ -88,21 +88,21 @@ module _ (face : Face) (box : Box) where
     settled_nowhere none q i = inl (λ there. on (toward face q) (beside_inside q i (none (toward face q) there)))
 
     module _ (slab : Box) (is : (q : Coord) → is_inside slab q ≡ is_behind face box q) where
-      -- what lies there is active
+      -- the voxels behind the face are active
       pub settled_full : count f slab ≡ volume slab → (q : Coord) → IsTrue (is_inside box q) → IsSettled f states face q
       settled_full full q i = inl (λ there. elim (bool_cases (is_behind face box (toward face q))) [
         | inl out ↦ all_active f slab full (toward face q) (is (toward face q) ∙ out)
         | inr within ↦ on (toward face q) (beside_inside q i within)
       ])
 
-      -- a voxel of the box whose neighbour lies there lies behind the other face of the slab
+      -- a voxel of the box whose neighbour lies in the slab lies behind the other face of the slab
       layered : (q : Coord) → IsTrue (is_inside box q) → is_behind face box (toward face q) ≡ true → is_behind (opposite face) slab q ≡ true
       layered q i out =
           and_true (is_inside slab (toward (opposite (opposite face)) q)) (not (is_inside slab q))
           (ap (λ (g : Face). is_inside slab (toward g q)) (twice face) ∙ (is (toward face q) ∙ out))
           (ap not (is q ∙ and_not (is_inside box (toward (opposite face) q)) (is_inside box q) i))
 
-      -- what lies behind the slab has the states from after the turn
+      -- the voxels behind the slab have the states from after the iteration
       pub settled_layer : (layer : Box) → ((q : Coord) → is_inside layer q ≡ is_behind (opposite face) slab q) → ((q : Coord) → IsTrue (is_inside layer q) → IsEroded f states q)
           → (q : Coord) → IsTrue (is_inside box q) → IsSettled f states face q
       settled_layer layer same done q i = elim (bool_cases (is_behind face box (toward face q))) [
@@ -110,7 +110,7 @@ module _ (face : Face) (box : Box) where
         | inr within ↦ inl (λ there. on (toward face q) (beside_inside q i within))
       ]
 
-      -- nothing does
+      -- nothing lies behind the slab
       pub settled_no_layer : ((q : Coord) → IsTrue (is_inside everywhere q) → IsTrue (is_inside box q) → is_behind (opposite face) slab q ≡ false) → (q : Coord) → IsTrue (is_inside everywhere q) → IsTrue (is_inside box q) → IsSettled f states face q
       settled_no_layer none q there i = elim (bool_cases (is_behind face box (toward face q))) [
         | inl out ↦ absurd (apart (sym (layered q i out) ∙ none q there i))
@@ -123,7 +123,7 @@ module _ (face : Face) (box : Box) where
 -- ---- all faces
 
 module _ {V : Type 0} (f : Field V) where
-  -- what is settled stays so
+  -- a settled voxel stays settled
   pub still_settled : (s t : Field Bool) → Erodes f s t → (face : Face) (q : Coord) → IsSettled f s face q → IsSettled f t face q
   still_settled s t erodes face q had = elim had [ inl on ↦ inl on | inr done ↦ inr (still_eroded f s t erodes q done) ]
 
@@ -142,7 +142,7 @@ module _ {V : Type 0} (f : Field V) where
       | inl on ↦ elim (active_beside fs settled) [ inl more ↦ inl (one_more face fs on more) | inr done ↦ inr done ]
     ]
 
-    -- a voxel all of whose faces are settled has the state from after the turn
+    -- a voxel all of whose faces are settled has the state from after the iteration
     pub all_settled : IsEither f states q → ((face : Face) → IsSettled f states face q) → IsEroded f states q
     all_settled either settled = elim (active_beside faces settled) [ inl on ↦ on_eroded f states q either on | inr done ↦ done ]
 
@@ -156,21 +156,21 @@ module _ {V : Type 0} (f : Field V) where
     abbrev pub AreSettled : Field Bool → ℕ → Type 0
     AreSettled states n = (k : ℕ) → k < n → (q : Coord) → IsTrue (is_inside box q) → IsSettled f states (get_or faces k MinusX) q
 
-    -- at none of them
+    -- at no face
     pub settled_none : (states : Field Bool) → AreSettled states 0
     settled_none states k h = absurd (no_less k h)
       where
         no_less : (k : ℕ) → k < 0 → ⊥
         no_less k h = omega (arith, h)
 
-    -- and at one more
+    -- at one more face
     pub settled_more : (s t : Field Bool) → Erodes f s t → (n : ℕ) → AreSettled s n → ((q : Coord) → IsTrue (is_inside box q) → IsSettled f t (get_or faces n MinusX) q) → AreSettled t (n + 1)
     settled_more s t erodes n had here k h q i = elim (below_or_last k n h) [
       | inl before ↦ still_settled s t erodes (get_or faces k MinusX) q (had k before q i)
       | inr last ↦ subst (λ (m : ℕ). IsSettled f t (get_or faces m MinusX) q) (sym last) (here q i)
     ]
 
-    -- at all six, the states are those from after the turn
+    -- at all six, the states are those from after the iteration
     pub settled_whole : (states : Field Bool) → AreSettled states 6 → (q : Coord) → IsTrue (is_inside box q) → IsEither f states q → IsEroded f states q
     settled_whole states had q i either = all_settled states q either each
       where

@@ -1,4 +1,4 @@
--- What a box makes active around it, face after face.
+-- The voxels around a box that it activates, face after face.
 use Rattle.std.proofs.Common.{◌≡◌, ◌∙◌, sym, refl, ap, length, true, false, Bool, not, ◌&&◌, ◌||◌, cond, List, [], ◌∷◌, IsTrue, Option, Some, None, if◌then◌else◌}
 use Rattle.std.specs.List.{cons_option, filter_map, list_any}
 use Rattle.vdb_coord.specs.Boxes.{is_bounds}
@@ -47,7 +47,7 @@ module _ (background : Bool) (cells : Coord → Cell Bool) (b : Box) where
     abbrev others : Coord → Cell Bool
     others q = record { value = (f.cell q).value; on = (f.cell q).on || is_behind_any rest b q }
 
-    -- what lies behind the first, after the later ones
+    -- the box behind the first face, after the later ones
     pub behind_next : (slab : Box) → ((q : Coord) → is_inside slab q ≡ is_behind face b q) → ((q : Coord) → (f.cell q).value ≡ false)
         → fill slab active (with_active (is_behind_any rest b) f) ≡ with_active (is_behind_any (face ∷ rest) b) f
     behind_next slab same values = same_cells background _ _ (λ q inside.
@@ -62,7 +62,7 @@ module _ (background : Bool) (cells : Coord → Cell Bool) (b : Box) where
 
 -- ---- all six faces
 
--- a test of the items that there are
+-- a test of the existing items
 abbrev found : (Coord → Bool) → Option Coord → Bool
 found t None = false
 found t (Some q) = t q
@@ -87,7 +87,7 @@ exchanged o true mx px my py mz pz on = rw (on refl) refl
 exchanged o false mx px my py mz pz on = ap (λ t. o || t) (swapped mx px _ _ (swapped my py _ _ (swapped mz pz false false refl)))
 
 module _ (b : Box) (bounds : is_bounds b ≡ true) (q : Coord) where
-  -- the box has a neighbour where it has what lies behind the face
+  -- the box has a neighbour at each voxel that lies behind one of its faces
   within : (face : Face) → found (is_inside b) (neighbour face q) ≡ is_inside b (toward face q)
   within face = either (is_inside everywhere (toward face q)) (toward face q) (within_each b everywhere (toward face q) (both (is_box b) (is_within b everywhere) bounds).1)
     where
@@ -102,14 +102,14 @@ module _ (b : Box) (bounds : is_bounds b ≡ true) (q : Coord) where
   near : list_any (is_inside b) (neighbours q) ≡ list_any (λ face. is_inside b (toward face q)) faces
   near = any_found (is_inside b) (λ face. neighbour face q) faces ∙ any_within faces
 
-  -- outside the box, what has a neighbour in it lies behind a face
+  -- a voxel outside the box with a neighbour in it lies behind a face
   around : (o : Bool) → (is_inside b q ≡ true → o ≡ true) → (o || is_behind_any faces b q) ≡ (o || list_any (is_inside b) (neighbours q))
   around o on =
       exchanged o (is_inside b q) (is_inside b (toward MinusX q)) (is_inside b (toward PlusX q)) (is_inside b (toward MinusY q)) (is_inside b (toward PlusY q)) (is_inside b (toward MinusZ q)) (is_inside b (toward PlusZ q)) on
       ∙ ap (λ t. o || t) (sym near)
 
 module _ (background : Bool) (cells : Coord → Cell Bool) (b : Box) (bounds : is_bounds b ≡ true) where
-  -- where the box is active, what lies behind its faces is what it spreads to
+  -- if the box is active, it spreads to the voxels behind its faces
   pub active_behind : ((q : Coord) → IsTrue (is_inside b q) → ((field background cells).cell q).on ≡ true)
       → with_active (is_behind_any faces b) (field background cells) ≡ spread (is_inside b) (field background cells)
   active_behind on = same_cells background _ _ (λ q inside.

@@ -39,7 +39,7 @@ module _ {V : Type 0} (f : Field V) (test : Coord → Bool) where
   spread_value : (p : Coord) → InRange p → ((spread test f).cell p).value ≡ (f.cell p).value
   spread_value p inside = rw inside refl
 
--- tests that are one within the range spread alike
+-- tests that agree within the range spread alike
 pub spread_alike : {V : Type 0} (s t : Coord → Bool) (f : Field V) → ((p : Coord) → InRange p → s p ≡ t p) → spread s f ≡ spread t f
 spread_alike s t f h = same_cells f.background _ _ (λ p inside. ap (λ (b : Bool). record { value = (f.cell p).value; on = (f.cell p).on || b }) (any_near p s t h))
 
@@ -54,9 +54,9 @@ spread_none test background cell h = same_cells background _ _ (λ p inside. sta
     stays : (p : Coord) → InRange p → list_any test (neighbours p) ≡ false → cell p ≡ record { value = ((field background cell).cell p).value; on = on (field background cell) p || list_any test (neighbours p) }
     stays p inside e = rw inside (let s = or_nothing (cell p).on (list_any test (neighbours p)) e in λ i. record { value = (cell p).value; on = s i })
 
--- ---- leaf blocks
+-- ---- leaf extents
 
--- coordinates of one leaf block
+-- coordinates of one leaf extent
 pub around : (bits : Bits) (p q : Coord) → block_number bits Leaf q ≡ block_number bits Leaf p → is_around bits p q ≡ true
 around bits p q e = like_coords (block_number bits Leaf q) (block_number bits Leaf p) e
 
@@ -94,7 +94,7 @@ of_leaf {V} {L} content leaf P e h = subst (λ (x : Content V L). OnLeaf x P) e 
 
 -- ---- a walk that passes over what is inactive
 
--- the states so far: what is active in the field, and the neighbours of what isn't left of the walk, and nothing that a turn doesn't make active
+-- the states so far: the active voxels and the neighbours of what the walk has passed, and no voxel that the iteration doesn't activate
 pub record IsPartly {V : Type 0} (bits : Bits) (f : Field V) (at : Option Coord) (states : Field Bool) : Type 0 where
   pub background : states.background ≡ false
   pub value : (p : Coord) → InRange p → (states.cell p).value ≡ false
@@ -109,7 +109,7 @@ module _ {V : Type 0} (bits : Bits) (t : Layout V) where
   abbrev pub whole : Field V
   whole = field_of bits t
 
-  -- active, and not left
+  -- active, and passed by the walk
   abbrev pub is_done : Option Coord → Coord → Bool
   is_done at q = on whole q && not (is_left bits at q)
 
@@ -141,7 +141,7 @@ module _ {V : Type 0} (bits : Bits) (t : Layout V) where
         subst (λ (s : Skip). IsSkipped bits s t q) skip (passes.passed q (subst (λ (b : Box). is_inside b q ≡ true) (sym box) inside) l gone out)
 
     module _ (states : Field Bool) (had : IsPartly bits whole old.at states) where
-      -- what a part spreads: its active voxels, and none that isn't active
+      -- a part spreads its active voxels, and no inactive one
       pub partly_more : (part : Box) → YieldsBox bits t old new part → (test : Coord → Bool) → ((q : Coord) → InRange q → test q ≡ true → on whole q ≡ true)
           → ((q : Coord) → is_inside part q ≡ true → on whole q ≡ true → test q ≡ true) → (grown : Field Bool) → grown ≡ spread test states → IsPartly bits whole new.at grown
       partly_more part y test sound complete grown e = record {
@@ -176,7 +176,7 @@ module _ {V : Type 0} (bits : Bits) (t : Layout V) where
       pub part_inside : (part : Box) → YieldsBox bits t old new part → (q : Coord) → is_inside part q ≡ true → InRange q
       part_inside part y q i = subst (λ (b : Box). is_inside b q ≡ true) box (y.inside q i)
 
-      -- a tile: active voxels of the states are those that spread
+      -- a tile: active voxels of the states spread
       pub tile_kept : (part : Box) → YieldsBox bits t old new part → (cell : Cell V) → ((q : Coord) → is_inside part q ≡ true → whole.cell q ≡ cell) → cell.on ≡ true → (q : Coord) → is_inside part q ≡ true → on states q ≡ true
       tile_kept part y cell same active q i = had.kept q (part_inside part y q i) (ap (λ (c : Cell V). c.on) (same q i) ∙ active)
 
@@ -186,7 +186,7 @@ module _ {V : Type 0} (bits : Bits) (t : Layout V) where
           partly_more part y (λ q. cell.on && is_inside part q) (λ q inside h. let k = both cell.on (is_inside part q) h in ap (λ (c : Cell V). c.on) (same q k.1) ∙ k.0)
           (λ q i o. and_true cell.on (is_inside part q) (sym (ap (λ (c : Cell V). c.on) (same q i)) ∙ o) i) grown e
 
-      -- a leaf, whose whole block spreads
+      -- a leaf: its whole block spreads
       pub leaf_more : (part : Box) → YieldsBox bits t old new part → ((q r : Coord) → is_inside part q ≡ true → is_inside part r ≡ true → block_number bits Leaf q ≡ block_number bits Leaf r) → (p : Coord) → p ≡ part.min
           → (grown : Field Bool) → grown ≡ spread (λ q. is_around bits p q && on whole q) states → IsPartly bits whole new.at grown
       leaf_more part y block p corner grown e =
@@ -219,7 +219,7 @@ module _ {V : Type 0} (bits : Bits) (t : Layout V) where
 pub tree_cut : {V : Type 0} (bits : Bits) (t : Layout V) → field_of bits t ≡ field (field_of bits t).background (field_of bits t).cell
 tree_cut bits t = cut_again t.background (cell_at bits t)
 
--- in the course of a turn each value is false, past the range too
+-- in the course of an iteration each value is false, also past the range
 pub partly_values : {V : Type 0} (bits : Bits) (f : Field V) (at : Option Coord) (states : Field Bool) → states ≡ field states.background states.cell
     → IsPartly bits f at states → (q : Coord) → (states.cell q).value ≡ false
 partly_values bits f at states cut had q = elim (bool_cases (is_inside everywhere q)) [

@@ -1,4 +1,4 @@
--- What a leaf block makes active around it, face by face and voxel by voxel.
+-- What a leaf extent makes active around it, face by face and voxel by voxel.
 use Rattle.std.proofs.Common.{◌≡◌, ◌≢◌, refl, sym, ap, subst, ◌∙◌, inl, inr, ◌⊎◌, ℕ, ◌+◌, ◌<◌, Bool, true, false, ◌&&◌, ◌||◌, List, [], ◌∷◌, nat_lt, IsTrue, arith}
 use Rattle.std.specs.List.{list_any}
 use Rattle.std.proofs.Math.Bool.{or-false}
@@ -28,7 +28,7 @@ use Rattle.vdb_morph.proofs.Activating.{active_nowhere, active_same, active_twic
 use Rattle.vdb_morph.proofs.Crossings.{back, crosses, forth, toward_apart}
 
 module _ (bits : Bits) (p : Coord) (mask : List Bool) where
-  -- nothing is marked outside the range
+  -- no voxel outside the range is marked
   pub marked_inside : AreBits bits → IsTrue (is_inside everywhere p) → (q : Coord) → is_inside everywhere q ≡ false → is_marked bits p mask q ≡ false
   marked_inside few inside q out =
       elim (coord_cases (block_number bits Leaf q) (block_number bits Leaf p)) [
@@ -39,11 +39,11 @@ module _ (bits : Bits) (p : Coord) (mask : List Bool) where
   -- ---- by the states behind a face
 
   module _ (none over : List Bool) (face : Face) (off : (i : ℕ) → is_on none i ≡ false) (beside : (q : Coord) → is_on over (offset bits Leaf q) ≡ state_beside bits none mask face q) where
-    -- q lies in the block behind the opposite face, and the mask there tells what is over
+    -- q lies in the block behind the opposite face, and its mask says which voxels lie over the face
     abbrev IsThere : Coord → Type 0
     IsThere q = (block_number bits Leaf q ≡ toward (opposite face) (block_number bits Leaf p)) × (is_over bits p mask face q ≡ is_on over (offset bits Leaf q))
 
-    -- or nothing is over at q, nor told by the mask if q lies in that block
+    -- or no voxel lies over the face at q, and the mask has none if q lies in that block
     abbrev IsNowhere : Coord → Type 0
     IsNowhere q = (is_over bits p mask face q ≡ false) × (block_number bits Leaf q ≡ toward (opposite face) (block_number bits Leaf p) → is_on over (offset bits Leaf q) ≡ false)
 
@@ -51,7 +51,7 @@ module _ (bits : Bits) (p : Coord) (mask : List Bool) where
     within : (q : Coord) → block_number bits Leaf (toward face q) ≡ block_number bits Leaf q → is_on over (offset bits Leaf q) ≡ false
     within q e = beside q ∙ rw (like_coords (block_number bits Leaf (toward face q)) (block_number bits Leaf q) e) (off _)
 
-    -- it lies in another
+    -- it lies in another block
     without : (q : Coord) → block_number bits Leaf (toward face q) ≡ toward face (block_number bits Leaf q) → is_on over (offset bits Leaf q) ≡ is_on mask (offset bits Leaf (toward face q))
     without q e = beside q ∙ rw (unlike_coords (block_number bits Leaf (toward face q)) (block_number bits Leaf q) (λ s. toward_apart face (block_number bits Leaf q) (sym e ∙ s))) refl
 
@@ -66,7 +66,7 @@ module _ (bits : Bits) (p : Coord) (mask : List Bool) where
               inl (here, rw (unlike_coords (block_number bits Leaf q) (block_number bits Leaf p) apart, like_coords (block_number bits Leaf (toward face q)) (block_number bits Leaf p) e) (sym (without q c)))
         ]
 
-    -- it doesn't
+    -- it lies outside p's block
     over_away : (q : Coord) → block_number bits Leaf (toward face q) ≢ block_number bits Leaf p → IsNowhere q
     over_away q d = (
       and_right _ _ (and_left _ _ (unlike_coords (block_number bits Leaf (toward face q)) (block_number bits Leaf p) d)),
@@ -83,7 +83,7 @@ module _ (bits : Bits) (p : Coord) (mask : List Bool) where
           | inr d ↦ inr (over_away q d)
         ]
 
-    -- what is over, where the block behind the opposite face is r's
+    -- the voxels over the face, if the block behind the opposite face is r's
     pub over_is : (r : Coord) → block_number bits Leaf r ≡ toward (opposite face) (block_number bits Leaf p) → (q : Coord) → is_marked bits r over q ≡ is_over bits p mask face q
     over_is r e q =
         elim (over_cases q) [
@@ -95,11 +95,11 @@ module _ (bits : Bits) (p : Coord) (mask : List Bool) where
               ]
         ]
 
-    -- nothing is, where the mask is all off
+    -- no voxel, if the mask is all off
     pub over_off : ((i : ℕ) → is_on over i ≡ false) → (q : Coord) → is_over bits p mask face q ≡ false
     over_off none_over q = elim (over_cases q) [ inl h ↦ h.1 ∙ none_over _ | inr h ↦ h.0 ]
 
-    -- nor in the range, where there is no such block
+    -- and none in the range, if no such block exists
     pub over_beyond : is_inside (block_numbers bits Leaf) (toward (opposite face) (block_number bits Leaf p)) ≡ false
         → (q : Coord) → IsTrue (is_inside everywhere q) → is_over bits p mask face q ≡ false
     over_beyond out q inside =
@@ -108,7 +108,7 @@ module _ (bits : Bits) (p : Coord) (mask : List Bool) where
           | inr h ↦ h.0
         ]
 
-  -- what the block makes active within itself and over its faces is what it spreads to
+  -- the block spreads to what it activates within itself and over its faces
   module _ (own : List Bool) (among : (q : Coord) → is_on own (offset bits Leaf q) ≡ list_any (λ face. is_around bits q (toward face q) && is_on mask (offset bits Leaf (toward face q))) faces) where
     words_at : (q : Coord) → (is_marked bits p own q || list_any (λ face. is_over bits p mask face q) faces) ≡ list_any (λ face. is_marked bits p mask (toward face q)) faces
     words_at q =
@@ -170,11 +170,11 @@ module _ (bits : Bits) (p : Coord) (mask : List Bool) where
             | inr s ↦ absurd (both_ways _ off (ap (is_on mask) (sym s) ∙ (and_parts (is_around bits p q) _ hs.0).1))
           ]
 
-  -- none is before the first
+  -- no marked entry comes before the first
   none_before : (q : Coord) → is_before 0 q ≡ false
   none_before q = and_right _ _ (le-ltb (offset bits Leaf q) 0 (omega arith))
 
-  -- and all marked ones are before the end
+  -- all marked entries come before the end
   all_before : (q : Coord) → is_before (entries bits Leaf) q ≡ is_marked bits p mask q
   all_before q = rw (lt-ltb _ _ (offset_below bits Leaf q)) (and_true_right (is_marked bits p mask q))
     where

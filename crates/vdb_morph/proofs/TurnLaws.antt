@@ -1,4 +1,4 @@
--- Turns of dilation and of erosion, and the states that they leave.
+-- Iterations of dilation and of erosion, and the states that they leave.
 use Rattle.std.proofs.Common.{◌≡◌, refl, sym, ap, subst, ◌∙◌, ℕ, zero, suc, ◌+◌, ◌≤◌, Bool, true, false, ◌&&◌, ◌||◌, inl, inr, arith}
 use Rattle.std.specs.List.{list_all, list_any}
 use Rattle.std.specs.Prelude.{IfOk, Result, Ok, Err, Some}
@@ -21,12 +21,12 @@ use Rattle.vdb_morph.specs.Growth.{IsGrowth}
 use Rattle.vdb_morph.specs.internal.Turning.{topology}
 use Rattle.vdb_morph.proofs.Neighbours.{InRange, all_near, any_near}
 
--- what holds where a call is accepted holds of what it gives
+-- a fact for each accepted call holds for its result
 pub of_ok : {A E : Type 0} (P : A → Type 0) (r : Result A E) (s : A) → Some s ≡ result_ok r → IfOk r P → P s
 of_ok P (Ok x) s e h = let same : x ≡ s = cc in subst P same h
 of_ok P (Err x) s e h = cc
 
--- ---- one turn
+-- ---- one iteration
 
 module _ {V : Type 0} (f : Field V) where
   abbrev pub on : Coord → Bool
@@ -48,7 +48,7 @@ module _ {V : Type 0} (f : Field V) where
 pub same_topology : {V U : Type 0} (f : Field V) (g : Field U) → ((p : Coord) → InRange p → (f.cell p).on ≡ (g.cell p).on) → topology f ≡ topology g
 same_topology f g h = same_cells false _ _ (λ p inside. ap (λ (b : Bool). record { value = false; on = b }) (h p inside))
 
--- a turn makes the same states of the states alone
+-- an iteration has the same states on a field and on its states alone
 module _ {V : Type 0} (f : Field V) where
   pub topology_dilate : topology (dilate (topology f)) ≡ topology (dilate f)
   topology_dilate = same_topology (dilate (topology f)) (dilate f) (λ p inside.
@@ -60,7 +60,7 @@ module _ {V : Type 0} (f : Field V) where
       eroded_on (topology f) p inside ∙ ap (λ b. b && list_all (on (topology f)) (neighbours p)) (topology_on f p inside)
       ∙ ap (λ b. on f p && b) (all_near p (on (topology f)) (on f) (topology_on f)) ∙ sym (eroded_on f p inside))
 
--- ---- n turns
+-- ---- n iterations
 
 -- the last of them
 turns_last : {V : Type 0} (n : ℕ) (turn : Field V → Field V) (f : Field V) → turns (suc n) turn f ≡ turn (turns n turn f)
@@ -71,7 +71,7 @@ one_more : (n : ℕ) → suc n ≡ n + 1
 one_more n = omega arith
 
 module _ {V : Type 0} (f : Field V) (n : ℕ) (old : Field Bool) where
-  -- one more turn of the states
+  -- one more iteration of the states
   pub dilated_more : old ≡ topology (turns n dilate f) → (new : Field Bool) → new ≡ topology (dilate old) → new ≡ topology (turns (n + 1) dilate f)
   dilated_more h new e =
       e ∙ ap (λ (g : Field Bool). topology (dilate g)) h ∙ topology_dilate (turns n dilate f) ∙ ap (λ (g : Field V). topology g) (sym (turns_last n dilate f))
@@ -82,7 +82,7 @@ module _ {V : Type 0} (f : Field V) (n : ℕ) (old : Field Bool) where
       e ∙ ap (λ (g : Field Bool). topology (erode g)) h ∙ topology_erode (turns n erode f) ∙ ap (λ (g : Field V). topology g) (sym (turns_last n erode f))
       ∙ ap (λ (m : ℕ). topology (turns m erode f)) (one_more n)
 
--- a turn keeps the background and the values, and what lies outside the range is fixed
+-- an iteration keeps the background and the values, and what lies outside the range is fixed
 record KeepsValues {V : Type 0} (old new : Field V) : Type 0 where
   pub background : new.background ≡ old.background
   pub value : (p : Coord) → InRange p → (new.cell p).value ≡ (old.cell p).value
@@ -91,7 +91,7 @@ record IsTurn {V : Type 0} (turn : Field V → Field V) : Type 0 where
   pub keeps : (f : Field V) → KeepsValues f (turn f)
   pub cut : (f : Field V) → turn f ≡ field (turn f).background (turn f).cell
 
--- a field that is cut already
+-- a field that has been cut to the range
 pub cut_again : {V : Type 0} (background : V) (cell : Coord → Cell V) → field background cell ≡ field background (field background cell).cell
 cut_again background cell = same_cells background _ _ (λ p inside. rw inside refl)
 
@@ -114,12 +114,12 @@ module _ {V : Type 0} where
     turns_cut zero f = is.cut f
     turns_cut (suc n) f = turns_cut n (turn f)
 
-  -- what is active stays so in each turn of dilation
+  -- an active voxel stays active in each iteration of dilation
   grown : (n : ℕ) (f : Field V) (p : Coord) → InRange p → on f p ≡ true → on (turns n dilate f) p ≡ true
   grown zero f p inside h = h
   grown (suc n) f p inside h = grown n (dilate f) p inside (dilated_on f p inside ∙ or_first (on f p) (list_any (on f) (neighbours p)) h)
 
-  -- what is active after turns of erosion was so
+  -- a voxel that is active after iterations of erosion was active before
   shrunk : (n : ℕ) (f : Field V) (p : Coord) → InRange p → on (turns n erode f) p ≡ true → on f p ≡ true
   shrunk zero f p inside h = h
   shrunk (suc n) f p inside h = (both (on f p) (list_all (on f) (neighbours p)) (sym (eroded_on f p inside) ∙ shrunk n (erode f) p inside h)).0
@@ -145,22 +145,22 @@ module _ {V : Type 0} where
         ap (λ b. on old p && b) (topology_on new p inside)
         ∙ same_truth (on old p && on new p) (on new p) (λ e. (both (on old p) (on new p) e).1) (λ k. and_true (on old p) (on new p) (h p inside k) k))
 
-  -- the states of some turns of dilation, united with the field
+  -- the states of some iterations of dilation, united with the field
   pub unite_turns : (n : ℕ) → 1 ≤ n → (f : Field V) → unite f (topology (turns n dilate f)) ≡ turns n dilate f
   unite_turns zero some f = absurd (omega arith)
   unite_turns (suc n) some f = united f (turns (suc n) dilate f) (turns_keep dilate dilate_turns (suc n) f) (turns_cut dilate dilate_turns n f) (grown (suc n) f)
 
-  -- the states of some turns of erosion, intersected with the field
+  -- the states of some iterations of erosion, intersected with the field
   pub intersect_turns : (n : ℕ) → 1 ≤ n → (f : Field V) → intersect f (topology (turns n erode f)) ≡ turns n erode f
   intersect_turns zero some f = absurd (omega arith)
   intersect_turns (suc n) some f = intersected f (turns (suc n) erode f) (turns_keep erode erode_turns (suc n) f) (turns_cut erode erode_turns n f) (shrunk (suc n) f)
 
-  -- erosion makes no root block hold anything but the background
+  -- erosion adds no root block with a cell other than the background
   pub eroded_roots : (eq : V → V → Bool) → ((x y : V) → eq x y ≡ true → x ≡ y) → ((x : V) → eq x x ≡ true) → (bits : Bits) (n : ℕ) → 1 ≤ n → (f : Field V) → roots eq bits (turns n erode f) ≤ roots eq bits f
   eroded_roots eq exact itself bits n some f =
       subst (λ (g : Field V). roots eq bits g ≤ roots eq bits f) (intersect_turns n some f) (ruled_within eq exact itself bits Intersect (no_unite_intersect Intersect refl) f (topology (turns n erode f)))
 
--- ---- outcomes of turns
+-- ---- outcomes of iterations
 
 module _ {V : Type 0} (eq : V → V → Bool) (bits : Bits) (limit n : ℕ) (some : 1 ≤ n) (f new : Field V) (states : Field Bool) where
   growth : (changed : Field V) (result : Result (Unit {0}) TreeRefusal) → IsOutcome eq bits limit f changed new result → IsGrowth eq bits limit f changed new result
@@ -168,19 +168,19 @@ module _ {V : Type 0} (eq : V → V → Bool) (bits : Bits) (limit n : ℕ) (som
   growth changed (Err RootLimit) o = o
   growth changed (Err Memory) o = (o.0, tt)
 
-  -- a union with the states of some turns of dilation
+  -- a union with the states of some iterations of dilation
   pub dilated_outcome : states ≡ topology (turns n dilate f) → (result : Result (Unit {0}) TreeRefusal) → IsOutcome eq bits limit f (unite f states) new result
       → IsGrowth eq bits limit f (turns n dilate f) new result
   dilated_outcome h result o =
       growth (turns n dilate f) result
       (subst (λ (g : Field V). IsOutcome eq bits limit f g new result) (ap (λ (g : Field Bool). unite f g) h ∙ unite_turns n some f) o)
 
-  -- an intersection with the states of some turns of erosion
+  -- an intersection with the states of some iterations of erosion
   pub eroded_outcome : states ≡ topology (turns n erode f) → (result : Result (Unit {0}) TreeRefusal) → IsOutcome eq bits limit f (intersect f states) new result
       → IsOutcome eq bits limit f (turns n erode f) new result
   eroded_outcome h result o = subst (λ (g : Field V). IsOutcome eq bits limit f g new result) (ap (λ (g : Field Bool). intersect f g) h ∙ intersect_turns n some f) o
 
--- erosion keeps to a limit that the field keeps to
+-- erosion respects a limit that the field respects
 pub eroded_few : {V : Type 0} (eq : V → V → Bool) (bits : Bits) (limit n : ℕ) → 1 ≤ n → (f : Field V) → ((x y : V) → eq x y ≡ true → x ≡ y) → ((x : V) → eq x x ≡ true) → (few : ℕ) → roots eq bits f ≤ few → few ≡ limit
     → roots eq bits (turns n erode f) ≤ limit
 eroded_few eq bits limit n some f exact itself few h e = let k = eroded_roots eq exact itself bits n some f in omega (arith, h, k, e)

@@ -1,4 +1,4 @@
--- A leaf block that takes the cells of another field voxel by voxel, by the entries of a leaf.
+-- A leaf extent with the cells of another field, voxel by voxel, by the entries of a leaf.
 use Rattle.std.proofs.Common.{◌≡◌, ◌≢◌, refl, sym, ap, subst, ◌∙◌, ℕ, ◌+◌, ◌<◌, arith, Bool, true, false, ◌&&◌, cond, inl, inr, ltb}
 use Rattle.std.proofs.Math.Bool.{and-true}
 use Rattle.std.proofs.lemmas.Bool.{le-ltb, lt-ltb, ltb-false, ltb-true}
@@ -36,7 +36,7 @@ and_false true = refl
 and_false false = refl
 
 module _ (bits : Bits) (p : Coord) where
-  -- whether q's entry of p's leaf block comes before this one
+  -- whether q's entry of p's leaf extent comes before this one
   abbrev pub is_reached : ℕ → Coord → Bool
   is_reached i q = is_around bits p q && ltb (offset bits Leaf q) i
 
@@ -47,7 +47,7 @@ module _ (bits : Bits) (p : Coord) where
         let none : ltb (offset bits Leaf q) 0 ≡ false = le-ltb (offset bits Leaf q) 0 (omega arith) in
         let never : false ≡ true = sym (and_false (is_around bits p q)) ∙ ap (λ b. is_around bits p q && b) (sym none) ∙ yes in cc)
 
-    -- all in the end
+    -- all at the end
     pub voxels_last : (n : ℕ) (f g : Field V) → n ≡ entries bits Leaf → taken (is_reached n) g f ≡ taken (is_around bits p) g f
     voxels_last n f g e = same_test (is_reached n) (is_around bits p) f g (λ q.
         let small = offset_below bits Leaf q in

@@ -1,3 +1,3 @@
--- Dilation and erosion by faces, turn by turn.
+-- Dilation and erosion by faces, iteration by iteration.
 pub mod Growth
 pub mod internal

@@ -1,4 +1,4 @@
--- Words of private functions and of proofs alone: no public contract needs them.
+-- Definitions for private functions and proofs alone: no public contract needs them.
 pub mod Turning
 pub mod Behind
 pub mod Beside

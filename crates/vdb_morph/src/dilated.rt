@@ -1,4 +1,4 @@
-//! One turn of dilation.
+//! One iteration of dilation.
 
 ghost use Rattle.std.specs.Prelude.{◌≡◌, ◌&&◌, false, true, IfOk, IsOk, IsTrue};
 ghost use Rattle.vdb_coord.specs.Blocks.{offset};
@@ -23,7 +23,7 @@ use vdb_region::fill;
 use vdb_tree::{Content, Part, Skip, TreeOf, TreeRefusal, Walk};
 use vdb_value::Cell;
 
-/// The states of a tree after one turn of dilation. The error says that a growth was refused.
+/// Returns the states of a tree after one iteration of dilation. Returns an error if an allocation fails.
 pub(crate) fn dilated<
     V: Stored<WU> + Stored<WL> + Stored<WF>,
     const U: u32,
@@ -38,7 +38,7 @@ pub(crate) fn dilated<
 ) -> Result<TreeOf<bool, U, L, F, WU, WL, WF>, TreeRefusal>
     ensures { IfOk result (λ states. field_of (bits_of U L F) states ≡ topology (dilate (field_of (bits_of U L F) tree.now))) }
 {
-    let _ = tree.mask_words(); // no nodes are too great
+    let _ = tree.mask_words(); // tells the proof that no nodes are too large
     let mut states = topology_of(tree, steps)?;
     let mut walk = tree.parts(Bounds::all(), Skip::Inactive);
     'parts: while let Some(part) = tree.next_part(&mut walk, steps) {
@@ -51,8 +51,8 @@ pub(crate) fn dilated<
     Ok(states)
 }
 
-/// Makes the face neighbours of the voxels of a tile active, where the tile is active, in a tree whose values are all false. The
-/// error says that a growth was refused.
+/// Activates the face neighbours of a tile's voxels if the tile is active, in a tree whose values are all false. Returns an error
+/// if an allocation fails.
 fn spread_tile<
     const U: u32,
     const L: u32,
@@ -77,8 +77,8 @@ fn spread_tile<
     }
 }
 
-/// Makes the face neighbours of the voxels of a box active, which are active themselves, in a tree whose values are all false: by
-/// words where the box is a leaf block. The error says that a growth was refused.
+/// Activates the face neighbours of the voxels of a box that is active, in a tree whose values are all false. If the box is a
+/// leaf extent, it works by words. Returns an error if an allocation fails.
 fn spread_voxels<
     const U: u32,
     const L: u32,
@@ -105,8 +105,8 @@ fn spread_voxels<
     spread_block(states, corner, &marks, steps)
 }
 
-/// Makes the face neighbours of the active voxels of p's leaf block active. The walk is one over the tree: where it is in that leaf,
-/// the leaf is found by one visit. The error says that a growth was refused.
+/// Activates the face neighbours of the active voxels of p's leaf extent. `walk` is a walk over the tree. If the walk is in that
+/// leaf, one node visit finds the leaf. Returns an error if an allocation fails.
 fn spread_leaf<
     V: Stored<WU> + Stored<WL> + Stored<WF>,
     const U: u32,
@@ -130,7 +130,7 @@ fn spread_leaf<
     spread_block(states, p, &marks, steps)
 }
 
-/// The states of the voxels of p's leaf block, at their entries. The walk is one over the tree.
+/// Returns the states of the voxels of p's leaf extent, each at its entry. `walk` is a walk over the tree.
 fn block_states<
     V: Stored<WU> + Stored<WL> + Stored<WF>,
     const U: u32,
@@ -155,8 +155,8 @@ fn block_states<
     }
 }
 
-/// Makes the face neighbours of the voxels of a box active, which are active themselves, in a tree whose values are all false. The
-/// error says that a growth was refused.
+/// Activates the face neighbours of the voxels of a box that is active, in a tree whose values are all false. Returns an error if
+/// an allocation fails.
 fn spread_box<
     const U: u32,
     const L: u32,
@@ -173,12 +173,12 @@ fn spread_box<
     requires values { (q : Coord) → ((field_of (bits_of U L F) states.old).cell q).value ≡ false }
     ensures { IsOk result → field_of (bits_of U L F) states.new ≡ spread (is_inside bounds) (field_of (bits_of U L F) states.old) }
 {
-    let _ = bounds.min(); // the proof learns from it that the box lies in the range
+    let _ = bounds.min(); // tells the proof that the box lies in the range
     fill_behind(states, bounds, &Face::ALL, steps)
 }
 
-/// Makes the voxels right behind these faces of a box active, in a tree whose values are all false. The error says that a growth
-/// was refused.
+/// Activates the voxels right behind these faces of a box, in a tree whose values are all false. Returns an error if an
+/// allocation fails.
 fn fill_behind<
     const U: u32,
     const L: u32,

@@ -1,4 +1,4 @@
-//! The states of a leaf block after one turn of erosion.
+//! The states of a leaf extent after one iteration of erosion.
 
 ghost use Rattle.std.specs.Prelude.{◌≡◌, ◌&&◌, Bool, IsOk, IsTrue};
 ghost use Rattle.vdb_coord.specs.Blocks.{offset};
@@ -21,7 +21,8 @@ use vdb_node::Stored;
 use vdb_pool::Steps;
 use vdb_tree::{TreeOf, TreeRefusal, Write};
 
-/// Gives p's leaf block the states that it has in the tree after one turn of erosion. The error says that a growth was refused.
+/// Sets the states of p's leaf extent to those of the tree after one iteration of erosion. Returns an error if an allocation
+/// fails.
 pub(crate) fn erode_block<
     V: Stored<WU> + Stored<WL> + Stored<WF>,
     const U: u32,
@@ -45,8 +46,8 @@ pub(crate) fn erode_block<
     }
 }
 
-/// Gives p's leaf block, of 3 bits, the states that it has in the tree after one turn of erosion, by the words of masks. The error
-/// says that a growth was refused.
+/// Sets the states of p's leaf extent, for leaves of 3 bits, to those of the tree after one iteration of erosion, by the words of
+/// masks. Returns an error if an allocation fails.
 fn erode_words<
     V: Stored<WU> + Stored<WL> + Stored<WF>,
     const U: u32,
@@ -68,7 +69,7 @@ fn erode_words<
     put_states(states, p, &left, steps)
 }
 
-/// The states of p's leaf block, of 3 bits, after one turn of erosion.
+/// Returns the states of p's leaf extent, for leaves of 3 bits, after one iteration of erosion.
 fn eroded_states<
     V: Stored<WU> + Stored<WL> + Stored<WF>,
     const U: u32,
@@ -92,7 +93,7 @@ fn eroded_states<
     left
 }
 
-/// Turns off each entry of p's leaf block, of 3 bits, whose voxel has an inactive one behind the face.
+/// Turns off each entry of p's leaf extent, for leaves of 3 bits, whose voxel has an inactive neighbour behind the face.
 fn narrow<
     V: Stored<WU> + Stored<WL> + Stored<WF>,
     const U: u32,
@@ -114,12 +115,12 @@ fn narrow<
     ensures { (q : Coord) → IsTrue (is_inside everywhere q) → IsTrue (is_around (bits_of U L F) p q)
         → is_on left.new (offset (bits_of U L F) leaf_level q) ≡ (is_on left.old (offset (bits_of U L F) leaf_level q) && state_behind (field_of (bits_of U L F) tree.now) face q) }
 {
-    let _ = tree.mask_words(); // the proof learns from it that a leaf has eight words
+    let _ = tree.mask_words(); // tells the proof that a leaf has eight words
     let other = states_behind(tree, p, face, steps);
     left.both(&beside(own, &other, face));
 }
 
-/// The states of p's leaf block.
+/// Returns the states of p's leaf extent.
 fn states_at<
     V: Stored<WU> + Stored<WL> + Stored<WF>,
     const U: u32,
@@ -131,14 +132,14 @@ fn states_at<
 >(tree: &TreeOf<V, U, L, F, WU, WL, WF>, p: Coord, steps: &mut Steps) -> Mask<WF>
     ensures { HasStates (bits_of U L F) (field_of (bits_of U L F) tree.now) p result }
 {
-    let _ = tree.mask_words(); // the proof learns from it that the mask has capacity for the entries
+    let _ = tree.mask_words(); // tells the proof that the mask has capacity for the entries
     match tree.leaf(p, steps) {
         Some(leaf) => leaf.states().copied(),
         None => Mask::filled(tree.get(p, steps).on),
     }
 }
 
-/// The states of the leaf block behind a face of p's: all on where the range of coordinates ends there.
+/// Returns the states of the leaf extent behind a face of p's leaf extent: all on if the range of coordinates ends there.
 fn states_behind<
     V: Stored<WU> + Stored<WL> + Stored<WF>,
     const U: u32,
@@ -150,15 +151,15 @@ fn states_behind<
 >(tree: &TreeOf<V, U, L, F, WU, WL, WF>, p: Coord, face: Face, steps: &mut Steps) -> Mask<WF>
     ensures { HasStatesBehind (bits_of U L F) (field_of (bits_of U L F) tree.now) face p result }
 {
-    let _ = tree.mask_words(); // the proof learns from it that the mask has capacity for the entries
+    let _ = tree.mask_words(); // tells the proof that the mask has capacity for the entries
     match block_behind(tree.bits(), p, face) {
         Some(r) => states_at(tree, r, steps),
         None => Mask::filled(true),
     }
 }
 
-/// Gives p's leaf block the states that it has in the tree after one turn of erosion, a voxel at a time. The error says that a
-/// growth was refused.
+/// Sets the states of p's leaf extent to those of the tree after one iteration of erosion, voxel by voxel. Returns an error if an
+/// allocation fails.
 fn erode_points<
     V: Stored<WU> + Stored<WL> + Stored<WF>,
     const U: u32,
@@ -184,7 +185,7 @@ fn erode_points<
     Ok(())
 }
 
-/// The write of a voxel's state after one turn of erosion, and of the value false.
+/// Returns the write of a voxel's state after one iteration of erosion, with the value false.
 fn eroded_write<
     V: Stored<WU> + Stored<WL> + Stored<WF>,
     const U: u32,
@@ -203,7 +204,7 @@ fn eroded_write<
     }
 }
 
-/// Whether a voxel is active after one turn of erosion.
+/// Returns whether a voxel is active after one iteration of erosion.
 fn stays<
     V: Stored<WU> + Stored<WL> + Stored<WF>,
     const U: u32,
@@ -223,7 +224,7 @@ fn stays<
     tree.get(q, steps).on
 }
 
-/// Whether the voxel behind a face is active, or lies past the range of coordinates.
+/// Returns whether the voxel behind a face is active, or lies past the range of coordinates.
 fn is_active_behind<
     V: Stored<WU> + Stored<WL> + Stored<WF>,
     const U: u32,

@@ -1,4 +1,4 @@
-//! One turn of erosion.
+//! One iteration of erosion.
 
 ghost use Rattle.std.specs.Prelude.{◌≡◌, true, IfOk, IsOk, IsTrue};
 ghost use Rattle.vdb_coord.specs.Space.{is_inside};
@@ -19,7 +19,7 @@ use vdb_tree::{Content, Part, Skip, TreeOf, TreeRefusal};
 use vdb_value::Cell;
 use vdb_walk::count;
 
-/// The states of a tree after one turn of erosion. The error says that a growth was refused.
+/// Returns the states of a tree after one iteration of erosion. Returns an error if an allocation fails.
 pub(crate) fn eroded<
     V: Stored<WU> + Stored<WL> + Stored<WF>,
     const U: u32,
@@ -43,8 +43,8 @@ pub(crate) fn eroded<
     Ok(states)
 }
 
-/// Gives the voxels of a part of the tree the states that they have there after one turn of erosion, where they have those from
-/// before it or after it, and no other voxel another state than that. The error says that a growth was refused.
+/// Sets each voxel of a part of the tree to its state after one iteration of erosion, if it had the state from before or after
+/// it. Any other voxel keeps its state or gets the one from after the iteration. Returns an error if an allocation fails.
 fn erode_part<
     V: Stored<WU> + Stored<WL> + Stored<WF>,
     const U: u32,
@@ -71,8 +71,8 @@ fn erode_part<
     }
 }
 
-/// Gives the voxels of a part of a leaf, and the others of its leaf block, the states that they have in the tree after one turn of
-/// erosion. The error says that a growth was refused.
+/// Sets the voxels of a part of a leaf, and all others of its leaf extent, to the states of the tree after one iteration of
+/// erosion. Returns an error if an allocation fails.
 fn erode_leaf<
     V: Stored<WU> + Stored<WL> + Stored<WF>,
     const U: u32,
@@ -96,9 +96,9 @@ fn erode_leaf<
     erode_block(tree, states, part.min(), steps)
 }
 
-/// Gives the voxels of a box, which all have this cell in the tree, the states that they have there after one turn of erosion,
-/// where they have those from before it or after it, and no other voxel another state than that. The error says that a growth was
-/// refused.
+/// Sets each voxel of a box to its state after one iteration of erosion, if it had the state from before or after it. All voxels
+/// of the box have this cell in the tree. Any other voxel keeps its state or gets the one from after the iteration. Returns an
+/// error if an allocation fails.
 fn erode_tile<
     V: Stored<WU> + Stored<WL> + Stored<WF>,
     const U: u32,
@@ -128,9 +128,9 @@ fn erode_tile<
     erode_block(tree, states, corner, steps)
 }
 
-/// Gives the voxels of a box, which are all active in the tree, the states that they have there after one turn of erosion, where
-/// they have those from before it or after it, and no other voxel another state than that. The error says that a growth was
-/// refused.
+/// Sets each voxel of a box to its state after one iteration of erosion, if it had the state from before or after it. All voxels
+/// of the box are active in the tree. Any other voxel keeps its state or gets the one from after the iteration. Returns an error
+/// if an allocation fails.
 fn erode_box<
     V: Stored<WU> + Stored<WL> + Stored<WF>,
     const U: u32,
@@ -155,9 +155,9 @@ fn erode_box<
     Ok(())
 }
 
-/// Gives the voxels along a face of a box, which are all active in the tree, the states that they have there after one turn of
-/// erosion, unless all that lies behind that face is active, and no other voxel another state than that. The error says that a
-/// growth was refused.
+/// Sets the voxels along a face of a box to their states after one iteration of erosion, unless everything behind that face is
+/// active. All voxels of the box are active in the tree. Any other voxel keeps its state or gets the one from after the
+/// iteration. Returns an error if an allocation fails.
 fn erode_face<
     V: Stored<WU> + Stored<WL> + Stored<WF>,
     const U: u32,
@@ -177,7 +177,7 @@ fn erode_face<
     ensures settled { IsOk result → (q : Coord) → IsTrue (is_inside bounds q) → IsSettled (field_of (bits_of U L F) tree.now) (field_of (bits_of U L F) states.new) face q }
     ensures erodes { IsOk result → Erodes (field_of (bits_of U L F) tree.now) (field_of (bits_of U L F) states.old) (field_of (bits_of U L F) states.new) }
 {
-    let _ = bounds.min(); // the proof learns from it that the box lies within the range
+    let _ = bounds.min(); // tells the proof that the box lies within the range
     let Some(slab) = behind(bounds, face) else {
         return Ok(());
     };
@@ -190,8 +190,8 @@ fn erode_face<
     }
 }
 
-/// Gives each leaf block that meets a box the states that it has in the tree after one turn of erosion. The error says that a
-/// growth was refused.
+/// Sets each leaf extent that meets a box to the states of the tree after one iteration of erosion. Returns an error if an
+/// allocation fails.
 fn erode_blocks<
     V: Stored<WU> + Stored<WL> + Stored<WF>,
     const U: u32,

@@ -12,7 +12,7 @@ ghost use Rattle.vdb_morph.specs.internal.Behind.{is_behind, layer as layer_of, 
 
 use vdb_coord::{Bits, Bounds, Coord, Face, Level};
 
-/// The voxels right behind a face of a box: `None` where the box reaches the end of the range there.
+/// Returns the voxels right behind a face of a box: `None` if the box reaches the end of the range there.
 pub(crate) fn behind(bounds: Bounds, face: Face) -> Option<Bounds>
     ensures there { IfSome result (λ slab. (q : Coord) → is_inside slab q ≡ is_behind face bounds q) }
     ensures nowhere { IsNone result → (q : Coord) → IsTrue (is_inside everywhere q) → is_behind face bounds q ≡ false }
@@ -23,7 +23,7 @@ pub(crate) fn behind(bounds: Bounds, face: Face) -> Option<Bounds>
     Bounds::new(min, max)
 }
 
-/// The least and the greatest corner of the voxels of a box that are right at a face of it.
+/// Returns the least and the greatest corner of the voxels of a box that lie right at a face of it.
 fn layer(bounds: Bounds, face: Face) -> (Coord, Coord)
     ensures min { result.0 ≡ (layer_of face bounds).min }
     ensures max { result.1 ≡ (layer_of face bounds).max }
@@ -40,7 +40,8 @@ fn layer(bounds: Bounds, face: Face) -> (Coord, Coord)
     }
 }
 
-/// A coordinate of the leaf block right behind a face of p's leaf block: `None` where that reaches the end of the range there.
+/// Returns a coordinate of the leaf extent right behind a face of p's leaf extent: `None` if p's leaf extent reaches the end of
+/// the range there.
 pub(crate) fn block_behind(bits: Bits, p: Coord, face: Face) -> Option<Coord>
     requires { AreBits bits }
     ensures there { IfSome result (λ r. block_number bits leaf_level r ≡ toward face (block_number bits leaf_level p)) }
@@ -50,7 +51,7 @@ pub(crate) fn block_behind(bits: Bits, p: Coord, face: Face) -> Option<Coord>
     corner.neighbour(face)
 }
 
-/// The face on the other side.
+/// Returns the face on the other side.
 pub(crate) fn opposite(face: Face) -> Face
     ensures { result ≡ opposite_of face }
 {

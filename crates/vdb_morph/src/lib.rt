@@ -1,15 +1,16 @@
-//! Dilation and erosion of what is active, by faces.
+//! Dilation and erosion of the active voxels of a tree, by faces.
 //!
-//! A turn makes each voxel active that has an active face neighbour, or inactive that has an inactive one. It reads the states from
-//! before it, and a neighbour past the range of coordinates doesn't exist: it neither makes a voxel active nor inactive. The turns
-//! are made on the states alone, in trees beside the one that changes, so that a refused call leaves every cell as it was.
+//! An iteration of dilation activates each voxel that has an active face neighbour. An iteration of erosion deactivates each
+//! voxel that has an inactive one. An iteration reads the states from before it. A neighbour past the range of coordinates
+//! doesn't exist: it neither activates nor deactivates a voxel. The iterations work on the states alone, in trees beside the one
+//! that changes, so that a call that fails leaves every cell unchanged.
 //!
 //! The modules, from below:
 //! - `states`: trees of states alone.
 //! - `faces`: what lies behind the faces of boxes and blocks.
 //! - `words`: the states behind the faces of a leaf's voxels, a word at a time.
-//! - `spread_block`, `erode_block`: one turn in a leaf block, by the words of the states where a leaf has 3 bits.
-//! - `dilated`, `eroded`: one turn of a whole tree.
+//! - `spread_block`, `erode_block`: one iteration in a leaf extent, by the words of the states if a leaf has 3 bits.
+//! - `dilated`, `eroded`: one iteration over a whole tree.
 //! - `turns`: the calls on a tree.
 #![tactic(auto)]
 

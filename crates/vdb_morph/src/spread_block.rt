@@ -1,4 +1,4 @@
-//! What a leaf block makes active around it in one turn of dilation.
+//! The voxels around a leaf extent that one iteration of dilation activates.
 
 ghost use Rattle.std.specs.Prelude.{◌≡◌, IsOk};
 ghost use Rattle.vdb_coord.specs.Faces.{toward};
@@ -15,8 +15,8 @@ use vdb_mask::Mask;
 use vdb_pool::Steps;
 use vdb_tree::{TreeOf, TreeRefusal, Write};
 
-/// Makes the face neighbours of voxels of p's leaf block active, of those whose entry is on in the mask. The error says that a
-/// growth was refused.
+/// Activates the face neighbours of the voxels of p's leaf extent whose entry is on in the mask. Returns an error if an
+/// allocation fails.
 pub(crate) fn spread_block<
     const U: u32,
     const L: u32,
@@ -39,8 +39,8 @@ pub(crate) fn spread_block<
     }
 }
 
-/// Makes the face neighbours of voxels of p's leaf block active, of those whose entry is on in the mask, a word of the states at a
-/// time. A leaf has 3 bits. The error says that a growth was refused.
+/// Activates the face neighbours of the voxels of p's leaf extent whose entry is on in the mask, a word of the states at a time.
+/// A leaf has 3 bits. Returns an error if an allocation fails.
 fn spread_words<
     const U: u32,
     const L: u32,
@@ -65,8 +65,8 @@ fn spread_words<
     Ok(())
 }
 
-/// Makes voxels active outside p's leaf block, those whose neighbour behind this face lies in the block and is on in the mask. The
-/// error says that a growth was refused.
+/// Activates the voxels outside p's leaf extent whose neighbour behind this face lies in the extent and is on in the mask.
+/// Returns an error if an allocation fails.
 fn spread_over<
     const U: u32,
     const L: u32,
@@ -95,8 +95,8 @@ fn spread_over<
     }
 }
 
-/// Makes the face neighbours of voxels of p's leaf block active, of those whose entry is on in the mask, a voxel at a time. The error
-/// says that a growth was refused.
+/// Activates the face neighbours of the voxels of p's leaf extent whose entry is on in the mask, voxel by voxel. Returns an error
+/// if an allocation fails.
 fn spread_points<
     const U: u32,
     const L: u32,
@@ -112,7 +112,7 @@ fn spread_points<
 ) -> Result<(), TreeRefusal>
     ensures { IsOk result → field_of (bits_of U L F) states.new ≡ spread (is_marked (bits_of U L F) p marks.now) (field_of (bits_of U L F) states.old) }
 {
-    let _ = states.mask_words(); // its words have all entries of a leaf
+    let _ = states.mask_words(); // its words hold all entries of a leaf
     let bits = states.bits();
     for entry in 0..bits.entries(Level::Leaf) {
         if marks.test(u32::from(entry)) {
@@ -123,7 +123,7 @@ fn spread_points<
     Ok(())
 }
 
-/// Makes the face neighbours of a voxel active. The error says that a growth was refused.
+/// Activates the face neighbours of a voxel. Returns an error if an allocation fails.
 fn spread_voxel<
     const U: u32,
     const L: u32,
@@ -144,7 +144,7 @@ fn spread_voxel<
     Ok(())
 }
 
-/// Makes the neighbour of a voxel behind a face active, where there is one. The error says that a growth was refused.
+/// Activates the neighbour of a voxel behind a face, if it lies in the range. Returns an error if an allocation fails.
 fn spread_toward<
     const U: u32,
     const L: u32,

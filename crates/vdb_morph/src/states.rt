@@ -1,4 +1,4 @@
-//! Trees of states alone: each of their values is false.
+//! Trees of states alone: all their values are false.
 
 ghost use Rattle.std.specs.Prelude.{◌≡◌, IfOk, IsOk, IsTrue};
 ghost use Rattle.vdb_coord.specs.Blocks.{block_number};
@@ -16,7 +16,8 @@ use vdb_pool::Steps;
 use vdb_tree::{StateRule, TreeOf, TreeRefusal};
 use vdb_value::Cell;
 
-/// A tree of truth values, all false, that is active where this one is. The error says that a growth was refused.
+/// Returns a boolean tree that is active where this one is, and whose values are all false. Returns an error if an allocation
+/// fails.
 pub(crate) fn topology_of<
     V: Stored<WU> + Stored<WL> + Stored<WF>,
     const U: u32,
@@ -37,7 +38,7 @@ pub(crate) fn topology_of<
     Ok(copy)
 }
 
-/// Makes each voxel of a leaf block active whose entry is on in the mask. The error says that a growth was refused.
+/// Activates each voxel of a leaf extent whose entry is on in the mask. Returns an error if an allocation fails.
 pub(crate) fn mark<
     const U: u32,
     const L: u32,
@@ -56,7 +57,7 @@ pub(crate) fn mark<
     if marks.all_off() {
         return Ok(());
     }
-    let _ = states.mask_words(); // the proof learns from it that a mask is small
+    let _ = states.mask_words(); // tells the proof that a mask is small
     match states.leaf(p, steps) {
         Some(leaf) => {
             let mut joined = leaf.states().copied();
@@ -68,7 +69,8 @@ pub(crate) fn mark<
     }
 }
 
-/// Makes the same voxels active where the leaf block is one tile, which becomes a leaf if it is inactive.
+/// Activates each voxel of a leaf extent whose entry is on in the mask, if the extent lies in one tile. An inactive tile becomes
+/// a leaf. Returns an error if an allocation fails.
 fn mark_tile<
     const U: u32,
     const L: u32,
@@ -96,7 +98,7 @@ fn mark_tile<
     states.write_leaf(p, &leaf, steps)
 }
 
-/// Gives p's leaf block the states of the mask, and the value false. The error says that a growth was refused.
+/// Sets the voxels of p's leaf extent to the states of the mask and the value false. Returns an error if an allocation fails.
 pub(crate) fn put_states<
     const U: u32,
     const L: u32,
@@ -112,7 +114,7 @@ pub(crate) fn put_states<
 ) -> Result<(), TreeRefusal>
     ensures { IsOk result → field_of (bits_of U L F) states.new ≡ taken (is_around (bits_of U L F) p) (of_mask (bits_of U L F) marks.now) (field_of (bits_of U L F) states.old) }
 {
-    let _ = states.mask_words(); // the proof learns from it that a leaf is small
+    let _ = states.mask_words(); // tells the proof that a leaf is small
     let off = Cell {
         value: false,
         on: false,
@@ -127,7 +129,7 @@ pub(crate) fn put_states<
     states.write_leaf(p, &leaf, steps)
 }
 
-/// Whether p's leaf block lies in a tile of this cell.
+/// Returns whether p's leaf extent lies in a tile of this cell.
 fn is_tile<
     const U: u32,
     const L: u32,
@@ -139,7 +141,7 @@ fn is_tile<
     ensures { IsTrue result → (q : Coord) → IsTrue (is_inside everywhere q) → IsTrue (is_around (bits_of U L F) p q)
         → (field_of (bits_of U L F) states.now).cell q ≡ cell }
 {
-    let _ = states.mask_words(); // the proof learns from it that a leaf is small
+    let _ = states.mask_words(); // tells the proof that a leaf is small
     match states.leaf(p, steps) {
         Some(_) => false,
         None => states.get(p, steps) == cell,

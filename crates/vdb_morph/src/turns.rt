@@ -1,4 +1,4 @@
-//! Dilation and erosion of a tree by some turns.
+//! Dilation and erosion of a tree by some iterations.
 
 ghost use Rattle.std.specs.Prelude.{◌≡◌, ◌≤◌, IfErr, IfSome};
 ghost use Rattle.vdb_tree.specs.Field.{dilate as dilation, erode as erosion, turns as turned};
@@ -15,11 +15,12 @@ use vdb_pool::Steps;
 use vdb_topology::{intersect, unite};
 use vdb_tree::{TreeOf, TreeRefusal};
 
-/// Makes each voxel active, in each of so many turns, that has an active face neighbour, and keeps the values (OpenVDB's
-/// `tools::dilateActiveValues` with `NN_FACE`). A turn reads the states from before it. There are 1 to 16 turns.
+/// Activates, in each of `turns` iterations, every voxel that has an active face neighbour, and keeps the values (OpenVDB's
+/// `tools::dilateActiveValues` with `NN_FACE`). An iteration reads the states from before it. The number of iterations is 1 to
+/// 16.
 ///
-/// `RootLimit` says that there would be more root blocks with a cell that isn't the background than the limit, `Memory` that a
-/// growth was refused, which may also come where there would be too many root blocks; both leave every cell as it was.
+/// Fails with `RootLimit` if more root blocks than the limit would have a cell other than the inactive background, and with
+/// `Memory` if an allocation fails. `Memory` may also hide a `RootLimit`. Both leave every cell unchanged.
 pub fn dilate<
     V: Stored<WU> + Stored<WL> + Stored<WF>,
     const U: u32,
@@ -46,10 +47,10 @@ pub fn dilate<
     }
 }
 
-/// Makes each voxel inactive, in each of so many turns, that has an inactive face neighbour, and keeps the values (OpenVDB's
-/// `tools::erodeActiveValues` with `NN_FACE`). A turn reads the states from before it. There are 1 to 16 turns.
+/// Deactivates, in each of `turns` iterations, every voxel that has an inactive face neighbour, and keeps the values (OpenVDB's
+/// `tools::erodeActiveValues` with `NN_FACE`). An iteration reads the states from before it. The number of iterations is 1 to 16.
 ///
-/// `Memory` says that a growth was refused, and leaves every cell as it was.
+/// Fails with `Memory` if an allocation fails, and leaves every cell unchanged.
 pub fn erode<
     V: Stored<WU> + Stored<WL> + Stored<WF>,
     const U: u32,
@@ -77,7 +78,7 @@ pub fn erode<
     }
 }
 
-/// The states of a tree after some turns of dilation: `None` where a growth was refused.
+/// Returns the states of a tree after some iterations of dilation: `None` if an allocation fails.
 fn dilated_states<
     V: Stored<WU> + Stored<WL> + Stored<WF>,
     const U: u32,
@@ -100,7 +101,7 @@ fn dilated_states<
     Some(states)
 }
 
-/// The states of a tree after some turns of erosion: `None` where a growth was refused.
+/// Returns the states of a tree after some iterations of erosion: `None` if an allocation fails.
 fn eroded_states<
     V: Stored<WU> + Stored<WL> + Stored<WF>,
     const U: u32,

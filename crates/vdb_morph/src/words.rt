@@ -1,5 +1,5 @@
-//! The states behind the faces of the voxels of a leaf of 3 bits. A word has the states of one x: a byte for each y, a bit for each
-//! z.
+//! The states behind the faces of the voxels of a leaf of 3 bits. A word has the states of one x: a byte for each y, a bit for
+//! each z.
 
 ghost use Rattle.std.specs.Prelude.{◌≡◌, ◌+◌, ◌*◌, ◌<◌, ◌≤◌, ◌&&◌, ℕ};
 ghost use Rattle.std.specs.List.{list_any};
@@ -16,8 +16,8 @@ ghost use Rattle.vdb_morph.specs.internal.Turning.{is_around};
 use vdb_coord::Face;
 use vdb_mask::Mask;
 
-/// At the entry of each voxel the state behind its face, from the states of its own leaf block and of the block behind that face of
-/// it.
+/// Returns, at the entry of each voxel, the state behind its face, from the states of its own leaf extent and of the leaf extent
+/// behind that face.
 pub(crate) fn beside<const W: usize>(own: &Mask<W>, other: &Mask<W>, face: Face) -> Mask<W>
     requires { 8 ≤ W }
     ensures { (u l : ℕ) (q : Coord) → is_on result (offset (bits_of u l 3) leaf_level q) ≡ state_beside (bits_of u l 3) own.now other.now face q }
@@ -29,7 +29,7 @@ pub(crate) fn beside<const W: usize>(own: &Mask<W>, other: &Mask<W>, face: Face)
     result
 }
 
-/// At the entry of each voxel whether a voxel behind one of its faces lies in the same leaf block and is on.
+/// Returns, at the entry of each voxel, whether a voxel behind one of its faces lies in the same leaf extent and is on.
 pub(crate) fn beside_any<const W: usize>(own: &Mask<W>) -> Mask<W>
     requires { 8 ≤ W }
     ensures { (u l : ℕ) (q : Coord) → is_on result (offset (bits_of u l 3) leaf_level q) ≡ list_any (λ face. is_around (bits_of u l 3) q (toward face q) && is_on own.now (offset (bits_of u l 3) leaf_level (toward face q))) faces }
@@ -41,7 +41,7 @@ pub(crate) fn beside_any<const W: usize>(own: &Mask<W>) -> Mask<W>
     result
 }
 
-/// Word k of the states behind a face, from the states of the own leaf block and of the block behind that face.
+/// Returns word k of the states behind a face, from the states of the own leaf extent and of the one behind that face.
 #[inline]
 fn word_beside<const W: usize>(own: &Mask<W>, other: &Mask<W>, face: Face, k: u32) -> u64
     requires words { 8 ≤ W }
@@ -70,7 +70,7 @@ fn word_beside<const W: usize>(own: &Mask<W>, other: &Mask<W>, face: Face, k: u3
     }
 }
 
-/// Word k of the voxels that have one behind a face that lies in the same leaf block and is on.
+/// Returns word k of the mask of the voxels with a neighbour that lies in the same leaf extent and is on.
 #[inline]
 fn word_beside_any<const W: usize>(own: &Mask<W>, k: u32) -> u64
     requires words { 8 ≤ W }
@@ -87,7 +87,7 @@ fn word_beside_any<const W: usize>(own: &Mask<W>, k: u32) -> u64
     minus_x | plus_x | minus_y | plus_y | minus_z | plus_z
 }
 
-/// At each bit of a word the bit before it along y, where the other word is that of the block before.
+/// Returns, at each bit of a word, the bit before it along y. The other word is that of the block before.
 #[inline]
 fn before_y(own: u64, other: u64) -> u64
     ensures { (j : ℕ) → j < 64 → has_bit result j ≡ bit_before 8 (has_bit own) (has_bit other) j }
@@ -95,7 +95,7 @@ fn before_y(own: u64, other: u64) -> u64
     own << 8 | other >> 56
 }
 
-/// At each bit of a word the bit after it along y, where the other word is that of the block after.
+/// Returns, at each bit of a word, the bit after it along y. The other word is that of the block after.
 #[inline]
 fn after_y(own: u64, other: u64) -> u64
     ensures { (j : ℕ) → j < 64 → has_bit result j ≡ bit_after 8 (has_bit own) (has_bit other) j }
@@ -103,7 +103,7 @@ fn after_y(own: u64, other: u64) -> u64
     own >> 8 | other << 56
 }
 
-/// At each bit of a word the bit before it along z, where the other word is that of the block before.
+/// Returns, at each bit of a word, the bit before it along z. The other word is that of the block before.
 #[inline]
 fn before_z(own: u64, other: u64) -> u64
     ensures { (j : ℕ) → j < 64 → has_bit result j ≡ bit_before 1 (has_bit own) (has_bit other) j }
@@ -111,7 +111,7 @@ fn before_z(own: u64, other: u64) -> u64
     own << 1 & 0xfefe_fefe_fefe_fefe | other >> 7 & 0x0101_0101_0101_0101
 }
 
-/// At each bit of a word the bit after it along z, where the other word is that of the block after.
+/// Returns, at each bit of a word, the bit after it along z. The other word is that of the block after.
 #[inline]
 fn after_z(own: u64, other: u64) -> u64
     ensures { (j : ℕ) → j < 64 → has_bit result j ≡ bit_after 1 (has_bit own) (has_bit other) j }

@@ -1,5 +1,5 @@
-//! Turns of trees of both layouts and of small nodes, beside what the definition makes of each voxel. A call of a generic function
-//! costs the proof much, so tests are lists of acts, and each type of tree is named in one place.
+//! Iterations over trees of both layouts and of small nodes, compared with the definition voxel by voxel. A call of a generic
+//! function costs the proof much, so tests are lists of acts, and one place names each type of tree.
 mod acts;
 mod definition;
 mod limits;
@@ -11,7 +11,7 @@ mod voxel_map;
 use vdb_coord::Coord;
 use vdb_value::Cell;
 
-/// What a turn does.
+/// The operation of an iteration.
 #[derive(Clone, Copy, Debug)]
 enum Turn {
     Dilate,

@@ -1,4 +1,4 @@
--- Turns of dilation and of erosion, before and after each value of a field is made another.
+-- Iterations of dilation and of erosion, before and after each value of a field is mapped.
 use Rattle.std.proofs.Common.{◌≡◌, refl, sym, ap, subst, ◌∙◌, ℕ, zero, suc, ◌<◌, ◌≤◌, Bool, ◌&&◌, ◌||◌, Result, Ok, Err}
 use Rattle.std.specs.List.{list_all, list_any}
 use Rattle.std.proofs.Math.Path.{fun_ext}
@@ -16,7 +16,7 @@ use Rattle.vdb_tree.proofs.Fields.{same_cells}
 use Rattle.vdb_morph.specs.Growth.{IsGrowth}
 
 module _ {V U : Type 0} (make : V → U) where
-  -- ---- one turn
+  -- ---- one iteration
 
   module _ (background : V) (cells : Coord → Cell V) where
     abbrev before : Field V
@@ -34,9 +34,9 @@ module _ {V U : Type 0} (make : V → U) where
     as_field_of_erode = same_cells _ _ _ (λ p inside.
         rw inside (ap (λ (on : Coord → Bool). record { value = make (cells p).value; on = (cells p).on && list_all on (neighbours p) }) same_on))
 
-  -- ---- n turns
+  -- ---- n iterations
 
-  -- a turn of a field, and the same of the field with each value made another
+  -- an iteration of a field, and the same with each value mapped
   pub record IsTurn (turn : Field V → Field V) (made_turn : Field U → Field U) : Type 0 where
     pub next : Field V → Coord → Cell V
     pub is : (f : Field V) → turn f ≡ field f.background (next f)
@@ -49,7 +49,7 @@ module _ {V U : Type 0} (make : V → U) where
   erode_made = record { next = λ f p. record { value = (f.cell p).value; on = (f.cell p).on && list_all (λ q. (f.cell q).on) (neighbours p) }; is = λ f. refl; made = as_field_of_erode }
 
   module _ (turn : Field V → Field V) (made_turn : Field U → Field U) (t : IsTurn turn made_turn) where
-    -- what holds of each field of cells holds after some turns of one
+    -- a fact for each field of cells holds after some iterations of one
     of_turns : (P : Field V → Type 0) → ((background : V) (cells : Coord → Cell V) → P (field background cells)) → (n : ℕ) (background : V) (cells : Coord → Cell V) → P (turns n turn (field background cells))
     of_turns P h zero background cells = h background cells
     of_turns P h (suc n) background cells = subst (λ f. P (turns n turn f)) (sym (t.is (field background cells))) (of_turns P h n background (t.next (field background cells)))
@@ -75,13 +75,13 @@ module _ {V U : Type 0} (make : V → U) where
           sym (of_turns (λ f. roots made_eq bits (as_field_of make f) ≡ roots eq bits f) (λ b c. as_field_of_roots make b c eq made_eq same bits) n background cells)
           ∙ ap (roots made_eq bits) is_changed
 
-      -- the outcome of some turns of dilation
+      -- the outcome of some iterations of dilation
       pub as_growth_of_turns : (result : Result (Unit {0}) TreeRefusal) → IsGrowth eq bits limit old (turns n turn old) after result → IsGrowth made_eq bits limit (as_field_of make old) changed (as_field_of make after) result
       as_growth_of_turns (Ok u) h = (ap (as_field_of make) h.0 ∙ is_changed, subst (λ (k : ℕ). k ≤ limit) same_roots h.1)
       as_growth_of_turns (Err RootLimit) h = (ap (as_field_of make) h.0, subst (λ (k : ℕ). limit < k) same_roots h.1)
       as_growth_of_turns (Err Memory) h = (ap (as_field_of make) h.0, tt)
 
-      -- and of erosion
+      -- the outcome of some iterations of erosion
       pub as_outcome_of_turns : (result : Result (Unit {0}) TreeRefusal) → IsOutcome eq bits limit old (turns n turn old) after result → IsOutcome made_eq bits limit (as_field_of make old) changed (as_field_of make after) result
       as_outcome_of_turns (Ok u) h = (ap (as_field_of make) h.0 ∙ is_changed, subst (λ (k : ℕ). k ≤ limit) same_roots h.1)
       as_outcome_of_turns (Err RootLimit) h = (ap (as_field_of make) h.0, subst (λ (k : ℕ). limit < k) same_roots h.1)

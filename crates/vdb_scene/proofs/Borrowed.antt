@@ -23,7 +23,7 @@ one_grid : (entry : GridEntry) (given : AnyGrid) (f : Field Scalar) (limit : ℕ
     → grid_of (record entry { grid = given }) ≡ record { field = f; limit = limit; pairs = entry.metas }
 one_grid entry given f limit field is = λ i. record { field = field i; limit = is i; pairs = entry.metas }
 
--- a refused change leaves the field as it was
+-- a failed change leaves the field as it was
 pub kept : (e : TreeRefusal) (limit : ℕ) (old changed new : Field Scalar) → IsOutcome scalar_eq vdb limit old changed new (Err e) → new ≡ old
 kept RootLimit limit old changed new h = h.0
 kept Memory limit old changed new h = h.0
@@ -46,7 +46,7 @@ module _ (grids : List (List ℕ × GridEntry)) (name : List ℕ) where
   found entry there = lookup-over grid_of (is_named name) grids ∙ ap (option_map grid_of) there
 
   module _ (after : List (List ℕ × GridEntry)) (entry : GridEntry) (there : lookup (is_named name) grids ≡ Some entry) where
-    -- it is as it was
+    -- the scene is unchanged
     pub same_scene : after ≡ set_value (is_named name) grids entry → scene_over after ≡ scene_over grids
     same_scene back = ap scene_over (back ∙ set_value-found (is_named name) grids entry there)
 
@@ -54,7 +54,7 @@ module _ (grids : List (List ℕ × GridEntry)) (name : List ℕ) where
       back_over : scene_over after ≡ set_value (is_named name) (scene_over grids) (grid_of (record entry { grid = given }))
       back_over = ap scene_over back ∙ sym (set_value-over grid_of (is_named name) grids (record entry { grid = given }))
 
-      -- its cells are as they were
+      -- its cells are unchanged
       pub unchanged : grid_field given ≡ grid_field entry.grid → grid_root_limit given ≡ grid_root_limit entry.grid → scene_over after ≡ scene_over grids
       unchanged field limit =
           back_over ∙ ap (set_value (is_named name) (scene_over grids)) (one_grid entry given (grid_field entry.grid) (grid_root_limit entry.grid) field limit)

@@ -1,4 +1,4 @@
--- Names, refusals, answers and scenes of worked examples, found by computing.
+-- Names, errors, answers and scenes of worked examples, found by computing.
 use Rattle.std.proofs.Common.{◌≡◌, refl, ℕ, ℤ, pos, negsuc, ◌+◌, true, false, List, [], ◌∷◌, map, Some, None, codes, inl, take}
 use Rattle.std.specs.List.{range_with_len}
 use Rattle.vdb_coord.specs.Space.{coord}
@@ -34,7 +34,7 @@ capital = refl
 empty : is_name [] ≡ false
 empty = refl
 
--- ---- refusals
+-- ---- errors
 
 abbrev near : ℤ → Literal
 near z = Number (Near z)
@@ -98,7 +98,7 @@ origin = point (pos 0) (pos 0) (pos 0)
 abbrev past : Point
 past = point (pos 0) (pos 0) (pos 2147483648)
 
--- a fill is refused by the first that applies, and the value and the corners have one range test
+-- a fill fails with the first error that applies, and the value and the corners have one range test
 fill_of_none : refusal [] (commands.Fill a (between past origin) (Truth true) true) ≡ Some refusals.NoGrid
 fill_of_none = refl
 
@@ -129,7 +129,7 @@ clip_to_no_box = refl
 clip_to_one_voxel : refusal with_a (commands.Clip a (between origin origin)) ≡ None
 clip_to_one_voxel = refl
 
--- a count of a box is refused as a clip is, and one of all only where there is no grid
+-- a count of a box fails as a clip does, and a count of all only if the grid does not exist
 count_of_none : refusal [] (commands.Count a (Some (between past origin))) ≡ Some refusals.NoGrid
 count_of_none = refl
 
@@ -151,7 +151,7 @@ bounds_of_none = refl
 census_of_none : refusal [] (commands.Census a) ≡ Some refusals.NoGrid
 census_of_none = refl
 
--- a dilation and an erosion have 1 to 16 turns
+-- a dilation and an erosion have 1 to 16 iterations
 dilate_of_none : refusal [] (commands.Dilate a (Near (pos 17))) ≡ Some refusals.NoGrid
 dilate_of_none = refl
 
@@ -179,14 +179,14 @@ erode_by_seventeen = refl
 erode_by_sixteen : refusal with_a (commands.Erode a (Near (pos 16))) ≡ None
 erode_by_sixteen = refl
 
--- memory may be lacking for an erosion that isn't refused, and for a dilation before its root limit
+-- an allocation may fail in an erosion without another error, and in a dilation before its root limit
 dilate_before_the_limit : first_refusal with_a (commands.Dilate a (Near (pos 16))) ≡ None
 dilate_before_the_limit = refl
 
 dilate_out_of_range_first : first_refusal with_a (commands.Dilate a (Near (pos 17))) ≡ Some refusals.ValueRange
 dilate_out_of_range_first = refl
 
--- a sixty-fifth grid, of a name that is taken and of one that is free
+-- a sixty-fifth grid, of a taken name and of a free one
 abbrev crowd : Scene
 crowd = map (λ k. (97 ∷ (97 + k) ∷ [], new_grid (truth false) 4096)) (range_with_len 0 64)
 
@@ -196,7 +196,7 @@ one_too_many = refl
 taken_first : refusal crowd (commands.Grid (codes "ab") kinds.I32 (near (pos 0)) None) ≡ Some refusals.NameTaken
 taken_first = refl
 
--- a copy of a grid that isn't there, to a name that is taken, and to a free name, where there are 64 grids
+-- a copy of a missing grid, to a taken name, and to a free name, in a scene of 64 grids
 copy_of_none : refusal crowd (commands.Copy a (codes "ab")) ≡ Some refusals.NoGrid
 copy_of_none = refl
 
@@ -228,7 +228,7 @@ takes_none = refl
 copied : (field_at (after (after with_a set_seven) (commands.Copy a (codes "b"))) (codes "b")).cell (coord (negsuc 0) (negsuc 0) (negsuc 0)) ≡ record { value = I32 (pos 7); on = true }
 copied = refl
 
--- a box is filled, and all but a box in it is cleared
+-- a box is filled, and everything outside a box in it is cleared
 abbrev filled : Scene
 filled = after with_a (commands.Fill a (between (point (negsuc 1) (pos 0) (pos 0)) (point (pos 4) (pos 9) (pos 0))) (near (pos 7)) false)
 
@@ -250,7 +250,7 @@ kept_by_the_clip = refl
 cleared_by_the_clip : cell_in clipped (negsuc 0) ≡ record { value = I32 (pos 0); on = false }
 cleared_by_the_clip = refl
 
--- two turns reach two voxels far by faces, and one turn of erosion takes the outermost away
+-- two iterations reach voxels two faces away, and one iteration of erosion removes the outermost
 abbrev dilated : Scene
 dilated = after (after with_a set_seven) (commands.Dilate a (Near (pos 2)))
 
@@ -275,6 +275,6 @@ inside_before_the_erosion = refl
 outermost_before_the_erosion : cell_of eroded (pos 0) (pos 0) ≡ record { value = I32 (pos 0); on = false }
 outermost_before_the_erosion = refl
 
--- a step that is refused
+-- a step that fails
 stays : Step with_a make_a (Refused refusals.NameTaken) with_a
 stays = inl (refusals.NameTaken, refl, refl, refl)

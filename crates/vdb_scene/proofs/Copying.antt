@@ -1,4 +1,4 @@
--- A list of entries with rising keys, made by inserting each in turn.
+-- A list of entries with rising keys, built by inserting each in order.
 use Rattle.std.proofs.Common.{◌≡◌, ◌∙◌, refl, ap, List, [], ◌∷◌, ◌++◌}
 use Rattle.std.specs.declared.cmp.Ordering.{Ordering}
 use Rattle.std.specs.declared.cmp.Ordering.TheVariants.{Less, Greater}
@@ -10,7 +10,7 @@ use Rattle.std.specs.Map.{keys_of}
 use Rattle.std.specs.BTreeMap.{insert_entry}
 use Rattle.std.proofs.lemmas.Map.Keys.{sorted_head, sorted_tail}
 
--- what is true of each key is true of one further on
+-- a fact for each key holds for a key further on
 further_on : {K X : Type 0} (P : K → Type 0) (es rest : List (K × X)) (e : K × X) → AllByRecursion P (keys_of (es ++ e ∷ rest)) → P e.0
 further_on P [] rest e h = h.0
 further_on P (d ∷ es) rest e h = further_on P es rest e h.1

@@ -1,4 +1,4 @@
--- What is done to a list of entries is done to the entries with their values made others.
+-- Changes of a list of entries, before and after their values are mapped.
 use Rattle.std.proofs.Common.{◌≡◌, refl, sym, ap, subst, rules, Bool, true, false, cond, List, [], ◌∷◌, map, Option, Some, IsSome}
 use Rattle.std.specs.Option.{option_map}
 use Rattle.std.specs.declared.cmp.Ordering.{Ordering}
@@ -12,7 +12,7 @@ found make true x o p h = refl
 found make false x o p h = h
 
 module _ {K X Y : Type 0} (make : X → Y) where
-  -- the entries with their values made others
+  -- the entries with their values mapped
   abbrev pub over : List (K × X) → List (K × Y)
   over entries = map (λ e. (e.0, make e.1)) entries
 
@@ -61,7 +61,7 @@ found_or_later : {K X : Type 0} (b : Bool) (k : K) (x w : X) (es fs : List (K ×
 found_or_later true k x w es fs o h e = ap (λ v. (k, v) ∷ es) (sym (some_exact x w e))
 found_or_later false k x w es fs o h e = ap (λ l. (k, x) ∷ l) (h e)
 
--- to put the value that stands there changes nothing
+-- setting the present value changes nothing
 pub set_value-found : {K X : Type 0} (t : K → Bool) (entries : List (K × X)) (w : X) → lookup t entries ≡ Some w → set_value t entries w ≡ entries
 set_value-found t [] w h = refl
 set_value-found t (e ∷ es) w h = found_or_later (t e.0) e.0 e.1 w es (set_value t es w) (lookup t es) (set_value-found t es w) h
@@ -73,7 +73,7 @@ module _ {K X : Type 0} (t : K → Bool) where
   found_step true e es w p more h = rw p (rw p refl)
   found_step false e es w p more h = rw p (rw p (more (subst (λ (b : Bool). IsSome (cond b (Some e.1) (lookup t es))) p h)))
 
-  -- the value that was put is found
+  -- the value that was set is found
   pub put_found : (entries : List (K × X)) (w : X) → IsSome (lookup t entries) → lookup t (set_value t entries w) ≡ Some w
   put_found [] w h = search rules
   put_found (e ∷ es) w h = found_step (t e.0) e es w refl (put_found es w) h
@@ -82,7 +82,7 @@ module _ {K X : Type 0} (t : K → Bool) where
   twice_step true e es v w p more = rw p (rw p refl)
   twice_step false e es v w p more = rw p (rw p (ap (λ rest. e ∷ rest) more))
 
-  -- to put two values is to put the last
+  -- setting two values sets the last
   pub put_twice : (entries : List (K × X)) (v w : X) → set_value t (set_value t entries v) w ≡ set_value t entries w
   put_twice [] v w = refl
   put_twice (e ∷ es) v w = twice_step (t e.0) e es v w refl (put_twice es v w)
@@ -94,7 +94,7 @@ module _ {K X : Type 0} (t : K → Bool) where
     other_step false true e es w p q more = rw p (rw q refl)
     other_step false false e es w p q more = rw p (rw q more)
 
-    -- what another test finds stays, where no key passes both
+    -- the result of another test stays, if no key passes both
     pub others_found : (entries : List (K × X)) (w : X) → lookup u (set_value t entries w) ≡ lookup u entries
     others_found [] w = refl
     others_found (e ∷ es) w = other_step (t e.0) (u e.0) e es w refl refl (others_found es w)

@@ -1,4 +1,4 @@
--- What filling a box comes to, from what was found out about the grid and the command.
+-- The outcome of filling a box, from facts about the grid and the command.
 use Rattle.std.proofs.Common.{◌≡◌, refl, sym, ap, ◌∙◌, ◌≤◌, ℕ, Bool, true, false, not, ◌&&◌, nat_lt, List, [], ◌∷◌, Option, Some, None, is_none, Ok, Err}
 use Rattle.std.proofs.lemmas.Bool.{le-ltb, lt-ltb}
 use Rattle.std.specs.Map.{lookup}
@@ -31,7 +31,7 @@ use Rattle.vdb_scene.proofs.Borrowed.{found, missing}
 use Rattle.vdb_scene.proofs.Writing.{passed_over}
 use Rattle.vdb_scene.proofs.Steps.{corners_next, grid_found, kind_found, refused, value_first}
 
--- ---- the refusals of a grid that is there
+-- ---- the errors of an existing grid
 
 abbrev tests : Bool → Bool → Bool → Bool → Bool → List (Option Refusal)
 tests fits placed value ordered over =
@@ -44,7 +44,7 @@ module _ (fits placed value ordered over : Bool) (f : fits ≡ true) (p : placed
   limit_left : over ≡ true → first_of_all (tests fits placed value ordered over) ≡ Some refusals.RootLimit
   limit_left l = rw (f, p, v, o, l) refl
 
--- a kind that fits is no refusal
+-- a type that fits gives no error
 kind_passed : (fits : Bool) (rest : List (Option Refusal)) → fits ≡ true → first_of_all (other_form fits ∷ rest) ≡ first_of_all rest
 kind_passed fits rest f = rw f refl
 
@@ -65,7 +65,7 @@ module _ (grids : List (List ℕ × GridEntry)) (name : List ℕ) (c : Corners) 
     abbrev over : Bool
     over = nat_lt (grid_root_limit entry.grid) (roots scalar_eq vdb (fill (box_between c) (record { value = scalar kind v; on = on }) (grid_field entry.grid)))
 
-    -- what is said of the scene's grid is said of the one that was found
+    -- facts about the scene's grid hold for the grid that was found
     refusal_is : refusal scene command ≡ first_of_all (tests (has_form kind v) (are_coords c) (has_value kind v) (is_box (box_between c)) over)
     refusal_is =
         passed_over _ _ (ap is_none (found grids name entry there))
@@ -76,7 +76,7 @@ module _ (grids : List (List ℕ × GridEntry)) (name : List ℕ) (c : Corners) 
         (nat_lt (grid_root_limit entry.grid) (roots scalar_eq vdb (fill (box_between c) (record { value = scalar k v; on = on }) (grid_field entry.grid))))))
         (sym is_kind)
 
-    -- a value that the kind doesn't have
+    -- a value outside the type
     pub fill_value_refused : (r : Refusal) → first_of_all (other_form (has_form kind v) ∷ out_of_range (has_value kind v) ∷ []) ≡ Some r → next ≡ scene → CarriesOut scene command (Err r) next
     fill_value_refused r is same =
         let h = value_first (has_form kind v) (has_value kind v) (are_coords c) (no_box c ∷ refused_if over refusals.RootLimit ∷ []) r is in
@@ -112,7 +112,7 @@ module _ (grids : List (List ℕ × GridEntry)) (name : List ℕ) (c : Corners) 
               (is_x ∙ ap (λ k. scalar k v) (is_kind ∙ sym (kind_found scene name (grid_of entry) (found grids name entry there)))),
         )
 
-        -- the grid's tree refuses it
+        -- the grid's tree fails
         pub fill_refused : (e : TreeRefusal) (after : Field Scalar) → IsOutcome scalar_eq vdb (grid_root_limit entry.grid) (grid_field entry.grid) filled after (Err e) → next ≡ scene → CarriesOut scene command (Err (of_tree e)) next
         fill_refused RootLimit after h same = (refusal_is ∙ limit_left _ _ _ _ over form placed value ordered (over_is ∙ lt-ltb _ _ h.1), same)
         fill_refused Memory after h same = (accepted h.1, refl, same)

@@ -1,4 +1,4 @@
--- The voxels that are listed, before and after each value is made one of any kind.
+-- The listed voxels, before and after each value is mapped to one of any type.
 use Rattle.std.proofs.Common.{◌≡◌, ◌≢◌, ◌⊎◌, inl, inr, refl, sym, ap, ◌∙◌, ℕ, ℤ, Bool, true, false, ◌&&◌, List, [], ◌∷◌, map, filter, Option, Some, None, cond, int_le, IsTrue, arith}
 use Rattle.std.specs.Int.{int_max, int_min}
 use Rattle.std.specs.Option.{option_map}
@@ -31,7 +31,7 @@ both false b h = absurd (no h)
     no : false ≡ true → ⊥
     no e = cc
 
--- that of a box's own corners is the box
+-- the box of a box's own corners is the box
 pub across_box : (b : Box) → is_box b ≡ true → box_across b.min b.max ≡ b
 across_box b h =
     let x = both _ _ (both _ _ h).0 in
@@ -48,7 +48,7 @@ in_order x y = grind (arith, ints)
 pub across_is_box : (p q : Coord) → is_box (box_across p q) ≡ true
 across_is_box p q = rw (in_order p.x q.x, in_order p.y q.y, in_order p.z q.z) refl
 
--- ---- values made others
+-- ---- mapped values
 
 module _ {V U : Type 0} (make : V → U) (t : Layout V) where
   abbrev before : Field V
@@ -69,7 +69,7 @@ module _ {V U : Type 0} (make : V → U) (t : Layout V) where
       ∙ ap (λ (f : Coord → Coord × U). map f (in_block_order vdb (filter (λ p. (before.cell p).on) (coordinates box)))) values
       ∙ ap (λ (on : Coord → Bool). map (λ p. (p, (after.cell p).value)) (in_block_order vdb (filter on (coordinates box)))) same
 
--- none are left of one just where none are left of the other
+-- no voxel is left of one if and only if none is left of the other
 module _ {V U : Type 0} (make : V → U) where
   some_none : {X : Type 0} (x : X) (xs : List X) → x ∷ xs ≡ [] → ⊥
   some_none x xs e = cc
@@ -81,7 +81,7 @@ module _ {V U : Type 0} (make : V → U) where
   pub made_more : (more : Bool) (l : Listed V) → (IsTrue more → l.rest ≢ []) × (l.rest ≢ [] → IsTrue more) → (IsTrue more → (as_listed_of make l).rest ≢ []) × ((as_listed_of make l).rest ≢ [] → IsTrue more)
   made_more more l h = (λ yes none. h.0 yes (none_made l.rest none), λ some. h.1 (λ none. some (ap (as_voxels_of make) none)))
 
--- what one yields, with its value made another, is yielded of the other
+-- a voxel that one yields is yielded by the other, with its value mapped
 pub made_next : {V U : Type 0} (make : V → U) (old new : Listed V) (item : Option (Coord × V)) → Yields old item new → Yields (as_listed_of make old) (option_map (λ i. (i.0, make i.1)) item) (as_listed_of make new)
 made_next make old new (Some item) h = (ap (as_voxels_of make) h.0, h.1)
 made_next make old new None h = (of_end h.0, ap (as_listed_of make) h.1)
@@ -90,7 +90,7 @@ made_next make old new None h = (of_end h.0, ap (as_listed_of make) h.1)
     of_end (inl none) = inl (ap (as_voxels_of make) none)
     of_end (inr nothing) = inr nothing
 
--- the box that two corners make
+-- the box of two corners
 pub made_box : (p q a b : Coord) (r : Option Box) → a ≡ (box_across p q).min → b ≡ (box_across p q).max → r ≡ boxes.box_of a b → r ≡ Some (box_across p q)
 made_box p q a b r is_least is_greatest made =
     made ∙ ap (λ (c : Coord). boxes.box_of c b) is_least ∙ ap (boxes.box_of (box_across p q).min) is_greatest ∙ ap (λ test. cond test (Some (box_across p q)) None) (across_is_box p q)
@@ -101,7 +101,7 @@ some_exact b c h = cc
 pub none_some : (b : Box) → None ≡ Some b → ⊥
 none_some b h = cc
 
--- a listing of a tree is one of its grid
+-- a listing of a tree is a listing of its grid
 pub listing_made : {V U : Type 0} (make : V → U) (t : Layout V) (box is : Box) (limit : ℕ) (l : Listed V) → is ≡ box → l ≡ record { rest = active vdb (field_of vdb t) is; left = limit }
     → as_listed_of make l ≡ record { rest = active vdb (as_field_of make (field_of vdb t)) box; left = limit }
 listing_made make t box is limit l same h =

@@ -1,4 +1,4 @@
--- What a look-up of a voxel comes to, from what was found out about the grid and the command.
+-- The outcome of a look-up of a voxel, from facts about the grid and the command.
 use Rattle.std.proofs.Common.{◌≡◌, ◌∙◌, ap, refl, sym, ℕ, List, Option, Some, None, Ok, Err, true, false}
 use Rattle.std.specs.Map.{lookup, set_value}
 use Rattle.vdb_coord.specs.Blocks.{vdb}
@@ -24,7 +24,7 @@ use Rattle.vdb_scene.specs.declared.scalar.Scalar.TheVariants as scalars
 use Rattle.vdb_scene.proofs.Borrowed.{found, missing, unchanged}
 use Rattle.vdb_scene.proofs.Steps.{field_found, get_accepted}
 
--- grids of one tree have one field and one limit
+-- grids with equal trees have one field and one limit
 pub same_field : (g h : AnyGrid) → HasSameTree g h → grid_field h ≡ grid_field g
 same_field (Bool g) (Bool h) e = ap (λ (t : Layout _). as_field_of scalars.Bool (field_of vdb t)) e
 same_field (I32 g) (I32 h) e = ap (λ (t : Layout _). as_field_of scalars.I32 (field_of vdb t)) e
@@ -53,7 +53,7 @@ module _ (grids : List (List ℕ × GridEntry)) (name : List ℕ) (k : Option Nu
   get_missing none same = (rw (missing grids name none) refl, ap scene_over same)
 
   module _ (entry : GridEntry) (there : lookup (is_named name) grids ≡ Some entry) where
-    -- a point that is no coordinate
+    -- a point that is not a coordinate
     pub get_coord_refused : is_coord p ≡ false → scene_over after ≡ scene_over grids → CarriesOut (scene_over grids) (commands.Get name k p) (Err refusals.ValueRange) (scene_over after)
     get_coord_refused nowhere same = (rw (found grids name entry there, nowhere) refl, same)
 

@@ -57,7 +57,7 @@ one_too_many = refl
 another_text : may_set sixteen (codes "ap") ≡ true
 another_text = refl
 
--- a seventeenth pair is refused, a text in the place of another is not, and that takes no memory
+-- a seventeenth pair fails, a text that replaces another does not and allocates nothing
 refused : SetsPair sixteen (codes "aq") (codes "y") (Err refusals.MetaLimit) sixteen
 refused = (refl, refl)
 

@@ -1,4 +1,4 @@
--- What commands on metadata pairs come to, from what was found out about the grid.
+-- The outcomes of commands on metadata pairs, from facts about the grid.
 use Rattle.std.proofs.Common.{◌≡◌, ◌∙◌, ap, refl, ℕ, Bool, true, false, not, List, [], ◌∷◌, Some, None, Result, Ok, Err}
 use Rattle.std.specs.Map.{lookup, set_value}
 use Rattle.vdb_scene.specs.Doing.{CarriesOut, Does, LeavesTrees, result_of}
@@ -30,7 +30,7 @@ module _ (s : abstract_scene.Scene) (c : Command) (next : abstract_scene.Scene) 
   pub done_too : (u : Unit {0}) → IsReply s c replies.Done → Does s c (Ok u) next → CarriesOut s c (Ok Done) next
   done_too u reply h = (h.0, (replies.Done, refl, reply), h.1)
 
--- ---- a grid that isn't there
+-- ---- a missing grid
 
 module _ (grids : List (List ℕ × GridEntry)) (name key : List ℕ) (next : abstract_scene.Scene) (none : lookup (is_named name) grids ≡ None) (same : next ≡ scene_over grids) where
   pub set_missing : (text : List ℕ) → Does (scene_over grids) (commands.Meta name key text) (Err refusals.NoGrid) next
@@ -39,7 +39,7 @@ module _ (grids : List (List ℕ × GridEntry)) (name key : List ℕ) (next : ab
   pub remove_missing : Does (scene_over grids) (commands.Unmeta name key) (Err refusals.NoGrid) next
   remove_missing = (rw (missing grids name none) refl, same)
 
--- ---- a grid that is there
+-- ---- an existing grid
 
 accepted : (may : Bool) → may ≡ true → first_of_all (refused_if (not may) refusals.MetaLimit ∷ []) ≡ None
 accepted may h = rw h refl
@@ -52,7 +52,7 @@ module _ (grids after : List (List ℕ × GridEntry)) (name key : List ℕ) (ent
   abbrev scene : abstract_scene.Scene
   scene = scene_over grids
 
-  -- the pairs are as they were
+  -- the pairs are unchanged
   given_back : metas ≡ entry.metas → after ≡ set_value (is_named name) grids entry
   given_back same = back ∙ ap (λ (m : Pairs). set_value (is_named name) grids (record entry { metas = m })) same
 
@@ -60,7 +60,7 @@ module _ (grids after : List (List ℕ × GridEntry)) (name key : List ℕ) (ent
   pairs_removed u is = (rw (found grids name entry there) refl, changed_pairs grids name after entry there metas (λ pairs. without_pair pairs key) back is)
 
   module _ (text : List ℕ) where
-    -- nothing but the number of pairs refuses a pair
+    -- the number of pairs is the only error of a pair
     limit_left : refusal scene (commands.Meta name key text) ≡ first_of_all (refused_if (not (may_set entry.metas key)) refusals.MetaLimit ∷ [])
     limit_left = rw (found grids name entry there) (ap (λ (g : abstract_scene.Grid). first_of_all (refused_if (not (may_set g.pairs key)) refusals.MetaLimit ∷ [])) (grid_found scene name (grid_of entry) (found grids name entry there)))
 

@@ -1,4 +1,4 @@
--- What is reported of a field, before and after each value is made one of any kind.
+-- The reports on a field, before and after each value is mapped to one of any type.
 use Rattle.std.proofs.Common.{◌≡◌, ap, sym, ◌∙◌, Bool, not, Option, Some, None}
 use Rattle.std.specs.List.{count_by}
 use Rattle.std.proofs.Math.Path.{fun_ext}
@@ -26,7 +26,7 @@ module _ {V U : Type 0} (make : V → U) (t : Layout V) where
   made_on : (p : Coord) → (after.cell p).on ≡ (before.cell p).on
   made_on p = ap (λ (c : Cell U). c.on) (as_field_of_cell make t.background (cell_at vdb t) p)
 
-  -- so many voxels are active
+  -- the number of active voxels
   pub made_count : (box : Box) → count after box ≡ count before box
   made_count box = ap (λ (test : Coord → _). count_by test (coordinates box)) (fun_ext made_on)
 
@@ -36,7 +36,7 @@ module _ {V U : Type 0} (make : V → U) (t : Layout V) where
   made_bounds (Some box) h = (λ p on. h.0 p (sym (made_on p) ∙ on), λ other holds. h.1 other (λ p on. holds p (made_on p ∙ on)))
 
   module _ (eq : V → V → Bool) (made_eq : U → U → Bool) (same : (v w : V) → made_eq (make v) (make w) ≡ eq v w) where
-    -- so many blocks of a level aren't constant
+    -- the number of blocks of a level that aren't constant
     made_non_constant : (bits : Bits) (level : Level) → non_constant made_eq bits level after ≡ non_constant eq bits level before
     made_non_constant bits level =
         ap (λ (test : Coord → Bool). count_by test (coordinates (block_numbers bits level)))

@@ -11,7 +11,7 @@ use Rattle.vdb_scene.specs.Slices.{numbers_left, rows_left}
 use Rattle.vdb_scene.specs.Replies.{row_at}
 use Rattle.vdb_scene.specs.declared.slice.Slice.{Slice}
 
--- numbers from a on, all made by a function, are those from 0 on
+-- the mapped numbers from a on, as mapped numbers from 0 on
 shifted : {X : Type 0} (f g : ℕ → X) → ((k : ℕ) → f (k + 1) ≡ g k) → (a n : ℕ) → map f (range_with_len (a + 1) n) ≡ map g (range_with_len a n)
 shifted f g h a zero = refl
 shifted f g h a (suc n) = λ i. h a i ∷ shifted f g h (a + 1) n i
@@ -39,7 +39,7 @@ range_next low high h =
 pub range_none : (low high : ℤ) → int_le low high ≡ false → range low high ≡ []
 range_none low high h = ap (λ b. map (λ k. low +ℤ pos k) (range_with_len 0 (cond b (int_gap low high + 1) 0))) h
 
--- more than so many
+-- more numbers than a limit
 pub long_if : (low high : ℤ) (most : ℕ) → (low +ℤ pos most) ≤ℤ high → most < extent low high
 long_if (pos a) (pos b) most h = grind (arith, ints)
 long_if (pos a) (negsuc b) most h = grind (arith, ints)
@@ -58,15 +58,15 @@ less_or_equal (pos a) (negsuc b) h = grind (arith, ints)
 less_or_equal (negsuc a) (pos b) h = refl
 less_or_equal (negsuc a) (negsuc b) h = grind (arith, ints)
 
--- the first number, where others follow
+-- the first number, if others follow
 pub range_more : (low high : ℤ) → low <ℤ high → range low high ≡ low ∷ range (low +ℤ pos 1) high
 range_more low high h = range_next low high (less_or_equal low high h)
 
--- what is left behind a number
+-- the numbers behind a number
 pub number_next : (next : Option ℤ) (x y z last : ℤ) → next ≡ Some x → y ≡ x → z ≡ x +ℤ pos 1 → x <ℤ last → numbers_left next last ≡ y ∷ range z last
 number_next next x y z last is same after h =
     ap (λ n. numbers_left n last) is ∙ range_more x last h ∙ (λ i. sym same i ∷ range (sym after i) last)
 
--- how many rows are left
+-- the number of rows left
 pub rows_many : (s : Slice) (y : ℤ) → s.y ≡ Some y → length (rows_left s) ≡ extent y s.max.y
 rows_many s y is = length-map (numbers_left s.y s.max.y) (row_at (grid_field s.grid.now) s.min.x s.max.x s.min.z) ∙ ap (λ n. length (numbers_left n s.max.y)) is ∙ length-map-range_with_len (λ k. y +ℤ pos k) 0 (extent y s.max.y)

@@ -1,4 +1,4 @@
--- Steps of the abstract scene, from what was found out about a command.
+-- Steps of the abstract scene, from facts about a command.
 use Rattle.std.proofs.Common.{◌≡◌, refl, ap, ◌∙◌, ℕ, Bool, true, false, cond, ◌&&◌, not, List, [], ◌∷◌, Option, Some, None, unwrap_or, Ok, Err, inl, inr}
 use Rattle.vdb_scene.specs.Doing.{CarriesOut, ShowsStep}
 use Rattle.vdb_tree.specs.Field.{Field}
@@ -19,7 +19,7 @@ use Rattle.vdb_scene.specs.declared.command.Command.TheVariants as commands
 use Rattle.vdb_scene.specs.declared.command.Num.{Num}
 use Rattle.vdb_scene.specs.declared.command.Point.{Point}
 
--- a value that is there where a test holds
+-- if a conditional value exists, its test holds
 pub test_passes : {A : Type 0} (b : Bool) (x y : A) → cond b (Some x) None ≡ Some y → (b ≡ true) × (x ≡ y)
 test_passes true x y h = (refl, cc)
 test_passes false x y h = absurd (none_some y h)
@@ -38,11 +38,11 @@ module _ (s : Scene) (name : List ℕ) (g : Grid) (found : grid_at s name ≡ So
   pub kind_found : kind_at s name ≡ kind_of g.field.background
   kind_found = ap (λ (f : Field Scalar). kind_of f.background) field_found
 
-  -- no refusal of a look-up is left
+  -- a look-up without an error
   pub get_accepted : (k : Option Num) (p : Point) → is_coord p ≡ true → is_accessor k ≡ true → refusal s (commands.Get name k p) ≡ None
   get_accepted k p there accessor = rw (found, there, accessor) refl
 
--- a refusal that isn't `Memory`
+-- an error other than `Memory`
 pub refused : (s : Scene) (c : Command) (r : Refusal) (next : Scene) → refusal s c ≡ Some r → (r ≡ refusals.Memory → ⊥) → next ≡ s → CarriesOut s c (Err r) next
 refused s c refusals.Memory next is other same = absurd (other refl)
 refused s c r next is other same = (is, same)
@@ -59,7 +59,7 @@ kind_memory h = cc
 range_memory : refusals.ValueRange ≡ refusals.Memory → ⊥
 range_memory h = cc
 
--- a value that is refused by itself is refused beside a point
+-- an error of a value alone is an error of the value beside a point
 pub value_first : (form value point : Bool) (rest : List (Option Refusal)) (r : Refusal)
     → first_of_all (cond (not form) (Some refusals.Kind) None ∷ cond (not value) (Some refusals.ValueRange) None ∷ []) ≡ Some r
     → (first_of_all (cond (not form) (Some refusals.Kind) None ∷ cond (not (point && value)) (Some refusals.ValueRange) None ∷ rest) ≡ Some r) × (r ≡ refusals.Memory → ⊥)
@@ -71,7 +71,7 @@ value_first true true point rest r h = absurd (none_some r h)
 box_memory : refusals.Box ≡ refusals.Memory → ⊥
 box_memory h = cc
 
--- a box that is refused by itself is refused before anything behind it
+-- an error of a box alone comes before any error behind it
 pub corners_first : (placed ordered : Bool) (rest : List (Option Refusal)) (r : Refusal)
     → first_of_all (cond (not placed) (Some refusals.ValueRange) None ∷ cond (not ordered) (Some refusals.Box) None ∷ []) ≡ Some r
     → (first_of_all (cond (not placed) (Some refusals.ValueRange) None ∷ cond (not ordered) (Some refusals.Box) None ∷ rest) ≡ Some r) × (r ≡ refusals.Memory → ⊥)
@@ -79,14 +79,14 @@ corners_first false ordered rest r h = (h, λ e. range_memory (some_exact _ _ h 
 corners_first true false rest r h = (h, λ e. box_memory (some_exact _ _ h ∙ e))
 corners_first true true rest r h = absurd (none_some r h)
 
--- and behind a value that isn't refused
+-- and after a value without an error
 pub corners_next : (placed value ordered : Bool) (rest : List (Option Refusal)) (r : Refusal) → value ≡ true
     → first_of_all (cond (not placed) (Some refusals.ValueRange) None ∷ cond (not ordered) (Some refusals.Box) None ∷ []) ≡ Some r
     → (first_of_all (cond (not (placed && value)) (Some refusals.ValueRange) None ∷ cond (not ordered) (Some refusals.Box) None ∷ rest) ≡ Some r) × (r ≡ refusals.Memory → ⊥)
 corners_next false value ordered rest r v h = corners_first false ordered rest r h
 corners_next true value ordered rest r v h = rw v (corners_first true ordered rest r h)
 
--- a value that isn't there where a test fails
+-- if no conditional value exists, its test fails
 pub test_fails : {A : Type 0} (b : Bool) (x : A) → cond b (Some x) None ≡ None → b ≡ false
 test_fails true x h = absurd (some_none x h)
   where
@@ -98,7 +98,7 @@ test_fails false x h = refl
 pub step_done : (s : Scene) (c : Command) (answer : Answer) (next : Scene) → CarriesOut s c (Ok answer) next → ShowsStep s c answer next
 step_done s c answer next h = (h.1.0, h.1.1, inr (inl (h.0, h.1.2, h.2)))
 
--- and so is one that was refused
+-- and so is one that failed
 pub step_refused : (s : Scene) (c : Command) (r : Refusal) (next : Scene) → CarriesOut s c (Err r) next → ShowsStep s c (answers.Refused r) next
 step_refused s c refusals.Memory next h = (Refused refusals.Memory, refl, inr (inr (h.0, h.1, refl, h.2)))
 step_refused s c r next h = (Refused r, refl, inl (r, h.0, refl, h.1))

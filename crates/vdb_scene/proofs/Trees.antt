@@ -1,4 +1,4 @@
--- What commands make of the trees, from what was found out about them.
+-- The trees after commands, from facts about them.
 use Rattle.std.proofs.Common.{◌≡◌, ◌∙◌, refl, sym, ap, ℕ, Bool, true, false, List, [], ◌∷◌, Option, Some}
 use Rattle.std.specs.Map.{lookup, set_value}
 use Rattle.vdb_coord.specs.declared.Coord.{Coord}
@@ -23,11 +23,11 @@ use Rattle.vdb_scene.specs.declared.command.Point.{Point}
 use Rattle.vdb_scene.specs.declared.scene.Scene.{Scene}
 use Rattle.vdb_scene.proofs.Entries.{set_value-found}
 
--- the grids where one was borrowed and comes back as it was
+-- the grids if one was borrowed and comes back unchanged
 pub same_back : (grids after : List (List ℕ × GridEntry)) (name : List ℕ) (entry : GridEntry) → lookup (is_named name) grids ≡ Some entry → after ≡ set_value (is_named name) grids entry → after ≡ grids
 same_back grids after name entry there back = back ∙ set_value-found (is_named name) grids entry there
 
--- a refusal that no tree has
+-- an error that no tree has
 abbrev pub is_of_tree : Refusal → Bool
 is_of_tree refusals.RootLimit = true
 is_of_tree refusals.Memory = true
@@ -41,7 +41,7 @@ others_keep old new c refusals.RootLimit none keeps = absurd (no_tree none)
 others_keep old new c refusals.Memory none keeps = absurd (no_tree none)
 others_keep old new c r none keeps = keeps
 
--- the refusals of a value are none of them
+-- no error of a value is one of a tree
 pub value_refused : (fits within : Bool) (r : Refusal) → first_of_all (other_form fits ∷ out_of_range within ∷ []) ≡ Some r → is_of_tree r ≡ false
 value_refused false within r h = ap is_of_tree (by h)
   where
@@ -54,13 +54,13 @@ value_refused true false r h = ap is_of_tree (by h)
 value_refused true true r h = cc
 
 module _ (old new : Scene) (c : Command) (name : List ℕ) (is : changed_name c ≡ Some name) (entry : GridEntry) (puts : PutsGrid old name entry new) where
-  -- a refusal where the grid comes back as it was
+  -- an error after which the grid comes back unchanged
   pub refused_leaves : (r : Refusal) → lookup (is_named name) old.grids.entries ≡ Some entry → ((coords : List (Option Coord)) → coords_by c coords ≡ coords) → LeavesTrees c (Refused r) old new
   refused_leaves refusals.RootLimit there same = rw is (entry, entry, there, puts, sym (same (grid_coords entry.grid)))
   refused_leaves refusals.Memory there same = rw is (entry, entry, there, puts, sym (same (grid_coords entry.grid)))
   refused_leaves r there same = same_back old.grids.entries new.grids.entries name entry there puts
 
-  -- a refusal of the grid's tree
+  -- an error of the grid's tree
   pub tree_refused_leaves : (was : GridEntry) → lookup (is_named name) old.grids.entries ≡ Some was → grid_coords entry.grid ≡ coords_by c (grid_coords was.grid) → (e : TreeRefusal) → LeavesTrees c (Refused (of_tree e)) old new
   tree_refused_leaves was there last RootLimit = rw is (was, entry, there, puts, last)
   tree_refused_leaves was there last Memory = rw is (was, entry, there, puts, last)
@@ -79,7 +79,7 @@ write_moves name k p (writes.Off v) = refl
 write_moves name k p (writes.State on) = refl
 write_moves name k p (writes.Value v) = refl
 
--- what an accessor was given, by the numbers of the line
+-- the coordinate given to an accessor, by the numbers of the line
 pub accessed : (k : Option Num) (p : Point) (number : Option ℕ) (q : Coord) (was coords : List (Option Coord)) → number ≡ accessor_of k → coord_of p ≡ q
     → coords ≡ coords_after number q was → coords ≡ coords_after (accessor_of k) (coord_of p) was
 accessed k p number q was coords e f h = rw (← e, f) h

@@ -1,4 +1,4 @@
--- What turns of dilation and of erosion come to, from what was found out about the grid and the command.
+-- The outcome of iterations of dilation and of erosion, from facts about the grid and the command.
 use Rattle.std.proofs.Common.{◌≡◌, refl, sym, ap, ◌∙◌, ℕ, Bool, true, false, List, [], ◌∷◌, Some, None, Ok, Err}
 use Rattle.std.proofs.lemmas.Bool.{le-ltb, lt-ltb}
 use Rattle.std.specs.Map.{lookup, set_value}
@@ -26,7 +26,7 @@ use Rattle.vdb_scene.specs.declared.scalar.Scalar.{Scalar}
 use Rattle.vdb_scene.proofs.Borrowed.{changed_field, found, missing, unchanged}
 use Rattle.vdb_scene.proofs.Steps.{grid_found}
 
--- ---- a grid that isn't there, or a number of turns that is none
+-- ---- a missing grid, or a number of iterations outside the range
 
 module _ (grids : List (List ℕ × GridEntry)) (name : List ℕ) (n : Num) (next : Scene) (same : next ≡ scene_over grids) where
   pub dilate_missing : lookup (is_named name) grids ≡ None → CarriesOut (scene_over grids) (commands.Dilate name n) (Err refusals.NoGrid) next
@@ -42,7 +42,7 @@ module _ (grids : List (List ℕ × GridEntry)) (name : List ℕ) (n : Num) (nex
     pub erode_out_of_range : CarriesOut (scene_over grids) (commands.Erode name n) (Err refusals.ValueRange) next
     erode_out_of_range = (rw (found grids name entry there, other) refl, same)
 
--- ---- turns of a grid that is there
+-- ---- iterations over an existing grid
 
 over_limit : (b : Bool) → b ≡ true → first_of_all (refused_if b refusals.RootLimit ∷ []) ≡ Some refusals.RootLimit
 over_limit b h = rw h refl
@@ -55,18 +55,18 @@ module _ (grids after : List (List ℕ × GridEntry)) (name : List ℕ) (n : Num
   abbrev scene : Scene
   scene = scene_over grids
 
-  -- the grid is as it was
+  -- the grid is unchanged
   same_scene : grid_field grid ≡ grid_field was.grid → scene_over after ≡ scene
   same_scene h = unchanged grids name after was there grid back h limit
 
-  -- its field was changed by so many turns
+  -- its field was changed by this number of iterations
   turned : (turn : Field Scalar → Field Scalar) → grid_field grid ≡ turns k turn (grid_field was.grid) → scene_over after ≡ changed scene name (turns (count_of n) turn)
   turned turn h = changed_field grids name after was there grid back (turns k turn) h limit ∙ ap (λ m. changed scene name (turns m turn)) (sym is)
 
   abbrev pub dilated : Field Scalar
   dilated = turns k dilate (grid_field was.grid)
 
-  -- nothing but the root limit refuses a dilation
+  -- the root limit is the only error of a dilation
   limit_left : refusal scene (commands.Dilate name n) ≡ first_of_all (beyond_limit (grid_root_limit was.grid) dilated ∷ [])
   limit_left = rw (found grids name was there, fits) (
       ap (λ (g : Grid). first_of_all (beyond_limit g.limit (turns (count_of n) dilate g.field) ∷ [])) (grid_found scene name (grid_of was) (found grids name was there))

@@ -1,4 +1,4 @@
--- What is made of two grids of any kind, from what is made of two trees.
+-- Operations on two grids of any type, from operations on two trees.
 use Rattle.std.proofs.Common.{subst, ◌≡◌, refl, sym, ap, ◌∙◌, ◌<◌, ◌≤◌, ℕ, Bool, true, false, cond, ◌||◌, List, [], ◌∷◌, Option, Some, None, is_none, unwrap_or, option_map, Result, Ok, Err}
 use Rattle.std.specs.List.{list_any}
 use Rattle.std.proofs.Math.Path.{fun_ext}
@@ -28,7 +28,7 @@ use Rattle.vdb_scene.specs.declared.scalar.Scalar.{Scalar}
 use Rattle.vdb_composite.specs.declared.sums.SumRefusal.{SumRefusal}
 use Rattle.vdb_composite.specs.declared.sums.SumRefusal.TheVariants as sums
 
--- ---- operations before and after each value of a field is made another
+-- ---- operations before and after each value of a field is mapped
 
 made_cond : {V U : Type 0} (make : V → U) (b : Bool) (x y : Cell V) → as_cell_of make (cond b x y) ≡ cond b (as_cell_of make x) (as_cell_of make y)
 made_cond make true x y = refl
@@ -39,7 +39,7 @@ module _ {V U X Y : Type 0} (make : V → U) (make_other : X → Y) (state : Boo
   as_field_of_states f g = same_cells _ _ _ (λ p inside. rw inside refl)
 
   module _ (eq : V → V → Bool) (made_eq : U → U → Bool) (same : (v w : V) → made_eq (make v) (make w) ≡ eq v w) (bits : Bits) where
-    -- the outcome of a call that makes states of two
+    -- the outcome of a call that combines states
     pub as_outcome_of_states : (limit : ℕ) (f after : Field V) (g : Field X) (result : Result (Unit {0}) TreeRefusal)
         → IsOutcome eq bits limit f (with_states state f g) after result
         → IsOutcome made_eq bits limit (as_field_of make f) (with_states state (as_field_of make f) (as_field_of make_other g)) (as_field_of make after) result
@@ -68,18 +68,18 @@ module _ {V U : Type 0} (make : V → U) (eq : V → V → Bool) (made_eq : U �
       as_outcome_of make (both f.background g.background) (λ p. record { value = both (f.cell p).value (g.cell p).value; on = (f.cell p).on || (g.cell p).on }) eq made_eq same bits limit f after
       (combine both_made (as_field_of make f) (as_field_of make g)) result (as_field_of_combine make both both_made f g (λ v w. sym (alike v w))) h
 
--- ---- refusals
+-- ---- errors
 
 kind_same : (k : Kind) → kind_eq k k ≡ true
 kind_same kinds.Bool = refl
 kind_same kinds.I32 = refl
 kind_same kinds.I64 = refl
 
--- two kinds that are one
+-- two equal types
 pub one_kind : (k l m : Kind) → k ≡ m → l ≡ m → kind_eq k l ≡ true
 one_kind k l m e f = rw (e, f) (kind_same m)
 
--- a kind that has sums, since its type has
+-- a type that has sums, since its Rattle type has
 pub sums_of : (k m : Kind) (there : Bool) → k ≡ m → there ≡ has_sums m → there ≡ true → has_sums k ≡ true
 sums_of k m there e by is = ap has_sums e ∙ sym by ∙ is
 
@@ -91,13 +91,13 @@ module _ (limit : ℕ) (f : Field Scalar) where
   past_limit many = ap (λ (b : Bool). cond b (Some refusals.RootLimit) None) (lt-ltb _ _ many)
 
 module _ (limit : ℕ) (f g changed new : Field Scalar) where
-  -- a refusal of a tree whose states were to change
+  -- an error of a tree whose states were to change
   pub states_refused : (e : TreeRefusal) → IsOutcome scalar_eq vdb limit f changed new (Err e) → Gives (beyond_limit limit changed ∷ []) f changed new (Err (of_tree e))
   states_refused RootLimit h = (rw (past_limit limit changed h.1) refl, h.0)
   states_refused Memory h = (rw (within_limit limit changed h.1) refl, h.0)
 
   module _ (kinds : kind_eq (kind_of f.background) (kind_of g.background) ≡ true) where
-    -- values of two of one kind
+    -- values of two grids of one type
     pub values_give : (u : Unit {0}) → IsOutcome scalar_eq vdb limit f changed new (Ok u) → Gives (other_kind f g ∷ beyond_limit limit changed ∷ []) f changed new (Ok u)
     values_give u h = (rw (kinds, within_limit limit changed h.1) refl, h.0)
 

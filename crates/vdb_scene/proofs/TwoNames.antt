@@ -1,4 +1,4 @@
--- What a command on two grids comes to, from what was found out about them.
+-- The outcome of a command on two grids, from facts about them.
 use Rattle.std.proofs.Common.{◌≡◌, refl, sym, ap, ◌∙◌, rules, ℕ, true, false, List, ◌∷◌, Option, Some, None, is_none, is_some, IsSome, Ok, Err}
 use Rattle.std.specs.Cmp.Lexicographic.{pointwise, texts_ties}
 use Rattle.std.specs.Prelude.{nat_eq}
@@ -65,7 +65,7 @@ module _ (s : abstract_scene.Scene) (name other : List ℕ) where
   may_take (Values Sum) = refl
   may_take (Values Replace) = refl
 
-  -- nothing but a lack of memory comes after the refusals
+  -- after the other errors only an allocation failure can come
   first_is : (o : Operation) → first_refusal s (command_of o name other) ≡ refusal s (command_of o name other)
   first_is (States Unite) = refl
   first_is (States Subtract) = refl
@@ -129,7 +129,7 @@ module _ (grids after_grids : List (List ℕ × GridEntry)) (name other : List �
   same : grid_field grid ≡ grid_field was.grid → scene_over after_grids ≡ scene
   same h = unchanged grids name after_grids was there grid back h limit
 
-  -- it is refused
+  -- it fails
   pub two_refused : (r : Refusal) → IsMade o (grid_root_limit was.grid) (grid_field was.grid) (grid_field given.grid) (grid_field grid) (Err r) → CarriesOut scene (command_of o name other) (Err r) (scene_over after_grids)
   two_refused refusals.Memory h = (first_is scene name other o ∙ refusal_is ∙ h.0, may_take scene name other o, same h.1)
   two_refused r h = (refusal_is ∙ h.0, same h.1)
@@ -154,7 +154,7 @@ first_keeps (Values Minimum) name other coords = refl
 first_keeps (Values Sum) name other coords = refl
 first_keeps (Values Replace) name other coords = refl
 
--- the trees after a refusal
+-- the trees after an error
 pub refused_trees : (o : Operation) (old new : Scene) (name other : List ℕ) (was : GridEntry) (grid : AnyGrid) (r : Refusal) → lookup (is_named name) old.grids.entries ≡ Some was
     → PutsGrid old name (record was { grid = grid }) new → grid_coords grid ≡ grid_coords was.grid → StaysBut r was.grid grid → LeavesTrees (command_of o name other) (Refused r) old new
 refused_trees o old new name other was grid refusals.RootLimit there puts last stays = rw (first_changes o name other) (was, record was { grid = grid }, there, puts, last ∙ sym (first_keeps o name other (grid_coords was.grid)))
@@ -162,7 +162,7 @@ refused_trees o old new name other was grid refusals.Memory there puts last stay
 refused_trees o old new name other was grid r there puts last stays =
     puts ∙ ap (λ (g : AnyGrid). set_value (is_named name) old.grids.entries (record was { grid = g })) stays ∙ set_value-found (is_named name) old.grids.entries was there
 
--- a name that is found in the abstract is found
+-- a name that is found in the abstract scene is found in the scene
 pub is_there : (grids : List (List ℕ × GridEntry)) (name : List ℕ) → true ≡ is_some (grid_at (scene_over grids) name) → IsSome (lookup (is_named name) grids)
 is_there grids name h = some_there (lookup (is_named name) grids) (sym (absent_is grids name) ∙ there_is (grid_at (scene_over grids) name) h)
   where

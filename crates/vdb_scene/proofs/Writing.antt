@@ -1,4 +1,4 @@
--- What a write of a voxel comes to, from what was found out about the grid and the command.
+-- The outcome of a write of a voxel, from facts about the grid and the command.
 use Rattle.std.proofs.Common.{◌≡◌, refl, sym, ap, ◌∙◌, subst, ◌⊎◌, inl, inr, ◌≤◌, ℕ, Bool, true, false, not, ◌&&◌, nat_lt, List, [], ◌∷◌, Option, Some, None, is_none, Ok, Err, IsOk, IsTrue}
 use Rattle.std.proofs.lemmas.Bool.{le-ltb, lt-ltb}
 use Rattle.std.specs.Map.{lookup}
@@ -59,14 +59,14 @@ module _ (s : Scene) (name : List ℕ) (k : Option Num) (p : Point) where
   memory_for (writes.State on) = refl
   memory_for (writes.Value v) = refl
 
-  -- nothing but a lack of memory comes after the refusals
+  -- after the other errors only an allocation failure can come
   first_for : (w : Write Literal) → first_refusal s (write_command name k p w) ≡ refusal s (write_command name k p w)
   first_for (writes.On v) = refl
   first_for (writes.Off v) = refl
   first_for (writes.State on) = refl
   first_for (writes.Value v) = refl
 
--- ---- the first of five refusals
+-- ---- the first of five errors
 
 abbrev tests : Bool → Bool → Bool → Bool → Bool → List (Option Refusal)
 tests absent fits in_range named over =
@@ -88,7 +88,7 @@ module _ (absent fits in_range named over : Bool) where
   first_none : absent ≡ false → fits ≡ true → in_range ≡ true → named ≡ true → over ≡ false → first_of_all (tests absent fits in_range named over) ≡ None
   first_none a f r n o = rw (a, f, r, n, o) refl
 
--- a first refusal that doesn't apply
+-- a first error that doesn't apply
 pub passed_over : (absent : Bool) (rest : List (Option Refusal)) → absent ≡ false → first_of_all (refused_if absent refusals.NoGrid ∷ rest) ≡ first_of_all rest
 passed_over absent rest a = rw a refl
 
@@ -104,7 +104,7 @@ not_free : (free : Bool) → (free ≡ false → false ≡ true) → IsTrue free
 not_free true h = refl
 not_free false h = h refl
 
--- where a write takes no memory, its voxel has that cell already or the cells around aren't all equal
+-- if a write allocates nothing, its voxel has that cell already or the cells around it aren't all equal
 pub no_memory : (stands constant : Bool) → (not stands && constant) ≡ false → (stands ≡ true) ⊎ (constant ≡ false)
 no_memory true constant h = inl refl
 no_memory false constant h = inr h
@@ -141,7 +141,7 @@ module _ (grids : List (List ℕ × GridEntry)) (name : List ℕ) (k : Option Nu
     kind_here : kind ≡ kind_at scene name
     kind_here = is_kind ∙ sym (kind_found scene name (grid_of entry) (found grids name entry there))
 
-    -- a value that the kind doesn't have
+    -- a value outside the type
     pub write_value_refused : (r : Refusal) → first_of_all (other_form (passes (has_form kind) w) ∷ out_of_range (passes (has_value kind) w) ∷ []) ≡ Some r → next ≡ scene
         → CarriesOut scene command (Err r) next
     write_value_refused r is same =
@@ -156,7 +156,7 @@ module _ (grids : List (List ℕ × GridEntry)) (name : List ℕ) (k : Option Nu
       value_here : passes (has_value (kind_at scene name)) w ≡ true
       value_here = subst (λ h. passes (has_value h) w ≡ true) kind_here value
 
-      -- a point that is no coordinate
+      -- a point that is not a coordinate
       pub write_coord_refused : is_coord p ≡ false → next ≡ scene → CarriesOut scene command (Err refusals.ValueRange) next
       write_coord_refused nowhere same =
           (tried_for scene name k p w ∙ first_range absent fits in_range (is_accessor k) over is_there fits_here (first_fails (is_coord p) _ nowhere), same)
@@ -170,7 +170,7 @@ module _ (grids : List (List ℕ × GridEntry)) (name : List ℕ) (k : Option Nu
         change_here : write_at scene name w ≡ change
         change_here = ap (λ h. as_write_of (scalar h) w) (sym kind_here) ∙ sym is_change
 
-        -- what is said of the scene's grid is said of the one that was found
+        -- facts about the scene's grid hold for the grid that was found
         over_is : over ≡ nat_lt (grid_root_limit entry.grid) (roots scalar_eq vdb (write q change (grid_field entry.grid)))
         over_is =
             ap (λ (g : Grid). nat_lt g.limit (roots scalar_eq vdb (write (coord_of p) (write_at scene name w) g.field))) (grid_found scene name (grid_of entry) (found grids name entry there))
@@ -197,7 +197,7 @@ module _ (grids : List (List ℕ × GridEntry)) (name : List ℕ) (k : Option Nu
           is ∙ ap (λ c. changed scene name (write q c)) (sym change_here) ∙ ap (λ r. changed scene name (write r (write_at scene name w))) (sym is_q) ∙ sym (after_for scene name k p w),
         )
 
-        -- the grid's tree refuses it
+        -- the grid's tree fails
         pub write_refused : (e : TreeRefusal) (after : Field Scalar) → IsOutcome scalar_eq vdb (grid_root_limit entry.grid) (grid_field entry.grid) (write q change (grid_field entry.grid)) after (Err e)
             → (write_takes_memory (grid_field entry.grid) q change ≡ false → IsOk {T = Unit {0}} (Err e)) → next ≡ scene → CarriesOut scene command (Err (of_tree e)) next
         write_refused RootLimit after h free same = (

@@ -1,4 +1,4 @@
--- The coordinates, accessors, limits and turns that the numbers of a line name.
+-- The coordinates, accessors, limits and iterations in the numbers of a line.
 use Rattle.std.specs.Prelude.{ℕ, ℤ, pos, Bool, true, ◌&&◌, Option, Some, None, unsigned_abs}
 use Rattle.vdb_coord.specs.Space.{Box, coord, everywhere, is_between}
 use Rattle.vdb_coord.specs.declared.Coord.{Coord}
@@ -12,7 +12,7 @@ use Rattle.vdb_scene.specs.declared.command.Point.{Point}
 abbrev pub coord_of : Point → Coord
 coord_of p = coord (number p.x) (number p.y) (number p.z)
 
--- whether a number of a line is one from low to high
+-- whether a number of a line lies between low and high, both included
 abbrev pub is_from : ℤ → ℤ → Num → Bool
 is_from low high n = is_near (is_between low high) n
 
@@ -36,7 +36,7 @@ are_coords c = is_coord c.min && is_coord c.max
 abbrev pub flat : Num → Area → Corners
 flat z a = record { min = record { x = a.min_x; y = a.min_y; z = z }; max = record { x = a.max_x; y = a.max_y; z = z } }
 
--- the box of a line, or that of all coordinates
+-- the box of a line, or the box of all coordinates
 abbrev pub region : Option Corners → Box
 region None = everywhere
 region (Some c) = box_between c
@@ -50,12 +50,12 @@ abbrev pub is_accessor : Option Num → Bool
 is_accessor None = true
 is_accessor (Some k) = is_from (pos 0) (pos 7) k
 
--- the accessor that it names, if it names one
+-- the accessor of a line, if it names one
 abbrev pub accessor_of : Option Num → Option ℕ
 accessor_of None = None
 accessor_of (Some k) = Some (count_of k)
 
--- whether a line names a limit of a listing, 1 to 4,096
+-- whether a line names a limit of a list, 1 to 4,096
 abbrev pub is_limit : Num → Bool
 is_limit n = is_from (pos 1) (pos 4096) n
 
@@ -64,11 +64,11 @@ abbrev pub is_root_limit : Option Num → Bool
 is_root_limit None = true
 is_root_limit (Some n) = is_from (pos 1) (pos 65536) n
 
--- the limit that it names, or that of a grid without one
+-- the limit of a line, or 4,096 without one
 abbrev pub root_limit_of : Option Num → ℕ
 root_limit_of None = 4096
 root_limit_of (Some n) = count_of n
 
--- whether a line names a number of turns, 1 to 16
+-- whether a line names a number of iterations, 1 to 16
 abbrev pub is_turn_count : Num → Bool
 is_turn_count n = is_from (pos 1) (pos 16) n

@@ -1,4 +1,4 @@
--- What calls that carry out a command give.
+-- The results of calls that carry out a command.
 use Rattle.std.specs.Prelude.{◌≡◌, ℕ, List, Option, Some, None, Result, Ok, Err, IsTrue}
 use Rattle.std.specs.Ordering.{nat_cmp}
 use Rattle.std.specs.Cmp.Lexicographic.{slice_cmp}
@@ -26,19 +26,19 @@ use Rattle.vdb_scene.specs.declared.scene.Scene.{Scene}
 
 -- ---- the step of the abstract scene
 
--- an answer and the scene after the command; or its refusal, or the refusal `Memory`, and the scene before it
+-- an answer and the scene after the command; or its error, or the error `Memory`, and the unchanged scene
 abbrev pub CarriesOut : abstract_scene.Scene → Command → Result Answer Refusal → abstract_scene.Scene → Type 0
 CarriesOut s c (Ok answer) next = (refusal s c ≡ None) × ((reply : Reply) × Shows answer reply × IsReply s c reply) × (next ≡ after s c)
 CarriesOut s c (Err refusals.Memory) next = (first_refusal s c ≡ None) × IsTrue (takes_memory s c) × (next ≡ s)
 CarriesOut s c (Err r) next = (refusal s c ≡ Some r) × (next ≡ s)
 
--- the same of a command that answers `Done`, without the answer
+-- the same for a command that answers `Done`, without the answer
 abbrev pub Does : abstract_scene.Scene → Command → Result (Unit {0}) Refusal → abstract_scene.Scene → Type 0
 Does s c (Ok _) next = (refusal s c ≡ None) × (next ≡ after s c)
 Does s c (Err refusals.Memory) next = (first_refusal s c ≡ None) × IsTrue (takes_memory s c) × (next ≡ s)
 Does s c (Err r) next = (refusal s c ≡ Some r) × (next ≡ s)
 
--- the answer shows that of a step of the scene
+-- the answer shows the answer of a step of the scene
 abbrev pub ShowsStep : abstract_scene.Scene → Command → Answer → abstract_scene.Scene → Type 0
 ShowsStep s c answer next = (reply : Reply) × Shows answer reply × Step s c reply next
 
@@ -48,11 +48,11 @@ ShowsStep s c answer next = (reply : Reply) × Shows answer reply × Step s c re
 abbrev pub KeepsGrids : Scene → Scene → Type 0
 KeepsGrids old new = new.grids.entries ≡ old.grids.entries
 
--- a name that was there stands for this grid, and each other name for the same grid as before
+-- an existing name stands for this grid, and each other name for the same grid as before
 abbrev pub PutsGrid : Scene → List ℕ → GridEntry → Scene → Type 0
 PutsGrid old name e new = new.grids.entries ≡ set_value (is_named name) old.grids.entries e
 
--- a name that wasn't there stands for this grid, and each other name for the same grid as before
+-- a new name stands for this grid, and each other name for the same grid as before
 abbrev pub AddsGrid : Scene → List ℕ → GridEntry → Scene → Type 0
 AddsGrid old name e new = new.grids.entries ≡ insert_entry (slice_cmp nat_cmp) old.grids.entries name e
 
@@ -60,23 +60,23 @@ AddsGrid old name e new = new.grids.entries ≡ insert_entry (slice_cmp nat_cmp)
 abbrev pub RemovesGrid : Scene → List ℕ → Scene → Type 0
 RemovesGrid old name new = new.grids.entries ≡ remove_entry (is_named name) old.grids.entries
 
--- a name that was there stands for another grid, whose accessors keep their coordinates
+-- an existing name stands for another grid, whose accessors keep their coordinates
 abbrev pub PutsTree : Scene → List ℕ → GridEntry → GridEntry → Scene → Type 0
 PutsTree old name was e new = (lookup (is_named name) old.grids.entries ≡ Some was) × PutsGrid old name e new × (grid_coords e.grid ≡ grid_coords was.grid)
 
--- a name that was there stands for another grid, whose accessors were given coordinates as by a call at p through k
+-- an existing name stands for another grid, whose accessors have the coordinates after a call at p through k
 abbrev pub PutsAccessed : Scene → List ℕ → Option Num → Point → GridEntry → GridEntry → Scene → Type 0
 PutsAccessed old name k p was e new =
     (lookup (is_named name) old.grids.entries ≡ Some was) × PutsGrid old name e new × (grid_coords e.grid ≡ coords_after (accessor_of k) (coord_of p) (grid_coords was.grid))
 
--- a name that was there stands for the same grid with other metadata
+-- an existing name stands for the same grid with other metadata
 abbrev pub PutsMetas : Scene → List ℕ → Scene → Type 0
 PutsMetas old name new = (was : GridEntry) × (metas : Pairs) × (lookup (is_named name) old.grids.entries ≡ Some was) × PutsGrid old name (record was { metas = metas }) new
 
--- What a command that isn't refused makes of the trees, beside their cells. Each grid stays as it is, but for that which the
--- command changes, makes or takes away. `get` and the writes of a voxel move the accessor that they name, and `get` nothing else;
--- every other accessor keeps its coordinate. `copy` makes the same tiles and nodes, and accessors that were given no coordinate.
--- `prune` leaves its grid pruned, and `voxelise` each active voxel of its box in a leaf of its grid.
+-- The trees after a command that succeeds, beside their cells. Each grid is unchanged, except the one that the
+-- command changes, creates or removes. `get` and the writes of a voxel move the accessor that they name, and `get` nothing else;
+-- every other accessor keeps its coordinate. `copy` makes the same tiles and nodes, and accessors without a coordinate.
+-- `prune` leaves its grid pruned, and `voxelise` puts each active voxel of its box into a leaf of its grid.
 abbrev pub Shapes : Command → Scene → Scene → Type 0
 Shapes (commands.Grid name kind v limit) old new = (e : GridEntry) × AddsGrid old name e new
 Shapes (commands.Drop name) old new = RemovesGrid old name new
@@ -108,7 +108,7 @@ Shapes (commands.Meta name key text) old new = PutsMetas old name new
 Shapes (commands.Unmeta name key) old new = PutsMetas old name new
 Shapes (commands.Metas name) old new = KeepsGrids old new
 
--- the name whose grid a command changes, if it changes one that is there
+-- the name of the existing grid that a command changes, if it changes one
 abbrev pub changed_name : Command → Option (List ℕ)
 changed_name (commands.Set name k p v) = Some name
 changed_name (commands.Unset name k p v) = Some name
@@ -129,7 +129,7 @@ changed_name (commands.Dilate name n) = Some name
 changed_name (commands.Erode name n) = Some name
 changed_name c = None
 
--- the coordinates of that grid's accessors after it: a write of a voxel gives its own to the accessor that it names
+-- the coordinates of that grid's accessors after the command: a write of a voxel gives its own to the accessor that it names
 abbrev pub coords_by : Command → List (Option Coord) → List (Option Coord)
 coords_by (commands.Set name k p v) = coords_after (accessor_of k) (coord_of p)
 coords_by (commands.Unset name k p v) = coords_after (accessor_of k) (coord_of p)
@@ -137,33 +137,33 @@ coords_by (commands.Only name k p v) = coords_after (accessor_of k) (coord_of p)
 coords_by (commands.State name k p on) = coords_after (accessor_of k) (coord_of p)
 coords_by c = λ coords. coords
 
--- every grid stays as it is, but for that of this name, if there is a name, and its accessors have these coordinates
+-- every grid is unchanged, except the one of this name, if any, and its accessors have these coordinates
 abbrev pub KeepsOthers : (List (Option Coord) → List (Option Coord)) → Option (List ℕ) → Scene → Scene → Type 0
 KeepsOthers coords (Some name) old new =
     (was : GridEntry) × (e : GridEntry) × (lookup (is_named name) old.grids.entries ≡ Some was) × PutsGrid old name e new × (grid_coords e.grid ≡ coords (grid_coords was.grid))
 KeepsOthers coords None old new = KeepsGrids old new
 
--- What a command makes of the trees, by its answer: one that is refused leaves each grid as it is. `RootLimit` and `Memory` may
--- come after some nodes were made, so these leave each other grid as it is, and that which the command changes with its cells
--- and, but for an accessor that the command names, the coordinates of its accessors.
+-- The trees after a command, by its answer: an error leaves each grid unchanged. `RootLimit` and `Memory` may
+-- come after some nodes were made, so they leave each other grid unchanged, and keep the cells of the changed grid
+-- and, except for an accessor that the command names, the coordinates of its accessors.
 abbrev pub LeavesTrees : Command → Answer → Scene → Scene → Type 0
 LeavesTrees c (Refused refusals.RootLimit) old new = KeepsOthers (coords_by c) (changed_name c) old new
 LeavesTrees c (Refused refusals.Memory) old new = KeepsOthers (coords_by c) (changed_name c) old new
 LeavesTrees c (Refused r) old new = KeepsGrids old new
 LeavesTrees c answer old new = Shapes c old new
 
--- the answer of a command that is carried out or refused
+-- the answer of a command that is carried out or fails
 abbrev pub answer_of : Result Answer Refusal → Answer
 answer_of (Ok answer) = answer
 answer_of (Err r) = Refused r
 
--- that of one that answers `Done`
+-- the same for a command that answers `Done`
 abbrev pub result_of : Result (Unit {0}) Refusal → Answer
 result_of (Ok _) = Done
 result_of (Err r) = Refused r
 
 -- ---- both
 
--- the answer shows that of a step of the scene, and the trees are as said
+-- the answer shows the answer of a step of the scene, and the trees are as the definition above says
 abbrev pub AppliesTo : Scene → Command → Answer → Scene → Type 0
 AppliesTo old c answer new = ShowsStep (scene_of old) c answer (scene_of new) × LeavesTrees c answer old new

@@ -1,4 +1,4 @@
--- The field of a grid of any kind, and the abstract scene that a scene is.
+-- The field of a grid of any type, and the abstract scene of a scene.
 use Rattle.std.specs.Prelude.{◌≡◌, ℕ, List, [], Option, Some, None, map, slice_set}
 use Rattle.std.proofs.Math.Bool.{beq}
 use Rattle.std.specs.Ordering.{int_eq}
@@ -20,19 +20,19 @@ use Rattle.vdb_scene.specs.declared.any_grid.AnyGrid.TheVariants.{Bool, I32, I64
 use Rattle.vdb_scene.specs.declared.grid_entry.GridEntry.{GridEntry}
 use Rattle.vdb_scene.specs.declared.scene.Scene.{Scene}
 
--- the field that a grid holds
+-- the field of a grid
 abbrev pub grid_field : AnyGrid → Field Scalar
 grid_field (Bool g) = as_field_of scalars.Bool (field_of vdb g.tree)
 grid_field (I32 g) = as_field_of scalars.I32 (field_of vdb g.tree)
 grid_field (I64 g) = as_field_of scalars.I64 (field_of vdb g.tree)
 
--- how many of its root blocks may hold anything but the background
+-- the maximum number of its root blocks with a cell other than the inactive background
 abbrev pub grid_root_limit : AnyGrid → ℕ
 grid_root_limit (Bool g) = g.tree.limit
 grid_root_limit (I32 g) = g.tree.limit
 grid_root_limit (I64 g) = g.tree.limit
 
--- its tree has no entry and no node that its field doesn't make it have
+-- its tree has no entry and no node that its field doesn't need
 abbrev pub IsPruned : AnyGrid → Type 0
 IsPruned (Bool g) = IsLeast beq vdb g.tree
 IsPruned (I32 g) = IsLeast int_eq vdb g.tree
@@ -44,40 +44,40 @@ IsVoxelised (Bool g) box = HasLeaves vdb g.tree box
 IsVoxelised (I32 g) box = HasLeaves vdb g.tree box
 IsVoxelised (I64 g) box = HasLeaves vdb g.tree box
 
--- the coordinates that its accessors were last given
+-- the last coordinates of its accessors
 abbrev pub grid_coords : AnyGrid → List (Option Coord)
 grid_coords (Bool g) = g.coords
 grid_coords (I32 g) = g.coords
 grid_coords (I64 g) = g.coords
 
--- those after a call at p through this accessor, or through none
+-- the coordinates after a call at p through this accessor, or through none
 abbrev pub coords_after : Option ℕ → Coord → List (Option Coord) → List (Option Coord)
 coords_after None p coords = coords
 coords_after (Some k) p coords = slice_set coords k (Some p)
 
--- two grids have one tree
+-- two grids have equal trees
 abbrev pub HasSameTree : AnyGrid → AnyGrid → Type 0
 HasSameTree (Bool g) (Bool h) = h.tree ≡ g.tree
 HasSameTree (I32 g) (I32 h) = h.tree ≡ g.tree
 HasSameTree (I64 g) (I64 h) = h.tree ≡ g.tree
 HasSameTree g h = ⊥
 
--- the second has the first's tiles and nodes, and accessors that were given no coordinate
+-- the second has the first's tiles and nodes, and accessors without a coordinate
 abbrev pub IsCopyOf : AnyGrid → AnyGrid → Type 0
 IsCopyOf (Bool g) (Bool h) = IsSameTree vdb g.tree h.tree × ((k : ℕ) → last h.coords k ≡ None)
 IsCopyOf (I32 g) (I32 h) = IsSameTree vdb g.tree h.tree × ((k : ℕ) → last h.coords k ≡ None)
 IsCopyOf (I64 g) (I64 h) = IsSameTree vdb g.tree h.tree × ((k : ℕ) → last h.coords k ≡ None)
 IsCopyOf g h = ⊥
 
--- what an entry of a scene is in the abstract scene
+-- an entry of a scene as the abstract scene has it
 abbrev pub grid_of : GridEntry → abstract_scene.Grid
 grid_of e = record { field = grid_field e.grid; limit = grid_root_limit e.grid; pairs = e.metas }
 
--- what a grid is there without metadata
+-- a grid without metadata, as the abstract scene has it
 abbrev pub grid_alone : AnyGrid → abstract_scene.Grid
 grid_alone g = record { field = grid_field g; limit = grid_root_limit g; pairs = [] }
 
--- what it is there with these pairs
+-- a grid with these pairs, as the abstract scene has it
 abbrev pub grid_with : AnyGrid → Pairs → abstract_scene.Grid
 grid_with g pairs = record { field = grid_field g; limit = grid_root_limit g; pairs = pairs }
 
@@ -85,6 +85,6 @@ grid_with g pairs = record { field = grid_field g; limit = grid_root_limit g; pa
 abbrev pub scene_over : List (List ℕ × GridEntry) → abstract_scene.Scene
 scene_over grids = map (λ e. (e.0, grid_of e.1)) grids
 
--- the abstract scene that a scene is
+-- the abstract scene of a scene
 abbrev pub scene_of : Scene → abstract_scene.Scene
 scene_of s = scene_over s.grids.entries

@@ -11,7 +11,7 @@ use Rattle.vdb_scene.specs.declared.answer.Refusal.TheVariants as refusals
 
 -- ---- texts
 
--- a printable character of ASCII, but no space: hexadecimal 21 to 7E
+-- a printable ASCII character other than space: hexadecimal 21 to 7E
 abbrev pub is_text_byte : ℕ → Bool
 is_text_byte b = nat_le 33 b && nat_le b 126
 
@@ -37,23 +37,23 @@ HasRisingKeys pairs = IsStrictlySortedBy (slice_cmp nat_cmp) (keys_of pairs)
 abbrev pub is_key : List ℕ → List ℕ → Bool
 is_key key = is_at (slice_cmp nat_cmp key)
 
--- whether there is a pair of a key
+-- whether a key has a pair
 abbrev pub has_pair : Pairs → List ℕ → Bool
 has_pair pairs key = is_some (lookup (is_key key) pairs)
 
--- whether a pair may be put under a key: in the place of another, or as one of sixteen
+-- whether a pair may be set: its key has a text, or fewer than sixteen pairs exist
 abbrev pub may_set : Pairs → List ℕ → Bool
 may_set pairs key = has_pair pairs key || nat_lt (length pairs) 16
 
--- the pairs with this text under a key, whether or not the key has a text
+-- the pairs with this text for a key, which may be new
 abbrev pub with_pair : Pairs → List ℕ → List ℕ → Pairs
 with_pair pairs key text = insert_entry (slice_cmp nat_cmp) pairs key text
 
--- the pairs without that of a key
+-- the pairs without a key
 abbrev pub without_pair : Pairs → List ℕ → Pairs
 without_pair pairs key = remove_entry (is_key key) pairs
 
--- The pair is put, or the pairs stay: refused for a seventeenth pair, or for lack of memory where a new pair may be put.
+-- The pair is set, or the pairs stay: error for a seventeenth pair, or for an allocation that a new pair needs.
 abbrev pub SetsPair : Pairs → List ℕ → List ℕ → Result (Unit {0}) Refusal → Pairs → Type 0
 SetsPair before key text (Ok _) after = (may_set before key ≡ true) × (after ≡ with_pair before key text)
 SetsPair before key text (Err refusals.MetaLimit) after = (may_set before key ≡ false) × (after ≡ before)

@@ -1,4 +1,4 @@
--- What commands answer.
+-- The answers of commands.
 use Rattle.std.specs.Prelude.{ℕ, ℤ, Bool, List, length, map, take, nat_lt, Option}
 use Rattle.vdb_coord.specs.Space.{Box, coord, range}
 use Rattle.vdb_coord.specs.declared.Coord.{Coord}
@@ -22,7 +22,7 @@ row_at f low high z y = record { y = y; cells = map (λ x. f.cell (coord x y z))
 abbrev pub rows : Field Scalar → Box → List Row
 rows f box = map (row_at f box.min.x box.max.x box.min.z) (range box.min.y box.max.y)
 
--- what a command answers
+-- the answer of a command
 pub data Reply : Type 0 where
   Done : Reply
   Refused : (refusal : Refusal) → Reply
@@ -34,6 +34,6 @@ pub data Reply : Type 0 where
   Census : (counts : Smallest) → Reply
   Pairs : (pairs : MetaPairs) → Reply
 
--- the first so many of some voxels, and whether there are more
+-- the first voxels of a list up to a limit, and whether more follow
 abbrev pub listing : ℕ → List (Coord × Scalar) → Reply
 listing n voxels = Listing (take n voxels) (nat_lt n (length voxels))

@@ -11,8 +11,8 @@ use Rattle.vdb_scene.specs.Scalars.{kind_of}
 use Rattle.vdb_scene.specs.declared.scalar.Scalar.{Scalar}
 use Rattle.vdb_scene.specs.declared.scalar.Scalar.TheVariants.{Bool as truth}
 
--- what a name stands for: one total function from coordinates to cells, whose background tells its kind, how many of its
--- root blocks may hold anything but the background, and its metadata pairs
+-- what a name stands for: one total function from coordinates to cells, whose background has its type, the maximum number of its
+-- root blocks with a cell other than the inactive background, and its metadata pairs
 pub record Grid : Type 0 where
   pub field : Field Scalar
   pub limit : ℕ
@@ -26,15 +26,15 @@ Scene = List (List ℕ × Grid)
 abbrev pub is_named : List ℕ → List ℕ → Bool
 is_named name = is_at (slice_cmp nat_cmp name)
 
--- the grid of a name, if it is there
+-- the grid of a name, if it exists
 abbrev pub grid_at : Scene → List ℕ → Option Grid
 grid_at s name = lookup (is_named name) s
 
--- a grid that was never written, without metadata
+-- a grid that has never been written, without metadata
 abbrev pub new_grid : Scalar → ℕ → Grid
 new_grid background limit = record { field = new background; limit = limit; pairs = [] }
 
--- the grid of a name that is there; any other stands for one that isn't, which is refused before
+-- the grid of an existing name; for a missing name any other, which an error excludes
 abbrev pub the_grid : Scene → List ℕ → Grid
 the_grid s name = unwrap_or (grid_at s name) (new_grid (truth false) 0)
 
@@ -50,15 +50,15 @@ limit_at s name = (the_grid s name).limit
 abbrev pub pairs_at : Scene → List ℕ → Pairs
 pairs_at s name = (the_grid s name).pairs
 
--- its kind
+-- its type
 abbrev pub kind_at : Scene → List ℕ → Kind
 kind_at s name = kind_of (field_at s name).background
 
--- the scene with a further grid, under a name that isn't there
+-- the scene with a further grid, under a new name
 abbrev pub with_grid : Scene → List ℕ → Grid → Scene
 with_grid s name g = insert_entry (slice_cmp nat_cmp) s name g
 
--- the scene with another grid under a name that is there
+-- the scene with another grid under an existing name
 abbrev pub with_changed : Scene → List ℕ → Grid → Scene
 with_changed s name g = set_value (is_named name) s g
 

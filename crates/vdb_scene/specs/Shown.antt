@@ -1,4 +1,4 @@
--- Which abstract answer an answer shows.
+-- The abstract answer that an answer shows.
 use Rattle.std.specs.Prelude.{◌≡◌, option_map}
 use Rattle.vdb_coord.specs.Space.{Box}
 use Rattle.vdb_coord.specs.declared.Coord.{Coord}

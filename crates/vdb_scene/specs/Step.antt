@@ -1,4 +1,4 @@
--- What a command makes of a scene: when it is refused, what it answers, and the scene after it.
+-- The step of a scene by a command: its error, its answer, and the scene after it.
 use Rattle.std.specs.Prelude.{◌≡◌, ◌⊎◌, ℕ, Bool, true, false, not, ◌&&◌, List, [], ◌∷◌, Option, Some, None, IsTrue, Result, Ok, Err}
 use Rattle.vdb_coord.specs.Blocks.{block_around, vdb}
 use Rattle.vdb_coord.specs.Space.{Box}
@@ -39,7 +39,7 @@ write_command name k p (writes.Off v) = commands.Unset name k p v
 write_command name k p (writes.Value v) = commands.Only name k p v
 write_command name k p (writes.State on) = commands.State name k p on
 
--- whether the value that is written, if one is, passes a test
+-- whether the written value, if any, passes a test
 abbrev pub passes : {V : Type 0} → (V → Bool) → Write V → Bool
 passes test (writes.On v) = test v
 passes test (writes.Off v) = test v
@@ -66,24 +66,24 @@ after_write s name p w = changed s name (write (coord_of p) (write_at s name w))
 abbrev pub cell_of_line : Scene → List ℕ → Literal → Bool → Cell Scalar
 cell_of_line s name v on = record { value = scalar (kind_at s name) v; on = on }
 
--- what a write of a voxel may be refused for
+-- the errors of a write of a voxel
 abbrev pub tried_write : Scene → List ℕ → Option Num → Point → Write Literal → List (Option Refusal)
 tried_write s name k p w =
     no_grid s name ∷ other_form (passes (has_form (kind_at s name)) w) ∷ out_of_range (is_coord p && passes (has_value (kind_at s name)) w)
     ∷ no_accessor k ∷ root_limit s name (write (coord_of p) (write_at s name w)) ∷ []
 
--- whether a write may take memory: where the cell changes, and the cells of the leaf block around it are all equal
+-- whether a write may allocate: if the cell changes, and the cells of the leaf extent around it are all equal
 abbrev pub write_takes_memory : Field Scalar → Coord → Write Scalar → Bool
 write_takes_memory f p w = not (cell_eq scalar_eq (written w (f.cell p)) (f.cell p)) && is_constant scalar_eq f (block_around vdb Leaf p)
 
--- whether that of a line may
+-- whether the write of a line may allocate
 abbrev pub line_takes_memory : Scene → List ℕ → Point → Write Literal → Bool
 line_takes_memory s name p w = write_takes_memory (field_at s name) (coord_of p) (write_at s name w)
 
 -- ---- what a command means
 
--- What a command means on a scene: what it may be refused for, in the one order of all refusals; and where nothing of it
--- applies, the scene after it, what it answers, and whether it may take memory.
+-- The meaning of a command on a scene: its errors, in the one order of all errors; and if none
+-- applies, the scene after it, its answer, and whether it may allocate.
 pub record Meaning : Type 1 where
   pub tried : List (Option Refusal)
   pub after : Scene
@@ -112,16 +112,16 @@ meaning_of_two o s name other = record {
   takes_memory = true;
 }
 
--- what each command means
+-- the meaning of each command
 abbrev pub meaning : Scene → Command → Meaning
--- a grid that was never written, with this background and this limit
+-- a grid that has never been written, with this background and this limit
 meaning s (commands.Grid name kind v limit) = record {
   tried = name_taken s name ∷ too_many_grids s ∷ other_form (has_form kind v) ∷ out_of_range (has_value kind v && is_root_limit limit) ∷ [];
   after = with_grid s name (new_grid (scalar kind v) (root_limit_of limit));
   IsReply = only Done;
   takes_memory = true;
 }
--- the grid goes
+-- the grid is removed
 meaning s (commands.Drop name) = record {
   tried = no_grid s name ∷ [];
   after = without_grid s name;
@@ -142,7 +142,7 @@ meaning s (commands.Get name k p) = record {
   IsReply = only (Value ((field_at s name).cell (coord_of p)));
   takes_memory = false;
 }
--- the four writes of a voxel: the value and active, the value and inactive, the value alone, the state alone
+-- the four writes of a voxel: the value and active, the value and inactive, the value only, the state only
 meaning s (commands.Set name k p v) = meaning_of_write s name k p (writes.On v)
 meaning s (commands.Unset name k p v) = meaning_of_write s name k p (writes.Off v)
 meaning s (commands.Only name k p v) = meaning_of_write s name k p (writes.Value v)
@@ -162,21 +162,21 @@ meaning s (commands.Clip name c) = record {
   IsReply = only Done;
   takes_memory = true;
 }
--- no cell changes; of the tree it is said in Doing
+-- no cell changes; Doing specifies the tree
 meaning s (commands.Prune name) = record {
   tried = no_grid s name ∷ [];
   after = s;
   IsReply = only Done;
   takes_memory = false;
 }
--- no cell changes; of the tree it is said in Doing
+-- no cell changes; Doing specifies the tree
 meaning s (commands.Voxelise name c) = record {
   tried = no_grid s name ∷ out_of_range (are_coords c) ∷ no_box c ∷ too_large 2097152 (box_between c) ∷ [];
   after = s;
   IsReply = only Done;
   takes_memory = true;
 }
--- the first active voxels of the box in block order, and whether there are more
+-- the first active voxels of the box in block order, and whether more follow
 meaning s (commands.List name c limit) = record {
   tried = no_grid s name ∷ out_of_range (is_limit limit && are_coords c) ∷ no_box c ∷ [];
   after = s;
@@ -190,28 +190,28 @@ meaning s (commands.Slice name z a) = record {
   IsReply = only (Slice (rows (field_at s name) (box_between (flat z a))));
   takes_memory = false;
 }
--- how many voxels of the box, or of all, are active
+-- the number of active voxels of the box, or of all coordinates
 meaning s (commands.Count name c) = record {
   tried = no_grid s name ∷ tried_region c;
   after = s;
   IsReply = only (Count (count (field_at s name) (region c)));
   takes_memory = false;
 }
--- the least box around the active voxels, if there are any
+-- the bounding box of the active voxels, if any
 meaning s (commands.Bounds name) = record {
   tried = no_grid s name ∷ [];
   after = s;
   IsReply = λ reply. (box : Option Box) × (reply ≡ Bounds box) × IsActiveBounds (field_at s name) box;
   takes_memory = false;
 }
--- how large the smallest tree of the field is
+-- the size of the smallest tree of the field
 meaning s (commands.Census name) = record {
   tried = no_grid s name ∷ [];
   after = s;
   IsReply = only (Census (census scalar_eq vdb (field_at s name)));
   takes_memory = false;
 }
--- the seven operations on two grids, of which the first changes
+-- the seven operations on two grids, which change the first
 meaning s (commands.Union name other) = meaning_of_two (States rules.Unite) s name other
 meaning s (commands.Difference name other) = meaning_of_two (States rules.Subtract) s name other
 meaning s (commands.Intersect name other) = meaning_of_two (States rules.Intersect) s name other
@@ -219,28 +219,28 @@ meaning s (commands.Max name other) = meaning_of_two (Values composites.Maximum)
 meaning s (commands.Min name other) = meaning_of_two (Values composites.Minimum) s name other
 meaning s (commands.Sum name other) = meaning_of_two (Values composites.Sum) s name other
 meaning s (commands.Replace name other) = meaning_of_two (Values composites.Replace) s name other
--- in each of so many turns each voxel becomes active that has an active face neighbour
+-- in each iteration every voxel with an active face neighbour becomes active
 meaning s (commands.Dilate name n) = record {
   tried = no_grid s name ∷ out_of_range (is_turn_count n) ∷ root_limit s name (turns (count_of n) dilate) ∷ [];
   after = changed s name (turns (count_of n) dilate);
   IsReply = only Done;
   takes_memory = true;
 }
--- in each of so many turns each voxel becomes inactive that has an inactive face neighbour
+-- in each iteration every voxel with an inactive face neighbour becomes inactive
 meaning s (commands.Erode name n) = record {
   tried = no_grid s name ∷ out_of_range (is_turn_count n) ∷ [];
   after = changed s name (turns (count_of n) erode);
   IsReply = only Done;
   takes_memory = true;
 }
--- a text under a key of the grid's metadata, which takes no memory where the key has one
+-- a text for a key of the grid's metadata, which allocates nothing if the key has one
 meaning s (commands.Meta name key text) = record {
   tried = no_grid s name ∷ meta_limit s name key ∷ [];
   after = with_pairs s name (λ pairs. with_pair pairs key text);
   IsReply = only Done;
   takes_memory = not (has_pair (pairs_at s name) key);
 }
--- the pair of a key goes, if there is one
+-- the pair of a key is removed, if it exists
 meaning s (commands.Unmeta name key) = record {
   tried = no_grid s name ∷ [];
   after = with_pairs s name (λ pairs. without_pair pairs key);
@@ -255,49 +255,49 @@ meaning s (commands.Metas name) = record {
   takes_memory = false;
 }
 
--- what a command may be refused for, in order
+-- the errors of a command, in order
 abbrev pub tried : Scene → Command → List (Option Refusal)
 tried s c = (meaning s c).tried
 
--- why a command is refused, if it is
+-- the error of a command, if any
 abbrev pub refusal : Scene → Command → Option Refusal
 refusal s c = first_of_all (tried s c)
 
--- Why a command is refused before memory may be lacking, if it is. A dilation meets the root limit as it grows, and memory may
--- be lacking before it does; every other refusal of any command comes first.
+-- The error of a command before an allocation may fail, if any. A dilation meets the root limit as it grows, and an allocation may
+-- fail before it does; every other error of any command comes first.
 abbrev pub first_refusal : Scene → Command → Option Refusal
 first_refusal s (commands.Dilate name n) = first_of_all (no_grid s name ∷ out_of_range (is_turn_count n) ∷ [])
 first_refusal s c = refusal s c
 
--- the scene after a command that isn't refused
+-- the scene after a command that succeeds
 abbrev pub after : Scene → Command → Scene
 after s c = (meaning s c).after
 
--- the answer to a command that isn't refused
+-- the answer to a command that succeeds
 abbrev pub IsReply : Scene → Command → Reply → Type 0
 IsReply s c reply = (meaning s c).IsReply reply
 
--- whether a command may take memory
+-- whether a command may allocate
 abbrev pub takes_memory : Scene → Command → Bool
 takes_memory s c = (meaning s c).takes_memory
 
 -- ---- one step
 
--- Either the command is refused and the scene stays; or it isn't, and answer and scene are as said; or it isn't refused before
--- it takes memory, of which there is too little, and the scene stays.
+-- Either the command fails and the scene stays; or it succeeds with its answer and the scene after it; or no error comes before
+-- it allocates, an allocation fails, and the scene stays.
 abbrev pub Step : Scene → Command → Reply → Scene → Type 0
 Step s c reply next =
     ((r : Refusal) × (refusal s c ≡ Some r) × (reply ≡ Refused r) × (next ≡ s))
     ⊎ ((refusal s c ≡ None) × IsReply s c reply × (next ≡ after s c))
     ⊎ ((first_refusal s c ≡ None) × IsTrue (takes_memory s c) × (reply ≡ Refused refusals.Memory) × (next ≡ s))
 
--- ---- a grid that is handed in
+-- ---- a grid that a caller inserts
 
--- why a grid can't be put under a name, if it can't
+-- the error of inserting a grid under a name, if any
 abbrev pub insertion_refusal : Scene → List ℕ → Option Refusal
 insertion_refusal s name = first_of_all (name_taken s name ∷ too_many_grids s ∷ [])
 
--- the grid is there under its name, or the first refusal; `Memory` comes where nothing else applies
+-- the grid has its name, or the first error; `Memory` comes only if nothing else applies
 abbrev pub Inserts : Scene → List ℕ → Grid → Result (Unit {0}) Refusal → Scene → Type 0
 Inserts s name g (Ok _) next = (insertion_refusal s name ≡ None) × (next ≡ with_grid s name g)
 Inserts s name g (Err refusals.Memory) next = (insertion_refusal s name ≡ None) × (next ≡ s)

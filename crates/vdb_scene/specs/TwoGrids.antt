@@ -1,4 +1,4 @@
--- What is made of two grids, and what it may be refused for.
+-- Operations on two grids, and their errors.
 use Rattle.std.specs.Prelude.{◌≡◌, ℕ, List, [], ◌∷◌, Option, None, Some, Result, Ok, Err}
 use Rattle.vdb_tree.specs.Field.{Field, combine, replace, sum}
 use Rattle.vdb_tree.specs.Field.{ruled}
@@ -26,7 +26,7 @@ command_of (Values Minimum) name other = commands.Min name other
 command_of (Values Sum) name other = commands.Sum name other
 command_of (Values Replace) name other = commands.Replace name other
 
--- the field that it makes of two
+-- the field of an operation on two fields
 abbrev pub made_of : Operation → Field Scalar → Field Scalar → Field Scalar
 made_of (States rule) f g = ruled rule f g
 made_of (Values Maximum) f g = combine scalar_greater f g
@@ -34,31 +34,31 @@ made_of (Values Minimum) f g = combine scalar_lesser f g
 made_of (Values Sum) f g = sum scalar_sum f g
 made_of (Values Replace) f g = replace f g
 
--- What it may be refused for, once both grids are there, with this limit for the first one. Where states alone change the grids
--- may be of two kinds, and only a union can exceed a limit that held before.
+-- The errors of an operation once both grids exist, with this limit for the first one. If only states change, the grids
+-- may have different types, and only a union can exceed a limit that held before.
 abbrev pub tried_of : Operation → ℕ → Field Scalar → Field Scalar → List (Option Refusal)
 tried_of (States rule) limit f g = beyond_limit limit (ruled rule f g) ∷ []
 tried_of (Values Sum) limit f g = other_kind f g ∷ no_sum f ∷ sum_range f g ∷ beyond_limit limit (sum scalar_sum f g) ∷ []
 tried_of o limit f g = other_kind f g ∷ beyond_limit limit (made_of o f g) ∷ []
 
--- why a sum refuses
+-- the error of a sum
 abbrev pub of_sum : SumRefusal → Refusal
 of_sum sums.SumRange = refusals.SumRange
 of_sum sums.RootLimit = refusals.RootLimit
 of_sum sums.Memory = refusals.Memory
 
--- A field becomes the changed one; or the first refusal of a list that applies, or `Memory` where none does, and it stays.
+-- A field becomes the changed one; or it stays, with the first error of a list that applies, or `Memory` if none does.
 abbrev pub Gives : List (Option Refusal) → Field Scalar → Field Scalar → Field Scalar → Result (Unit {0}) Refusal → Type 0
 Gives tried old changed new (Ok _) = (first_of_all tried ≡ None) × (new ≡ changed)
 Gives tried old changed new (Err refusals.Memory) = (first_of_all tried ≡ None) × (new ≡ old)
 Gives tried old changed new (Err r) = (first_of_all tried ≡ Some r) × (new ≡ old)
 
--- what is refused for anything but `RootLimit` and `Memory` stays, and not its cells alone
+-- an error other than `RootLimit` and `Memory` leaves everything unchanged, not only the cells
 abbrev pub StaysBut : {A : Type 0} → Refusal → A → A → Type 0
 StaysBut refusals.RootLimit old new = Unit {0}
 StaysBut refusals.Memory old new = Unit {0}
 StaysBut r old new = new ≡ old
 
--- what an operation gives of two fields, with this limit for the first
+-- the outcome of an operation on two fields, with this limit for the first
 abbrev pub IsMade : Operation → ℕ → Field Scalar → Field Scalar → Field Scalar → Result (Unit {0}) Refusal → Type 0
 IsMade o limit f g = Gives (tried_of o limit f g) f (made_of o f g)

@@ -1,2 +1,2 @@
--- Words of private functions alone.
+-- Definitions for private functions alone.
 pub mod CommandGroups

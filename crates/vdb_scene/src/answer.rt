@@ -1,4 +1,4 @@
-//! What a command answers.
+//! The answers of commands.
 
 ghost use Rattle.std.specs.Prelude.{◌≡◌};
 ghost use Rattle.vdb_scene.specs.Refusals.{of_tree};
@@ -8,49 +8,49 @@ use vdb_coord::Coord;
 use vdb_tree::TreeRefusal;
 use vdb_walk::Census;
 
-/// Why a line is refused, in the order in which the reasons are tried.
+/// The errors of a line or a command, in the order in which they are tried.
 #[derive(Clone, Copy, Debug, PartialEq, Eq)]
 pub enum Refusal {
     /// The line has more than 256 bytes.
     LineTooLong,
-    /// The line is no command.
+    /// The line is not a command.
     Syntax,
-    /// There is no grid of a name that must be there.
+    /// The scene has no grid of a name that must exist.
     NoGrid,
-    /// There is a grid of the name that is to be made.
+    /// The scene already has a grid of the name of the new one.
     NameTaken,
-    /// A command on two grids names one twice.
+    /// A command on two grids names one grid twice.
     SameGrid,
     /// The scene has 64 grids.
     GridLimit,
-    /// A number for a grid of truth values, a truth value for one of numbers, or grids of two kinds.
+    /// A number for a boolean grid, a boolean for a grid of numbers, or two grids of different types.
     Kind,
     /// A value or a number lies outside its range.
     ValueRange,
-    /// There is no accessor of that number.
+    /// The grid has no accessor of that number.
     NoAccessor,
     /// A minimum of a box is greater than its maximum.
     Box,
     /// A box or a slice is too large.
     TooLarge,
-    /// Truth values have no sum.
+    /// Booleans have no sum.
     NoSum,
-    /// A sum lies outside the type.
+    /// A sum lies outside the range of the grid's type.
     SumRange,
-    /// The grid would have too many root blocks that hold anything but the background.
+    /// More root blocks of the grid than its limit would hold a cell other than the inactive background.
     RootLimit,
-    /// The grid has 16 metadata pairs, and none of them under the key.
+    /// The grid has 16 metadata pairs, and none of them has the key.
     MetaLimit,
-    /// There is too little memory.
+    /// An allocation failed.
     Memory,
 }
 
-/// What a command answers. It borrows the scene until it is dropped.
+/// The answer of a command. It borrows the scene until it is dropped.
 #[derive(Drop)]
 pub enum Answer<'a> {
-    /// The command is carried out.
+    /// The command has been carried out.
     Done,
-    /// The command is refused, and the scene is as it was.
+    /// The command failed with this error, and the scene is unchanged.
     Refused(Refusal),
     /// The value of a voxel, and whether it is active.
     Value(Scalar, bool),
@@ -58,11 +58,11 @@ pub enum Answer<'a> {
     List(Voxels<'a>),
     /// The cells of a part of a plane.
     Slice(Slice<'a>),
-    /// How many voxels are active.
+    /// The number of active voxels.
     Count(u128),
-    /// The least and the greatest corner of the box around the active voxels, if there are any.
+    /// The least and the greatest corner of the bounding box of the active voxels, if any.
     Bounds(Option<(Coord, Coord)>),
-    /// How large the smallest tree of the grid's cells is.
+    /// The size of the smallest tree of the grid's cells.
     Census(Census),
     /// The metadata pairs of a grid.
     Pairs(&'a Metas),

@@ -1,4 +1,4 @@
-//! A grid of any kind.
+//! A grid of any type of values.
 ghost use Rattle.std.specs.Prelude.{◌≡◌, ◌+◌, ◌<◌, ◌≤◌, ℕ, Some, false, IfErr, IfOk, IsOk, IsTrue, OnOk};
 ghost use Rattle.std.specs.Option.{unwrap_or};
 ghost use Rattle.vdb_coord.specs.Blocks.{vdb};
@@ -24,10 +24,10 @@ use vdb_tree::{TreeRefusal, Write};
 use vdb_value::{Cell, Kind};
 use vdb_walk::Census;
 
-/// How many accessors a grid has.
+/// The number of accessors of a grid.
 pub const ACCESSORS: usize = 8;
 
-/// A grid of one of the three kinds, with `ACCESSORS` accessors.
+/// A grid of one of the three types of values, with `ACCESSORS` accessors.
 #[derive(Drop)]
 pub enum AnyGrid {
     Bool(Grid<bool, ACCESSORS>),
@@ -36,8 +36,8 @@ pub enum AnyGrid {
 }
 
 impl AnyGrid {
-    /// A grid that was never written, of the background's kind, of which `limit` root blocks at most may have a cell that isn't
-    /// the background, inactive. It takes no memory.
+    /// Creates a grid of the background's type that has never been written. At most `limit` of its root blocks may have a cell
+    /// other than the inactive background. Allocates nothing.
     pub fn new(alloc: Global, background: Scalar, limit: u32) -> AnyGrid
         ensures field { grid_field result ≡ new background }
         ensures limit { grid_root_limit result ≡ limit }
@@ -49,7 +49,7 @@ impl AnyGrid {
         }
     }
 
-    /// The kind of its values.
+    /// Returns the type of its values.
     pub fn kind(&self) -> Kind
         ensures { result ≡ kind_of (grid_field self.now).background }
     {
@@ -60,7 +60,7 @@ impl AnyGrid {
         }
     }
 
-    /// The cell of a voxel by the descent from the root, by at most three visits.
+    /// Returns the cell of a voxel by the descent from the root, by at most three node visits.
     pub fn get(&self, at: Coord, steps: &mut Steps) -> Cell<Scalar>
         ensures cell { result ≡ (grid_field self.now).cell at }
         ensures steps { steps.new ≤ steps.old + 3 }
@@ -72,7 +72,8 @@ impl AnyGrid {
         }
     }
 
-    /// The cell of a voxel through an accessor, or from the root where none is named. The accessor then caches the path to it.
+    /// Returns the cell of a voxel through an accessor, or from the root if none is named. The accessor then caches the path to
+    /// the voxel.
     pub fn probe(&mut self, accessor: Option<usize>, at: Coord, steps: &mut Steps) -> Cell<Scalar>
         requires { (k : ℕ) → accessor ≡ Some k → k < ACCESSORS }
         ensures cell { result ≡ (grid_field self.old).cell at }
@@ -87,10 +88,12 @@ impl AnyGrid {
         }
     }
 
-    /// Writes a voxel, with a value of the grid's kind, through an accessor or without one. The accessor then caches the path to
-    /// it, whether the write is accepted or refused. `RootLimit` says that too many root blocks would have a cell that isn't
-    /// the background, inactive; `Memory` that a growth was refused. Both leave every cell as it was. `Memory` comes only where
-    /// the cell changes and the cells of its leaf block are all equal.
+    /// Writes a voxel, with a value of the grid's type, through an accessor or without one. The accessor then caches the path to
+    /// the voxel, also if the write fails.
+    ///
+    /// Fails with `RootLimit` if more root blocks than the limit would have a cell other than the inactive background, and with
+    /// `Memory` if an allocation fails. Both leave every cell unchanged. `Memory` is only possible if the cell changes and all
+    /// cells of its leaf extent are equal.
     pub fn write(
         &mut self,
         accessor: Option<usize>,
@@ -112,8 +115,10 @@ impl AnyGrid {
         }
     }
 
-    /// Gives each coordinate of a box one cell, with a value of the grid's kind. `RootLimit` says that too many root blocks would
-    /// have a cell that isn't the background, inactive; `Memory` that a growth was refused. Both leave every cell as it was.
+    /// Sets each voxel of a box to one cell, with a value of the grid's type.
+    ///
+    /// Fails with `RootLimit` if more root blocks than the limit would have a cell other than the inactive background, and with
+    /// `Memory` if an allocation fails. Both leave every cell unchanged.
     pub fn fill(
         &mut self,
         bounds: Bounds,
@@ -132,8 +137,8 @@ impl AnyGrid {
         }
     }
 
-    /// Makes each coordinate outside a box the background, inactive. `Memory` says that a growth was refused, and leaves every
-    /// cell as it was.
+    /// Sets each voxel outside a box to the background, inactive. Fails with `Memory` if an allocation fails, and leaves every
+    /// cell unchanged.
     pub fn clip(&mut self, bounds: Bounds, steps: &mut Steps) -> Result<(), TreeRefusal>
         ensures outcome { IsOutcome scalar_eq vdb (grid_root_limit self.old) (grid_field self.old) (clipped bounds (grid_field self.old)) (grid_field self.new) result }
         ensures limit { grid_root_limit self.new ≡ grid_root_limit self.old }
@@ -147,9 +152,11 @@ impl AnyGrid {
         }
     }
 
-    /// Makes each voxel active, in each of so many turns, that has an active face neighbour, and keeps the values. There are 1
-    /// to 16 turns. `RootLimit` says that too many root blocks would have a cell that isn't the background, inactive; `Memory`
-    /// that a growth was refused, which may also come where there would be too many root blocks. Both leave every cell as it was.
+    /// Activates, in each of `turns` iterations, every voxel that has an active face neighbour, and keeps the values. The number
+    /// of iterations is 1 to 16.
+    ///
+    /// Fails with `RootLimit` if more root blocks than the limit would have a cell other than the inactive background, and with
+    /// `Memory` if an allocation fails. `Memory` may also hide a `RootLimit`. Both leave every cell unchanged.
     pub fn dilate(&mut self, turns: u32, steps: &mut Steps) -> Result<(), TreeRefusal>
         requires some { 1 ≤ turns }
         requires few { turns ≤ 16 }
@@ -164,8 +171,8 @@ impl AnyGrid {
         }
     }
 
-    /// Makes each voxel inactive, in each of so many turns, that has an inactive face neighbour, and keeps the values. There are
-    /// 1 to 16 turns. `Memory` says that a growth was refused, and leaves every cell as it was.
+    /// Deactivates, in each of `turns` iterations, every voxel that has an inactive face neighbour, and keeps the values. The
+    /// number of iterations is 1 to 16. Fails with `Memory` if an allocation fails, and leaves every cell unchanged.
     pub fn erode(&mut self, turns: u32, steps: &mut Steps) -> Result<(), TreeRefusal>
         requires some { 1 ≤ turns }
         requires few { turns ≤ 16 }
@@ -181,10 +188,14 @@ impl AnyGrid {
         }
     }
 
-    /// Makes of this grid and of another one what the operation says; the other stays. `Kind` refuses grids of two kinds where
-    /// values are made of values, `NoSum` a sum of truth values, `SumRange` one that lies outside the kind at some coordinate;
-    /// `RootLimit` says that too many root blocks would have a cell that isn't the background, inactive, and `Memory` that a
-    /// growth was refused. Each leaves every cell and the background as they were.
+    /// Combines this grid with another one by an operation. The other grid is unchanged.
+    ///
+    /// Each error leaves every cell and the background unchanged:
+    /// - `Kind` if values are combined and the grids have different types,
+    /// - `NoSum` for a sum of booleans,
+    /// - `SumRange` if a sum lies outside the type at some coordinate,
+    /// - `RootLimit` if more root blocks than the limit would have a cell other than the inactive background,
+    /// - `Memory` if an allocation fails.
     pub(crate) fn combine(
         &mut self,
         operation: Operation,
@@ -203,7 +214,7 @@ impl AnyGrid {
         }
     }
 
-    /// How many voxels of the box, or of all coordinates where there is no box, are active. It takes no memory.
+    /// Returns the number of active voxels of a box, or of all coordinates if `bounds` is `None`. Allocates nothing.
     pub fn count(&self, bounds: Option<Bounds>, steps: &mut Steps) -> u128
         ensures { result ≡ active_count (grid_field self.now) (unwrap_or bounds everywhere) }
     {
@@ -214,7 +225,7 @@ impl AnyGrid {
         }
     }
 
-    /// The least box that holds every active voxel; `None` where no voxel is active. It takes no memory.
+    /// Returns the bounding box of the active voxels: `None` if no voxel is active. Allocates nothing.
     pub fn active_bounds(&self, steps: &mut Steps) -> Option<Bounds>
         ensures { IsActiveBounds (grid_field self.now) result }
     {
@@ -225,8 +236,8 @@ impl AnyGrid {
         }
     }
 
-    /// How many root blocks hold anything but the background, and how many blocks of each level aren't constant, whatever nodes
-    /// there are. It takes no memory.
+    /// Returns the number of root blocks with a cell other than the inactive background, and the number of blocks of each level
+    /// that aren't constant. Both depend on the cells alone, not on the nodes. Allocates nothing.
     pub fn census(&self, steps: &mut Steps) -> Census
         ensures { result ≡ census_of scalar_eq vdb (grid_field self.now) }
     {
@@ -237,7 +248,7 @@ impl AnyGrid {
         }
     }
 
-    /// Makes the tree as small as its field allows. No cell changes, and it takes no memory.
+    /// Makes the tree as small as its field allows. No cell changes. Allocates nothing.
     pub fn prune(&mut self, steps: &mut Steps)
         ensures field { grid_field self.new ≡ grid_field self.old }
         ensures limit { grid_root_limit self.new ≡ grid_root_limit self.old }
@@ -251,8 +262,8 @@ impl AnyGrid {
         }
     }
 
-    /// A grid with the same cells, tiles, nodes, background and limit, and with accessors that were given no coordinate. `Memory`
-    /// says that a growth was refused.
+    /// Returns a grid with the same cells, tiles, nodes, background and limit, and with accessors that cache no path. Fails with
+    /// `Memory` if an allocation fails.
     pub fn try_copy(&self) -> Result<AnyGrid, TreeRefusal>
         ensures same { IfOk result (λ copy. IsCopyOf self.now copy) }
         ensures field { IfOk result (λ copy. grid_field copy ≡ grid_field self.now) }
@@ -266,7 +277,7 @@ impl AnyGrid {
         }
     }
 
-    /// Makes each active voxel of a box lie in a leaf. No cell changes. `Memory` says that a growth was refused.
+    /// Puts each active voxel of a box into a leaf. No cell changes. Fails with `Memory` if an allocation fails.
     pub fn voxelise(&mut self, bounds: Bounds, steps: &mut Steps) -> Result<(), TreeRefusal>
         ensures field { grid_field self.new ≡ grid_field self.old }
         ensures limit { grid_root_limit self.new ≡ grid_root_limit self.old }

@@ -1,4 +1,4 @@
-//! The coordinates, accessors and limits that the numbers of a line name.
+//! The coordinates, accessors and limits in the numbers of a line.
 ghost use Rattle.std.specs.Prelude.{◌≡◌, ◌<◌, ℕ, IfOk, IfErr, Some, None, false, ◌∷◌, [], true, if◌then◌else◌, ◌||◌, nat_lt};
 ghost use Rattle.vdb_coord.specs.Space.{extent, is_box};
 ghost use Rattle.vdb_scene.specs.Scalars.{number};
@@ -10,13 +10,13 @@ use crate::slice::numbers;
 use crate::{Area, Corners, MOST_ROOT_LIMIT, Num, Point, ROOT_LIMIT, Refusal};
 use vdb_coord::{Bounds, Coord};
 
-/// The most voxels that are listed at once.
+/// The maximum number of voxels of a list.
 const LIST_LIMIT: i64 = 4096;
 
-/// The most columns, and the most rows, of a slice.
+/// The maximum number of columns, and of rows, of a slice.
 const SLICE_LIMIT: u64 = 64;
 
-/// The 32-bit number that a line writes, if it is one.
+/// Returns the number of a line as a component, if it has 32 bits.
 pub(crate) fn component_of(component: Num) -> Option<i32>
     ensures { result ≡ (if is_component component then Some (number component) else None) }
 {
@@ -26,7 +26,7 @@ pub(crate) fn component_of(component: Num) -> Option<i32>
     }
 }
 
-/// The coordinate that a line names, if it is one.
+/// Returns the coordinate that a line names: `None` if a component lies outside 32 bits.
 pub(crate) fn named_coord(at: &Point) -> Option<Coord>
     ensures { result ≡ (if is_coord at.now then Some (coord_of at.now) else None) }
 {
@@ -36,8 +36,8 @@ pub(crate) fn named_coord(at: &Point) -> Option<Coord>
     Some(Coord { x, y, z })
 }
 
-/// The box that a line names. `ValueRange` refuses a corner that is no coordinate, and then `Box` a minimum that is greater
-/// than its maximum.
+/// Returns the box that a line names. Fails with `ValueRange` if a corner is not a coordinate, then with `Box` if a minimum is
+/// greater than its maximum.
 pub(crate) fn bounds_of(corners: &Corners) -> Result<Bounds, Refusal>
     ensures coords { IfOk result (λ bounds. are_coords corners.now ≡ true) }
     ensures ordered { IfOk result (λ bounds. is_box (box_between corners.now) ≡ true) }
@@ -56,7 +56,7 @@ pub(crate) fn bounds_of(corners: &Corners) -> Result<Bounds, Refusal>
     Ok(bounds)
 }
 
-/// The corners of a part of a plane.
+/// Returns the corners of a part of a plane.
 pub(crate) fn flat(z: Num, area: Area) -> Corners
     ensures { result ≡ flat_corners z area }
 {
@@ -73,14 +73,14 @@ pub(crate) fn flat(z: Num, area: Area) -> Corners
     Corners { min, max }
 }
 
-/// Whether a slice between two corners has more than `SLICE_LIMIT` columns or rows.
+/// Returns whether a slice between two corners has more than `SLICE_LIMIT` columns or rows.
 pub(crate) fn is_wide(min: Coord, max: Coord) -> bool
     ensures { result ≡ (nat_lt 64 (extent min.x max.x) || nat_lt 64 (extent min.y max.y)) }
 {
     numbers(min.x, max.x) > SLICE_LIMIT || numbers(min.y, max.y) > SLICE_LIMIT
 }
 
-/// The limit of a listing that a line names, if it is one of 1 to `LIST_LIMIT`.
+/// Returns the limit of a list that a line names: `None` outside 1 to `LIST_LIMIT`.
 pub(crate) fn limit_of(limit: Num) -> Option<u32>
     ensures { result ≡ (if is_limit limit then Some (count_of limit) else None) }
 {
@@ -96,7 +96,7 @@ pub(crate) fn limit_of(limit: Num) -> Option<u32>
     }
 }
 
-/// The limit of root blocks that a line names, or `ROOT_LIMIT` where it names none; `None` for a number outside 1 to
+/// Returns the root limit that a line names, or `ROOT_LIMIT` if it names none: `None` for a number outside 1 to
 /// `MOST_ROOT_LIMIT`.
 pub(crate) fn root_limit_of(limit: Option<Num>) -> Option<u32>
     ensures { result ≡ (if is_root_limit limit then Some (root_limit_of limit) else None) }
@@ -114,7 +114,7 @@ pub(crate) fn root_limit_of(limit: Option<Num>) -> Option<u32>
     }
 }
 
-/// The accessor that a line names, if it names one. `NoAccessor` refuses a number that no accessor has.
+/// Returns the accessor that a line names, if it names one. Fails with `NoAccessor` if no accessor has the number.
 pub(crate) fn named_accessor(accessor: Option<Num>) -> Result<Option<usize>, Refusal>
     ensures number { IfOk result (λ k. k ≡ accessor_of accessor) }
     ensures within { IfOk result (λ k. (n : ℕ) → k ≡ Some n → n < ACCESSORS) }

@@ -24,10 +24,11 @@ use vdb_pool::Steps;
 use vdb_tree::{StateRule, Write};
 use vdb_value::{Cell, Kind};
 
-/// The most voxels of a box that is voxelised at once.
+/// The maximum number of voxels of the box of one `voxelise`.
 const VOXELISE_LIMIT: u128 = 2_097_152;
 
-/// The value of a kind that a line writes. `Kind` refuses one of another form, and `ValueRange` one outside the kind.
+/// Returns the value of a type that a line writes. Fails with `Kind` if it has another form, and with `ValueRange` if it lies
+/// outside the type.
 fn scalar_of(kind: Kind, literal: Literal) -> Result<Scalar, Refusal>
     ensures form { IfOk result (λ value. has_form kind literal ≡ true) }
     ensures range { IfOk result (λ value. has_value kind literal ≡ true) }
@@ -53,8 +54,8 @@ fn scalar_of(kind: Kind, literal: Literal) -> Result<Scalar, Refusal>
     }
 }
 
-/// The write that a line asks for, with a value of the kind. `Kind` refuses a value of another form, and `ValueRange` one
-/// outside the kind.
+/// Returns the write that a line asks for, with a value of the type. Fails with `Kind` if the value has another form, and with
+/// `ValueRange` if it lies outside the type.
 fn write_of(kind: Kind, change: Write<Literal>) -> Result<Write<Scalar>, Refusal>
     ensures form { IfOk result (λ write. passes (has_form kind) change ≡ true) }
     ensures range { IfOk result (λ write. passes (has_value kind) change ≡ true) }
@@ -70,7 +71,7 @@ fn write_of(kind: Kind, change: Write<Literal>) -> Result<Write<Scalar>, Refusal
 }
 
 impl Scene {
-    /// Carries out a command that makes a grid.
+    /// Carries out a command that creates a grid.
     fn make(
         &mut self,
         name: Name,
@@ -99,7 +100,7 @@ impl Scene {
         Ok(Answer::Done)
     }
 
-    /// Carries out a command that takes a grid away.
+    /// Carries out a command that removes a grid.
     fn take(&mut self, name: &Name) -> Result<Answer<'static>, Refusal>
         ensures step { CarriesOut (scene_of self.old) (commands.Drop name.now) result (scene_of self.new) }
         ensures trees { LeavesTrees (commands.Drop name.now) (answer_of result) self.old self.new }
@@ -196,7 +197,7 @@ impl Scene {
         Ok(Answer::Done)
     }
 
-    /// Carries out a command that clears all around a box.
+    /// Carries out a command that clears everything outside a box.
     fn clip(
         &mut self,
         name: &Name,
@@ -275,9 +276,8 @@ impl Scene {
         Ok(Answer::Slice(Slice::new(&entry.grid, bounds)))
     }
 
-    /// Carries out a command and answers it. Refusals are tried in their one order, the first that applies is answered, and
-    /// then the scene is as it was. It is also as it was where the answer is `Memory`, which comes in place of no other
-    /// refusal but `RootLimit` of a dilation.
+    /// Carries out a command and returns its answer. Errors are tried in a fixed order, and the answer is the first that applies.
+    /// An error leaves the scene unchanged, also `Memory`. `Memory` hides no other error, except the `RootLimit` of a dilation.
     pub fn apply(&mut self, command: &Command, steps: &mut Steps) -> Answer<'_>
         ensures* step { sem 𝓛 (Rests the_row self.entry (λ new. AppliesTo self.old command.now result new)) }
     {
@@ -287,8 +287,8 @@ impl Scene {
         }
     }
 
-    /// Carries out a command. Those on one voxel are told apart here, and the others by a function of its own: a script mostly has
-    /// the first, and a function pays for the places of all that it may call.
+    /// Carries out a command. It handles the commands on one voxel itself and leaves the others to a function of its own: most
+    /// commands of a script are on one voxel, and a function reserves stack space for everything that it may call.
     fn carry_out(&mut self, command: &Command, steps: &mut Steps) -> Result<Answer<'_>, Refusal>
         ensures* step { sem 𝓛 (Rests the_row self.entry (λ new. CarriesOut (scene_of self.old) command.now result (scene_of new) × LeavesTrees command.now (answer_of result) self.old new)) }
     {
@@ -322,7 +322,7 @@ impl Scene {
         }
     }
 
-    /// Carries out a command that isn't on one voxel.
+    /// Carries out a command that is not on one voxel.
     fn carry_out_on_grids(
         &mut self,
         command: &Command,

@@ -1,4 +1,4 @@
-//! Commands, as a line has them: numbers may lie outside every range, and names need not be there.
+//! Commands as a line has them: numbers may lie outside every range, and grids may not exist.
 
 use crate::{MetaText, Name};
 use vdb_value::Kind;
@@ -6,9 +6,9 @@ use vdb_value::Kind;
 /// A number of a line.
 #[derive(Clone, Copy, Debug, PartialEq, Eq)]
 pub enum Num {
-    /// One of 64 bits.
+    /// A number of 64 bits.
     Near(i64),
-    /// One outside 64 bits, and so outside every range.
+    /// A number outside 64 bits, and so outside every range.
     Far,
 }
 
@@ -34,7 +34,7 @@ pub struct Corners {
     pub max: Point,
 }
 
-/// The part of a plane that a line names: the least x and y, then the greatest.
+/// The part of a plane in a line: the least x and y, then the greatest.
 #[derive(Clone, Copy, Debug, PartialEq, Eq)]
 pub struct Area {
     pub min_x: Num,
@@ -43,21 +43,21 @@ pub struct Area {
     pub max_y: Num,
 }
 
-/// What a line asks for.
+/// A command of a line.
 #[derive(Clone, Copy, PartialEq, Eq)]
 pub enum Command {
-    /// Makes a grid that holds its background everywhere, with this limit of root blocks, or 4,096 where the line names none.
+    /// Creates a grid that holds its background everywhere, with this root limit, or 4,096 if the line has none.
     Grid {
         name: Name,
         kind: Kind,
         background: Literal,
         limit: Option<Num>,
     },
-    /// Takes a grid away.
+    /// Removes a grid.
     Drop {
         name: Name,
     },
-    /// Makes a grid like another that is there, of its kind, background, root limit and metadata and with its cells.
+    /// Copies an existing grid under a new name: its type, background, root limit, metadata and cells.
     Copy {
         from: Name,
         to: Name,
@@ -89,21 +89,21 @@ pub enum Command {
         at: Point,
         value: Literal,
     },
-    /// Makes a voxel active or inactive, and keeps its value.
+    /// Activates or deactivates a voxel, and keeps its value.
     State {
         name: Name,
         accessor: Option<Num>,
         at: Point,
         on: bool,
     },
-    /// Gives each voxel of a box one value and one state.
+    /// Sets each voxel of a box to one value and one state.
     Fill {
         name: Name,
         corners: Corners,
         value: Literal,
         on: bool,
     },
-    /// Makes each voxel outside a box the background, inactive.
+    /// Sets each voxel outside a box to the background, inactive.
     Clip {
         name: Name,
         corners: Corners,
@@ -112,88 +112,88 @@ pub enum Command {
     Prune {
         name: Name,
     },
-    /// Makes each active voxel of a box lie in a leaf of the grid's tree. No cell changes.
+    /// Puts each active voxel of a box into a leaf of the grid's tree. No cell changes.
     Voxelise {
         name: Name,
         corners: Corners,
     },
-    /// Answers the first active voxels of a box in block order, up to a limit, and whether there are more.
+    /// Answers the first active voxels of a box in block order, up to a limit, and whether more follow.
     List {
         name: Name,
         corners: Corners,
         limit: Num,
     },
-    /// Answers the cells of the part of a plane of one z, row by row.
+    /// Answers the cells of a part of a plane of one z, row by row.
     Slice {
         name: Name,
         z: Num,
         area: Area,
     },
-    /// Answers how many voxels of a box are active, or of the whole grid where there is no box.
+    /// Answers the number of active voxels of a box, or of the whole grid if the line has no box.
     Count {
         name: Name,
         corners: Option<Corners>,
     },
-    /// Answers the least box that holds every active voxel.
+    /// Answers the bounding box of the active voxels.
     Bounds {
         name: Name,
     },
-    /// Answers how large the smallest tree of the grid's cells is.
+    /// Answers the size of the smallest tree of the grid's cells.
     Census {
         name: Name,
     },
-    /// Makes each voxel of a grid active that is so in the grid or in another. No value changes.
+    /// Activates in a grid every voxel that is active in another. No value changes.
     Union {
         name: Name,
         other: Name,
     },
-    /// Makes each voxel of a grid inactive that is active in another. No value changes.
+    /// Deactivates in a grid every voxel that is active in another. No value changes.
     Difference {
         name: Name,
         other: Name,
     },
-    /// Makes each voxel of a grid inactive that isn't active in another. No value changes.
+    /// Deactivates in a grid every voxel that is inactive in another. No value changes.
     Intersect {
         name: Name,
         other: Name,
     },
-    /// Gives a grid the greater of its values and of another's everywhere, active where either is.
+    /// Sets each voxel of a grid to the greater of its value and another grid's, active if either is.
     Max {
         name: Name,
         other: Name,
     },
-    /// Gives a grid the lesser of its values and of another's everywhere, active where either is.
+    /// Sets each voxel of a grid to the lesser of its value and another grid's, active if either is.
     Min {
         name: Name,
         other: Name,
     },
-    /// Gives a grid the sum of its values and of another's everywhere, active where either is.
+    /// Sets each voxel of a grid to the sum of its value and another grid's, active if either is.
     Sum {
         name: Name,
         other: Name,
     },
-    /// Gives a grid the cells of another where those are active.
+    /// Copies the active cells of another grid into a grid.
     Replace {
         name: Name,
         other: Name,
     },
-    /// Makes each voxel of a grid active, in each of so many turns, that has an active face neighbour. No value changes.
+    /// Activates, in each of `turns` iterations, every voxel that has an active face neighbour. No value changes.
     Dilate {
         name: Name,
         turns: Num,
     },
-    /// Makes each voxel of a grid inactive, in each of so many turns, that has an inactive face neighbour. No value changes.
+    /// Deactivates, in each of `turns` iterations, every voxel that has an inactive face neighbour. No value changes.
     Erode {
         name: Name,
         turns: Num,
     },
-    /// Puts a text under a key of a grid's metadata, in the place of the one that is there.
+    /// Sets the text of a key of a grid's metadata. An existing text is replaced.
     Meta {
         name: Name,
         key: Name,
         text: MetaText,
     },
-    /// Takes the metadata pair of a key away, if there is one.
+    /// Removes the metadata pair of a key, if it exists.
     Unmeta {
         name: Name,
         key: Name,

@@ -1,4 +1,4 @@
-//! What a scene holds under a name.
+//! A grid of a scene with its metadata.
 
 ghost use Rattle.std.specs.Prelude.{◌≡◌, IfErr, IfOk};
 ghost use Rattle.vdb_scene.specs.Grids.{IsCopyOf, grid_of};
@@ -6,7 +6,7 @@ ghost use Rattle.vdb_scene.specs.Grids.{IsCopyOf, grid_of};
 use crate::{AnyGrid, Metas, Refusal};
 use std::alloc::Global;
 
-/// What a name of a scene stands for: a grid and its metadata pairs.
+/// A grid and its metadata pairs, as a scene holds them under a name.
 #[derive(Drop)]
 pub struct GridEntry {
     pub(crate) grid: AnyGrid,
@@ -14,7 +14,8 @@ pub struct GridEntry {
 }
 
 impl GridEntry {
-    /// A grid with the same cells, tiles, nodes, background and limit, and with the same pairs. `Memory` says that a growth was refused.
+    /// Returns a grid with the same cells, tiles, nodes, background and limit, and with the same pairs. Fails with `Memory` if an
+    /// allocation fails.
     pub(crate) fn try_copy(&self, alloc: Global) -> Result<GridEntry, Refusal>
         ensures grid { IfOk result (λ copy. IsCopyOf self.now.grid copy.grid) }
         ensures same { IfOk result (λ copy. grid_of copy ≡ grid_of self.now) }

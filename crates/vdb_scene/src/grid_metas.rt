@@ -10,7 +10,7 @@ ghost use Rattle.vdb_scene.specs.declared.command.Command.TheVariants as command
 use crate::{Answer, MetaText, Metas, Name, Refusal, Scene};
 
 impl Scene {
-    /// The metadata pairs of the grid of a name, if it is there.
+    /// Returns the metadata pairs of the grid of a name: `None` if no grid has the name.
     pub fn metas(&self, name: &Name) -> Option<&Metas>
         ensures { option_map (λ pairs. pairs.now) result ≡ option_map (λ g. g.pairs) (grid_at (scene_of self.now) name.now) }
     {
@@ -20,9 +20,10 @@ impl Scene {
         }
     }
 
-    /// Puts a text under a key of a grid's metadata, in the place of the text that is there, if one is. It is refused for
-    /// `NoGrid`, for `MetaLimit` where the key is new and the grid has `META_LIMIT` pairs, and for `Memory` where the key is new,
-    /// in this order. The scene is then as it was.
+    /// Sets the text of a key of a grid's metadata. An existing text is replaced.
+    ///
+    /// Fails with `NoGrid` if no grid has the name, with `MetaLimit` if the key is new and the grid has `META_LIMIT` pairs, and
+    /// with `Memory` if an allocation for a new key fails, in this order. An error leaves the scene unchanged.
     pub fn set_meta(&mut self, name: &Name, key: Name, text: MetaText) -> Result<(), Refusal>
         ensures step { Does (scene_of self.old) (commands.Meta name.now key text) result (scene_of self.new) }
         ensures trees { LeavesTrees (commands.Meta name.now key text) (result_of result) self.old self.new }
@@ -33,8 +34,8 @@ impl Scene {
         }
     }
 
-    /// Takes the pair of a key out of a grid's metadata, if there is one. It takes no memory. `NoGrid` refuses it where there is
-    /// no grid of the name.
+    /// Removes the pair of a key from a grid's metadata, if it exists. Allocates nothing. Fails with `NoGrid` if no grid has the
+    /// name.
     pub fn remove_meta(&mut self, name: &Name, key: &Name) -> Result<(), Refusal>
         ensures step { Does (scene_of self.old) (commands.Unmeta name.now key.now) result (scene_of self.new) }
         ensures trees { LeavesTrees (commands.Unmeta name.now key.now) (result_of result) self.old self.new }
@@ -48,7 +49,7 @@ impl Scene {
         }
     }
 
-    /// Carries out a command that puts a text under a key.
+    /// Carries out a command that sets the text of a key.
     pub(crate) fn put_meta(
         &mut self,
         name: &Name,
@@ -62,7 +63,7 @@ impl Scene {
         Ok(Answer::Done)
     }
 
-    /// Carries out a command that takes a pair away.
+    /// Carries out a command that removes a pair.
     pub(crate) fn take_meta(&mut self, name: &Name, key: &Name) -> Result<Answer<'static>, Refusal>
         ensures step { CarriesOut (scene_of self.old) (commands.Unmeta name.now key.now) result (scene_of self.new) }
         ensures trees { LeavesTrees (commands.Unmeta name.now key.now) (answer_of result) self.old self.new }

@@ -1,4 +1,4 @@
-//! Operations on a grid of one type of values and one of any kind.
+//! Operations on a grid of one type of values and one of any type.
 
 ghost use Rattle.std.specs.Prelude.{◌≡◌, IfErr, OnErr};
 ghost use Rattle.vdb_coord.specs.Blocks.{vdb};
@@ -20,7 +20,7 @@ use vdb_grid::Grid;
 use vdb_pool::Steps;
 use vdb_tree::{StateRule, Tree, TreeRefusal};
 
-/// Makes of a grid and of another one what the operation says.
+/// Combines a grid with another one by an operation.
 pub fn combine<V: GridValue>(
     grid: &mut Grid<V, ACCESSORS>,
     operation: Operation,
@@ -41,7 +41,7 @@ pub fn combine<V: GridValue>(
     }
 }
 
-/// Makes the states of a grid and of one of any kind by a rule.
+/// Combines the states of a grid with those of a grid of any type by a rule.
 fn combine_states<V: GridValue>(
     grid: &mut Grid<V, ACCESSORS>,
     rule: StateRule,
@@ -60,7 +60,7 @@ fn combine_states<V: GridValue>(
     }
 }
 
-/// Makes the states of a grid and of a tree by a rule.
+/// Combines the states of a grid with those of a tree by a rule.
 fn set_states<V: GridValue, X: GridValue>(
     grid: &mut Grid<V, ACCESSORS>,
     rule: StateRule,
@@ -79,7 +79,7 @@ fn set_states<V: GridValue, X: GridValue>(
     }
 }
 
-/// Makes the values of a grid and of a tree of one kind one.
+/// Combines the values of a grid with those of a tree of the same type.
 fn combine_values<V: GridValue>(
     grid: &mut Grid<V, ACCESSORS>,
     how: Composite,

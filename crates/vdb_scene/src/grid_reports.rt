@@ -1,4 +1,4 @@
-//! Commands that report on a grid: its active voxels, and how large its tree must be.
+//! Commands that report on a grid: its active voxels, and the size of its smallest tree.
 ghost use Rattle.vdb_scene.specs.Doing.{CarriesOut};
 ghost use Rattle.vdb_scene.specs.Grids.{scene_of};
 ghost use Rattle.vdb_scene.specs.declared.command.Command.TheVariants as commands;
@@ -29,7 +29,7 @@ impl Scene {
         }
     }
 
-    /// Carries out a command that asks for the box around the active voxels.
+    /// Carries out a command that asks for the bounding box of the active voxels.
     pub(crate) fn bounds(&self, name: &Name, steps: &mut Steps) -> Result<Answer<'static>, Refusal>
         ensures { CarriesOut (scene_of self.now) (commands.Bounds name.now) result (scene_of self.now) }
     {
@@ -42,7 +42,7 @@ impl Scene {
         }
     }
 
-    /// Carries out a command that asks how large the smallest tree is.
+    /// Carries out a command that asks for the size of the smallest tree.
     pub(crate) fn census(&self, name: &Name, steps: &mut Steps) -> Result<Answer<'static>, Refusal>
         ensures { CarriesOut (scene_of self.now) (commands.Census name.now) result (scene_of self.now) }
     {

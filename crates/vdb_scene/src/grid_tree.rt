@@ -1,4 +1,4 @@
-//! Calls on a grid of one type of values, or on its tree, as on a grid of any kind.
+//! Calls on a grid of one type of values, or on its tree, in the terms of a grid of any type.
 
 ghost use Rattle.std.specs.Prelude.{◌≡◌, ◌+◌, ◌<◌, ◌≤◌, ℕ, Some, false, IfErr, IsOk, IsTrue};
 ghost use Rattle.std.specs.Option.{unwrap_or};
@@ -25,7 +25,7 @@ use vdb_tree::{Tree, TreeRefusal, Write};
 use vdb_value::Cell;
 use vdb_walk::Census;
 
-/// The cell of a voxel, by at most three visits.
+/// Returns the cell of a voxel, by at most three node visits.
 pub fn get<V: GridValue>(tree: &Tree<V>, at: Coord, steps: &mut Steps) -> Cell<Scalar>
     ensures cell { result ≡ (as_field_of V.as_scalar (field_of vdb tree.now)).cell at }
     ensures steps { steps.new ≤ steps.old + 3 }
@@ -33,7 +33,7 @@ pub fn get<V: GridValue>(tree: &Tree<V>, at: Coord, steps: &mut Steps) -> Cell<S
     of_any_kind(tree.get(at, steps))
 }
 
-/// The cell of a voxel through an accessor, or from the root where none is named.
+/// Returns the cell of a voxel through an accessor, or from the root if none is named.
 pub fn probe<V: GridValue>(
     grid: &mut Grid<V, ACCESSORS>,
     accessor: Option<usize>,
@@ -52,7 +52,7 @@ pub fn probe<V: GridValue>(
     }
 }
 
-/// Writes a voxel, with a value of the grid's kind, through an accessor or without one.
+/// Writes a voxel, with a value of the grid's type, through an accessor or without one.
 pub fn write<V: GridValue>(
     grid: &mut Grid<V, ACCESSORS>,
     accessor: Option<usize>,
@@ -75,7 +75,7 @@ pub fn write<V: GridValue>(
     }
 }
 
-/// Gives each coordinate of a box one cell, with a value of the grid's kind.
+/// Sets each voxel of a box to one cell, with a value of the grid's type.
 pub fn fill<V: GridValue>(
     grid: &mut Grid<V, ACCESSORS>,
     bounds: Bounds,
@@ -91,7 +91,7 @@ pub fn fill<V: GridValue>(
     grid.fill(bounds, cell_of_kind(cell), steps)
 }
 
-/// Makes each coordinate outside a box the background, inactive.
+/// Sets each voxel outside a box to the background, inactive.
 pub fn clip<V: GridValue>(
     grid: &mut Grid<V, ACCESSORS>,
     bounds: Bounds,
@@ -106,7 +106,7 @@ pub fn clip<V: GridValue>(
     grid.clip(bounds, steps)
 }
 
-/// Makes each voxel active, in each of 1 to 16 turns, that has an active face neighbour.
+/// Activates, in each of 1 to 16 iterations, every voxel that has an active face neighbour.
 pub fn dilate<V: GridValue>(
     grid: &mut Grid<V, ACCESSORS>,
     turns: u32,
@@ -122,7 +122,7 @@ pub fn dilate<V: GridValue>(
     grid.dilate(turns, steps)
 }
 
-/// Makes each voxel inactive, in each of 1 to 16 turns, that has an inactive face neighbour.
+/// Deactivates, in each of 1 to 16 iterations, every voxel that has an inactive face neighbour.
 pub fn erode<V: GridValue>(
     grid: &mut Grid<V, ACCESSORS>,
     turns: u32,
@@ -139,28 +139,28 @@ pub fn erode<V: GridValue>(
     grid.erode(turns, steps)
 }
 
-/// How many voxels of the box, or of all, are active.
+/// Returns the number of active voxels of the box, or of all coordinates.
 pub fn count<V: GridValue>(tree: &Tree<V>, bounds: Option<Bounds>, steps: &mut Steps) -> u128
     ensures { result ≡ active_count (as_field_of V.as_scalar (field_of vdb tree.now)) (unwrap_or bounds everywhere) }
 {
     vdb_walk::count(tree, bounds, steps)
 }
 
-/// The least box that holds every active voxel, if there is one.
+/// Returns the bounding box of the active voxels, if any.
 pub fn active_bounds<V: GridValue>(tree: &Tree<V>, steps: &mut Steps) -> Option<Bounds>
     ensures { IsActiveBounds (as_field_of V.as_scalar (field_of vdb tree.now)) result }
 {
     vdb_walk::active_bounds(tree, steps)
 }
 
-/// How large the smallest tree of the cells is.
+/// Returns the size of the smallest tree of the cells.
 pub fn census<V: GridValue>(tree: &Tree<V>, steps: &mut Steps) -> Census
     ensures { result ≡ census_of scalar_eq vdb (as_field_of V.as_scalar (field_of vdb tree.now)) }
 {
     vdb_walk::census(tree, steps)
 }
 
-/// A cell as one of any kind.
+/// Returns a cell with its value as one of any type.
 pub fn of_any_kind<V: GridValue>(cell: Cell<V>) -> Cell<Scalar>
     ensures { result ≡ as_cell_of V.as_scalar cell }
 {
@@ -170,7 +170,7 @@ pub fn of_any_kind<V: GridValue>(cell: Cell<V>) -> Cell<Scalar>
     }
 }
 
-/// The cell of one kind that one of any is.
+/// Returns the cell of one type that a cell of any type holds.
 fn cell_of_kind<V: GridValue>(cell: Cell<Scalar>) -> Cell<V>
     requires { IsTrue (is_of V.KIND cell.value) }
     ensures { as_cell_of V.as_scalar result ≡ cell }
@@ -181,7 +181,7 @@ fn cell_of_kind<V: GridValue>(cell: Cell<Scalar>) -> Cell<V>
     }
 }
 
-/// The write of a value of one kind that one of any is.
+/// Returns the write of a value of one type that a write of any type holds.
 fn of_kind<V: GridValue>(change: Write<Scalar>) -> Write<V>
     requires { IsTrue (passes (is_of V.KIND) change) }
     ensures { as_write_of V.as_scalar result ≡ change }

@@ -1,4 +1,4 @@
-//! Scenes of named grids: commands, what they answer, why they are refused, and their one step.
+//! Scenes of named grids: commands, answers, errors, and the one step of a scene.
 #![tactic(auto)]
 
 mod answer;

@@ -7,11 +7,11 @@ ghost use Rattle.vdb_scene.specs.Metas.{is_text, is_text_byte};
 
 use std::marker::Model;
 
-/// The most bytes of a text.
+/// The maximum number of bytes of a text.
 pub const TEXT_LIMIT: usize = 64;
 
-/// The text of a metadata pair: 1 to `TEXT_LIMIT` bytes, each a printable character of ASCII but no space, so from
-/// hexadecimal 21 to 7E.
+/// The text of a metadata pair: 1 to `TEXT_LIMIT` bytes, each a printable ASCII character other than space (hexadecimal 21 to
+/// 7E).
 #[derive(Clone, Copy)]
 pub struct MetaText {
     bytes: [u8; TEXT_LIMIT],
@@ -48,8 +48,8 @@ impl Eq for MetaText {
 }
 
 impl MetaText {
-    /// The text of these bytes, or `None` where they are none, more than `TEXT_LIMIT`, or one of them is no printable
-    /// character or a space.
+    /// Returns the text of these bytes: `None` if they are empty, more than `TEXT_LIMIT`, or one of them is not a printable ASCII
+    /// character other than space.
     pub fn new(bytes: &[u8]) -> Option<MetaText>
         ensures some { IfSome result (λ text. text ≡ bytes.now) }
         ensures valid { IfSome result (λ text. is_text bytes.now ≡ true) }
@@ -66,7 +66,7 @@ impl MetaText {
         })
     }
 
-    /// The bytes of the text.
+    /// Returns the bytes of the text.
     pub fn bytes(&self) -> &[u8]
         ensures bytes { result.now ≡ self.now }
         ensures few { length self.now ≤ TEXT_LIMIT }
@@ -76,21 +76,21 @@ impl MetaText {
     }
 }
 
-/// Whether a text may have this byte.
+/// Returns whether a text may have this byte.
 fn fits_text(byte: u8) -> bool
     ensures { result ≡ is_text_byte byte }
 {
     byte.is_ascii_graphic()
 }
 
-/// Whether a text may have each of these bytes.
+/// Returns whether a text may have each of these bytes.
 fn all_fit_text(bytes: &[u8]) -> bool
     ensures { result ≡ list_all is_text_byte bytes.now }
 {
     bytes.iter().all(|byte| fits_text(*byte))
 }
 
-/// Whether these bytes have the form of a text.
+/// Returns whether these bytes have the form of a text.
 fn is_text(bytes: &[u8]) -> bool
     ensures { result ≡ is_text bytes.now }
 {

@@ -9,7 +9,7 @@ use std::alloc::{AllocError, Global};
 use std::collections::BTreeMap;
 use std::marker::Model;
 
-/// The most metadata pairs of a grid.
+/// The maximum number of metadata pairs of a grid.
 pub const META_LIMIT: usize = 16;
 
 /// The metadata pairs of one grid: at most `META_LIMIT` texts under keys, by rising bytes of the keys.
@@ -30,7 +30,7 @@ impl Model for Metas {
 }
 
 impl Metas {
-    /// No pairs. It takes no memory.
+    /// Creates an empty list of pairs. Allocates nothing.
     pub fn new(alloc: Global) -> Metas
         ensures { result ≡ [] }
     {
@@ -39,7 +39,7 @@ impl Metas {
         }
     }
 
-    /// How many pairs there are: at most `META_LIMIT`.
+    /// Returns the number of pairs, at most `META_LIMIT`.
     pub fn len(&self) -> usize
         ensures pairs { result ≡ length self.now }
         ensures few { length self.now ≤ META_LIMIT }
@@ -47,7 +47,7 @@ impl Metas {
         self.pairs.len()
     }
 
-    /// The pair that has this many others before it by rising keys. There are more than so many.
+    /// Returns pair `i` by rising keys, counted from 0. `i` must be less than the number of pairs.
     pub fn pair(&self, i: usize) -> (&Name, &MetaText)
         requires { i < length self.now }
         ensures pair { slice_get self.now i ≡ Some (deref_pair result) }
@@ -59,9 +59,10 @@ impl Metas {
         }
     }
 
-    /// Puts a text under a key, in the place of the text that is there, if one is. That takes no memory; a new pair may.
-    /// `MetaLimit` says that the key is new and that there are `META_LIMIT` pairs, and `Memory` that there is too little of it
-    /// for a new pair. A refusal leaves the pairs as they were.
+    /// Sets the text of a key. An existing text is replaced, which allocates nothing.
+    ///
+    /// Fails with `MetaLimit` if the key is new and `META_LIMIT` pairs exist, and with `Memory` if the allocation for a new pair
+    /// fails. An error leaves the pairs unchanged.
     pub fn set(&mut self, key: Name, text: MetaText) -> Result<(), Refusal>
         ensures { SetsPair self.old key text result self.new }
     {
@@ -74,14 +75,14 @@ impl Metas {
         }
     }
 
-    /// Removes the pair of a key. Where there is none, nothing changes.
+    /// Removes the pair of a key. Changes nothing if no pair has it.
     pub fn remove(&mut self, key: &Name)
         ensures { self.new ≡ without_pair self.old key.now }
     {
         self.pairs.remove(key);
     }
 
-    /// The same pairs once more. It fails where there is too little memory.
+    /// Returns a copy of the pairs. Fails if an allocation fails.
     pub fn try_copy(&self, alloc: Global) -> Result<Metas, AllocError>
         ensures { IfOk result (λ copy. copy ≡ self.now) }
     {

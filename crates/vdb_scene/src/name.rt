@@ -9,11 +9,11 @@ ghost use Rattle.vdb_scene.specs.Names.{is_name, is_lower, is_name, is_name_byte
 use std::cmp::Ordering;
 use std::marker::Model;
 
-/// The most bytes of a name.
+/// The maximum number of bytes of a name.
 pub const NAME_LIMIT: usize = 16;
 
-/// The name of a grid: a letter from a to z, then up to fifteen of such letters, digits and underscores. Names are
-/// ordered by their bytes; one that another begins with comes before it.
+/// The name of a grid: a letter from a to z, then up to fifteen such letters, digits and underscores. Names are ordered by their
+/// bytes; a name comes before each longer name that begins with it.
 #[derive(Clone, Copy)]
 pub struct Name {
     bytes: [u8; NAME_LIMIT],
@@ -74,7 +74,7 @@ impl Ord for Name {
 }
 
 impl Name {
-    /// The name of these bytes, or `None` where they don't have the form of one.
+    /// Returns the name of these bytes: `None` if they don't have the form of a name.
     pub fn new(bytes: &[u8]) -> Option<Name>
         ensures some { IfSome result (λ name. name ≡ bytes.now) }
         ensures valid { IfSome result (λ name. is_name bytes.now ≡ true) }
@@ -91,7 +91,7 @@ impl Name {
         })
     }
 
-    /// The bytes of the name.
+    /// Returns the bytes of the name.
     pub fn bytes(&self) -> &[u8]
         ensures bytes { result.now ≡ self.now }
         ensures few { length self.now ≤ NAME_LIMIT }
@@ -101,28 +101,28 @@ impl Name {
     }
 }
 
-/// Whether a byte may begin a name.
+/// Returns whether a byte may begin a name.
 fn begins_name(byte: u8) -> bool
     ensures { result ≡ is_lower byte }
 {
     byte.is_ascii_lowercase()
 }
 
-/// Whether a name may have this byte.
+/// Returns whether a name may have this byte.
 fn fits_name(byte: u8) -> bool
     ensures { result ≡ is_name_byte byte }
 {
     begins_name(byte) || byte.is_ascii_digit() || byte == b'_'
 }
 
-/// Whether a name may have each of these bytes.
+/// Returns whether a name may have each of these bytes.
 fn all_fit_name(bytes: &[u8]) -> bool
     ensures { result ≡ list_all is_name_byte bytes.now }
 {
     bytes.iter().all(|byte| fits_name(*byte))
 }
 
-/// Whether these bytes have the form of a name.
+/// Returns whether these bytes have the form of a name.
 fn is_name_text(bytes: &[u8]) -> bool
     ensures { result ≡ is_name bytes.now }
 {

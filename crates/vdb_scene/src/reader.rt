@@ -1,4 +1,4 @@
-//! The cells of a grid, one after another, each by the path to the one before.
+//! The cells of a grid, one after another, each by the path to the previous one.
 
 ghost use Rattle.std.specs.Prelude.{◌≡◌};
 ghost use Rattle.vdb_coord.specs.Blocks.{vdb};
@@ -17,7 +17,7 @@ use vdb_tree::{Path, PathOf, Tree};
 use vdb_value::Cell;
 
 /// Reads cells of a tree. Each descent begins at the lowest node of the path to the last cell that contains the next one, so a
-/// cell of the same leaf takes one visit (OpenVDB's `ValueAccessor`). It borrows the tree.
+/// cell of the same leaf takes one node visit (OpenVDB's `ValueAccessor`). It borrows the tree.
 #[derive(Drop)]
 pub struct CellReader<'a, V: GridValue> {
     tree: &'a Tree<V>,
@@ -38,7 +38,7 @@ impl<'a, V: GridValue> Model for CellReader<'a, V> {
     ghost invariant = { λ r. Lives vdb r.tree.now r.path r.near };
 }
 
-/// Reads cells of a grid of any kind, as a `CellReader` does those of a tree. It borrows the grid.
+/// Reads cells of a grid of any type, as a `CellReader` reads those of a tree. It borrows the grid.
 #[derive(Drop)]
 pub enum AnyReader<'a> {
     Bool(CellReader<'a, bool>),
@@ -47,7 +47,7 @@ pub enum AnyReader<'a> {
 }
 
 impl<'a, V: GridValue> CellReader<'a, V> {
-    /// A reader that has no path yet, so its first descent begins at the root.
+    /// Creates a reader without a path: its first descent begins at the root.
     pub fn new(tree: &'a Tree<V>) -> CellReader<'a, V>
         ensures { result ≡ tree.now }
     {
@@ -58,7 +58,7 @@ impl<'a, V: GridValue> CellReader<'a, V> {
         }
     }
 
-    /// The cell of a voxel, with its value as one of any kind.
+    /// Returns the cell of a voxel, with its value as one of any type.
     pub fn get(&mut self, at: Coord, steps: &mut Steps) -> Cell<Scalar>
         ensures cell { result ≡ (as_field_of V.as_scalar (field_of vdb self.old)).cell at }
         ensures same { self.new ≡ self.old }
@@ -70,7 +70,7 @@ impl<'a, V: GridValue> CellReader<'a, V> {
 }
 
 impl<'a> AnyReader<'a> {
-    /// A reader of a grid's cells that has no path yet.
+    /// Creates a reader of a grid's cells without a path.
     pub fn new(grid: &'a AnyGrid) -> AnyReader<'a>
         ensures { field_read result ≡ grid_field grid.now }
     {
@@ -81,7 +81,7 @@ impl<'a> AnyReader<'a> {
         }
     }
 
-    /// The cell of a voxel.
+    /// Returns the cell of a voxel.
     pub fn get(&mut self, at: Coord, steps: &mut Steps) -> Cell<Scalar>
         ensures cell { result ≡ (field_read self.old).cell at }
         ensures same { self.new ≡ self.old }

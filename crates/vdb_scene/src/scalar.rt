@@ -1,4 +1,4 @@
-//! Values of any kind.
+//! Values of any type.
 
 ghost use Rattle.std.specs.Option.{option_map};
 ghost use Rattle.std.specs.Prelude.{◌≡◌, refl, false, IfNone, IfSome};
@@ -14,7 +14,7 @@ use crate::AnyGrid;
 use vdb_node::Stored;
 use vdb_tree::Tree;
 
-/// A value of one of the three kinds.
+/// A value of one of the three types.
 #[derive(Clone, Copy, Debug, PartialEq, Eq)]
 pub enum Scalar {
     Bool(bool),
@@ -24,30 +24,30 @@ pub enum Scalar {
 
 /// A type of values that a grid may have.
 pub trait GridValue: Stored<512> + Stored<64> + Stored<8> {
-    /// A value as one of any kind.
+    /// A value as one of any type.
     ghost as_scalar: { Self → Scalar };
 
-    /// The value as one of any kind.
+    /// Returns the value as one of any type.
     fn scalar(self) -> Scalar
         ensures { result ≡ as_scalar self };
 
-    /// The value that one of the type's kind is.
+    /// Returns the value inside a value of any type, whose kind must be `KIND`.
     fn from_scalar(scalar: Scalar) -> Self
         requires { kind_of scalar ≡ Self.KIND }
         ensures { as_scalar result ≡ scalar };
 
-    /// The tree of a grid of the type's kind; `None` for one of another kind.
+    /// Returns the tree of a grid of this type: `None` for a grid of another type.
     fn tree_in(grid: &AnyGrid) -> Option<&Tree<Self>>
         ensures some { IfSome result (λ tree. grid_field grid.now ≡ as_field_of as_scalar (field_of vdb tree.now)) }
         ensures none { IfNone result (kind_eq Self.KIND (kind_of (grid_field grid.now).background) ≡ false) };
 
-    /// All values of the type are of its kind.
+    /// All values of the type have its kind.
     ghost same_kind: { (x : Self) → kind_of (as_scalar x) ≡ Self.KIND };
 
-    /// Values are equal where they are so as values of any kind.
+    /// Values are equal if they are equal as values of any type.
     ghost same_eq: { (x y : Self) → scalar_eq (as_scalar x) (as_scalar y) ≡ Self.eq x y };
 
-    /// The lesser, the greater, the sum and the bytes are those of values of any kind.
+    /// The lesser, the greater, the sum and the bytes are those of values of any type.
     ghost same_lesser: { (x y : Self) → scalar_lesser (as_scalar x) (as_scalar y) ≡ as_scalar (Self.lesser x y) };
 
     ghost same_greater: { (x y : Self) → scalar_greater (as_scalar x) (as_scalar y) ≡ as_scalar (Self.greater x y) };

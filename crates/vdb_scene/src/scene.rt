@@ -15,17 +15,17 @@ use std::alloc::Global;
 use std::collections::BTreeMap;
 use std::collections::btree_map::Keys;
 
-/// The most grids of a scene.
+/// The maximum number of grids of a scene.
 pub const GRID_LIMIT: usize = 64;
 
-/// The most root blocks of a grid with a cell that isn't the background, inactive, where the command that makes it names no
-/// limit.
+/// The root limit of a grid whose command names none: the maximum number of root blocks with a cell other than the inactive
+/// background.
 pub const ROOT_LIMIT: u32 = 4096;
 
-/// The greatest limit of root blocks that such a command may name.
+/// The greatest root limit that a command may name.
 pub const MOST_ROOT_LIMIT: u32 = 65536;
 
-/// Grids under names: at most `GRID_LIMIT` of them.
+/// Grids under names, at most `GRID_LIMIT`.
 #[derive(Drop)]
 pub struct Scene {
     pub(crate) alloc: Global,
@@ -33,7 +33,7 @@ pub struct Scene {
 }
 
 impl Scene {
-    /// The empty scene. It takes no memory.
+    /// Creates an empty scene. Allocates nothing.
     pub fn new(alloc: Global) -> Scene
         ensures { scene_of result ≡ [] }
     {
@@ -43,7 +43,7 @@ impl Scene {
         }
     }
 
-    /// The grid of a name, if it is there.
+    /// Returns the grid of a name: `None` if no grid has it.
     pub fn get(&self, name: &Name) -> Option<&AnyGrid>
         ensures grid { option_map (λ grid. grid.now) result ≡ option_map (λ e. e.grid) (lookup (is_named name.now) self.now.grids.entries) }
         ensures field { option_map (λ grid. grid_field grid.now) result ≡ option_map (λ g. g.field) (grid_at (scene_of self.now) name.now) }
@@ -55,7 +55,7 @@ impl Scene {
         }
     }
 
-    /// What stands under a name, if it is there.
+    /// Returns the entry of a name: `None` if no grid has it.
     pub(crate) fn entry(&self, name: &Name) -> Option<&GridEntry>
         ensures field { option_map (λ entry. grid_of entry.now) result ≡ grid_at (scene_of self.now) name.now }
         ensures entry { option_map (λ entry. entry.now) result ≡ lookup (is_named name.now) self.now.grids.entries }
@@ -63,7 +63,7 @@ impl Scene {
         self.grids.get(name)
     }
 
-    /// The names of the grids. They rise by their bytes, and each is there once.
+    /// Returns the names of the grids, by rising bytes and each once.
     pub fn names(&self) -> Keys<'_, Name, GridEntry>
         ensures names { result ≡ map (λ e. e.0) (scene_of self.now) }
         ensures rising { IsStrictlySortedBy (slice_cmp nat_cmp) result }
@@ -71,8 +71,10 @@ impl Scene {
         self.grids.keys()
     }
 
-    /// Puts a grid without metadata under a name. It is refused, dropped, and the scene stays as it was, where the name is taken, where there
-    /// are `GRID_LIMIT` grids, or for lack of memory, in this order.
+    /// Inserts a grid without metadata under a name.
+    ///
+    /// Fails, in this order, with `NameTaken` if the name is taken, with `GridLimit` if the scene has `GRID_LIMIT` grids, and with
+    /// `Memory` if an allocation fails. An error drops the grid and leaves the scene unchanged.
     pub fn insert(&mut self, name: Name, grid: AnyGrid) -> Result<(), Refusal>
         ensures scene { Inserts (scene_of self.old) name (grid_alone grid) result (scene_of self.new) }
         ensures added { OnOk result (AddsGrid self.old name (record { grid = grid; metas = [] }) self.new) }
@@ -82,8 +84,10 @@ impl Scene {
         self.insert_with(name, grid, metas)
     }
 
-    /// Puts a grid with its metadata under a name. It is refused, dropped, and the scene stays as it was, where the name is taken, where
-    /// there are `GRID_LIMIT` grids, or for lack of memory, in this order.
+    /// Inserts a grid with its metadata under a name.
+    ///
+    /// Fails, in this order, with `NameTaken` if the name is taken, with `GridLimit` if the scene has `GRID_LIMIT` grids, and with
+    /// `Memory` if an allocation fails. An error drops the grid and leaves the scene unchanged.
     pub fn insert_with(&mut self, name: Name, grid: AnyGrid, metas: Metas) -> Result<(), Refusal>
         ensures scene { Inserts (scene_of self.old) name (grid_with grid metas) result (scene_of self.new) }
         ensures added { OnOk result (AddsGrid self.old name (record { grid = grid; metas = metas }) self.new) }
@@ -98,21 +102,21 @@ impl Scene {
         self.put(name, GridEntry { grid, metas })
     }
 
-    /// Whether there is a grid of a name.
+    /// Returns whether a grid has the name.
     pub(crate) fn has(&self, name: &Name) -> bool
         ensures { result ≡ is_some (grid_at (scene_of self.now) name.now) }
     {
         self.grids.contains_key(name)
     }
 
-    /// Whether there are as many grids as there may be.
+    /// Returns whether the scene has the maximum number of grids.
     pub(crate) fn is_full(&self) -> bool
         ensures { result ≡ nat_le 64 (length (scene_of self.now)) }
     {
         self.grids.len() >= GRID_LIMIT
     }
 
-    /// Puts an entry under a name that isn't taken; only lack of memory refuses it.
+    /// Inserts an entry under a name that isn't taken. Fails with `Memory` if an allocation fails, and leaves the scene unchanged.
     pub(crate) fn put(&mut self, name: Name, entry: GridEntry) -> Result<(), Refusal>
         ensures ok { OnOk result (scene_of self.new ≡ with_grid (scene_of self.old) name (grid_of entry)) }
         ensures err { OnErr result (scene_of self.new ≡ scene_of self.old) }

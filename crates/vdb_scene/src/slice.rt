@@ -17,7 +17,7 @@ pub struct Slice<'a> {
     grid: &'a AnyGrid,
     min: Coord,
     max: Coord,
-    /// The y of the next row, if there is one.
+    /// The y of the next row, if any.
     y: Option<i32>,
 }
 
@@ -27,13 +27,13 @@ pub struct SliceRow<'a> {
     cells: AnyReader<'a>,
     y: i32,
     z: i32,
-    /// The x of the next cell, if there is one.
+    /// The x of the next cell, if any.
     x: Option<i32>,
     last: i32,
 }
 
 impl<'a> Slice<'a> {
-    /// The rows of a box, at its least z.
+    /// Returns the rows of a box, at its least z.
     pub(crate) fn new(grid: &'a AnyGrid, bounds: Bounds) -> Slice<'a>
         ensures { rows_left result ≡ rows (grid_field grid.now) bounds }
     {
@@ -46,7 +46,7 @@ impl<'a> Slice<'a> {
         }
     }
 
-    /// How many rows are left.
+    /// Returns the number of rows left.
     pub fn len(&self) -> u64
         ensures { result ≡ length (rows_left self.now) }
     {
@@ -56,7 +56,7 @@ impl<'a> Slice<'a> {
         }
     }
 
-    /// The next row, or `None` behind the last one.
+    /// Returns the next row: `None` after the last one.
     pub fn next(&mut self) -> Option<SliceRow<'a>>
         ensures { YieldsRow self.old result self.new }
     {
@@ -74,14 +74,14 @@ impl<'a> Slice<'a> {
 }
 
 impl<'a> SliceRow<'a> {
-    /// The y of its cells.
+    /// Returns the y of its cells.
     pub fn y(&self) -> i32
         ensures { result ≡ self.now.y }
     {
         self.y
     }
 
-    /// The next cell, or `None` behind the last one.
+    /// Returns the next cell: `None` after the last one.
     pub fn next(&mut self, steps: &mut Steps) -> Option<Cell<Scalar>>
         ensures { YieldsCell self.old result self.new }
     {
@@ -91,7 +91,7 @@ impl<'a> SliceRow<'a> {
         }
     }
 
-    /// The cell at an x.
+    /// Returns the cell at an x.
     fn cell(&mut self, x: i32, steps: &mut Steps) -> Cell<Scalar>
         ensures cell { result ≡ row_cell self.old x }
         ensures same { self.new ≡ self.old }
@@ -101,7 +101,7 @@ impl<'a> SliceRow<'a> {
     }
 }
 
-/// How many numbers there are from one to another, both counted.
+/// Returns how many numbers lie between two numbers, both included.
 pub(crate) fn numbers(low: i32, high: i32) -> u64
     ensures { result ≡ extent low high }
 {
@@ -111,7 +111,7 @@ pub(crate) fn numbers(low: i32, high: i32) -> u64
     u64::from(high.abs_diff(low)) + 1
 }
 
-/// The next number up to the last one, if there is one, and then `next` is the one behind it.
+/// Returns the next number up to the last one, if any, and advances `next`.
 fn advance(next: &mut Option<i32>, last: i32) -> Option<i32>
     ensures { YieldsNumber next.old last result next.new }
 {

@@ -9,10 +9,10 @@ ghost use Rattle.vdb_scene.specs.declared.command.Command.TheVariants as command
 use crate::{Answer, Name, Num, Refusal, Scene};
 use vdb_pool::Steps;
 
-/// The most turns that a grid is dilated or eroded by at once.
+/// The maximum number of iterations of one command.
 const TURN_LIMIT: i64 = 16;
 
-/// The number of turns that a line names, if it is one of 1 to `TURN_LIMIT`.
+/// Returns the number of iterations that a line names: `None` outside 1 to `TURN_LIMIT`.
 fn turns_of(turns: Num) -> Option<u32>
     ensures turns { result ≡ (if is_turn_count turns then Some (count_of turns) else None) }
     ensures some { IfSome result (λ count. 1 ≤ count) }

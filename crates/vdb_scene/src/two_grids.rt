@@ -14,30 +14,30 @@ use std::mem;
 use vdb_pool::Steps;
 use vdb_tree::StateRule;
 
-/// What is made of two grids.
+/// An operation on two grids.
 #[derive(Clone, Copy, Debug, PartialEq, Eq)]
 pub(crate) enum Operation {
-    /// The values of the first, with states by a rule.
+    /// Combines the states by a rule, and keeps the values of the first.
     States(StateRule),
-    /// Values and states of both.
+    /// Combines values and states of both.
     Values(Composite),
 }
 
-/// How the values of two grids become one.
+/// A way to combine the values of two grids.
 #[derive(Clone, Copy, Debug, PartialEq, Eq)]
 pub(crate) enum Composite {
-    /// The greater values, active where either is.
+    /// The greater values, active if either is.
     Maximum,
-    /// The lesser values, active where either is.
+    /// The lesser values, active if either is.
     Minimum,
-    /// The sums of the values, active where either is.
+    /// The sums of the values, active if either is.
     Sum,
-    /// The second's cells where they are active, and the first's elsewhere.
+    /// The second's cells that are active, and the first's cells elsewhere.
     Replace,
 }
 
 impl Scene {
-    /// Carries out a command on two grids, of which the first changes.
+    /// Carries out a command that combines two grids and changes the first.
     pub(crate) fn combine(
         &mut self,
         operation: Operation,
@@ -83,7 +83,7 @@ impl Scene {
         result
     }
 
-    /// Takes what stands under a name out of the scene, and leaves a grid that was never written in its place.
+    /// Moves the entry of a name out of the scene, and leaves a grid that was never written in its place.
     fn lend(&mut self, name: &Name) -> GridEntry
         requires { IsSome (lookup (is_named name.now) self.old.grids.entries) }
         ensures entry { lookup (is_named name.now) self.old.grids.entries ≡ Some result }
@@ -99,7 +99,7 @@ impl Scene {
         }
     }
 
-    /// Puts an entry in place of the one of a name.
+    /// Replaces the entry of a name by another.
     fn give_back(&mut self, name: &Name, given: GridEntry)
         requires { IsSome (lookup (is_named name.now) self.old.grids.entries) }
         ensures { self.new.grids.entries ≡ set_value (is_named name.now) self.old.grids.entries given }

@@ -12,17 +12,17 @@ use vdb_coord::{Bounds, Coord};
 use vdb_pool::Steps;
 use vdb_walk::{Listing, list};
 
-/// The active voxels of a box, of which a listing yields so many at most. It borrows the grid.
+/// The active voxels of a box, up to a limit. It borrows the grid.
 #[derive(Drop)]
 pub struct Voxels<'a> {
     grid: &'a AnyGrid,
-    /// Two corners of the box across from each other.
+    /// Two opposite corners of the box.
     corner: Coord,
     opposite: Coord,
     limit: u32,
 }
 
-/// Voxels of a grid of any kind, one after another in block order, with their values. It borrows the grid.
+/// A listing: voxels of a grid of any type in block order, with their values. It borrows the grid.
 #[derive(Drop)]
 pub enum AnyListing<'a> {
     Bool(Listing<'a, bool, 5, 4, 3, 512, 64, 8>),
@@ -31,7 +31,7 @@ pub enum AnyListing<'a> {
 }
 
 impl<'a> Voxels<'a> {
-    /// The active voxels of a box, to be yielded up to a limit.
+    /// Returns the active voxels of a box, up to a limit.
     pub(crate) fn new(grid: &'a AnyGrid, bounds: Bounds, limit: u32) -> Voxels<'a>
         ensures voxels { voxels_of result ≡ active vdb (grid_field grid.now) bounds }
         ensures limit { result.limit ≡ limit }
@@ -44,14 +44,14 @@ impl<'a> Voxels<'a> {
         }
     }
 
-    /// How many a listing yields at most.
+    /// Returns the maximum number of voxels of a listing.
     pub fn limit(&self) -> u32
         ensures { result ≡ self.now.limit }
     {
         self.limit
     }
 
-    /// A listing of them, from the first one on.
+    /// Returns a listing that starts with the first active voxel of the box.
     pub fn listing(&self) -> AnyListing<'a>
         ensures { listed_of result ≡ record { rest = voxels_of self.now; left = self.now.limit } }
     {
@@ -65,7 +65,7 @@ impl<'a> Voxels<'a> {
 }
 
 impl<'a> AnyListing<'a> {
-    /// The next voxel with its value; `None` where no more are left, or the limit is reached.
+    /// Returns the next voxel with its value: `None` if no voxel is left, or the limit is reached.
     pub fn next(&mut self, steps: &mut Steps) -> Option<(Coord, Scalar)>
         ensures { Yields (listed_of self.old) result (listed_of self.new) }
     {
@@ -76,7 +76,8 @@ impl<'a> AnyListing<'a> {
         }
     }
 
-    /// Whether an active voxel of the box follows the last one that was yielded, or there is one at all before the first.
+    /// Returns whether an active voxel of the box follows the last one returned. Before the first, returns whether the box has
+    /// any.
     pub fn more(&self, steps: &mut Steps) -> bool
         ensures { IsTrue result ↔ ((listed_of self.now).rest ≢ []) }
     {
@@ -88,7 +89,7 @@ impl<'a> AnyListing<'a> {
     }
 }
 
-/// A voxel with its value as one of any kind.
+/// Returns a voxel with its value as one of any type.
 fn of_any_kind<V: GridValue>(voxel: Option<(Coord, V)>) -> Option<(Coord, Scalar)>
     ensures { result ≡ option_map (λ item. (item.0, V.as_scalar item.1)) voxel }
 {
@@ -98,7 +99,7 @@ fn of_any_kind<V: GridValue>(voxel: Option<(Coord, V)>) -> Option<(Coord, Scalar
     }
 }
 
-/// The box with these two corners across from each other.
+/// Returns the box with these two opposite corners.
 fn between(corner: Coord, opposite: Coord) -> Bounds
     ensures { result ≡ box_across corner opposite }
 {

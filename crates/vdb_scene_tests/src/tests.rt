@@ -18,12 +18,12 @@ use vdb_scene::{
 };
 use vdb_value::Kind;
 
-/// A number of a line.
+/// Returns a number of a line.
 fn near(value: i64) -> Literal {
     Literal::Number(Num::Near(value))
 }
 
-/// A place of a line.
+/// Returns a point of a line.
 fn point(x: i64, y: i64, z: i64) -> Point {
     Point {
         x: Num::Near(x),
@@ -32,12 +32,12 @@ fn point(x: i64, y: i64, z: i64) -> Point {
     }
 }
 
-/// A name of one letter.
+/// Returns a name of one letter.
 fn letter(rt: &impl Abort, byte: u8) -> Name {
     Name::new(&[byte]).expect(rt, "a letter is a name")
 }
 
-/// A command that makes a grid.
+/// Returns a command that creates a grid.
 fn grid(name: Name, kind: Kind, background: Literal) -> Command {
     Command::Grid {
         name,
@@ -47,7 +47,7 @@ fn grid(name: Name, kind: Kind, background: Literal) -> Command {
     }
 }
 
-/// A command that sets a voxel.
+/// Returns a command that sets a voxel.
 fn set(name: Name, at: Point, value: Literal) -> Command {
     Command::Set {
         name,
@@ -57,7 +57,7 @@ fn set(name: Name, at: Point, value: Literal) -> Command {
     }
 }
 
-/// A command that sets the state of a voxel.
+/// Returns a command that sets the state of a voxel.
 fn state(name: Name, at: Point, on: bool) -> Command {
     Command::State {
         name,
@@ -67,7 +67,7 @@ fn state(name: Name, at: Point, on: bool) -> Command {
     }
 }
 
-/// A command that looks up a voxel.
+/// Returns a command that looks up a voxel.
 fn get(name: Name, at: Point) -> Command {
     Command::Get {
         name,
@@ -76,7 +76,7 @@ fn get(name: Name, at: Point) -> Command {
     }
 }
 
-/// A command that copies a grid.
+/// Returns a command that copies a grid.
 fn copy(from: Name, to: Name) -> Command {
     Command::Copy { from, to }
 }
@@ -234,10 +234,10 @@ fn each_write_changes_its_part_of_a_cell(rt: HostRuntime) {
     play(&rt, &acts, &mut steps);
 }
 
-/// A kind, a literal for the background and another one, and their values.
+/// A type, literals for the background and for another value, and both values.
 type Values = (Kind, Literal, Literal, Scalar, Scalar);
 
-/// Values of each kind.
+/// Values of each type.
 const VALUES: [Values; 3] = [
     (
         Kind::Bool,
@@ -262,7 +262,7 @@ const VALUES: [Values; 3] = [
     ),
 ];
 
-/// A grid `a`, changed beside its copy `z`, and then taken away.
+/// Changes a grid `a` beside its copy `z`, and then removes it.
 fn copied(rt: &impl Abort, (kind, background, value, off, on): Values) -> [Act; 14] {
     let (from, to) = (letter(rt, b'a'), letter(rt, b'z'));
     let (here, there) = (point(-1, 4095, 4096), point(0, 0, 0));

@@ -17,11 +17,11 @@ use Rattle.vdb_script.specs.Text.{text}
 
 -- ---- lines and tokens
 
--- an empty line stands between two newlines
+-- an empty line between two newlines
 three_lines : lines (codes "a\n\nb") ≡ codes "a" ∷ [] ∷ codes "b" ∷ []
 three_lines = refl
 
--- nothing behind the last newline is no line
+-- no line after the last newline if no byte follows it
 ended_line : lines (codes "a\n") ≡ codes "a" ∷ []
 ended_line = refl
 

@@ -1,4 +1,4 @@
--- Each form takes a number of tokens that is fixed.
+-- Each form takes a fixed number of tokens.
 use Rattle.std.proofs.Common.{◌≡◌, ◌≢◌, ℕ, ◌+◌, ◌<◌, ◌≤◌, Bool, true, false, cond, List, [], ◌∷◌, Option, Some, None, Ok, Err, length, refl, ap, sym, ◌∙◌, arith, bytes_eq, codes, get_or, ◌⊎◌, inl, inr}
 use Rattle.std.specs.Prelude.{option_map, option_and_then, if◌then◌else◌}
 use Rattle.std.specs.List.{AllByRecursion}
@@ -12,11 +12,11 @@ use Rattle.vdb_scene.specs.declared.answer.Refusal.TheVariants as refusals
 use Rattle.vdb_script.specs.Lines.{tokens}
 use Rattle.vdb_script.specs.Grammar.{Form, ◌>>=◌, give, one, point, corners, grid_with, grid, drop, copy, get, voxel_value, two_grids, state, fill, clip, prune, voxelise, all_of, count_box, count_all, count, bounds, census, or_else, list, slice, turns, meta, unmeta, metas, whole, command_forms, command_of, word_of, is_comment, meaning, parse, name_of, text_of, kind_named, state_of, literal_of, accessor_of, number_of}
 
--- where a form is there, it takes so many tokens
+-- if a form matches, it takes this number of tokens
 pub record Takes {A : Type 0} (n : ℕ) (form : Form A) : Type 0 where
   pub count : (tokens : List (List ℕ)) (a : A) (rest : List (List ℕ)) → form tokens ≡ Some (a, rest) → length tokens ≡ n + length rest
 
--- the tokens behind what was found
+-- the tokens after the match
 behind : {A : Type 0} → Option (A × List (List ℕ)) → List (List ℕ)
 behind None = []
 behind (Some found) = found.1
@@ -34,7 +34,7 @@ one_count read (token ∷ tokens) a rest e = omega (arith, ap length (behind_map
 pub one_takes : {A : Type 0} (read : List ℕ → Option A) → Takes 1 (one read)
 one_takes read = record { count = one_count read }
 
--- one form behind another
+-- one form after another
 pub then_takes : {A B : Type 0} (n m : ℕ) (first : Form A) (rest : A → Form B) → Takes n first → ((a : A) → Takes m (rest a)) → Takes (n + m) (first >>= rest)
 then_takes n m first rest p q = record {
   count = λ tokens b after e. option_and_then_some (λ found. rest found.0 found.1) (first tokens) (b, after) e
@@ -57,7 +57,7 @@ found_or_not None = inr refl
 some_none : {A : Type 0} (a : A) → Some a ≡ None → ⊥
 some_none a e = cc
 
--- three tokens that write no coordinate do so whatever stands behind them
+-- three tokens that are not a coordinate are none whatever follows them
 pub point_none : (x y z : List ℕ) (rest : List (List ℕ)) → point (x ∷ y ∷ z ∷ []) ≡ None → point (x ∷ y ∷ z ∷ rest) ≡ None
 point_none x y z rest h = elim (found_or_not (number_of x)) [
   | inr none ↦ rw none refl
@@ -253,7 +253,7 @@ count_takes_few = record { none = λ tokens many. no_count tokens (omega (arith,
 grid_takes_few : TakesFew (codes "grid", grid)
 grid_takes_few = record { none = λ tokens many. no_grid tokens (omega (arith, many)) (omega (arith, many)) }
 
--- each command's form does
+-- each command's form takes at most nine tokens
 commands_take_few : AllByRecursion TakesFew command_forms
 commands_take_few = (few 5 (omega arith) get_takes, (few 6 (omega arith) (voxel_value_takes commands.Set), (few 6 (omega arith) (voxel_value_takes commands.Unset), (few 6 (omega arith) (voxel_value_takes commands.Only), (few 6 (omega arith) state_takes, (few 9 (omega arith) fill_takes, (few 7 (omega arith) clip_takes, (few 7 (omega arith) voxelise_takes, (count_takes_few, (few 8 (omega arith) list_takes, (few 6 (omega arith) slice_takes, (grid_takes_few, (few 1 (omega arith) drop_takes, (few 2 (omega arith) copy_takes, (few 1 (omega arith) prune_takes, (few 1 (omega arith) bounds_takes, (few 1 (omega arith) census_takes, (few 3 (omega arith) meta_takes, (few 2 (omega arith) unmeta_takes, (few 1 (omega arith) metas_takes, (few 2 (omega arith) (two_grids_takes commands.Union), (few 2 (omega arith) (two_grids_takes commands.Difference), (few 2 (omega arith) (two_grids_takes commands.Intersect), (few 2 (omega arith) (two_grids_takes commands.Max), (few 2 (omega arith) (two_grids_takes commands.Min), (few 2 (omega arith) (two_grids_takes commands.Sum), (few 2 (omega arith) (two_grids_takes commands.Replace), (few 2 (omega arith) (turns_takes commands.Dilate), (few 2 (omega arith) (turns_takes commands.Erode), tt)))))))))))))))))))))))))))))
 
@@ -263,7 +263,7 @@ too_many_for [] word tokens take many = refl
 too_many_for (command ∷ commands) word tokens take many =
     picked (bytes_eq word command.0) command.1 (word_of commands word) tokens (take.0.none tokens many) (too_many_for commands word tokens take.1 many)
 
--- no command has so many tokens
+-- no command has more than nine tokens after its word
 too_many : (word : List ℕ) (tokens : List (List ℕ)) → 9 < length tokens → Err refusals.Syntax ≡ command_of word tokens
 too_many word tokens many = too_many_for command_forms word tokens commands_take_few many
 

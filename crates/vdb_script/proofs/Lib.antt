@@ -1,4 +1,4 @@
--- Lemmas on the lines that are read, their tokens and forms, and the answers that are written.
+-- Lemmas on the lines of a script, their tokens and forms, and the written answers.
 mod Checks
 pub mod Forms
 pub mod Yielding

@@ -7,7 +7,7 @@ use Rattle.vdb_script.specs.Writing.{Adds, HasAdded, HasCut, Writes}
 use Rattle.vdb_script.specs.declared.output.WriteFault.{WriteFault}
 
 module _ (a b : Option (List ℕ)) where
-  -- a fault is one before whatever would follow
+  -- a fault at a part is a fault before everything that would follow
   pub cut_before : (bytes more all : List ℕ) → HasCut a b bytes → all ≡ bytes ++ more → HasCut a b all
   cut_before bytes more all h is = (h.0, h.1 ++ more, is ∙ ap (λ l. l ++ more) h.2 ∙ append_assoc h.0 h.1 more, h.3)
 
@@ -20,25 +20,25 @@ module _ (a b c : Option (List ℕ)) (before part mid : List ℕ) (h : HasAdded 
   joined more behind after is =
       sym (append_assoc before part more) ∙ ap (λ l. l ++ more) h.1 ∙ append_assoc h.0 mid more ∙ ap (λ l. h.0 ++ l) is ∙ sym (append_assoc h.0 behind after)
 
-  -- a part behind a part
+  -- a part after a part
   pub added_more : (more after : List ℕ) → HasAdded b c mid more after → HasAdded a c before (part ++ more) after
   added_more more after g = (h.0 ++ g.0, joined more g.0 after g.1, Appends-trans a b c h.0 g.0 h.2 g.2)
 
-  -- a fault behind a part
+  -- a fault after a part
   pub cut_later : (more : List ℕ) → HasCut b c (mid ++ more) → HasCut a c (before ++ (part ++ more))
   cut_later more g = (h.0 ++ g.0, g.1, joined more g.0 g.1 g.2, Appends-trans a b c h.0 g.0 h.2 g.3)
 
-  -- a part behind a part, or a fault
+  -- a part after a part, or a fault
   pub adds_more : (r : Result (Unit {0}) WriteFault) (more after : List ℕ) → Adds b c r mid more after → Adds a c r before (part ++ more) after
   adds_more (Ok x) more after g = added_more more after g
   adds_more (Err e) more after g = cut_later more g
 
-  -- what is composed is written
+  -- the collected bytes are written
   pub adds_written : (r : Result (Unit {0}) WriteFault) → Writes b c r mid → Writes a c r (before ++ part)
   adds_written (Ok x) g = subst (Appends a c) (sym h.1) (Appends-trans a b c h.0 mid h.2 g)
   adds_written (Err e) g = (h.0 ++ g.0, g.1, h.1 ∙ ap (λ l. h.0 ++ l) g.2 ∙ sym (append_assoc h.0 g.0 g.1), Appends-trans a b c h.0 g.0 h.2 g.3)
 
--- the parts of a line: the first, and each other behind a space
+-- the parts of a line: the first, and each other after a space
 pub line_parts : (first : List ℕ) (parts : List (List ℕ)) → join_with_byte 32 (first ∷ parts) ≡ first ++ flat_map (λ part. 32 ∷ part) parts
 line_parts first [] = sym (append-nil first)
 line_parts first (part ∷ parts) = ap (λ l. first ++ (32 ∷ l)) (line_parts part parts)
@@ -71,7 +71,7 @@ so_far_all f all left a b before after none h =
     let whole : flat_map f all ≡ h.0 = h.1 ∙ ap (λ xs. h.0 ++ flat_map f xs) none ∙ append-nil h.0 in
     subst (λ text. HasAdded a b before text after) (sym whole) h.2
 
--- ---- a text whose items are followed by a last line, from an empty page on
+-- ---- a text of items and a last line, from an empty page on
 
 module _ (a b : Option (List ℕ)) (page items last : List ℕ) (empty : page ≡ []) where
   -- a fault at an item

@@ -2,7 +2,7 @@
 use Rattle.std.proofs.Common.{◌≡◌, ℕ, ◌+◌, ◌-◌, ◌≤◌, List, length, take, drop, ap, sym, ◌∙◌, arith, length-take, slice_range}
 use Rattle.std.proofs.lemmas.List.{drop-drop, drop-take}
 
--- what is unread behind the first n unread bytes
+-- the unread bytes after the first n unread bytes
 pub behind_first : (piece : List ℕ) (start n end : ℕ) → n ≤ length (slice_range piece start end) → slice_range piece (start + n) end ≡ drop n (slice_range piece start end)
 behind_first piece start n end within =
     let rest = end - (start + n) in

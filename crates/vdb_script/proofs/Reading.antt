@@ -8,13 +8,13 @@ use Rattle.std.proofs.lemmas.Bool.{eqb-true, eq-eqb}
 use Rattle.memchr.specs.Find.{Nowhere, Passes, is_byte}
 use Rattle.vdb_script.specs.Reading.{Stock, ahead, budget, NoNewline, KeepsText, YieldsUpTo, YieldsTooMuch, YieldsPart}
 
--- These bytes of a line came, and no newline yet.
+-- These bytes of a line have come, and no newline yet.
 pub record Takes (old new : Option (List ℕ)) (before after : Stock) (line : List ℕ) : Type 0 where
   pub bytes : Consumes old new line
   pub budget : length line + budget after ≡ budget before
   pub inside : NoNewline line
 
--- bytes of a line that come from what is unread
+-- bytes of a line that come from the unread ones
 pub Consumes-unread : (known : Option (List ℕ)) (old new front : List ℕ) → old ≡ front ++ new → Consumes (prepend_known old known) (prepend_known new known) front
 Consumes-unread None old new front e = tt
 Consumes-unread (Some rest) old new front e = ap (λ l. l ++ rest) e ∙ append_assoc front new rest
@@ -27,7 +27,7 @@ Takes-kept a b c before mid after line t kept same = record {
   inside = t.inside;
 }
 
--- all that is unread is of the line
+-- all unread bytes are of the line
 pub Takes-all : (a known : Option (List ℕ)) (before mid after : Stock) (line part : List ℕ) → Takes a (ahead mid known) before mid line → mid.unread ≡ part → after.unread ≡ [] → after.left ≡ mid.left → NoNewline part → Takes a (ahead after known) before after (line ++ part)
 Takes-all a known before mid after line part t is none same inside = record {
   bytes = Consumes-trans a (ahead mid known) (ahead after known) line part t.bytes (Consumes-unread known mid.unread after.unread part (is ∙ sym (ap (λ l. part ++ l) none ∙ append-nil part)));
@@ -85,7 +85,7 @@ none_before bytes n h = All-from_get_or (λ b. b ≢ 10) (take n bytes) 0 (λ i 
 pub none_at_all : (bytes : List ℕ) → Nowhere (Passes (is_byte 10) bytes) 0 (length bytes) → NoNewline bytes
 none_at_all bytes h = All-from_get_or (λ b. b ≢ 10) bytes 0 (λ i below is. h i (omega arith) below (eq-eqb (get_or bytes i 0) 10 is))
 
--- the bytes before and behind a newline
+-- the bytes before and after a newline
 pub split_at : (bytes : List ℕ) (n : ℕ) → n < length bytes → Passes (is_byte 10) bytes n → bytes ≡ take n bytes ++ 10 ∷ drop (n + 1) bytes
 split_at bytes n h passes =
     let found : get_or bytes n 0 ≡ 10 = eqb-true (get_or bytes n 0) 10 passes in
@@ -96,7 +96,7 @@ split_at bytes n h passes =
 pub KeepsText-long : (text line bytes : List ℕ) → KeepsText false text line → KeepsText false text (line ++ bytes)
 KeepsText-long text line bytes h = omega (arith, length-append line bytes)
 
--- a line that fits takes more bytes where there is capacity
+-- a line that fits takes more bytes if it has capacity
 pub KeepsText-more : (capacity : Bool) (text line bytes : List ℕ) → KeepsText true text line → IsTrue capacity ↔ (length text + length bytes ≤ 256) → KeepsText capacity (if capacity then text ++ bytes else text) (line ++ bytes)
 KeepsText-more true text line bytes h r = (ap (λ l. l ++ bytes) h.0, let q : length text + length bytes ≤ 256 = search rules in omega (arith, length-append line bytes, ap length h.0))
 KeepsText-more false text line bytes h r = let q : length text + length bytes ≤ 256 → ⊥ = search rules in omega (arith, length-append line bytes, ap length h.0)

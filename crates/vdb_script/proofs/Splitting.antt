@@ -1,4 +1,4 @@
--- The first token of a line, and the bytes behind it.
+-- The first token of a line, and the bytes after it.
 use Rattle.std.proofs.Common.{◌≡◌, ℕ, suc, ◌+◌, ◌-◌, ◌<◌, ◌≤◌, Bool, true, false, not, List, [], ◌∷◌, length, take, drop, get_or, refl, ap, sym, ◌∙◌, subst, arith, take_all, length-drop, slice_range}
 use Rattle.std.specs.Prelude.{◌==◌}
 use Rattle.std.specs.List.{prefix_len, take_while}
@@ -38,7 +38,7 @@ token_first_at b c bytes false e f h =
     let here = rw e at (h e) in
     rw (f, e, one_more (prefix_len is_inside bytes)) (longer b c (take (prefix_len is_inside bytes) bytes) (drop (prefix_len is_inside bytes) bytes) _ here)
 
--- the first token where a line begins with it
+-- the first token if a line begins with it
 token_first : (b : ℕ) (bytes : List ℕ) → is_separator b ≡ false → tokens (b ∷ bytes) ≡ (b ∷ take (prefix_len is_inside bytes) bytes) ∷ tokens (drop (prefix_len is_inside bytes) bytes)
 token_first b [] e = rw e refl
 token_first b (c ∷ bytes) e = token_first_at b c bytes (is_separator c) refl e (token_first c bytes)
@@ -73,7 +73,7 @@ token_at text b bytes e f = rw e (token_whole b bytes f)
 stops_at : (line : List ℕ) (n : ℕ) → n ≡ prefix_len is_separator line → n < length line → is_separator (get_or line n 0) ≡ false
 stops_at line n e h = subst (λ m. m < length line → is_separator (get_or line m 0) ≡ false) (sym e) (prefix_len_stops is_separator line 0) h
 
--- the first token behind the separators
+-- the first token after the separators
 pub some_token : (line : List ℕ) (n k : ℕ) → n ≡ length (take_while is_separator line) → (length (slice_range line n (length line)) == 0) ≡ false
     → k ≡ length (take_while is_inside (slice_range line n (length line)))
     → tokens line ≡ take k (slice_range line n (length line)) ∷ tokens (drop k (slice_range line n (length line)))

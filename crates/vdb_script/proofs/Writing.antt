@@ -41,12 +41,12 @@ module _ {A : Type 0} (f : A → List ℕ) (parts : List A) (i : ℕ) (d : A) (c
       let g = get_or-map f parts i d [] h in
       rw (add-one, so_far, ← g) (sym e)
 
-  -- there is capacity for it
+  -- the line has capacity for it
   pub composed-fits : (limit : ℕ) → length (line (map f parts)) ≤ limit → length ((if i == 0 then composed else composed ++ 32 ∷ []) ++ f (get_or parts i d)) ≤ limit
   composed-fits limit capacity =
       rw composed-more (omega (arith, join-first 32 (map f parts) (i + 1), length-append (join_with_byte 32 (map f parts)) (10 ∷ []), capacity))
 
--- ---- bytes that are taken in several calls
+-- ---- bytes that a writer takes in several calls
 
 -- a prefix of the bytes was taken
 pub Writes-front : (a b : Option (List ℕ)) (bytes : List ℕ) (at : ℕ) → Appends a b (take at bytes) → (front rest : List ℕ) × (bytes ≡ front ++ rest) × Appends a b front

@@ -16,11 +16,11 @@ module _ {V : Type 0} where
   some_none : (x : Coord × V) (xs : List (Coord × V)) → x ∷ xs ≡ [] → ⊥
   some_none x xs e = cc
 
-  -- the next is the first of those before it
+  -- the next is the first of those before the listing
   pub next_of : (old new : Listed V) (item : Coord × V) → Yields old (Some item) new → take old.left old.rest ≡ item ∷ take new.left new.rest
   next_of old new item h = ap (λ n. take n old.rest) h.1 ∙ ap (take (suc new.left)) h.0
 
-  -- those behind its limit stay
+  -- the voxels after its limit stay
   pub behind_next : (old new : Listed V) (item : Coord × V) → Yields old (Some item) new → drop new.left new.rest ≡ drop old.left old.rest
   behind_next old new item h = sym (ap (λ n. drop n old.rest) h.1 ∙ ap (drop (suc new.left)) h.0)
 
@@ -34,11 +34,11 @@ module _ {V : Type 0} where
   drop_none (suc n) [] e = refl
   drop_none (suc n) (x ∷ xs) e = absurd (some_none x xs e)
 
-  -- at the end none is to be yielded
+  -- at the end no voxel is left to yield
   pub none_of : (old new : Listed V) → Yields old None new → take old.left old.rest ≡ []
   none_of old new h = elim h.0 [ inl none ↦ take_none old.left old.rest none | inr limit ↦ ap (λ n. take n old.rest) limit ]
 
-  -- and those behind its limit are those that are left
+  -- and the voxels after its limit are the ones left
   pub behind_none : (old new : Listed V) → Yields old None new → drop old.left old.rest ≡ new.rest
   behind_none old new h =
       elim h.0 [ inl none ↦ drop_none old.left old.rest none ∙ sym none | inr limit ↦ ap (λ n. drop n old.rest) limit ] ∙ sym (ap (λ (l : Listed V). l.rest) h.1)
@@ -53,14 +53,14 @@ module _ {V : Type 0} where
   drop_all zero (x ∷ xs) h = absurd (omega (arith, h))
   drop_all (suc n) (x ∷ xs) h = drop_all n xs (omega (arith, h))
 
-  -- whether there are more than a limit
+  -- whether more follow than a limit
   pub more_than : (more : Bool) (n : ℕ) (xs rest : List (Coord × V)) → rest ≡ drop n xs → (IsTrue more → rest ≢ []) × (rest ≢ [] → IsTrue more) → more ≡ nat_lt n (length xs)
   more_than more n xs rest is h = elim (either n (length xs)) [
     | inl over ↦ h.1 (λ none. drop_some n xs over (sym is ∙ none)) ∙ sym (lt-ltb n (length xs) over)
     | inr within ↦ not_true more (λ yes. h.0 yes (is ∙ drop_all n xs within)) ∙ sym (le-ltb n (length xs) within)
   ]
 
--- a listing from the first on
+-- a listing from the first voxel on
 module _ {V : Type 0} (l : Listed V) (m limit : ℕ) (xs : List (Coord × V)) (is : l ≡ record { rest = xs; left = limit }) (same : m ≡ limit) where
   pub first_items : take m l.rest ≡ take limit xs
   first_items = ap (λ n. take n l.rest) same ∙ ap (λ (k : Listed V). take limit k.rest) is

@@ -1,4 +1,4 @@
--- The grammar of a line: what its tokens are, command by command.
+-- The grammar of a line: the meaning of its tokens, command by command.
 use Rattle.std.specs.Prelude.{ℕ, ◌*◌, ◌+◌, ◌-◌, ℤ, pos, neg_ℤ, Bool, true, false, not, ◌&&◌, ◌==◌, if◌then◌else◌, List, [], ◌∷◌, fold, Option, Some, None, option_map, option_and_then, bytes_eq, codes, Result, Ok, Err}
 use Rattle.std.specs.List.{list_all}
 use Rattle.std.specs.Char.{is_ascii_digit}
@@ -51,11 +51,11 @@ number_of (b ∷ bytes) =
     else if b == 45 then option_map (λ n. num (neg_ℤ (pos n))) (positive_of bytes)
     else option_map (λ n. num (pos n)) (positive_of (b ∷ bytes))
 
--- what comes behind the token's word in a list of words
+-- the value beside the token's word in a list of words
 abbrev pub word_of : {A : Type 0} → List (List ℕ × A) → List ℕ → Option A
 word_of words token = lookup (bytes_eq token) words
 
--- a kind
+-- a type
 abbrev pub kind_named : List ℕ → Option Kind
 kind_named token = word_of ((codes "bool", kinds.Bool) ∷ (codes "i32", kinds.I32) ∷ (codes "i64", kinds.I64) ∷ []) token
 
@@ -72,17 +72,17 @@ or_else (Some a) other = Some a
 abbrev pub literal_of : List ℕ → Option Literal
 literal_of token = or_else (word_of ((codes "true", Truth true) ∷ (codes "false", Truth false) ∷ []) token) (option_map Number (number_of token))
 
--- - for no accessor, or a number
+-- `-` for no accessor, or a number
 abbrev pub accessor_of : List ℕ → Option (Option Num)
 accessor_of token = or_else (word_of ((codes "-", None) ∷ []) token) (option_map Some (number_of token))
 
 -- ---- tokens in a row
 
--- what the first tokens give, and the tokens behind them
+-- the meaning of the first tokens, and the tokens after them
 abbrev pub Form : Type 0 → Type 0
 Form A = List (List ℕ) → Option (A × List (List ℕ))
 
--- one form behind another
+-- one form after another
 infixl 10 ◌>>=◌
 abbrev pub ◌>>=◌ : {A B : Type 0} → Form A → (A → Form B) → Form B
 first >>= rest = λ tokens. option_and_then (λ found. rest found.0 found.1) (first tokens)
@@ -111,7 +111,7 @@ corners = do
   max ← point
   give (record { min = min; max = max })
 
--- grid NAME KIND BACKGROUND, with what comes behind for the limit
+-- grid NAME KIND BACKGROUND, and the tokens after it for the limit
 abbrev pub grid_with : Form (Option Num) → Form Command
 grid_with limit = do
   name ← one name_of
@@ -130,7 +130,7 @@ drop = do
   name ← one name_of
   give (commands.Drop name)
 
--- copy FROM TO: the name of a grid, then that of its copy
+-- copy FROM TO: the name of a grid, then the name of its copy
 abbrev pub copy : Form Command
 copy = do
   from ← one name_of
@@ -145,7 +145,7 @@ get = do
   p ← point
   give (commands.Get name k p)
 
--- NAME ACCESSOR X Y Z VALUE, behind the word of a command that writes a value to a voxel
+-- NAME ACCESSOR X Y Z VALUE, after the word of a command that writes a value to a voxel
 abbrev pub voxel_value : (List ℕ → Option Num → Point → Literal → Command) → Form Command
 voxel_value make = do
   name ← one name_of
@@ -223,7 +223,7 @@ slice = do
   y1 ← one number_of
   give (commands.Slice name z (record { min_x = x0; min_y = y0; max_x = x1; max_y = y1 }))
 
--- the word for all coordinates, which is no box
+-- the word for all coordinates, which means no box
 abbrev pub all_of : List ℕ → Option (Option Corners)
 all_of token = word_of ((codes "all", None) ∷ []) token
 
@@ -241,7 +241,7 @@ count_all = do
   c ← one all_of
   give (commands.Count name c)
 
--- one of these
+-- either form of count
 abbrev pub count : Form Command
 count tokens = or_else (count_box tokens) (count_all tokens)
 
@@ -257,14 +257,14 @@ census = do
   name ← one name_of
   give (commands.Census name)
 
--- NAME OTHER, behind the word of a command on two grids, of which the first changes
+-- NAME OTHER, after the word of a command on two grids, which changes the first
 abbrev pub two_grids : (List ℕ → List ℕ → Command) → Form Command
 two_grids make = do
   name ← one name_of
   other ← one name_of
   give (make name other)
 
--- NAME TURNS, behind the word of a command that changes a grid turn by turn
+-- NAME TURNS, after the word of a command that dilates or erodes a grid
 abbrev pub turns : (List ℕ → Num → Command) → Form Command
 turns make = do
   name ← one name_of
@@ -294,19 +294,19 @@ metas = do
 
 -- ---- the commands
 
--- the commands on two grids and those of turns: the word of each, and the form of what comes behind it
+-- the commands on two grids and those of dilation and erosion: the word of each, and the form of the tokens after it
 abbrev pub operation_forms : List (List ℕ × Form Command)
 operation_forms = (codes "union", two_grids commands.Union) ∷ (codes "difference", two_grids commands.Difference) ∷ (codes "intersect", two_grids commands.Intersect) ∷ (codes "max", two_grids commands.Max) ∷ (codes "min", two_grids commands.Min) ∷ (codes "sum", two_grids commands.Sum) ∷ (codes "replace", two_grids commands.Replace) ∷ (codes "dilate", turns commands.Dilate) ∷ (codes "erode", turns commands.Erode) ∷ []
 
--- the commands on a whole grid, and then those on two grids and of turns
+-- the commands on a whole grid, and then those on two grids and of dilation and erosion
 abbrev pub grid_forms : List (List ℕ × Form Command)
 grid_forms = (codes "grid", grid) ∷ (codes "drop", drop) ∷ (codes "copy", copy) ∷ (codes "prune", prune) ∷ (codes "bounds", bounds) ∷ (codes "census", census) ∷ (codes "meta", meta) ∷ (codes "unmeta", unmeta) ∷ (codes "metas", metas) ∷ operation_forms
 
--- the commands on a box, and then those on a whole grid, on two grids and of turns
+-- the commands on a box, and then those on a whole grid, on two grids and of dilation and erosion
 abbrev pub box_forms : List (List ℕ × Form Command)
 box_forms = (codes "fill", fill) ∷ (codes "clip", clip) ∷ (codes "voxelise", voxelise) ∷ (codes "count", count) ∷ (codes "list", list) ∷ (codes "slice", slice) ∷ grid_forms
 
--- all commands: those on a voxel, and then those on a box, on a whole grid, on two grids and of turns
+-- all commands: those on a voxel, and then those on a box, on a whole grid, on two grids and of dilation and erosion
 abbrev pub command_forms : List (List ℕ × Form Command)
 command_forms = (codes "get", get) ∷ (codes "set", set) ∷ (codes "unset", unset) ∷ (codes "only", only) ∷ (codes "state", state) ∷ box_forms
 
@@ -315,11 +315,11 @@ abbrev pub whole : Option (Command × List (List ℕ)) → Result (Option Comman
 whole (Some (c, [])) = Ok (Some c)
 whole _ = Err refusals.Syntax
 
--- the command of a word, among those of these words, and of the tokens behind it
+-- the command of a word, among those of these words, and of the tokens after it
 abbrev pub command_among : List (List ℕ × Form Command) → List ℕ → List (List ℕ) → Result (Option Command) Refusal
 command_among forms word rest = whole (option_and_then (λ form. form rest) (word_of forms word))
 
--- the command of a word and the tokens behind it
+-- the command of a word and the tokens after it
 abbrev pub command_of : List ℕ → List (List ℕ) → Result (Option Command) Refusal
 command_of word rest = command_among command_forms word rest
 
@@ -328,7 +328,7 @@ abbrev pub is_comment : List ℕ → Bool
 is_comment [] = false
 is_comment (b ∷ bytes) = b == 35
 
--- nothing for no token and for a comment, else the command
+-- nothing for no token and for a comment, otherwise the command
 abbrev pub meaning : List (List ℕ) → Result (Option Command) Refusal
 meaning [] = Ok None
 meaning (word ∷ rest) = if is_comment word then Ok None else command_of word rest

@@ -1,4 +1,4 @@
--- Scripts: lines and tokens, the grammar of a line, the text of an answer, runs, and what is known of reading and writing.
+-- Scripts: lines and tokens, the grammar of a line, the text of an answer, runs, and the state of reading and writing.
 pub mod Lines
 pub mod Grammar
 pub mod Text

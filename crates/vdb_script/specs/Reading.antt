@@ -1,4 +1,4 @@
--- What is known of a script that is read piece by piece.
+-- The state of a script that is read piece by piece.
 use Rattle.std.specs.Prelude.{◌≡◌, ◌≢◌, ℕ, ◌+◌, ◌<◌, ◌≤◌, Bool, true, false, List, [], ◌∷◌, ◌++◌, length, Option, Some, None, Result, Ok, Err, All}
 use Rattle.std.specs.Io.KnownBytes.{Consumes, IsAtEnd, prepend_known}
 use Rattle.vdb_script.specs.declared.source.ScriptFault.{ScriptFault}
@@ -6,33 +6,33 @@ use Rattle.vdb_script.specs.declared.source.ScriptFault.TheVariants.{Read, TooLo
 use Rattle.vdb_script.specs.declared.lines.Line.{Line}
 use Rattle.vdb_script.specs.declared.lines.Line.TheVariants as found
 
--- What is kept between a reader and the lines that are yielded.
+-- The state between a reader and the lines.
 pub record Stock : Type 0 where
-  -- the bytes that the reader gave and that weren't yielded
+  -- the bytes that the reader gave and that haven't been yielded
   pub unread : List ℕ
-  -- how many more it may give
+  -- the number of bytes that it may still give
   pub left : ℕ
-  -- whether it has said that it has no more
+  -- whether it has reported its end
   pub ended : Bool
 
--- How far the reading of a script's lines has come.
+-- The state of reading a script's lines.
 pub record Position : Type 0 where
-  -- what is kept between the reader and the lines
+  -- the state between the reader and the lines
   pub source : Stock
-  -- the line that was read last: nothing if that was no line or one that is too long
+  -- the last line that was read: empty if it was too long or no line
   pub text : List ℕ
-  -- what is answered from now on, once that is settled
+  -- the result of each call from now on, if it is settled
   pub ending : Option (Result Line ScriptFault)
 
--- how many bytes may still be yielded
+-- the number of bytes that may still be yielded
 abbrev pub budget : Stock → ℕ
 budget s = length s.unread + s.left
 
--- the bytes that aren't yielded yet, where those that the reader has left are known
+-- the bytes that haven't been yielded, if those that the reader has left are known
 abbrev pub ahead : Stock → Option (List ℕ) → Option (List ℕ)
 ahead s known = prepend_known s.unread known
 
--- a reader that has said that it has no more has none, where what it has is known
+-- a reader that has reported its end has no byte left, if its bytes are known
 abbrev pub EndsWith : Stock → Option (List ℕ) → Type 0
 EndsWith s known = s.ended ≡ true → IsAtEnd known
 
@@ -40,12 +40,12 @@ EndsWith s known = s.ended ≡ true → IsAtEnd known
 abbrev pub NoNewline : List ℕ → Type 0
 NoNewline bytes = All (λ b. b ≢ 10) bytes
 
--- what follows a line: a newline, or nothing where the script ends with it
+-- the bytes after a line: a newline, or nothing if the script ends with it
 abbrev pub line_end : Bool → List ℕ
 line_end false = 10 ∷ []
 line_end true = []
 
--- These bytes of a line came, and then its newline or, where none came, the script's end.
+-- These bytes of a line came, and then its newline or, without one, the script's end.
 pub record YieldsUpTo (old new : Option (List ℕ)) (before after : Stock) (at_end : Bool) (line : List ℕ) : Type 0 where
   pub bytes : Consumes old new (line ++ line_end at_end)
   pub budget : length (line ++ line_end at_end) + budget after ≡ budget before
@@ -57,7 +57,7 @@ abbrev pub KeepsText : Bool → List ℕ → List ℕ → Type 0
 KeepsText true text line = (text ≡ line) × (length line ≤ 256)
 KeepsText false text line = 256 < length line
 
--- This line was yielded, with its newline or, where it is the last and not empty, at the script's end.
+-- This line was yielded, with its newline or, if it is the last and not empty, at the script's end.
 pub record YieldsLine (old new : Option (List ℕ)) (before after : Stock) (line : List ℕ) : Type 0 where
   pub at_end : Bool
   pub bytes : Consumes old new (line ++ line_end at_end)
@@ -65,13 +65,13 @@ pub record YieldsLine (old new : Option (List ℕ)) (before after : Stock) (line
   pub inside : NoNewline line
   pub last : at_end ≡ true → (0 < length line) × (after.ended ≡ true) × IsAtEnd new
 
--- Nothing is left, and the reader has said so.
+-- No byte is left, and the reader has reported its end.
 pub record YieldsEnd (old new : Option (List ℕ)) (after : Stock) : Type 0 where
   pub bytes : Consumes old new []
   pub at_end : IsAtEnd new
   pub ended : after.ended ≡ true
 
--- The reader gave one byte past the script's limit, within a line of which these bytes had come.
+-- The reader gave one byte past the script's limit, within a line that began with these bytes.
 pub record YieldsTooMuch (old new : Option (List ℕ)) (before : Stock) : Type 0 where
   pub part : List ℕ
   pub further : ℕ
@@ -79,20 +79,20 @@ pub record YieldsTooMuch (old new : Option (List ℕ)) (before : Stock) : Type 0
   pub budget : length part ≡ budget before
   pub inside : NoNewline part
 
--- The reader failed within a line of which these bytes had come.
+-- The reader failed within a line that began with these bytes.
 pub record YieldsPart (old new : Option (List ℕ)) (before : Stock) : Type 0 where
   pub part : List ℕ
   pub bytes : Consumes old new part
   pub budget : length part ≤ budget before
   pub inside : NoNewline part
 
--- whether a call gave up since the reader failed
+-- whether a call failed because the reader failed
 abbrev pub is_read_fault : {A : Type 0} → Result A ScriptFault → Bool
 is_read_fault (Ok a) = false
 is_read_fault (Err Read) = true
 is_read_fault (Err TooLong) = false
 
--- what is answered again from then on: the end or a fault
+-- the result of each later call: the end or a fault
 abbrev pub ending_of : Result Line ScriptFault → Option (Result Line ScriptFault)
 ending_of (Ok found.Text) = None
 ending_of (Ok found.TooLong) = None

@@ -8,17 +8,17 @@ use Rattle.vdb_scene.specs.declared.answer.Refusal.{Refusal}
 use Rattle.vdb_scene.specs.declared.answer.Refusal.TheVariants as refusals
 use Rattle.vdb_script.specs.Grammar.{parse}
 
--- a line's command, if it has one, or why it is refused before any grid is looked at
+-- a line's command, if it has one, or the error that it has on its own
 abbrev pub read : List ℕ → Result (Option Command) Refusal
 read line = if nat_lt 256 (length line) then Err refusals.LineTooLong else parse line
 
--- what such a line does: nothing, the step of its command, or a refusal
+-- the step of such a line: nothing, the step of its command, or an error
 abbrev pub TakesLine : Scene → Result (Option Command) Refusal → List Reply → Scene → Type 0
 TakesLine s (Ok None) replies next = (replies ≡ []) × (next ≡ s)
 TakesLine s (Ok (Some c)) replies next = (reply : Reply) × (replies ≡ reply ∷ []) × Step s c reply next
 TakesLine s (Err r) replies next = (replies ≡ Refused r ∷ []) × (next ≡ s)
 
--- what the lines do, one after another
+-- the steps of the lines, one after another
 abbrev pub Run : Scene → List (List ℕ) → List Reply → Scene → Type 0
 Run s [] replies last = (replies ≡ []) × (last ≡ s)
 Run s (line ∷ lines) replies last =

@@ -11,7 +11,7 @@ use Rattle.vdb_scene.specs.declared.answer.Refusal.{Refusal}
 use Rattle.vdb_scene.specs.declared.answer.Refusal.TheVariants as refusals
 use Rattle.vdb_scene.specs.declared.scalar.Scalar.{Scalar}
 
--- the word of a refusal
+-- the word of an error
 abbrev pub word : Refusal → List ℕ
 word refusals.LineTooLong = codes "line-too-long"
 word refusals.Syntax = codes "syntax"
@@ -38,7 +38,7 @@ state_text on = if on then codes "on" else codes "off"
 abbrev pub line : List (List ℕ) → List ℕ
 line parts = join_with_byte 32 parts ++ 10 ∷ []
 
--- the text of a cell in a slice: its value, in brackets where it is inactive
+-- the text of a cell in a slice: its value, in brackets if it is inactive
 abbrev pub cell_text : Cell Scalar → List ℕ
 cell_text c = if c.on then scalar_text c.value else 40 ∷ scalar_text c.value ++ 41 ∷ []
 
@@ -46,7 +46,7 @@ cell_text c = if c.on then scalar_text c.value else 40 ∷ scalar_text c.value +
 abbrev pub row_line : Row → List ℕ
 row_line r = line (codes "row" ∷ signed_decimal r.y ∷ map cell_text r.cells)
 
--- the line behind the others of an answer: its word, and how many the others are
+-- the last line of an answer: its word, and the number of the lines before it
 abbrev pub last_line : List ℕ → ℕ → List ℕ
 last_line word count = line (word ∷ decimal count ∷ [])
 
@@ -54,15 +54,15 @@ last_line word count = line (word ∷ decimal count ∷ [])
 abbrev pub components : Coord → List (List ℕ)
 components p = signed_decimal p.x ∷ signed_decimal p.y ∷ signed_decimal p.z ∷ []
 
--- the line of a voxel that is listed
+-- the line of a listed voxel
 abbrev pub voxel_line : Coord × Scalar → List ℕ
 voxel_line voxel = line (components voxel.0 ++ scalar_text voxel.1 ∷ [])
 
--- the word of the line behind those of a list
+-- the word of the last line of a list
 abbrev pub more_word : Bool → List ℕ
 more_word more = if more then codes "more" else codes "end"
 
--- the corners of a box, if there is one
+-- the corners of a box, if it exists
 abbrev pub bounds_words : Option Box → List (List ℕ)
 bounds_words None = codes "none" ∷ []
 bounds_words (Some box) = components box.min ++ components box.max

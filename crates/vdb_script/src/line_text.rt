@@ -4,10 +4,10 @@ ghost use Rattle.std.specs.Prelude.{◌≡◌, ◌≤◌, ◌+◌, ◌↔◌, Is
 
 use std::marker::Model;
 
-/// The most bytes that a line may have before its newline.
+/// The maximum number of bytes of a line before its newline.
 pub const LINE_LIMIT: usize = 256;
 
-/// Up to `LINE_LIMIT` bytes.
+/// A text of up to `LINE_LIMIT` bytes.
 #[derive(Drop)]
 pub struct LineText {
     bytes: [u8; LINE_LIMIT],
@@ -25,7 +25,7 @@ impl Model for LineText {
 }
 
 impl LineText {
-    /// No byte yet.
+    /// Creates an empty text.
     pub fn new() -> Self
         ensures { result ≡ [] }
     {
@@ -35,21 +35,21 @@ impl LineText {
         }
     }
 
-    /// The bytes.
+    /// Returns the bytes.
     pub fn as_slice(&self) -> &[u8]
         ensures { result.now ≡ self.now }
     {
         &self.bytes[..self.len]
     }
 
-    /// Forgets the bytes.
+    /// Removes all bytes.
     pub fn clear(&mut self)
         ensures { self.new ≡ [] }
     {
         self.len = 0;
     }
 
-    /// Adds bytes where there is capacity for all of them, and answers whether there was. The text stays where there is not.
+    /// Appends bytes if the text has capacity for all of them, and returns whether it had. Otherwise the text is unchanged.
     pub fn extend(&mut self, bytes: &[u8]) -> bool
         ensures capacity { IsTrue result ↔ (length self.old + length bytes.now ≤ LINE_LIMIT) }
         ensures text { self.new ≡ (if result then self.old ++ bytes.now else self.old) }

@@ -1,4 +1,4 @@
-//! A script's lines.
+//! The lines of a script.
 
 ghost use Rattle.std.specs.Prelude.{◌≡◌, ◌≢◌, ℕ, ◌<◌, ◌≤◌, ◌||◌, true, false, List, [], ◌++◌, length, IfOk, IfSome, None, Ok, Err};
 ghost use Rattle.vdb_scene.specs.Watched.{has_failed, source};
@@ -11,10 +11,10 @@ use std::io::Read;
 use std::marker::Model;
 use vdb_scene::Watched;
 
-/// What was read of a script.
+/// The result of reading a line of a script.
 #[derive(Clone, Copy, Debug, PartialEq, Eq)]
 pub enum Line {
-    /// A line, which `Lines::text` gives.
+    /// A line, which `Lines::text` returns.
     Text,
     /// A line of more than `LINE_LIMIT` bytes.
     TooLong,
@@ -22,7 +22,7 @@ pub enum Line {
     End,
 }
 
-/// The lines of a script that is read piece by piece.
+/// The lines of a script, read piece by piece.
 #[derive(Drop)]
 pub struct Lines {
     source: Source,
@@ -39,7 +39,7 @@ impl Model for Lines {
 }
 
 impl Lines {
-    /// No line was read yet.
+    /// Creates lines of which none has been read.
     pub fn new() -> Self
         ensures { result ≡ record {
           source = record { unread = []; left = 16777216; ended = false };
@@ -54,7 +54,7 @@ impl Lines {
         }
     }
 
-    /// The line that was read last, without its newline: nothing after `TooLong`, `End` or a fault.
+    /// Returns the last line read, without its newline: empty after `TooLong`, `End` or a fault.
     pub fn text(&self) -> &[u8]
         ensures { result.now ≡ self.now.text }
     {
@@ -62,12 +62,12 @@ impl Lines {
     }
 }
 
-/// How a line was read to its end.
+/// The way in which reading a line ended.
 #[derive(Clone, Copy, Debug, PartialEq, Eq)]
 struct Found {
-    /// Whether the text holds all of the line.
+    /// Whether the text has the whole line.
     fits: bool,
-    /// Whether the script ended before a newline came.
+    /// Whether the script ended before a newline.
     at_end: bool,
 }
 
@@ -120,7 +120,7 @@ fn read_text<R: Read>(
     }
 }
 
-/// Adds bytes to the text of a line if all that came before them fits, and answers whether they fit too.
+/// Appends bytes to the text of a line if everything before them fits, and returns whether they fit too.
 fn keep(text: &mut LineText, fits: bool, bytes: &[u8]) -> bool
     ensures { (line : List ℕ) → KeepsText fits text.old line → KeepsText result text.new (line ++ bytes.now) }
 {
@@ -178,13 +178,13 @@ fn next_line<R: Read>(
     Ok(Line::Text)
 }
 
-/// Reads the next line: the bytes up to the next newline, or up to the script's end if there are any.
+/// Reads the next line: the bytes up to the next newline, or up to the script's end if any are left.
 ///
-/// A line that has come whole is answered without a further call of the reader, and a reader that has said that it has
-/// no more isn't asked again. `Text` leaves the line to `Lines::text`; a line of more than `LINE_LIMIT` bytes is read to
-/// its end and forgotten (`TooLong`). `ScriptFault::Read` says that a call of the reader failed, `ScriptFault::TooLong`
-/// that the reader gave a byte past the script's limit; the line within which that was is lost. After the end or a
-/// fault the same is answered again, and nothing is read.
+/// A line that has arrived whole needs no further call of the reader, and a reader that has reported its end isn't called again.
+/// After `Text`, `Lines::text` returns the line; a line of more than `LINE_LIMIT` bytes is read to its end and forgotten
+/// (`TooLong`). Fails with `ScriptFault::Read` if a call of the reader fails, and with `ScriptFault::TooLong` if the reader gives
+/// a byte past the script's limit; the line of that byte is lost. After the end or a fault each call returns the same result
+/// again and reads nothing.
 pub fn read_line<R: Read>(lines: &mut Lines, reader: &mut Watched<R>) -> Result<Line, ScriptFault>
     requires ends { EndsWith lines.old.source (R.remaining (source reader.old)) }
     ensures ends { EndsWith lines.new.source (R.remaining (source reader.new)) }

@@ -1,4 +1,4 @@
-//! Voxels that are listed, as text.
+//! Lists of voxels as text.
 ghost use Rattle.std.specs.Prelude.{◌≡◌, ◌≤◌, ◌||◌, ◌++◌, drop, flat_map, IfOk, OnOk, is_err, length, take};
 ghost use Rattle.vdb_scene.specs.Listings.{listed_of, voxels_of};
 ghost use Rattle.vdb_scene.specs.Replies.{listing as listing_reply};
@@ -16,7 +16,7 @@ use vdb_coord::Coord;
 use vdb_pool::Steps;
 use vdb_scene::{AnyListing, Scalar, Voxels, Watched};
 
-/// Writes the first voxels, a line each, and the line behind them.
+/// Writes the first voxels, a line each, and the last line.
 pub(crate) fn print_list<W: Write>(
     voxels: Voxels,
     writer: &mut Watched<W>,
@@ -33,7 +33,7 @@ pub(crate) fn print_list<W: Write>(
     write_bytes(writer, page.as_slice())
 }
 
-/// Adds the lines of a listing's first voxels, and tells how many they are.
+/// Adds the lines of a listing's first voxels, and returns their number.
 fn add_voxels<W: Write>(
     listing: &mut AnyListing,
     limit: u32,
@@ -55,7 +55,7 @@ fn add_voxels<W: Write>(
     Ok(count)
 }
 
-/// The line of a voxel: its coordinate and its value.
+/// Returns the line of a voxel: its coordinate and its value.
 fn voxel_text(at: Coord, value: Scalar) -> ArrayVec<u8, ANSWER_LIMIT>
     ensures { result.items ≡ voxel_line (at, value) }
 {
@@ -70,7 +70,7 @@ fn voxel_text(at: Coord, value: Scalar) -> ArrayVec<u8, ANSWER_LIMIT>
     compose(parts.as_slice())
 }
 
-/// The line behind the voxels: whether there are more, and how many they are.
+/// Returns the last line of a list: whether more voxels follow, and the number of the listed ones.
 fn list_end_line(more: bool, count: u32) -> ArrayVec<u8, ANSWER_LIMIT>
     ensures { result.items ≡ last_line (more_word more) count }
 {
@@ -78,7 +78,7 @@ fn list_end_line(more: bool, count: u32) -> ArrayVec<u8, ANSWER_LIMIT>
     compose([more_word_text(more), buffer.format(count).as_bytes()].as_slice())
 }
 
-/// The word that says whether there are more.
+/// Returns the word that says whether more voxels follow.
 fn more_word_text(more: bool) -> &'static [u8]
     ensures text { result.now ≡ more_word more }
     ensures short { length result.now ≤ 4 }

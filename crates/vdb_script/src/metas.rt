@@ -1,4 +1,4 @@
-//! The commands that lines stand for, of which each is about a grid's metadata.
+//! The commands of lines on a grid's metadata.
 
 ghost use Rattle.std.specs.Prelude.{◌≡◌, Some, map, option_map};
 ghost use Rattle.std.specs.Option.{ok_or};
@@ -7,14 +7,14 @@ ghost use Rattle.vdb_script.specs.Grammar.{meta, metas, text_of, unmeta, whole};
 use crate::parsing::name_of;
 use vdb_scene::{Command, MetaText, Refusal};
 
-/// The text of a metadata pair that a token is.
+/// Returns the text of a metadata pair that a token has.
 fn text_of(token: &[u8]) -> Option<MetaText>
     ensures { result ≡ text_of token.now }
 {
     MetaText::new(token)
 }
 
-/// The command `meta NAME KEY TEXT`, from the tokens behind its word.
+/// Returns the command `meta NAME KEY TEXT`, from the tokens after its word.
 pub(crate) fn meta_command(tokens: &[&[u8]]) -> Option<Command>
     ensures { ok_or (option_map Some result) Refusal.Syntax ≡ whole (meta (map (λ t. t.now) tokens.now)) }
 {
@@ -28,7 +28,7 @@ pub(crate) fn meta_command(tokens: &[&[u8]]) -> Option<Command>
     }
 }
 
-/// The command `unmeta NAME KEY`, from the tokens behind its word.
+/// Returns the command `unmeta NAME KEY`, from the tokens after its word.
 pub(crate) fn unmeta_command(tokens: &[&[u8]]) -> Option<Command>
     ensures { ok_or (option_map Some result) Refusal.Syntax ≡ whole (unmeta (map (λ t. t.now) tokens.now)) }
 {
@@ -41,7 +41,7 @@ pub(crate) fn unmeta_command(tokens: &[&[u8]]) -> Option<Command>
     }
 }
 
-/// The command `metas NAME`, from the tokens behind its word.
+/// Returns the command `metas NAME`, from the tokens after its word.
 pub(crate) fn metas_command(tokens: &[&[u8]]) -> Option<Command>
     ensures { ok_or (option_map Some result) Refusal.Syntax ≡ whole (metas (map (λ t. t.now) tokens.now)) }
 {

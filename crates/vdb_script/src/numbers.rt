@@ -6,8 +6,8 @@ ghost use Rattle.vdb_script.specs.Grammar.{digits_value, positive_of, num, numbe
 
 use vdb_scene::Num;
 
-/// The number that a token writes: 0, or decimal digits of which the first isn't 0, with `-` before them for a number
-/// below 0. It may have any length, and is `Num::Far` outside `i64`. `None` where the token writes no number.
+/// Returns the number that a token writes: 0, or decimal digits that don't begin with 0, with `-` before them for a number below
+/// 0. The number may have any length, and is `Num::Far` outside `i64`. Returns `None` if the token is not a number.
 pub fn number_of(token: &[u8]) -> Option<Num>
     ensures { result ≡ number_of token.now }
 {
@@ -18,7 +18,7 @@ pub fn number_of(token: &[u8]) -> Option<Num>
     }
 }
 
-/// The number of digits of which the first isn't 0, or `u64::MAX` for any greater one. `None` where they write none.
+/// Returns the number of digits that don't begin with 0, or `u64::MAX` for any greater one: `None` if they are not such digits.
 fn positive_of(digits: &[u8]) -> Option<u64>
     ensures { result ≡ option_map (λ n. min n u64.MAX) (positive_of digits.now) }
 {
@@ -28,7 +28,7 @@ fn positive_of(digits: &[u8]) -> Option<u64>
     }
 }
 
-/// The number of any digits, or `u64::MAX` for any greater one. `None` where a byte is no digit.
+/// Returns the number of any digits, or `u64::MAX` for any greater one: `None` if a byte is not a digit.
 fn digits_value(digits: &[u8]) -> Option<u64>
     ensures { result ≡ (if list_all is_ascii_digit digits.now then Some (min (digits_value digits.now) u64.MAX) else None) }
 {
@@ -44,7 +44,7 @@ fn digits_value(digits: &[u8]) -> Option<u64>
     Some(value)
 }
 
-/// The number of this size above 0, where `u64::MAX` stands for any greater one too.
+/// Returns the number of this size above 0. `u64::MAX` also means any greater size.
 fn above_zero(size: u64) -> Num
     ensures { (n : ℕ) → size ≡ min n u64.MAX → result ≡ num (pos n) }
 {
@@ -54,7 +54,7 @@ fn above_zero(size: u64) -> Num
     }
 }
 
-/// The number of this size below 0, where `u64::MAX` stands for any greater one too.
+/// Returns the number of this size below 0. `u64::MAX` also means any greater size.
 fn below_zero(size: u64) -> Num
     ensures { (n : ℕ) → size ≡ min n u64.MAX → result ≡ num (neg_ℤ (pos n)) }
 {

@@ -1,4 +1,4 @@
-//! Bytes that are written, and a page on which they are composed before.
+//! Writing of bytes, and a page that collects them first.
 
 ghost use Rattle.std.specs.Prelude.{◌≡◌, ◌≤◌, ◌||◌, is_err, length};
 ghost use Rattle.vdb_scene.specs.Watched.{has_failed, source};
@@ -9,19 +9,19 @@ use std::io::Write;
 use thiserror::Error;
 use vdb_scene::Watched;
 
-/// The most bytes that are composed before they are written.
+/// The maximum number of bytes that a page collects before they are written.
 pub(crate) const PAGE_LIMIT: usize = 4096;
 
-/// Bytes that are composed, and aren't written yet.
+/// Bytes that are collected and not written yet.
 pub(crate) type Page = ArrayVec<u8, PAGE_LIMIT>;
 
-/// The writer failed, or took no byte of some.
+/// A fault of the writer: it failed, or took no byte of some.
 #[derive(Clone, Copy, Debug, PartialEq, Eq, Error)]
 #[error("write")]
 pub struct WriteFault;
 
-/// Writes all of the bytes, in one call where the writer takes them all at once. A writer that fails or takes no byte
-/// of some isn't tried again.
+/// Writes all of the bytes, in one call if the writer takes them all at once. If the writer fails or takes no byte of some, it is
+/// not called again.
 pub(crate) fn write_bytes<W: Write>(writer: &mut Watched<W>, bytes: &[u8]) -> Result<(), WriteFault>
     ensures writes { Writes (W.contents (source writer.old)) (W.contents (source writer.new)) result bytes.now }
     ensures failed { has_failed writer.new ≡ (has_failed writer.old || is_err result) }
@@ -37,7 +37,7 @@ pub(crate) fn write_bytes<W: Write>(writer: &mut Watched<W>, bytes: &[u8]) -> Re
     Ok(())
 }
 
-/// Puts a part of at most a page behind what is composed. Where it has no capacity there, what is composed is written first.
+/// Appends a part of at most a page to the page. If the page has no capacity left, it is written first.
 pub(crate) fn add<W: Write>(
     page: &mut Page,
     part: &[u8],

@@ -12,7 +12,7 @@ use arrayvec::ArrayVec;
 use std::io::Write;
 use vdb_scene::{MetaText, Metas, Name, Watched};
 
-/// Writes the pairs, a line each, and the line behind them.
+/// Writes the pairs, a line each, and the last line.
 pub(crate) fn print_pairs<W: Write>(
     metas: &Metas,
     writer: &mut Watched<W>,
@@ -42,7 +42,7 @@ fn add_pairs<W: Write>(
     Ok(())
 }
 
-/// The line of a pair: its key and its text.
+/// Returns the line of a pair: its key and its text.
 fn pair_line(key: &Name, text: &MetaText) -> ArrayVec<u8, ANSWER_LIMIT>
     ensures { result.items ≡ texts.pair_line (key.now, text.now) }
 {

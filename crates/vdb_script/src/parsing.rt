@@ -19,14 +19,14 @@ use std::alloc::Global;
 use vdb_scene::{Area, Command, Corners, Literal, Name, Num, Point, Refusal};
 use vdb_value::Kind;
 
-/// The name that a token is.
+/// Returns the name that a token has.
 pub(crate) fn name_of(token: &[u8]) -> Option<Name>
     ensures { result ≡ name_of token.now }
 {
     Name::new(token)
 }
 
-/// The kind that a token names.
+/// Returns the type that a token names.
 fn kind_named(token: &[u8]) -> Option<Kind>
     ensures { result ≡ kind_named token.now }
 {
@@ -38,7 +38,7 @@ fn kind_named(token: &[u8]) -> Option<Kind>
     }
 }
 
-/// The value that a token writes: `true`, `false` or a number.
+/// Returns the value that a token writes: `true`, `false` or a number.
 fn literal_of(token: &[u8]) -> Option<Literal>
     ensures { result ≡ literal_of token.now }
 {
@@ -49,7 +49,7 @@ fn literal_of(token: &[u8]) -> Option<Literal>
     }
 }
 
-/// The state that a token names.
+/// Returns the state that a token names.
 fn state_of(token: &[u8]) -> Option<bool>
     ensures { result ≡ state_of token.now }
 {
@@ -60,7 +60,7 @@ fn state_of(token: &[u8]) -> Option<bool>
     }
 }
 
-/// The accessor that a token names: `-` for none, or a number.
+/// Returns the accessor that a token names: `-` for none, or a number.
 fn accessor_of(token: &[u8]) -> Option<Option<Num>>
     ensures { result ≡ accessor_of token.now }
 {
@@ -70,7 +70,7 @@ fn accessor_of(token: &[u8]) -> Option<Option<Num>>
     }
 }
 
-/// The coordinate that three tokens write.
+/// Returns the coordinate that three tokens write.
 fn point_of(x: &[u8], y: &[u8], z: &[u8]) -> Option<Point>
     ensures { MatchOption result (point (x.now ∷ y.now ∷ z.now ∷ []) ≡ None) (λ at. (rest : List (List ℕ)) → point (x.now ∷ y.now ∷ z.now ∷ rest) ≡ Some (at, rest)) }
 {
@@ -81,7 +81,7 @@ fn point_of(x: &[u8], y: &[u8], z: &[u8]) -> Option<Point>
     })
 }
 
-/// The corners that six tokens write: the minimum, then the maximum.
+/// Returns the corners that six tokens write: the minimum, then the maximum.
 fn corners_of(x0: &[u8], y0: &[u8], z0: &[u8], x1: &[u8], y1: &[u8], z1: &[u8]) -> Option<Corners>
     ensures { MatchOption result (corners (x0.now ∷ y0.now ∷ z0.now ∷ x1.now ∷ y1.now ∷ z1.now ∷ []) ≡ None)
         (λ c. (rest : List (List ℕ)) → corners (x0.now ∷ y0.now ∷ z0.now ∷ x1.now ∷ y1.now ∷ z1.now ∷ rest) ≡ Some (c, rest)) }
@@ -91,7 +91,7 @@ fn corners_of(x0: &[u8], y0: &[u8], z0: &[u8], x1: &[u8], y1: &[u8], z1: &[u8]) 
     Some(Corners { min, max })
 }
 
-/// The command `grid NAME KIND BACKGROUND` or `grid NAME KIND BACKGROUND LIMIT`, from the tokens behind its word.
+/// Returns the command `grid NAME KIND BACKGROUND` or `grid NAME KIND BACKGROUND LIMIT`, from the tokens after its word.
 fn grid_command(tokens: &[&[u8]]) -> Option<Command>
     ensures { ok_or (option_map Some result) Refusal.Syntax ≡ whole (grid (map (λ t. t.now) tokens.now)) }
 {
@@ -112,7 +112,7 @@ fn grid_command(tokens: &[&[u8]]) -> Option<Command>
     }
 }
 
-/// The command `drop NAME`, from the tokens behind its word.
+/// Returns the command `drop NAME`, from the tokens after its word.
 fn drop_command(tokens: &[&[u8]]) -> Option<Command>
     ensures { ok_or (option_map Some result) Refusal.Syntax ≡ whole (drop (map (λ t. t.now) tokens.now)) }
 {
@@ -124,7 +124,7 @@ fn drop_command(tokens: &[&[u8]]) -> Option<Command>
     }
 }
 
-/// The command `copy FROM TO`, from the tokens behind its word.
+/// Returns the command `copy FROM TO`, from the tokens after its word.
 fn copy_command(tokens: &[&[u8]]) -> Option<Command>
     ensures { ok_or (option_map Some result) Refusal.Syntax ≡ whole (copy (map (λ t. t.now) tokens.now)) }
 {
@@ -137,7 +137,7 @@ fn copy_command(tokens: &[&[u8]]) -> Option<Command>
     }
 }
 
-/// The command `get NAME ACCESSOR X Y Z`, from the tokens behind its word.
+/// Returns the command `get NAME ACCESSOR X Y Z`, from the tokens after its word.
 fn get_command(tokens: &[&[u8]]) -> Option<Command>
     ensures { ok_or (option_map Some result) Refusal.Syntax ≡ whole (get (map (λ t. t.now) tokens.now)) }
 {
@@ -151,7 +151,7 @@ fn get_command(tokens: &[&[u8]]) -> Option<Command>
     }
 }
 
-/// The parts `NAME ACCESSOR X Y Z VALUE` of a command that writes a value to a voxel.
+/// Returns the parts `NAME ACCESSOR X Y Z VALUE` of a command that writes a value to a voxel.
 fn voxel_value(tokens: &[&[u8]]) -> Option<(Name, Option<Num>, Point, Literal)>
     ensures { (make : List ℕ → Option Num → Point → Literal → Command)
         → ok_or (option_map (λ parts. Some (make parts.0 parts.1 parts.2 parts.3)) result) Refusal.Syntax ≡ whole (voxel_value make (map (λ t. t.now) tokens.now)) }
@@ -167,7 +167,7 @@ fn voxel_value(tokens: &[&[u8]]) -> Option<(Name, Option<Num>, Point, Literal)>
     }
 }
 
-/// The command `set NAME ACCESSOR X Y Z VALUE`, from the tokens behind its word.
+/// Returns the command `set NAME ACCESSOR X Y Z VALUE`, from the tokens after its word.
 fn set_command(tokens: &[&[u8]]) -> Option<Command>
     ensures { ok_or (option_map Some result) Refusal.Syntax ≡ whole (set (map (λ t. t.now) tokens.now)) }
 {
@@ -180,7 +180,7 @@ fn set_command(tokens: &[&[u8]]) -> Option<Command>
     })
 }
 
-/// The command `unset NAME ACCESSOR X Y Z VALUE`, from the tokens behind its word.
+/// Returns the command `unset NAME ACCESSOR X Y Z VALUE`, from the tokens after its word.
 fn unset_command(tokens: &[&[u8]]) -> Option<Command>
     ensures { ok_or (option_map Some result) Refusal.Syntax ≡ whole (unset (map (λ t. t.now) tokens.now)) }
 {
@@ -193,7 +193,7 @@ fn unset_command(tokens: &[&[u8]]) -> Option<Command>
     })
 }
 
-/// The command `only NAME ACCESSOR X Y Z VALUE`, from the tokens behind its word.
+/// Returns the command `only NAME ACCESSOR X Y Z VALUE`, from the tokens after its word.
 fn only_command(tokens: &[&[u8]]) -> Option<Command>
     ensures { ok_or (option_map Some result) Refusal.Syntax ≡ whole (only (map (λ t. t.now) tokens.now)) }
 {
@@ -206,7 +206,7 @@ fn only_command(tokens: &[&[u8]]) -> Option<Command>
     })
 }
 
-/// The command `state NAME ACCESSOR X Y Z STATE`, from the tokens behind its word.
+/// Returns the command `state NAME ACCESSOR X Y Z STATE`, from the tokens after its word.
 fn state_command(tokens: &[&[u8]]) -> Option<Command>
     ensures { ok_or (option_map Some result) Refusal.Syntax ≡ whole (state (map (λ t. t.now) tokens.now)) }
 {
@@ -221,7 +221,7 @@ fn state_command(tokens: &[&[u8]]) -> Option<Command>
     }
 }
 
-/// The command `fill NAME X0 Y0 Z0 X1 Y1 Z1 VALUE STATE`, from the tokens behind its word.
+/// Returns the command `fill NAME X0 Y0 Z0 X1 Y1 Z1 VALUE STATE`, from the tokens after its word.
 fn fill_command(tokens: &[&[u8]]) -> Option<Command>
     ensures { ok_or (option_map Some result) Refusal.Syntax ≡ whole (fill (map (λ t. t.now) tokens.now)) }
 {
@@ -236,7 +236,7 @@ fn fill_command(tokens: &[&[u8]]) -> Option<Command>
     }
 }
 
-/// The command `clip NAME X0 Y0 Z0 X1 Y1 Z1`, from the tokens behind its word.
+/// Returns the command `clip NAME X0 Y0 Z0 X1 Y1 Z1`, from the tokens after its word.
 fn clip_command(tokens: &[&[u8]]) -> Option<Command>
     ensures { ok_or (option_map Some result) Refusal.Syntax ≡ whole (clip (map (λ t. t.now) tokens.now)) }
 {
@@ -249,7 +249,7 @@ fn clip_command(tokens: &[&[u8]]) -> Option<Command>
     }
 }
 
-/// The command `prune NAME`, from the tokens behind its word.
+/// Returns the command `prune NAME`, from the tokens after its word.
 fn prune_command(tokens: &[&[u8]]) -> Option<Command>
     ensures { ok_or (option_map Some result) Refusal.Syntax ≡ whole (prune (map (λ t. t.now) tokens.now)) }
 {
@@ -261,7 +261,7 @@ fn prune_command(tokens: &[&[u8]]) -> Option<Command>
     }
 }
 
-/// The command `voxelise NAME X0 Y0 Z0 X1 Y1 Z1`, from the tokens behind its word.
+/// Returns the command `voxelise NAME X0 Y0 Z0 X1 Y1 Z1`, from the tokens after its word.
 fn voxelise_command(tokens: &[&[u8]]) -> Option<Command>
     ensures { ok_or (option_map Some result) Refusal.Syntax ≡ whole (voxelise (map (λ t. t.now) tokens.now)) }
 {
@@ -274,7 +274,7 @@ fn voxelise_command(tokens: &[&[u8]]) -> Option<Command>
     }
 }
 
-/// The command `list NAME X0 Y0 Z0 X1 Y1 Z1 LIMIT`, from the tokens behind its word.
+/// Returns the command `list NAME X0 Y0 Z0 X1 Y1 Z1 LIMIT`, from the tokens after its word.
 fn list_command(tokens: &[&[u8]]) -> Option<Command>
     ensures { ok_or (option_map Some result) Refusal.Syntax ≡ whole (list (map (λ t. t.now) tokens.now)) }
 {
@@ -288,7 +288,7 @@ fn list_command(tokens: &[&[u8]]) -> Option<Command>
     }
 }
 
-/// The command `slice NAME Z X0 Y0 X1 Y1`, from the tokens behind its word.
+/// Returns the command `slice NAME Z X0 Y0 X1 Y1`, from the tokens after its word.
 fn slice_command(tokens: &[&[u8]]) -> Option<Command>
     ensures { ok_or (option_map Some result) Refusal.Syntax ≡ whole (slice (map (λ t. t.now) tokens.now)) }
 {
@@ -307,7 +307,7 @@ fn slice_command(tokens: &[&[u8]]) -> Option<Command>
     }
 }
 
-/// No box, where a token is the word for all coordinates.
+/// Returns `Some(None)`, for no box, if a token is the word for all coordinates.
 fn all_of(token: &[u8]) -> Option<Option<Corners>>
     ensures { result ≡ all_of token.now }
 {
@@ -317,7 +317,7 @@ fn all_of(token: &[u8]) -> Option<Option<Corners>>
     }
 }
 
-/// The command `count NAME X0 Y0 Z0 X1 Y1 Z1` or `count NAME all`, from the tokens behind its word.
+/// Returns the command `count NAME X0 Y0 Z0 X1 Y1 Z1` or `count NAME all`, from the tokens after its word.
 fn count_command(tokens: &[&[u8]]) -> Option<Command>
     ensures { ok_or (option_map Some result) Refusal.Syntax ≡ whole (count (map (λ t. t.now) tokens.now)) }
 {
@@ -334,7 +334,7 @@ fn count_command(tokens: &[&[u8]]) -> Option<Command>
     }
 }
 
-/// The command `bounds NAME`, from the tokens behind its word.
+/// Returns the command `bounds NAME`, from the tokens after its word.
 fn bounds_command(tokens: &[&[u8]]) -> Option<Command>
     ensures { ok_or (option_map Some result) Refusal.Syntax ≡ whole (bounds (map (λ t. t.now) tokens.now)) }
 {
@@ -346,7 +346,7 @@ fn bounds_command(tokens: &[&[u8]]) -> Option<Command>
     }
 }
 
-/// The command `census NAME`, from the tokens behind its word.
+/// Returns the command `census NAME`, from the tokens after its word.
 fn census_command(tokens: &[&[u8]]) -> Option<Command>
     ensures { ok_or (option_map Some result) Refusal.Syntax ≡ whole (census (map (λ t. t.now) tokens.now)) }
 {
@@ -358,15 +358,15 @@ fn census_command(tokens: &[&[u8]]) -> Option<Command>
     }
 }
 
-/// Whether a token is this word.
+/// Returns whether a token is this word.
 fn is_word(token: &[u8], word: &[u8]) -> bool
     ensures { result ≡ bytes_eq token.now word.now }
 {
     token == word
 }
 
-/// The command of a word and the tokens behind it. Those on voxels come first, and each group has a function of its own: a line
-/// mostly has one of them, and a function pays for the places of all that it may call.
+/// Returns the command of a word and the tokens after it. Commands on voxels come first, and each group has a function of its
+/// own: most lines have a command on a voxel, and a function reserves stack space for everything that it may call.
 fn command_of(word: &[u8], tokens: &[&[u8]]) -> Option<Command>
     ensures { ok_or (option_map Some result) Refusal.Syntax ≡ command_of word.now (map (λ t. t.now) tokens.now) }
 {
@@ -385,7 +385,7 @@ fn command_of(word: &[u8], tokens: &[&[u8]]) -> Option<Command>
     }
 }
 
-/// The command of a word that is none of a command on a voxel.
+/// Returns the command of a word that is not of a command on a voxel.
 fn box_command_of(word: &[u8], tokens: &[&[u8]]) -> Option<Command>
     ensures { ok_or (option_map Some result) Refusal.Syntax ≡ command_among box_forms word.now (map (λ t. t.now) tokens.now) }
 {
@@ -406,7 +406,7 @@ fn box_command_of(word: &[u8], tokens: &[&[u8]]) -> Option<Command>
     }
 }
 
-/// The command of a word that is none of a command on a voxel or on a box.
+/// Returns the command of a word that is neither of a command on a voxel nor on a box.
 fn grid_command_of(word: &[u8], tokens: &[&[u8]]) -> Option<Command>
     ensures { ok_or (option_map Some result) Refusal.Syntax ≡ command_among grid_forms word.now (map (λ t. t.now) tokens.now) }
 {
@@ -433,7 +433,7 @@ fn grid_command_of(word: &[u8], tokens: &[&[u8]]) -> Option<Command>
     }
 }
 
-/// The command of a word, where that is one on two grids or of turns.
+/// Returns the command of a word, if it is one on two grids or of dilation or erosion.
 fn operation_of(word: &[u8], tokens: &[&[u8]]) -> Option<Command>
     ensures { ok_or (option_map Some result) Refusal.Syntax ≡ command_among operation_forms word.now (map (λ t. t.now) tokens.now) }
 {
@@ -460,17 +460,18 @@ fn operation_of(word: &[u8], tokens: &[&[u8]]) -> Option<Command>
     }
 }
 
-/// Whether a token begins a comment, which goes on to the end of the line.
+/// Returns whether a token begins a comment, which ends at the end of the line.
 fn is_comment(token: &[u8]) -> bool
     ensures { result ≡ is_comment token.now }
 {
     matches!(token, [b'#', ..])
 }
 
-/// The command of a line, given without its newline, or `None` for a blank line or a comment. A line is read whatever
-/// its length, without taking memory. `Err(Refusal::Syntax)` where it is no command: a word that is none, too few
-/// tokens or too many, or a token of another form than the command has in its place. That a number lies in no range
-/// and that there is no grid of a name are found later, when the command is carried out.
+/// Returns the command of a line, given without its newline, or `None` for a blank line or a comment. The line may have any
+/// length; nothing is allocated.
+///
+/// Fails with `Refusal::Syntax` if the line is not a command: an unknown word, too few tokens or too many, or a token of the
+/// wrong form. A number outside its range and a missing grid are errors of the command when it is carried out.
 pub fn parse(alloc: Global, line: &[u8]) -> Result<Option<Command>, Refusal>
     ensures { result ≡ parse line.now }
 {

@@ -20,10 +20,10 @@ use std::io::Write;
 use vdb_pool::Steps;
 use vdb_scene::{Answer, Refusal, Scalar, Watched};
 
-/// The most bytes that the line of an answer has, its newline among them.
+/// The maximum number of bytes of an answer's line, with its newline.
 pub(crate) const ANSWER_LIMIT: usize = 96;
 
-/// The word of a refusal.
+/// Returns the word of an error.
 fn refusal_word(refusal: Refusal) -> &'static [u8]
     ensures text { result.now ≡ word refusal }
     ensures short { length result.now ≤ 20 }
@@ -48,7 +48,7 @@ fn refusal_word(refusal: Refusal) -> &'static [u8]
     }
 }
 
-/// The text of a value: `true`, `false` or a decimal number.
+/// Returns the text of a value: `true`, `false` or a decimal number.
 pub(crate) fn value_text<'b>(value: Scalar, buffer: &'b mut Buffer) -> &'b [u8]
     ensures text { result.now ≡ scalar_text value }
     ensures short { length result.now ≤ 20 }
@@ -61,7 +61,7 @@ pub(crate) fn value_text<'b>(value: Scalar, buffer: &'b mut Buffer) -> &'b [u8]
     }
 }
 
-/// The word of a state.
+/// Returns the word of a state.
 fn state_word(on: bool) -> &'static [u8]
     ensures text { result.now ≡ state_text on }
     ensures short { length result.now ≤ 3 }
@@ -72,7 +72,7 @@ fn state_word(on: bool) -> &'static [u8]
     }
 }
 
-/// Adds a part of a line, behind a space unless it is the first.
+/// Appends a part to a line, after a space unless it is the first.
 fn add_part(composed: &mut ArrayVec<u8, ANSWER_LIMIT>, is_first: bool, part: &[u8])
     requires capacity { length ((if is_first then composed.old.items else composed.old.items ++ 32 ∷ [])
         ++ part.now) ≤ ANSWER_LIMIT }
@@ -85,7 +85,7 @@ fn add_part(composed: &mut ArrayVec<u8, ANSWER_LIMIT>, is_first: bool, part: &[u
     composed.try_extend_from_slice(part).unwrap();
 }
 
-/// A line: its parts with a space between each two, and a newline.
+/// Returns a line: its parts with a space between each two, and a newline.
 pub(crate) fn compose(parts: &[&[u8]]) -> ArrayVec<u8, ANSWER_LIMIT>
     requires capacity { length (line (map (λ part. part.now) parts.now)) ≤ ANSWER_LIMIT }
     ensures { result.items ≡ line (map (λ part. part.now) parts.now) }
@@ -98,14 +98,14 @@ pub(crate) fn compose(parts: &[&[u8]]) -> ArrayVec<u8, ANSWER_LIMIT>
     composed
 }
 
-/// The line of a refusal.
+/// Returns the line of an error.
 fn refusal_line(refusal: Refusal) -> ArrayVec<u8, ANSWER_LIMIT>
     ensures { result.items ≡ text (replies.Refused refusal) }
 {
     compose([b"error".as_slice(), refusal_word(refusal)].as_slice())
 }
 
-/// The line behind the others of an answer: how many they are.
+/// Returns the last line of an answer: the number of the lines before it.
 pub(crate) fn end_line(count: u64) -> ArrayVec<u8, ANSWER_LIMIT>
     ensures { result.items ≡ last_line (codes "end") count }
 {
@@ -113,7 +113,7 @@ pub(crate) fn end_line(count: u64) -> ArrayVec<u8, ANSWER_LIMIT>
     compose([b"end".as_slice(), buffer.format(count).as_bytes()].as_slice())
 }
 
-/// The line of a cell.
+/// Returns the line of a cell.
 fn value_line(value: Scalar, on: bool) -> ArrayVec<u8, ANSWER_LIMIT>
     ensures { result.items ≡ text (replies.Value (record { value = value; on = on })) }
 {
@@ -126,7 +126,7 @@ fn value_line(value: Scalar, on: bool) -> ArrayVec<u8, ANSWER_LIMIT>
     compose(parts.as_slice())
 }
 
-/// Writes the line of a refusal.
+/// Writes the line of an error.
 fn print_refusal<W: Write>(refusal: Refusal, writer: &mut Watched<W>) -> Result<(), WriteFault>
     ensures writes { Writes (W.contents (source writer.old)) (W.contents (source writer.new)) result (text (replies.Refused refusal)) }
     ensures failed { has_failed writer.new ≡ (has_failed writer.old || is_err result) }
@@ -142,12 +142,13 @@ fn print_value<W: Write>(value: Scalar, on: bool, writer: &mut Watched<W>) -> Re
     write_bytes(writer, value_line(value, on).as_slice())
 }
 
-/// Writes the text of an answer. Each but `ok` is written by a function of its own, since a call pays for the places of all lines
+/// Writes the text of an answer. Each answer but `ok` has a function of its own, since a call reserves stack space for every line
 /// that its function may compose.
 ///
-/// It is composed first, up to 4,096 bytes at once, and written in one call; only a writer that takes a part of them is called
-/// again, with the rest. An answer of several lines is read from the scene as it is written. `WriteFault` says that a call of
-/// the writer failed, or took no byte of some; a prefix of the text may have been written then, and nothing is tried again.
+/// The text is collected first, up to 4,096 bytes at once, and written in one call; only a writer that takes a part of them is
+/// called again, with the rest. An answer of several lines is read from the scene while it is written. Fails with `WriteFault` if
+/// a call of the writer fails or takes no byte of some. A prefix of the text may have been written then, and the writer isn't
+/// called again.
 pub fn print<W: Write>(
     answer: Answer,
     writer: &mut Watched<W>,

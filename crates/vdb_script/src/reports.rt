@@ -24,7 +24,7 @@ pub(crate) fn print_count<W: Write>(active: u128, writer: &mut Watched<W>) -> Re
     write_bytes(writer, count_line(active).as_slice())
 }
 
-/// Writes the line of the box around the active voxels, if there are any.
+/// Writes the line of the bounding box of the active voxels, if any.
 pub(crate) fn print_bounds<W: Write>(
     corners: Option<(Coord, Coord)>,
     writer: &mut Watched<W>,
@@ -46,7 +46,7 @@ pub(crate) fn print_census<W: Write>(
     write_bytes(writer, census_line(counts).as_slice())
 }
 
-/// The line of a count.
+/// Returns the line of a count.
 fn count_line(active: u128) -> ArrayVec<u8, ANSWER_LIMIT>
     ensures { result.items ≡ text (replies.Count active) }
 {
@@ -54,7 +54,7 @@ fn count_line(active: u128) -> ArrayVec<u8, ANSWER_LIMIT>
     compose([b"count".as_slice(), buffer.format(active).as_bytes()].as_slice())
 }
 
-/// The line of the box around the active voxels, if there are any.
+/// Returns the line of the bounding box of the active voxels, if any.
 fn bounds_line(corners: Option<(Coord, Coord)>) -> ArrayVec<u8, ANSWER_LIMIT>
     ensures { result.items ≡ text (replies.Bounds (option_map box_of_corners corners)) }
 {
@@ -64,7 +64,7 @@ fn bounds_line(corners: Option<(Coord, Coord)>) -> ArrayVec<u8, ANSWER_LIMIT>
     }
 }
 
-/// The line of a box, given by its corners.
+/// Returns the line of a box, given by its corners.
 fn corners_line(min: Coord, max: Coord) -> ArrayVec<u8, ANSWER_LIMIT>
     ensures { result.items ≡ text (replies.Bounds (Some (record { min = min; max = max }))) }
 {
@@ -82,7 +82,7 @@ fn corners_line(min: Coord, max: Coord) -> ArrayVec<u8, ANSWER_LIMIT>
     compose(parts.as_slice())
 }
 
-/// The line of a census.
+/// Returns the line of a census.
 fn census_line(counts: Census) -> ArrayVec<u8, ANSWER_LIMIT>
     ensures { result.items ≡ text (replies.Census counts) }
 {
@@ -98,7 +98,7 @@ fn census_line(counts: Census) -> ArrayVec<u8, ANSWER_LIMIT>
     compose(parts.as_slice())
 }
 
-/// The text of a component.
+/// Returns the text of a component.
 pub(crate) fn component_text<'b>(component: i32, buffer: &'b mut Buffer) -> &'b [u8]
     ensures text { result.now ≡ signed_decimal component }
     ensures short { length result.now ≤ 11 }

@@ -16,10 +16,10 @@ use vdb_pool::Steps;
 use vdb_scene::{Scalar, Slice, SliceRow, Watched};
 use vdb_value::Cell;
 
-/// The most bytes of a cell in a slice: a space, and a value in brackets.
+/// The maximum number of bytes of a cell in a slice: a space, and a value in brackets.
 const CELL_LIMIT: usize = 24;
 
-/// Writes the rows of a slice, a line each, and the line behind them.
+/// Writes the rows of a slice, a line each, and the last line.
 pub(crate) fn print_slice<W: Write>(
     slice: Slice,
     writer: &mut Watched<W>,
@@ -67,7 +67,7 @@ fn add_row<W: Write>(
     add(page, b"\n", writer)
 }
 
-/// Adds the cells of a row, each behind a space.
+/// Adds the cells of a row, each after a space.
 fn add_cells<W: Write>(
     row: SliceRow,
     page: &mut Page,
@@ -84,7 +84,7 @@ fn add_cells<W: Write>(
     Ok(())
 }
 
-/// What a row's line begins with: its word and its y.
+/// Returns the begin of a row's line: its word and its y.
 fn row_head(row: &SliceRow) -> ArrayVec<u8, ANSWER_LIMIT>
     ensures { result.items ≡ codes "row" ++ 32 ∷ signed_decimal row.now.y }
 {
@@ -98,7 +98,7 @@ fn row_head(row: &SliceRow) -> ArrayVec<u8, ANSWER_LIMIT>
     head
 }
 
-/// A space and a cell: its value, in brackets where it is inactive.
+/// Returns a space and a cell: its value, in brackets if it is inactive.
 fn spaced_cell(cell: Cell<Scalar>) -> ArrayVec<u8, CELL_LIMIT>
     ensures { result.items ≡ 32 ∷ cell_text cell }
 {

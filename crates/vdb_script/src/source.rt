@@ -1,4 +1,4 @@
-//! A script's bytes, read from a reader piece by piece.
+//! The bytes of a script, read from a reader piece by piece.
 
 ghost use Rattle.std.specs.Prelude.{◌≡◌, ◌≢◌, ℕ, ◌≤◌, ◌||◌, true, false, [], ◌∷◌, length, drop, OnOk, Err};
 ghost use Rattle.std.specs.Io.KnownBytes.{Consumes, Keeps};
@@ -10,13 +10,13 @@ use std::marker::Model;
 use thiserror::Error;
 use vdb_scene::Watched;
 
-/// The most bytes that a script may have.
+/// The maximum number of bytes of a script.
 pub const SCRIPT_LIMIT: usize = 16_777_216;
 
-/// The most bytes that a reader is asked for at once.
+/// The maximum number of bytes that one call of a reader asks for.
 const PIECE: usize = 4096;
 
-/// Why the rest of a script isn't carried out.
+/// The fault that ends a script early.
 #[derive(Clone, Copy, Debug, PartialEq, Eq, Error)]
 pub enum ScriptFault {
     /// A call of the reader failed.
@@ -27,8 +27,8 @@ pub enum ScriptFault {
     TooLong,
 }
 
-/// What is kept between a reader and the lines: the piece that came last, how many more bytes the reader may give, and whether
-/// it has said that it has no more.
+/// The bytes between a reader and the lines: the last piece, the number of bytes that the reader may still give, and whether it
+/// has reported its end.
 #[derive(Drop)]
 pub struct Source {
     piece: [u8; PIECE],
@@ -50,7 +50,7 @@ impl Model for Source {
 }
 
 impl Source {
-    /// Nothing was read yet.
+    /// Creates a source of which nothing has been read.
     pub fn new() -> Self
         ensures { result ≡ record { unread = []; left = SCRIPT_LIMIT; ended = false } }
     {
@@ -63,14 +63,14 @@ impl Source {
         }
     }
 
-    /// The bytes that were read and not yet dropped.
+    /// Returns the bytes that have been read and not skipped yet.
     pub fn unread(&self) -> &[u8]
         ensures { result.now ≡ self.now.unread }
     {
         &self.piece[self.start..self.end]
     }
 
-    /// Drops the first unread bytes.
+    /// Skips the first unread bytes.
     pub fn skip(&mut self, count: usize)
         requires { count ≤ length self.old.unread }
         ensures unread { self.new.unread ≡ drop count self.old.unread }
@@ -80,10 +80,11 @@ impl Source {
         self.start += count;
     }
 
-    /// Reads a piece where nothing is unread, unless the reader has said that it has no more. Then there are unread
-    /// bytes, or the script has ended.
+    /// Reads a piece if nothing is unread, unless the reader has reported its end. After that some bytes are unread, or the
+    /// script has ended.
     ///
-    /// A script that had all of its bytes is asked for one further byte: `TooLong` if that comes.
+    /// A reader that has given as many bytes as a script may have is asked for one further byte. Fails with `TooLong` if it gives
+    /// one.
     fn refill<R: Read>(&mut self, reader: &mut Watched<R>) -> Result<(), ScriptFault>
         requires unread { self.old.unread ≡ [] }
         requires ends { EndsWith self.old (R.remaining (source reader.old)) }
@@ -119,9 +120,10 @@ impl Source {
         Ok(())
     }
 
-    /// Has some bytes unread, unless the script has ended. The reader is asked only where nothing is unread.
+    /// Makes sure that some bytes are unread, unless the script has ended. Calls the reader only if nothing is unread.
     ///
-    /// A fault yields nothing: `Read` where the reader failed, `TooLong` where it gave a byte past the script's limit.
+    /// Fails with `Read` if the reader fails, and with `TooLong` if it gives a byte past the script's limit. Nothing is unread
+    /// then.
     pub fn fill<R: Read>(&mut self, reader: &mut Watched<R>) -> Result<(), ScriptFault>
         requires ends { EndsWith self.old (R.remaining (source reader.old)) }
         ensures ends { EndsWith self.new (R.remaining (source reader.new)) }

@@ -6,20 +6,20 @@ ghost use Rattle.vdb_script.specs.Lines.{is_separator, tokens};
 use smallvec::SmallVec;
 use std::alloc::Global;
 
-/// The most tokens that come behind the word of a command.
+/// The maximum number of tokens after the word of a command.
 pub const ARGUMENT_LIMIT: usize = 9;
 
-/// Tokens of a line, kept in place, so that they need no memory.
+/// Tokens of a line, kept in place, so that they need no allocation.
 pub type Tokens<'a> = SmallVec<&'a [u8], 12>;
 
-/// Whether a byte separates tokens: a space, a tab or a carriage return.
+/// Returns whether a byte separates tokens: a space, a tab or a carriage return.
 fn is_separator_byte(byte: u8) -> bool
     ensures { result ≡ is_separator byte }
 {
     byte == b' ' || byte == b'\t' || byte == b'\r'
 }
 
-/// How many separators come before anything else.
+/// Returns the number of separators at the begin of a line.
 fn separators_before(line: &[u8]) -> usize
     ensures { result ≡ length (take_while is_separator line.now) }
 {
@@ -28,7 +28,7 @@ fn separators_before(line: &[u8]) -> usize
         .count()
 }
 
-/// How many bytes come before the first separator, or before the end.
+/// Returns the number of bytes before the first separator, or before the end.
 fn bytes_before_separator(text: &[u8]) -> usize
     ensures { result ≡ length (take_while (λ b. not (is_separator b)) text.now) }
 {
@@ -37,7 +37,7 @@ fn bytes_before_separator(text: &[u8]) -> usize
         .count()
 }
 
-/// The first token of a line and the bytes behind it, or `None` where the line has no token.
+/// Returns the first token of a line and the bytes after it: `None` if the line has no token.
 pub fn first_token(line: &[u8]) -> Option<(&[u8], &[u8])>
     ensures some { IfSome result (λ found. tokens line.entry.now ≡ found.0.now ∷ tokens found.1.now) }
     ensures shorter { IfSome result (λ found. length found.1.now < length line.entry.now) }
@@ -50,7 +50,7 @@ pub fn first_token(line: &[u8]) -> Option<(&[u8], &[u8])>
     Some(text.split_at(bytes_before_separator(text)))
 }
 
-/// The tokens of a line, or `None` where it has more than `ARGUMENT_LIMIT`.
+/// Returns the tokens of a line: `None` if the line has more than `ARGUMENT_LIMIT`.
 pub fn split_tokens<'a>(alloc: Global, line: &'a [u8]) -> Option<Tokens<'a>>
     ensures some { IfSome result (λ found. map (λ t. t.now) found.items ≡ tokens line.entry.now) }
     ensures few { IfSome result (λ found. length found.items ≤ ARGUMENT_LIMIT) }

@@ -1,4 +1,4 @@
-//! The commands that lines stand for, of which each changes a grid turn by turn.
+//! The commands of lines that dilate or erode a grid.
 
 ghost use Rattle.std.specs.Prelude.{◌≡◌, List, ℕ, Some, map, option_map};
 ghost use Rattle.std.specs.Option.{ok_or};
@@ -11,7 +11,7 @@ use crate::numbers::number_of;
 use crate::parsing::name_of;
 use vdb_scene::{Command, Name, Num, Refusal};
 
-/// The parts `NAME TURNS` of a command that changes a grid turn by turn.
+/// Returns the parts `NAME TURNS` of a command that dilates or erodes a grid.
 fn name_and_turns(tokens: &[&[u8]]) -> Option<(Name, Num)>
     ensures { (make : List ℕ → Num → Command) → ok_or (option_map (λ parts. Some (make parts.0 parts.1)) result) Refusal.Syntax ≡ whole (turns make (map (λ t. t.now) tokens.now)) }
 {
@@ -21,7 +21,7 @@ fn name_and_turns(tokens: &[&[u8]]) -> Option<(Name, Num)>
     }
 }
 
-/// The command `dilate NAME TURNS`, from the tokens behind its word.
+/// Returns the command `dilate NAME TURNS`, from the tokens after its word.
 pub(crate) fn dilate_command(tokens: &[&[u8]]) -> Option<Command>
     ensures { ok_or (option_map Some result) Refusal.Syntax ≡ whole (turns commands.Dilate (map (λ t. t.now) tokens.now)) }
 {
@@ -29,7 +29,7 @@ pub(crate) fn dilate_command(tokens: &[&[u8]]) -> Option<Command>
     Some(Command::Dilate { name, turns })
 }
 
-/// The command `erode NAME TURNS`, from the tokens behind its word.
+/// Returns the command `erode NAME TURNS`, from the tokens after its word.
 pub(crate) fn erode_command(tokens: &[&[u8]]) -> Option<Command>
     ensures { ok_or (option_map Some result) Refusal.Syntax ≡ whole (turns commands.Erode (map (λ t. t.now) tokens.now)) }
 {

@@ -1,4 +1,4 @@
-//! The commands on two grids that lines stand for.
+//! The commands of lines on two grids.
 
 ghost use Rattle.std.specs.Prelude.{◌≡◌, List, ℕ, Some, map, option_map};
 ghost use Rattle.std.specs.Option.{ok_or};
@@ -9,7 +9,7 @@ ghost use Rattle.vdb_script.specs.Grammar.{two_grids, whole};
 use crate::parsing::name_of;
 use vdb_scene::{Command, Name, Refusal};
 
-/// The parts `NAME OTHER` of a command on two grids.
+/// Returns the parts `NAME OTHER` of a command on two grids.
 fn two_names(tokens: &[&[u8]]) -> Option<(Name, Name)>
     ensures { (make : List ℕ → List ℕ → Command) → ok_or (option_map (λ names. Some (make names.0 names.1)) result) Refusal.Syntax ≡ whole (two_grids make (map (λ t. t.now) tokens.now)) }
 {
@@ -19,7 +19,7 @@ fn two_names(tokens: &[&[u8]]) -> Option<(Name, Name)>
     }
 }
 
-/// The command `union NAME OTHER`, from the tokens behind its word.
+/// Returns the command `union NAME OTHER`, from the tokens after its word.
 pub(crate) fn union_command(tokens: &[&[u8]]) -> Option<Command>
     ensures { ok_or (option_map Some result) Refusal.Syntax ≡ whole (two_grids commands.Union (map (λ t. t.now) tokens.now)) }
 {
@@ -27,7 +27,7 @@ pub(crate) fn union_command(tokens: &[&[u8]]) -> Option<Command>
     Some(Command::Union { name, other })
 }
 
-/// The command `difference NAME OTHER`, from the tokens behind its word.
+/// Returns the command `difference NAME OTHER`, from the tokens after its word.
 pub(crate) fn difference_command(tokens: &[&[u8]]) -> Option<Command>
     ensures { ok_or (option_map Some result) Refusal.Syntax ≡ whole (two_grids commands.Difference (map (λ t. t.now) tokens.now)) }
 {
@@ -35,7 +35,7 @@ pub(crate) fn difference_command(tokens: &[&[u8]]) -> Option<Command>
     Some(Command::Difference { name, other })
 }
 
-/// The command `intersect NAME OTHER`, from the tokens behind its word.
+/// Returns the command `intersect NAME OTHER`, from the tokens after its word.
 pub(crate) fn intersect_command(tokens: &[&[u8]]) -> Option<Command>
     ensures { ok_or (option_map Some result) Refusal.Syntax ≡ whole (two_grids commands.Intersect (map (λ t. t.now) tokens.now)) }
 {
@@ -43,7 +43,7 @@ pub(crate) fn intersect_command(tokens: &[&[u8]]) -> Option<Command>
     Some(Command::Intersect { name, other })
 }
 
-/// The command `max NAME OTHER`, from the tokens behind its word.
+/// Returns the command `max NAME OTHER`, from the tokens after its word.
 pub(crate) fn max_command(tokens: &[&[u8]]) -> Option<Command>
     ensures { ok_or (option_map Some result) Refusal.Syntax ≡ whole (two_grids commands.Max (map (λ t. t.now) tokens.now)) }
 {
@@ -51,7 +51,7 @@ pub(crate) fn max_command(tokens: &[&[u8]]) -> Option<Command>
     Some(Command::Max { name, other })
 }
 
-/// The command `min NAME OTHER`, from the tokens behind its word.
+/// Returns the command `min NAME OTHER`, from the tokens after its word.
 pub(crate) fn min_command(tokens: &[&[u8]]) -> Option<Command>
     ensures { ok_or (option_map Some result) Refusal.Syntax ≡ whole (two_grids commands.Min (map (λ t. t.now) tokens.now)) }
 {
@@ -59,7 +59,7 @@ pub(crate) fn min_command(tokens: &[&[u8]]) -> Option<Command>
     Some(Command::Min { name, other })
 }
 
-/// The command `sum NAME OTHER`, from the tokens behind its word.
+/// Returns the command `sum NAME OTHER`, from the tokens after its word.
 pub(crate) fn sum_command(tokens: &[&[u8]]) -> Option<Command>
     ensures { ok_or (option_map Some result) Refusal.Syntax ≡ whole (two_grids commands.Sum (map (λ t. t.now) tokens.now)) }
 {
@@ -67,7 +67,7 @@ pub(crate) fn sum_command(tokens: &[&[u8]]) -> Option<Command>
     Some(Command::Sum { name, other })
 }
 
-/// The command `replace NAME OTHER`, from the tokens behind its word.
+/// Returns the command `replace NAME OTHER`, from the tokens after its word.
 pub(crate) fn replace_command(tokens: &[&[u8]]) -> Option<Command>
     ensures { ok_or (option_map Some result) Refusal.Syntax ≡ whole (two_grids commands.Replace (map (λ t. t.now) tokens.now)) }
 {

@@ -1,4 +1,4 @@
-//! Lines and the commands that they are.
+//! Lines and their commands.
 use vdb_scene::{Area, Command, Corners, Literal, MetaText, Name, Num, Point, Refusal};
 use vdb_script::parse;
 use vdb_value::Kind;

@@ -9,7 +9,7 @@ use vdb_walk::Census;
 
 // ---- reading
 
-/// A reader over memory that gives at most `step` bytes a call, counts its calls, and fails at the one of a number.
+/// A reader over memory that gives at most `step` bytes a call, counts its calls, and fails at a call of a given number.
 #[derive(Drop)]
 struct Slow<'a> {
     bytes: &'a [u8],
@@ -30,7 +30,7 @@ impl<'a> Read for Slow<'a> {
 }
 
 impl<'a> Slow<'a> {
-    /// One that never fails.
+    /// Creates a reader that never fails.
     fn new(bytes: &'a [u8], step: usize) -> Self {
         Slow {
             bytes,
@@ -41,7 +41,7 @@ impl<'a> Slow<'a> {
     }
 }
 
-/// A reader that gives `total` times `#`, and counts them.
+/// A reader that gives `#` `total` times, and counts the bytes.
 #[derive(Drop)]
 struct Hashes {
     total: usize,
@@ -175,8 +175,8 @@ fn a_read_fault_is_answered_again(rt: HostRuntime) {
 
 // ---- printing
 
-/// A writer to memory that takes at most `step` bytes a call, counts its calls, and at the one of a number fails or
-/// takes nothing.
+/// A writer to memory that takes at most `step` bytes a call, counts its calls, and at a call of a given number fails or takes
+/// nothing.
 #[derive(Drop)]
 struct Narrow {
     text: Vec<u8>,
@@ -228,7 +228,7 @@ fn print_all<W: Write>(writer: &mut Watched<W>, steps: &mut Steps) -> Result<(),
     Ok(())
 }
 
-/// A coordinate.
+/// Returns a coordinate.
 fn at(x: i32, y: i32, z: i32) -> Coord {
     Coord { x, y, z }
 }

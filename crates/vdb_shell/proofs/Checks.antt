@@ -1,4 +1,4 @@
--- A script as a whole run with its text, and a write fault in the second answer after the first is out.
+-- A script as a whole run with its text, and a write fault in the second answer after the first was written.
 use Rattle.std.proofs.Common.{◌≡◌, refl, ℕ, pos, false, List, [], ◌∷◌, Some, codes, inl, inr, arith, None}
 use Rattle.std.specs.Fmt.{digits}
 use Rattle.vdb_value.specs.declared.Kind.TheVariants as kinds

@@ -1,4 +1,4 @@
--- What the command line is at words that are written out: what they name, or the one fault that they have.
+-- The meaning of a command line of given words: the files that they name, or the one fault that they have.
 use Rattle.std.proofs.Common.{◌≡◌, refl, List, [], ◌∷◌, Option, Some, None, codes}
 use Rattle.clap.specs.Words.{Kinds, Text, fault_of}
 use Rattle.clap.specs.declared.error.kind.ErrorKind.TheVariants as kinds

@@ -1,4 +1,4 @@
--- Lemmas on scripts that are played and on what is loaded and saved, and worked examples.
+-- Lemmas on playing scripts and on loading and saving, and worked examples.
 mod Checks
 mod CommandLines
 pub mod Prefixes

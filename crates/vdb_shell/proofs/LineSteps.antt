@@ -1,4 +1,4 @@
--- What a line that was read does.
+-- The step of a line that was read.
 use Rattle.std.proofs.Common.{◌≡◌, refl, sym, ap, ◌∙◌, subst, ℕ, ◌<◌, Bool, true, false, ◌||◌, List, [], ◌∷◌, length, cond, Option, Some, Result, Ok, Err, arith, append-nil}
 use Rattle.std.specs.Prelude.{nat_lt}
 use Rattle.std.specs.Io.KnownBytes.{Appends}
@@ -32,7 +32,7 @@ or_false : (b : Bool) → b ≡ (b || false)
 or_false true = refl
 or_false false = refl
 
--- one answer that went out, or a prefix of it
+-- one written answer, or a prefix of it
 goes_out : (old new : Option (List ℕ)) (written : Result (Unit {0}) WriteFault) (reply : Reply) → Writes old new written (text reply) → GoesOut old new written (reply ∷ [])
 goes_out old new (Ok a) reply h = subst (Appends old new) (sym (append-nil (text reply))) h
 goes_out old new (Err e) reply h = (reply, refl, h)
@@ -51,7 +51,7 @@ module _ (s : Scene) (line : List ℕ) (turn : Turn) (old new : Option (List ℕ
 
   module _ (r : Refusal) (is : read line ≡ Err r) (refused : (reply : Reply) → Shows (answers.Refused r) reply → turn.refused ≡ is_refused reply)
       (out : (reply : Reply) → Shows (answers.Refused r) reply → Writes old new turn.written (text reply)) where
-    -- a line that is refused before any grid is looked at
+    -- a line with an error of its own
     turn_of_refusal : TakesTurn s line turn old new s
     turn_of_refusal = record {
       replies = Refused r ∷ [];
@@ -60,7 +60,7 @@ module _ (s : Scene) (line : List ℕ) (turn : Turn) (old new : Option (List ℕ
       refused = refused (Refused r) refl;
     }
 
-  -- a line that is no command
+  -- a line that is not a command
   pub turn_refused : (r : Refusal) → length line < 257 → parse line ≡ Err r → ((reply : Reply) → Shows (answers.Refused r) reply → turn.refused ≡ is_refused reply)
       → ((reply : Reply) → Shows (answers.Refused r) reply → Writes old new turn.written (text reply)) → TakesTurn s line turn old new s
   turn_refused r few is refused out = turn_of_refusal r (read_short line few ∙ is) refused out

@@ -1,4 +1,4 @@
--- The parts of a session: what is loaded before its script, and what is saved after it.
+-- The parts of a session: loading before its script, and saving after it.
 use Rattle.std.proofs.Common.{◌≡◌, ◌∙◌, refl, sym, ap, subst, ℕ, Bool, false, is_some, List, [], Option, Some, None, option_map, IfSome, IfOk, IfErr, Result, Ok, Err}
 use Rattle.std.proofs.lemmas.Option.{same_Some}
 use Rattle.std.specs.Io.KnownBytes.{Keeps}
@@ -18,7 +18,7 @@ use Rattle.vdb_shell.specs.declared.fault.Fault.TheVariants.{Answers, Load, Save
 
 -- ---- before the script
 
--- a scene with its file is the only one that the file spells
+-- a scene with its file is the only one that the file encodes
 begins_one : (remaining file : Option (List ℕ)) (s : Scene) → option_map Some remaining ≡ Some file → IsScene s → IfSome remaining (λ bytes. IsFileOf bytes s) → Begins file s
 begins_one None file s given scene spelled = absurd (no given)
   where
@@ -32,7 +32,7 @@ pub begins : (r : Result loaded.Scene LoadFault) (remaining file : Option (List 
 begins (Ok s) remaining file given scene spelled = begins_one remaining file (scene_of s) given scene spelled
 begins (Err f) remaining file given scene spelled = tt
 
--- no scene has the spelling that was refused
+-- no scene has the rejected encoding
 refuses_one : (remaining file : Option (List ℕ)) (fault : LoadFault) → option_map Some remaining ≡ Some file
     → (Claims fault → IfSome remaining (λ bytes. (s : Scene) → IsScene s → IsFileOf bytes s → ⊥)) → Refuses fault file
 refuses_one None file fault given none = absurd (no given)
@@ -59,7 +59,7 @@ loaded_session file script (Some (Script f)) code given written last reached fir
 loaded_session file script (Some Answers) code given written last reached first begun played = (first, begun, played)
 loaded_session file script (Some (Save f)) code given written last reached first begun played = (first, begun, played)
 
--- and one that doesn't saves nothing
+-- and a session that loads nothing saves nothing
 pub saves_nothing : {D : Type 0} (given : Option D) (fault : Option Fault) (f : LoadFault) (last : Scene) (known : Option (List ℕ)) → fault ≡ Some (Load f) → IfSome given (λ d. Saves fault last known known)
 saves_nothing None fault f last known is = tt
 saves_nothing (Some d) fault f last known is = subst (λ h. Saves h last known known) (sym is) (same known)
@@ -77,7 +77,7 @@ not_some (Some a) h = absurd (no h)
     no : is_some (Some a) ≡ false → ⊥
     no h = cc
 
--- a script that was played whole, where the scene can't be saved
+-- a script that was played to its end, if the scene can't be saved
 pub plays_unsaved : (s : Scene) (script : List ℕ) (fault played : Option Fault) (f : SaveFault) (code : ℕ) (refused : Bool) (given written : List ℕ) (last : Scene)
     → fault ≡ Some (Save f) → played ≡ None → code ≡ status refused (Some (Save f)) → PlaysFrom s script played refused given written last → PlaysOn s script fault code given written last
 plays_unsaved s script fault played f code refused given written last is none told plays = record {

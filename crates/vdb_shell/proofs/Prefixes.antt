@@ -1,4 +1,4 @@
--- The lines of a script of which a prefix was read.
+-- The lines of a script if a prefix of it was read.
 use Rattle.std.proofs.Common.{◌≡◌, ◌≢◌, refl, sym, ap, ◌∙◌, ℕ, ◌+◌, ◌<◌, ◌≤◌, Bool, true, false, cond, List, [], ◌∷◌, ◌++◌, length, take, arith, append_assoc, append-nil, length-append, ◌-◌, ◌^◌}
 use Rattle.std.specs.Prelude.{nat_le}
 use Rattle.std.proofs.Math.Seq.{take-append_seam, take-append-add, take-length}
@@ -40,13 +40,13 @@ pub lines_last : (line : List ℕ) → NoNewline line → 0 < length line → li
 lines_last [] h some = absurd (omega (arith, some))
 lines_last (b ∷ bs) h some = last_within b bs (recursion_from_All (λ c. c ≢ 10) (b ∷ bs) h)
 
--- a line whose newline hasn't come is no whole line
+-- a line whose newline hasn't come is not a whole line
 pub whole_lines_part : (part : List ℕ) → NoNewline part → whole_lines part ≡ []
 whole_lines_part part h = none_within part (recursion_from_All (λ b. b ≢ 10) part h)
 
 -- ---- the lines of a prefix
 
--- The lines of a prefix: with any rest behind it, those of the rest follow; or the prefix is all, and its last line has no
+-- The lines of a prefix: with any rest after it, the rest's lines follow; or the prefix is all, and its last line has no
 -- newline.
 abbrev pub HasLines : Bool → List ℕ → List (List ℕ) → Type 0
 HasLines false front ls = (rest : List ℕ) → (lines (front ++ rest) ≡ ls ++ lines rest) × (whole_lines (front ++ rest) ≡ ls ++ whole_lines rest)
@@ -77,7 +77,7 @@ has_all true front ls h = h
 pub has_whole : (front part : List ℕ) (ls : List (List ℕ)) → HasLines false front ls → NoNewline part → whole_lines (front ++ part) ≡ ls
 has_whole front part ls h inside = (h part).1 ∙ ap (λ l. ls ++ l) (whole_lines_part part inside) ∙ append-nil ls
 
--- a prefix has no more lines than the prefix with what is behind it
+-- a prefix has no more lines than the prefix with its rest
 pub has_at_least : (done : Bool) (front more : List ℕ) (ls : List (List ℕ)) → HasLines done front ls → (done ≡ true → more ≡ []) → length ls ≤ length (lines (front ++ more))
 has_at_least false front more ls h last = omega (arith, ap length (h more).0, length-append ls (lines more))
 has_at_least true front more ls h last = omega (arith, ap length (ap (λ l. lines (front ++ l)) (last refl) ∙ ap lines (append-nil front) ∙ h))

@@ -1,4 +1,4 @@
--- A script that is played line by line: what was yielded so far, and what it comes to at each end.
+-- A script that is played line by line: the yielded part so far, and its outcome at each end.
 use Rattle.std.proofs.Common.{◌≡◌, refl, sym, ap, ◌∙◌, subst, ℕ, ◌+◌, ◌^◌, ◌<◌, ◌≤◌, Bool, true, false, ◌||◌, List, [], ◌∷◌, ◌++◌, length, take, Option, Some, None, arith, append_assoc, append-nil, length-append}
 use Rattle.std.specs.List.{list_any}
 use Rattle.std.specs.Io.KnownBytes.{Consumes, IsAtEnd, prepend_known}
@@ -33,7 +33,7 @@ any_append test (x ∷ xs) ys = ap (λ b. test x || b) (any_append test xs ys) �
     regrouped true b c = refl
     regrouped false b c = refl
 
--- ---- what was yielded so far
+-- ---- the yielded part so far
 
 -- From the scene s on: the prefix of the script that was yielded, its lines, their answers and the scene after them. `done`
 -- says that the last of these lines ended with the script.
@@ -93,7 +93,7 @@ given_all bytes front unread new None c is = absurd (subst (λ k. Consumes (Some
 given_all bytes front unread new (Some ys) c is =
     let all : bytes ≡ front ++ (unread ++ ys) = subst (λ k. Consumes (Some bytes) k front) is c in all ∙ sym (append_assoc front unread ys)
 
--- at the end none are unread
+-- at the end no byte is unread
 none_unread : (bytes front unread : List ℕ) (new left : Option (List ℕ)) → Consumes (Some bytes) new front → new ≡ prepend_known unread left → IsAtEnd new → unread ≡ []
 none_unread bytes front unread new None c is end = absurd (subst (λ k. Consumes (Some bytes) k front) is c)
 none_unread bytes front [] new (Some ys) c is end = refl
@@ -107,7 +107,7 @@ front_all : (bytes front : List ℕ) (new : Option (List ℕ)) → Consumes (Som
 front_all bytes front None c end = absurd c
 front_all bytes front (Some ys) c end = c ∙ ap (λ l. front ++ l) end ∙ append-nil front
 
--- what is behind the prefix
+-- the bytes after the prefix
 rest_of : (bytes front : List ℕ) (new : Option (List ℕ)) → Consumes (Some bytes) new front → (rest : List ℕ) × (bytes ≡ front ++ rest) × (IsAtEnd new → rest ≡ [])
 rest_of bytes front None c = absurd c
 rest_of bytes front (Some ys) c = (ys, c, λ end. end)
@@ -117,17 +117,17 @@ take_front : (n : ℕ) (xs ys : List ℕ) → length xs ≡ n → take n (xs ++ 
 take_front n xs ys e = ap (λ k. take k (xs ++ ys)) (sym e) ∙ take-append_seam xs ys
 
 module _ (s : Scene) (bytes : List ℕ) (known : Option (List ℕ)) (stock : Stock) (now : Scene) (any_refused : Bool) (t : Handed s bytes known stock now any_refused) where
-  -- of a prefix that isn't all
+  -- of a prefix that is not the whole
   not_all : {P : Type 0} (done : Bool) → t.done ≡ done → (done ≡ true → ⊥) → (HasLines false t.front t.handed → P) → P
   not_all true is never f = absurd (never refl)
   not_all false is never f = f (subst (λ d. HasLines d t.front t.handed) is t.lines)
 
-  -- where more is yielded the prefix isn't all
+  -- if more is yielded, the prefix is not the whole
   lines_before : (more : List ℕ) (new : Option (List ℕ)) → Consumes known new more → (more ≡ [] → ⊥) → HasLines false t.front t.handed
   lines_before more new next some =
       let open_front : t.done ≡ true → ⊥ = λ h. some (nothing_left bytes t.front known new more t.consumed (t.at_end h).1 next) in not_all t.done refl open_front (λ h. h)
 
-  -- a line more, with what it does
+  -- one line more, with its step
   pub handed_line : (new : Option (List ℕ)) (after : Stock) (later : Scene) (line : List ℕ) (first : List Reply) (refused : Bool)
       → YieldsLine known new stock after line → TakesLine now (read line) first later → refused ≡ (any_refused || list_any is_refused first)
       → (h : Handed s bytes new after later refused) × (h.replies ≡ t.replies ++ first)
@@ -149,7 +149,7 @@ module _ (s : Scene) (bytes : List ℕ) (known : Option (List ℕ)) (stock : Sto
         refl,
       )
 
-  -- what the reader gave so far
+  -- the bytes that the reader gave so far
   pub handed_given : (left : Option (List ℕ)) → known ≡ prepend_known stock.unread left → Consumes (Some bytes) left (t.front ++ stock.unread)
   handed_given left is = given_all bytes t.front stock.unread known left t.consumed is
 
@@ -201,7 +201,7 @@ module _ (s : Scene) (bytes : List ℕ) (known : Option (List ℕ)) (stock : Sto
       some_further [] b h = cc
       some_further (p ∷ ps) b h = cc
 
-  -- the reader failed before it said that it has no more
+  -- the reader failed before it reported its end
   pub played_part : (left : Option (List ℕ)) → YieldsPart known left stock → (stock.ended ≡ true → ⊥)
       → (given : List ℕ) × Consumes (Some bytes) left given × PlaysFrom s bytes (Some (Script script_faults.Read)) any_refused given (answers_text t.replies) now
   played_part left h open_reader =

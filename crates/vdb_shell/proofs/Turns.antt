@@ -1,4 +1,4 @@
--- One turn of playing a script: a line whose answer went out, and one whose answer didn't.
+-- One step of playing a script: a line whose answer was written, and a line whose answer was not.
 use Rattle.std.proofs.Common.{◌≡◌, refl, sym, ap, ◌∙◌, subst, ℕ, Bool, true, false, ◌||◌, is_err, List, [], ◌∷◌, ◌++◌, ◌^◌, Option, Some, None, Result, Ok, Err}
 use Rattle.std.specs.Io.KnownBytes.{Appends, Consumes, prepend_known}
 use Rattle.std.proofs.KnownBytes.{Appends-nil, Appends-trans}
@@ -18,7 +18,7 @@ use Rattle.vdb_shell.specs.declared.playing.Turn.{Turn}
 use Rattle.vdb_shell.specs.declared.fault.Fault.TheVariants.{Answers, Script}
 use Rattle.vdb_shell.proofs.Told.{Handed, handed_line, handed_none, played_cut, played_part, played_too_long, played_whole}
 
--- what went out without a fault is all
+-- without a fault the whole answer is written
 went_out : (a b : Option (List ℕ)) (replies : List Reply) (written : Result (Unit {0}) WriteFault) → is_err written ≡ false → GoesOut a b written replies → Appends a b (answers_text replies)
 went_out a b replies (Ok x) ok h = h
 went_out a b replies (Err e) ok h = absurd (true_false ok)
@@ -35,11 +35,11 @@ was_cut a b replies (Ok x) failed h = absurd (false_true failed)
     false_true h = cc
 was_cut a b replies (Err e) failed h = h
 
--- what is known of a script and of a writer after some lines
+-- the state of a script and of a writer after some lines
 abbrev pub Told : Scene → List ℕ → Option (List ℕ) → Stock → Scene → Bool → Option (List ℕ) → Option (List ℕ) → Type 0
 Told s bytes known stock now any_refused w₀ w = (h : Handed s bytes known stock now any_refused) × Appends w₀ w (answers_text h.replies)
 
--- what is known of them at the end
+-- their state at the end
 abbrev pub Ended : Scene → List ℕ → Option (List ℕ) → Scene → Bool → Option (List ℕ) → Option (List ℕ) → Option Fault → Type 0
 Ended s bytes left now any_refused w₀ w fault =
     (given written : List ℕ) × Consumes (Some bytes) left given × Appends w₀ w written × PlaysFrom s bytes fault any_refused given written now
@@ -54,7 +54,7 @@ module _ (s : Scene) (bytes : List ℕ) (known : Option (List ℕ)) (stock : Sto
     line_handed : (h : Handed s bytes new after later (any_refused || turn.refused)) × (h.replies ≡ t.0.replies ++ taken.replies)
     line_handed = handed_line s bytes known stock now any_refused t.0 new after later line taken.replies (any_refused || turn.refused) hands taken.takes (ap (λ b. any_refused || b) taken.refused)
 
-    -- a line whose answer went out, if it has one
+    -- a line whose answer was written, if it has one
     pub told_more : is_err turn.written ≡ false → Told s bytes new after later (any_refused || turn.refused) w₀ w₂
     told_more ok = (
       line_handed.0,
@@ -62,7 +62,7 @@ module _ (s : Scene) (bytes : List ℕ) (known : Option (List ℕ)) (stock : Sto
           (Appends-trans w₀ w w₂ (answers_text t.0.replies) (answers_text taken.replies) t.1 (went_out w w₂ taken.replies turn.written ok taken.out)),
     )
 
-    -- a line whose answer didn't go out whole
+    -- a line whose answer was not written whole
     pub told_cut : (left : Option (List ℕ)) → new ≡ prepend_known after.unread left → is_err turn.written ≡ true → Ended s bytes left later (any_refused || turn.refused) w₀ w₂ (Some Answers)
     told_cut left is_left failed =
         let cut = was_cut w w₂ taken.replies turn.written failed taken.out in
@@ -88,7 +88,7 @@ pub ended_at : (s : Scene) (bytes : List ℕ) (left : Option (List ℕ)) (now la
     → later ≡ now → Ended s bytes left now any_refused w₀ w fault → Ended s bytes left later any_refused w₀ w fault
 ended_at s bytes left now later any_refused w₀ w fault same h = subst (λ n. Ended s bytes left n any_refused w₀ w fault) (sym same) h
 
--- a reader that wasn't asked again didn't fail
+-- a reader that was not called again did not fail
 pub never_failed : (old new : Bool) (ending : Option ScriptFault) → old ≡ false → new ≡ old → new ≡ (old || is_read_ending {A = Turn} (Err ending)) → ending ≡ Some Read → ⊥
 never_failed old new ending fresh same failed is = false_true (sym (same ∙ fresh) ∙ failed ∙ ap (λ e. old || is_read_ending {A = Turn} (Err e)) is ∙ ap (λ b. b || true) fresh)
   where

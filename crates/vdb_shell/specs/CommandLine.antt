@@ -19,6 +19,6 @@ program =
       top = record plain.top { rules = file_rule (codes "load") ∷ file_rule (codes "save") ∷ script_rule ∷ []; has_version = true };
     }
 
--- what a command line gives an option, or the script
+-- the word that a command line gives an option, or the script
 abbrev pub given : Text → List Text → Option Text
 given name words = first_of name (matches_of program words)

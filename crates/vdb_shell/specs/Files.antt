@@ -1,4 +1,4 @@
--- What a session loads and saves.
+-- The scene that a session loads and saves.
 use Rattle.std.specs.Prelude.{◌≡◌, ℕ, Bool, false, List, [], Option, Some, None, option_and_then, option_map}
 use Rattle.std.specs.Option.{option_map_or}
 use Rattle.vdb_scene.specs.Scene.{Scene}
@@ -10,25 +10,25 @@ use Rattle.vdb_file.specs.Spelling.{IsFileOf}
 use Rattle.vdb_file.specs.declared.fault.LoadFault.{LoadFault}
 
 module _ {D : Type 0} where
-  -- whether a call of a reader or writer failed, where there is one
+  -- whether a call of a reader or writer failed, if it exists
   abbrev pub any_failed : Option (Watched D) → Bool
   any_failed given = option_map_or has_failed given false
 
-  -- the scene file that is given, if there is one, where its bytes are known
+  -- the given scene file, if any, and if its bytes are known
   abbrev pub given_file : (D → Option (List ℕ)) → Option (Watched D) → Option (Option (List ℕ))
   given_file remaining None = Some None
   given_file remaining (Some w) = option_map Some (remaining (source w))
 
-  -- the bytes that a writer holds, where there is one and they are known
+  -- the bytes of a writer, if it exists and they are known
   abbrev pub held : (D → Option (List ℕ)) → Option (Watched D) → Option (List ℕ)
   held contents given = option_and_then (λ w. contents (source w)) given
 
--- the scene that a session begins with: the empty one, or the only one that the file spells
+-- the scene that a session begins with: the empty one, or the only one that the file encodes
 abbrev pub Begins : Option (List ℕ) → Scene → Type 0
 Begins None s = s ≡ []
 Begins (Some bytes) s = IsScene s × IsFileOf bytes s × ((t : Scene) → IsScene t → IsFileOf bytes t → t ≡ s)
 
--- a file is refused: no scene has this spelling, unless there was too little memory or the reader failed
+-- loading a file fails: no scene has this encoding, unless an allocation or the reader failed
 abbrev pub Refuses : LoadFault → Option (List ℕ) → Type 0
 Refuses fault None = ⊥
 Refuses fault (Some bytes) = Claims fault → (s : Scene) → IsScene s → IsFileOf bytes s → ⊥

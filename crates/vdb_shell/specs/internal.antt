@@ -1,2 +1,2 @@
--- Words of private functions and of proofs alone: no public contract needs them.
+-- Definitions for private functions and proofs alone: no public contract needs them.
 pub mod Answering

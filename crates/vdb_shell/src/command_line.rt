@@ -73,7 +73,7 @@ Exit status: 0 success; 1 some command failed; 2 wrong command line; 3 the scene
 loaded; 4 another fault. The scene is saved only with status 0 or 1.
 docs/LANGUAGE.md describes every command and error, docs/FORMAT.md the scene file.";
 
-/// An option that takes a file.
+/// Returns an option that takes a file.
 fn file_option<'a>(alloc: Global, name: &'a str, help: &'a str) -> Arg<'a>
     ensures rule { rule_of result ≡ file_rule name.entry.now }
     ensures global { result.global ≡ false }
@@ -85,7 +85,7 @@ fn file_option<'a>(alloc: Global, name: &'a str, help: &'a str) -> Arg<'a>
         .help(help)
 }
 
-/// The script, a word without an option before it.
+/// Returns the argument for the script, a word without an option before it.
 fn script_word<'a>(alloc: Global) -> Arg<'a>
     ensures rule { rule_of result ≡ script_rule }
     ensures global { result.global ≡ false }
@@ -96,7 +96,7 @@ fn script_word<'a>(alloc: Global) -> Arg<'a>
         .help("Script to run (default: standard input)")
 }
 
-/// The command line, as `clap` reads it.
+/// Returns the command line, as `clap` reads it.
 fn command<'a>(alloc: Global) -> Result<Command<'a>, AllocError>
     ensures { IfOk result (λ command. app_of command ≡ program) }
 {
@@ -118,15 +118,17 @@ fn command<'a>(alloc: Global) -> Result<Command<'a>, AllocError>
     Ok(command)
 }
 
-/// Reads the command line `vdb [--load FILE] [--save FILE] [SCRIPT]`, of which the first word is the program's name.
-/// `--load=FILE` is the same as `--load FILE`, and after `--` every word is a SCRIPT. It is refused where a word begins with
-/// `-` and names no option, an option has no FILE or stands there twice, or there is a second SCRIPT; where help or the
-/// version is asked for (`--help`, `-h`, `--version`, `-V`), whose text the error then has; and for lack of memory.
+/// Reads the command line `vdb [--load FILE] [--save FILE] [SCRIPT]`, whose first word is the program's name. `--load=FILE` is
+/// the same as `--load FILE`, and after `--` every word is a SCRIPT.
+///
+/// Fails if a word begins with `-` and names no option, if an option has no FILE or occurs twice, or if a second SCRIPT follows.
+/// Also fails if help or the version is asked for (`--help`, `-h`, `--version`, `-V`): the error then has its text. Also fails if
+/// an allocation fails.
 pub fn words<'a>(alloc: Global, words: &'a [&'a str]) -> Result<Words<'a>, Error>
     ensures load { IfOk result (λ found. option_map (λ path. path.now) found.load ≡ given (codes "load") (map (λ word. word.now) words.entry.now)) }
     ensures save { IfOk result (λ found. option_map (λ path. path.now) found.save ≡ given (codes "save") (map (λ word. word.now) words.entry.now)) }
     ensures script { IfOk result (λ found. option_map (λ path. path.now) found.script ≡ given (codes "script") (map (λ word. word.now) words.entry.now)) }
-    // Words that have a fault are refused by it or for lack of memory, and words without one for lack of memory alone.
+    // Words with a fault fail by it or by an allocation failure, and words without one only by an allocation failure.
     ensures fault { FailsBy (fault_of program (map (λ word. word.now) words.entry.now)) result }
 {
     let matches = command(alloc)?.try_get_matches_from(words)?;

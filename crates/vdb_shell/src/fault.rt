@@ -1,4 +1,4 @@
-//! Why a session ends early, and the exit status.
+//! The faults that end a session early, and the exit status.
 ghost use Rattle.std.specs.Prelude.{◌≡◌};
 ghost use Rattle.std.specs.Option.{option_copied};
 ghost use Rattle.vdb_shell.specs.Session.{status as status_of};
@@ -7,10 +7,10 @@ use thiserror::Error;
 use vdb_file::{LoadFault, SaveFault};
 use vdb_script::ScriptFault;
 
-/// Why a session ends early. Its text is the line that the program writes to standard error.
+/// The fault that ends a session early. Its text is the line that the program writes to standard error.
 #[derive(Clone, Copy, Debug, PartialEq, Eq, Error)]
 pub enum Fault {
-    /// The scene file can't be read, or spells no scene.
+    /// The scene file can't be read, or encodes no scene.
     #[error("vdb: load: {0}")]
     Load(LoadFault),
     /// The rest of the script can't be read, or is too long.
@@ -24,7 +24,8 @@ pub enum Fault {
     Save(SaveFault),
 }
 
-/// The exit status of a session: 3 where nothing was loaded, 4 after another fault, else 1 where some line was refused, else 0.
+/// Returns the exit status of a session: 3 if nothing was loaded, 4 after another fault, otherwise 1 if a line failed, otherwise
+/// 0.
 pub fn status(refused: bool, fault: Option<&Fault>) -> u8
     ensures { result ≡ status_of refused (option_copied fault.entry) }
 {

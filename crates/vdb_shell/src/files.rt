@@ -1,4 +1,4 @@
-//! What a session loads before its script, and saves after it.
+//! The scene that a session loads before its script, and saves after it.
 ghost use Rattle.std.specs.Prelude.{◌≡◌, ◌+◌, ◌<◌, ◌↔◌, Option, Err, IfErr, IfOk, IfSome, IsErr, IsSome, IsTrue, OnOk, false, is_some, ℕ, List, length};
 ghost use Rattle.std.specs.Io.KnownBytes.{Appends, IsAtEnd};
 ghost use Rattle.vdb_scene.specs.Grids.{scene_of};
@@ -13,8 +13,11 @@ use vdb_file::{LoadFault, SaveFault, load as load_file, save as save_file};
 use vdb_pool::Steps;
 use vdb_scene::{Scene, Watched};
 
-/// The scene that a session begins with: the one that a scene file spells, where a file is given, else the empty scene. A file
-/// that no scene has is refused; so is any for lack of memory, or where the reader failed.
+/// Returns the scene that a session begins with: the one that a scene file encodes, if a file is given, otherwise the empty
+/// scene.
+///
+/// Fails with `Read` if the reader fails, with `Memory` if an allocation fails, and with another `LoadFault` if the file encodes
+/// no scene.
 pub fn start<R: Read>(
     alloc: Global,
     load: &mut Option<Watched<R>>,
@@ -26,9 +29,9 @@ pub fn start<R: Read>(
     // The whole file is read.
     ensures end { OnOk result (IfSome load.new (λ file. IsAtEnd (R.remaining (source file)))) }
     ensures kept { is_some load.new ≡ is_some load.old }
-    // Of a file at most one byte is read beyond those that a file may have.
+    // At most one byte past the limit of a scene file is read.
     ensures few { IfSome load.old (λ before. IfSome load.new (λ after. GaveAtMost (file_limit + 1) (R.remaining (source before)) (R.remaining (source after)))) }
-    // `Read` comes exactly where the reader failed.
+    // `Read` is the error if and only if the reader failed.
     ensures read { (result ≡ Err LoadFault.Read) ↔ IsTrue (any_failed load.new) }
 {
     match load {
@@ -37,7 +40,10 @@ pub fn start<R: Read>(
     }
 }
 
-/// Saves the scene that a session ends with, where a file for it is given. Where its spelling is too long nothing is written.
+/// Saves the scene that a session ends with, if a file for it is given.
+///
+/// Fails with `TooLong` if the scene's encoding has more bytes than a file may have, and writes nothing then. Fails with `Write` if
+/// the writer fails or takes no byte; the content of the file is unspecified then.
 pub fn finish<W: Write>(
     scene: &Scene,
     save: &mut Option<Watched<W>>,
@@ -49,7 +55,7 @@ pub fn finish<W: Write>(
     ensures untouched { result ≡ Err SaveFault.TooLong → save.new ≡ save.old }
     ensures nowhere { IsErr result → IsSome save.old }
     ensures kept { is_some save.new ≡ is_some save.old }
-    // `Write` comes exactly where the writer failed.
+    // `Write` is the error if and only if the writer failed.
     ensures write { (result ≡ Err SaveFault.Write) ↔ IsTrue (any_failed save.new) }
 {
     if let Some(writer) = save {

@@ -1,4 +1,4 @@
-//! A script that is played on a scene, line by line.
+//! Playing a script on a scene, line by line.
 ghost use Rattle.std.specs.Prelude.{◌≡◌, ◌<◌, ◌||◌, ◌↔◌, false, true, Some, None, Err, IfOk, IfSome, OnOk, OnErr, IsTrue, is_err, ℕ, List, length};
 ghost use Rattle.std.specs.Io.KnownBytes.{Appends, Consumes};
 ghost use Rattle.vdb_scene.specs.Grids.{scene_of};
@@ -18,28 +18,29 @@ use vdb_pool::Steps;
 use vdb_scene::{Answer, Refusal, Scene, Watched};
 use vdb_script::{Line, Lines, ScriptFault, WriteFault, parse, print, read_line};
 
-/// How the playing of a script ended.
+/// The end of playing a script.
 #[derive(Clone, Copy, Debug, PartialEq, Eq)]
 pub struct Played {
-    /// Whether some line was refused.
+    /// Whether a line failed.
     pub refused: bool,
-    /// What ended it early, if anything did.
+    /// The fault that ended it early, if any.
     pub fault: Option<Fault>,
 }
 
-/// What came of a line.
+/// The result of a line.
 #[derive(Clone, Copy)]
 struct Turn {
-    /// Whether it was refused.
+    /// Whether the line failed.
     refused: bool,
-    /// Whether its answer went out, if it has one.
+    /// Whether its answer was written, if it has one.
     written: Result<(), WriteFault>,
 }
 
-/// Plays a script on a scene: reads a line, carries it out and writes its answer before the next line is read. It ends where
-/// the script does, or at the first fault: at a script of more than 16,777,216 bytes, of which each whole line within that
-/// limit is carried out; at a call of the reader that fails, and then the line that it was to end isn't carried out; or at a
-/// call of the writer that fails or takes no byte, and then what went out is a prefix of the answers.
+/// Plays a script on a scene: reads a line, carries it out and writes its answer before it reads the next line.
+///
+/// It ends at the end of the script or at the first fault. If the script has more than 16,777,216 bytes, each whole line within
+/// that limit is carried out. If a call of the reader fails, the unfinished line isn't carried out. If a call of the writer fails
+/// or takes no byte, a prefix of the answers has been written.
 pub fn play<R: Read, W: Write>(
     alloc: Global,
     scene: &mut Scene,
@@ -49,13 +50,13 @@ pub fn play<R: Read, W: Write>(
 ) -> Played
     requires script_fresh { has_failed script.old ≡ false }
     requires answers_fresh { has_failed answers.old ≡ false }
-    // Where the reader tells its bytes, answers and scene are those of a run over the script's lines.
+    // If the reader's bytes are known, answers and scene are those of a run over the script's lines.
     ensures plays { (bytes : List ℕ) → R.remaining (source script.old) ≡ Some bytes →
         (given written : List ℕ)
         × Consumes (Some bytes) (R.remaining (source script.new)) given
         × Appends (W.contents (source answers.old)) (W.contents (source answers.new)) written
         × PlaysFrom (scene_of scene.old) bytes result.fault result.refused given written (scene_of scene.new) }
-    // A fault is one of the script or of its answers, and one of reading or writing comes exactly where that reader or writer
+    // A fault is one of the script or of its answers. A fault of reading or writing comes if and only if that reader or writer
     // failed.
     ensures faults { IfSome result.fault IsOfScript }
     ensures script { (result.fault ≡ Some (Fault.Script ScriptFault.Read)) ↔ IsTrue (has_failed script.new) }
@@ -91,7 +92,7 @@ pub fn play<R: Read, W: Write>(
 }
 
 /// Reads the next line of a script that has neither ended nor failed, carries it out and writes its answer, if it has one.
-/// `Err(None)` is the script's end.
+/// Returns `Err(None)` at the script's end.
 fn play_line<R: Read, W: Write>(
     alloc: Global,
     scene: &mut Scene,
@@ -159,7 +160,7 @@ fn tell<W: Write>(answer: Answer, answers: &mut Watched<W>, steps: &mut Steps) -
     Turn { refused, written }
 }
 
-/// Whether an answer is a refusal.
+/// Returns whether an answer is an error.
 fn is_refusal(answer: &Answer) -> bool
     ensures { (reply : Reply) → Shows answer.now reply → result ≡ is_refused reply }
 {

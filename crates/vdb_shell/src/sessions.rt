@@ -17,16 +17,16 @@ use vdb_pool::Steps;
 use vdb_scene::{Scene, Watched};
 use vdb_script::ScriptFault;
 
-/// How a session ended.
+/// The end of a session.
 #[derive(Clone, Copy, Debug, PartialEq, Eq)]
 pub struct Outcome {
-    /// The exit status: 0, 1 where some line was refused, 3 where nothing was loaded, or 4 after another fault.
+    /// The exit status: 0, or 1 if a line failed, 3 if nothing was loaded, 4 after another fault.
     pub status: u8,
-    /// What ended it early, if anything did.
+    /// The fault that ended it early, if any.
     pub fault: Option<Fault>,
 }
 
-/// Loads a scene, plays a script on it and saves it: `start`, `play` and `finish` in order, as far as no fault comes.
+/// Loads a scene, plays a script on it and saves it: `start`, `play` and `finish` in order, up to the first fault.
 pub fn session<L: Read, R: Read, W: Write, S: Write>(
     alloc: Global,
     load: &mut Option<Watched<L>>,
@@ -39,8 +39,8 @@ pub fn session<L: Read, R: Read, W: Write, S: Write>(
     requires script_fresh { has_failed script.old ≡ false }
     requires answers_fresh { has_failed answers.old ≡ false }
     requires save_fresh { any_failed save.old ≡ false }
-    // Whatever pieces the readers give, the answers are those of an abstract scene over the script's lines, from the scene that
-    // the file spells on, and what is saved is the spelling of the scene after them.
+    // Whatever pieces the readers give, the answers are those of an abstract scene over the script's lines, starting from the
+    // scene that the file encodes, and the saved bytes are the encoding of the last scene.
     ensures session { (file : Option (List ℕ)) → given_file L.remaining load.old ≡ Some file →
         (bytes : List ℕ) → R.remaining (source script.old) ≡ Some bytes →
         (given written : List ℕ) × (last : AbstractScene)
@@ -48,18 +48,18 @@ pub fn session<L: Read, R: Read, W: Write, S: Write>(
         × Appends (W.contents (source answers.old)) (W.contents (source answers.new)) written
         × IsSession file bytes result.fault result.status given written last
         × IfSome save.old (λ _. Saves result.fault last (held S.contents save.old) (held S.contents save.new)) }
-    // The status of a fault is its own, also of one that comes after a refused line.
+    // The status of a fault is its own, also after a line that failed.
     ensures status { IfSome result.fault (λ fault. result.status ≡ status_of true (Some fault)) }
-    // Where nothing was loaded, script and answers weren't touched.
+    // If nothing was loaded, script and answers are unchanged.
     ensures unloaded { IsUnloaded result.fault → (script.new ≡ script.old) × (answers.new ≡ answers.old) }
-    // Where the scene has no spelling, or a fault came before, the writer of the file wasn't touched.
+    // If the scene's encoding is too long, or a fault came before, the writer of the file is unchanged.
     ensures unsaved { WritesNoFile result.fault → save.new ≡ save.old }
     ensures nowhere { (fault : SaveFault) → result.fault ≡ Some (Fault.Save fault) → IsSome save.old }
     ensures load_kept { is_some load.new ≡ is_some load.old }
     ensures save_kept { is_some save.new ≡ is_some save.old }
-    // Of a scene file at most one byte is read beyond those that a file may have.
+    // At most one byte past the limit of a scene file is read.
     ensures load_few { IfSome load.old (λ before. IfSome load.new (λ after. GaveAtMost (file_limit + 1) (L.remaining (source before)) (L.remaining (source after)))) }
-    // A fault of reading or writing comes exactly where that reader or writer failed.
+    // A fault of reading or writing comes if and only if that reader or writer failed.
     ensures load { (result.fault ≡ Some (Fault.Load LoadFault.Read)) ↔ IsTrue (any_failed load.new) }
     ensures script { (result.fault ≡ Some (Fault.Script ScriptFault.Read)) ↔ IsTrue (has_failed script.new) }
     ensures answers { (result.fault ≡ Some Fault.Answers) ↔ IsTrue (has_failed answers.new) }
@@ -71,7 +71,7 @@ pub fn session<L: Read, R: Read, W: Write, S: Write>(
     }
 }
 
-/// Plays a script on a scene and saves what it leaves: `play` and `finish`, as far as no fault comes.
+/// Plays a script on a scene and saves the scene after it: `play` and `finish`, up to the first fault.
 fn play_and_save<R: Read, W: Write, S: Write>(
     alloc: Global,
     scene: &mut Scene,
@@ -108,7 +108,7 @@ fn play_and_save<R: Read, W: Write, S: Write>(
     }
 }
 
-/// The outcome of a session, by whether some line was refused, and what ended it early.
+/// Returns the outcome of a session, by whether a line failed, and the fault that ended it early.
 fn ended(refused: bool, fault: Option<Fault>) -> Outcome
     ensures fault { result.fault ≡ fault }
     ensures status { result.status ≡ status_of refused fault }

@@ -28,7 +28,7 @@ const FIRST: &[u8] = b"grid a i32 0\nset a - -1 -1 -1 7\nget a - -1 -1 -1";
 
 const ANSWERED: &[u8] = b"ok\nok\nvalue 7 on\n";
 
-/// Counts, bounds and the census of a few voxels, and those that are refused.
+/// Counts, bounds and the census of a few voxels, and such commands with errors.
 const REPORTS: &[u8] =
     b"grid a bool true\ncount a all\nbounds a\nset a - 3 -2 1 false\nset a - -5 4 1 true\ncount a all\nbounds a\ncount a 3 -2 1 9 9 9\nfill a 0 0 0 4095 4095 4095 true on\ncount a all\nbounds a\nclip a 1 1 1 2 2 2\ncount a 0 0 0 2 1 1\nbounds a\ncensus a\nprune a\ncensus a\ncensus b\nbounds b\ncount b all\ncount a 0 0 0 0 0 2147483648\ncount a 1 0 0 0 0 0\ncount a\n";
 
@@ -259,7 +259,7 @@ fn pieces_of_any_size_give_the_same_answers(rt: HostRuntime) {
     }
 }
 
-/// Checks how a session ends whose script's reader fails at its call of this number.
+/// Checks the end of a session whose script's reader fails at its call of this number.
 fn expect_read_until(
     rt: &(impl Abort + AllocGlobal),
     fails_at: u64,
@@ -294,7 +294,7 @@ fn a_reader_that_fails_ends_the_script(rt: HostRuntime) {
     }
 }
 
-/// Checks how a session ends of which the writer of the answers is this one.
+/// Checks the end of a session with this writer of the answers.
 fn expect_written(
     rt: &(impl Abort + AllocGlobal),
     writer: Sink,

@@ -1,4 +1,4 @@
--- What lies behind the faces of boxes, and of voxels in leaf blocks.
+-- What lies behind the faces of boxes, and of voxels in leaf extents.
 use Rattle.std.specs.Prelude.{Bool, not, ◌&&◌, if◌then◌else◌, List}
 use Rattle.std.specs.List.{list_any}
 use Rattle.vdb_coord.specs.Blocks.{offset}
@@ -38,6 +38,6 @@ is_behind face box q = is_inside box (toward (opposite face) q) && not (is_insid
 abbrev pub is_behind_any : List Face → Box → Coord → Bool
 is_behind_any faces box q = list_any (λ face. is_behind face box q) faces
 
--- the state behind a face of q, where two masks have those of q's leaf block and of the block behind its face
+-- the state behind a face of q, from the masks of q's leaf extent and of the leaf extent behind its face
 abbrev pub state_beside : Bits → (own other : List Bool) → Face → Coord → Bool
 state_beside bits own other face q = is_on (if is_around bits q (toward face q) then own else other) (offset bits Leaf (toward face q))

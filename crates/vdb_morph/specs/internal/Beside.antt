@@ -1,4 +1,4 @@
--- The bits beside others in a leaf block of 8 voxels along each axis, whose bits are numbered with x first and z last.
+-- The bits beside others in a leaf extent of 8 voxels along each axis, whose bits are numbered with x first and z last.
 use Rattle.std.specs.Prelude.{ℕ, ◌+◌, ◌-◌, ◌*◌, ◌/◌, ◌%◌, ◌==◌, Bool, if◌then◌else◌, List, []}
 use Rattle.std.specs.List.{list_any}
 use Rattle.vdb_coord.specs.Faces.{faces}
@@ -6,11 +6,11 @@ use Rattle.vdb_coord.specs.declared.face.Face.{Face}
 use Rattle.vdb_coord.specs.declared.face.Face.TheVariants.{MinusX, PlusX, MinusY, PlusY, MinusZ, PlusZ}
 use Rattle.vdb_mask.specs.Mask.{is_on}
 
--- the bit before bit i along the axis on which neighbours are `step` apart: before the first stands the other block's last
+-- the bit before bit i along the axis on which neighbours are `step` apart: before the first comes the other block's last
 abbrev pub bit_before : ℕ → (own other : ℕ → Bool) → ℕ → Bool
 bit_before step own other i = if i / step % 8 == 0 then other (i + 7 * step) else own (i - step)
 
--- the bit after it: after the last stands the other block's first
+-- the bit after bit i along that axis: after the last comes the other block's first
 abbrev pub bit_after : ℕ → (own other : ℕ → Bool) → ℕ → Bool
 bit_after step own other i = if i / step % 8 == 7 then other (i - 7 * step) else own (i + step)
 
@@ -23,6 +23,6 @@ bit_beside PlusY = bit_after 8
 bit_beside MinusZ = bit_before 1
 bit_beside PlusZ = bit_after 1
 
--- whether a bit behind any face of bit i is on, where nothing is on in the blocks around
+-- whether a bit behind any face of bit i is on, if nothing is on in the blocks around
 abbrev pub is_on_beside : List Bool → ℕ → Bool
 is_on_beside own i = list_any (λ face. bit_beside face (is_on own) (is_on []) i) faces

@@ -1,4 +1,4 @@
--- States of leaf blocks in masks, and what a turn of erosion leaves of them.
+-- States of leaf extents in masks, and the states after an iteration of erosion.
 use Rattle.std.specs.Prelude.{◌≡◌, Bool, true, false, if◌then◌else◌, List, IsTrue}
 use Rattle.vdb_coord.specs.Blocks.{offset}
 use Rattle.vdb_coord.specs.Faces.{toward}
@@ -11,7 +11,7 @@ use Rattle.vdb_mask.specs.Mask.{is_on}
 use Rattle.vdb_tree.specs.Field.{Field, field}
 use Rattle.vdb_morph.specs.internal.Turning.{is_around}
 
--- each leaf block has the states of the mask, and each value is false
+-- each leaf extent has the states of the mask, and each value is false
 abbrev pub of_mask : Bits → List Bool → Field Bool
 of_mask bits mask = field false (λ q. record { value = false; on = is_on mask (offset bits Leaf q) })
 
@@ -21,11 +21,11 @@ module _ {V : Type 0} where
   state_behind f face q = if is_inside everywhere (toward face q) then (f.cell (toward face q)).on else true
 
   module _ (bits : Bits) (f : Field V) where
-    -- the mask has the states of p's leaf block
+    -- the mask has the states of p's leaf extent
     abbrev pub HasStates : Coord → List Bool → Type 0
     HasStates p mask = (q : Coord) → IsTrue (is_inside everywhere q) → IsTrue (is_around bits p q) → is_on mask (offset bits Leaf q) ≡ (f.cell q).on
 
-    -- the mask has the states of the leaf block behind a face of p's, as far as they lie behind a voxel of p's block
+    -- the mask has the states of the leaf extent behind a face of p's, as far as they lie behind a voxel of p's block
     abbrev pub HasStatesBehind : Face → Coord → List Bool → Type 0
     HasStatesBehind face p mask =
         (q : Coord) → IsTrue (is_inside everywhere q) → IsTrue (is_around bits p q) → is_around bits q (toward face q) ≡ false

@@ -15,22 +15,22 @@ module _ {V : Type 0} where
   abbrev pub topology : Field V → Field Bool
   topology f = as_field_of (λ _. false) f
 
-  -- active also where the test holds
+  -- active also if the test passes
   abbrev pub with_active : (Coord → Bool) → Field V → Field V
   with_active test f = field f.background (λ p. record { value = (f.cell p).value; on = (f.cell p).on || test p })
 
-  -- active also where the test holds of a face neighbour
+  -- active also if the test passes for a face neighbour
   abbrev pub spread : (Coord → Bool) → Field V → Field V
   spread test f = with_active (λ p. list_any test (neighbours p)) f
 
-  -- the cells of g where the test holds, and of f elsewhere
+  -- the cells of g if the test passes, and of f otherwise
   abbrev pub taken : (Coord → Bool) → Field V → Field V → Field V
   taken test g f = field f.background (λ p. if test p then g.cell p else f.cell p)
 
--- whether q lies in p's leaf block
+-- whether q lies in p's leaf extent
 abbrev pub is_around : Bits → Coord → Coord → Bool
 is_around bits p q = coord_eq (block_number bits Leaf q) (block_number bits Leaf p)
 
--- whether q lies in p's leaf block, and its entry is on in the mask
+-- whether q lies in p's leaf extent, and its entry is on in the mask
 abbrev pub is_marked : Bits → Coord → List Bool → Coord → Bool
 is_marked bits p mask q = is_around bits p q && is_on mask (offset bits Leaf q)

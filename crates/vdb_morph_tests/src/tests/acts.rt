@@ -1,4 +1,4 @@
-//! Tests as lists of acts: what is done to a tree, and what is then expected of it.
+//! Tests as lists of acts: changes of a tree, and what is then expected of it.
 
 ghost use Rattle.std.specs.Prelude.{◌≤◌};
 
@@ -15,26 +15,26 @@ use vdb_tree::{TreeOf, TreeRefusal, Write};
 use vdb_value::Cell;
 use vdb_walk::count;
 
-/// One thing done to a tree, or expected of it. A box is given by its first voxel and its last one, and each value by a number.
+/// One change of a tree, or one expectation. A box is given by its first and its last voxel, each value by a number.
 #[derive(Clone, Copy)]
 pub(super) enum Act {
-    /// Gives each voxel of a box this cell.
+    /// Sets each voxel of a box to this cell.
     Fill(Coord, Coord, Cell<i32>),
-    /// Makes leaves of the active voxels of a box.
+    /// Turns the tiles with active voxels of a box into leaves.
     Voxelise(Coord, Coord),
     Prune,
     Write(Coord, Write<i32>),
-    /// So many turns in one call, which are made.
+    /// Runs this number of iterations in one call, which succeeds.
     Turns(Turn, u32),
-    /// So many turns of dilation in one call, which the root limit refuses.
+    /// Runs this number of iterations of dilation in one call, which fails with `RootLimit`.
     Refused(u32),
-    /// How many voxels are active.
+    /// Expects this number of active voxels.
     Count(u128),
     Cell(Coord, Cell<i32>),
-    /// There is no node of the upper level.
+    /// Expects no node of the upper level.
     NoUpper,
-    /// So many turns make of a copy what the definition says, in one call and in as many calls, within a cube past which no voxel is
-    /// active.
+    /// Runs this number of iterations on a copy, in one call and in as many calls, and expects what the definition says. No voxel
+    /// outside the cube is active.
     Copies(Turn, u32, Cube),
 }
 
@@ -64,7 +64,7 @@ fn expect_none(rt: &impl Abort, nodes: u64, spot: Spot) {
     assert!(rt; nodes == 0, "{spot:?}");
 }
 
-// Makes some turns in one call.
+// Runs some iterations in one call.
 fn attempt<
     V: Stored<WU> + Stored<WL> + Stored<WF>,
     const U: u32,
@@ -106,7 +106,7 @@ fn fill<
     tree.paint(bounds, cell, steps);
 }
 
-// The cells of a cube, and how many voxels of the whole tree are active.
+// Returns the cells of a cube, and the number of active voxels of the whole tree.
 fn look<
     V: Stored<WU> + Stored<WL> + Stored<WF> + Numbered,
     const U: u32,
@@ -140,7 +140,7 @@ fn look<
     })
 }
 
-// What a tree looks like after so many calls of so many turns each.
+// Returns the look of a tree after this number of calls of this number of iterations each.
 fn look_after<
     V: Stored<WU> + Stored<WL> + Stored<WF> + Numbered,
     const U: u32,
@@ -163,7 +163,7 @@ fn look_after<
     look(alloc, tree, cube, steps).expect(rt, "memory for cells")
 }
 
-// The same of a tree that is given up then.
+// Returns the look of the tree, which the call consumes.
 fn turned<
     V: Stored<WU> + Stored<WL> + Stored<WF> + Numbered,
     const U: u32,
@@ -218,7 +218,7 @@ fn expect_copies<
     expect_turns(rt, alloc, &before, (&once, &often), (turn, turns), spot);
 }
 
-// What is expected of a tree.
+// Checks an expectation.
 fn expect_act<
     V: Stored<WU> + Stored<WL> + Stored<WF> + Numbered,
     const U: u32,
@@ -246,7 +246,7 @@ fn expect_act<
     }
 }
 
-// One act. What it does to the tree is accepted, where it doesn't say otherwise.
+// Plays one act. Its change must succeed, unless it says otherwise.
 fn act_once<
     V: Stored<WU> + Stored<WL> + Stored<WF> + Numbered,
     const U: u32,
@@ -286,7 +286,7 @@ fn act_once<
     }
 }
 
-// Each act in turn.
+// Plays each act in order.
 fn play_each<
     V: Stored<WU> + Stored<WL> + Stored<WF> + Numbered,
     const U: u32,
@@ -308,7 +308,7 @@ fn play_each<
     }
 }
 
-/// Each act in turn, of a tree that is given up then.
+/// Plays each act in order on a tree, which the call consumes.
 pub(super) fn play_in<
     V: Stored<WU> + Stored<WL> + Stored<WF> + Numbered,
     const U: u32,

@@ -1,4 +1,4 @@
-//! Turns of shapes that the definition makes short work of.
+//! Iterations over shapes whose result the definition gives directly.
 
 use super::acts::Act;
 use super::trees::{Kind, Start, play};
@@ -9,17 +9,18 @@ use vdb_coord::Coord;
 use vdb_pool::Steps;
 use vdb_tree::Write;
 
-/// How many voxels are at most n faces away from one, from n = 0 on: the centred octahedral numbers.
+/// The numbers of voxels at most n faces away from one voxel, from n = 0 on: the centred octahedral numbers.
 const BALLS: [u128; 17] = [
     1, 7, 25, 63, 129, 231, 377, 575, 833, 1159, 1561, 2047, 2625, 3303, 4089, 4991, 6017,
 ];
 
-/// Of these, those none of whose components is below the one's: the tetrahedral numbers.
+/// The numbers of voxels at most n faces away from one voxel in one octant, from n = 0 on: the tetrahedral numbers.
 const EIGHTHS: [u128; 17] = [
     1, 4, 10, 20, 35, 56, 84, 120, 165, 220, 286, 364, 455, 560, 680, 816, 969,
 ];
 
-// A single active voxel grows to this count by so many turns, and shrinks back to itself by as many turns of erosion.
+// Adds acts: a single active voxel grows to this count in this number of iterations of dilation, and as many of erosion shrink it
+// back.
 fn add_ball(acts: &mut Vec<Act>, p: Coord, turns: u32, wanted: u128) -> Result<(), AllocError> {
     for act in [
         Act::Write(p, Write::On(7)),
@@ -35,7 +36,7 @@ fn add_ball(acts: &mut Vec<Act>, p: Coord, turns: u32, wanted: u128) -> Result<(
     Ok(())
 }
 
-// A single active voxel grows to these counts, by numbers of turns from 0 on.
+// Adds acts: a single active voxel grows to these counts, by numbers of iterations from 0 on.
 fn add_balls(acts: &mut Vec<Act>, p: Coord, counts: &[u128; 17]) -> Result<(), AllocError> {
     for turns in [1u32, 2, 3, 8, 16] {
         add_ball(acts, p, turns, counts[turns as usize])?;
@@ -69,7 +70,7 @@ fn one_voxel_grows_by_its_faces(rt: HostRuntime) -> Result<(), AllocError> {
     Ok(())
 }
 
-// Past the range there are no voxels.
+// Adds voxels at the corners of the range: past the range no voxels exist.
 fn add_corners(acts: &mut Vec<Act>) -> Result<(), AllocError> {
     let (low, high) = (i32::MIN, i32::MAX);
     for x in [low, high] {
@@ -118,7 +119,7 @@ fn six_neighbours_and_no_more(rt: HostRuntime) {
     play(&rt, rt.alloc(), start, &acts, &mut steps);
 }
 
-// The voxel's missing neighbour doesn't erode it, and the five that became active each lack four.
+// Adds a voxel at a face of the range: its missing neighbour doesn't erode it, and each of the five new active voxels lacks four.
 fn add_face(acts: &mut Vec<Act>, p: Coord) -> Result<(), AllocError> {
     for act in [
         Act::Write(p, Write::On(1)),
@@ -180,7 +181,8 @@ fn boxes_at_the_faces_of_the_range(rt: HostRuntime) {
     }
 }
 
-// How many voxels of a cube of one cell are left by erosion, turn by turn. The cube is filled by tiles and nodes, or by leaves.
+// Adds acts: the voxels of a cube of one cell that erosion leaves, iteration by iteration. Tiles and nodes, or leaves, fill the
+// cube.
 fn add_smaller_cubes(acts: &mut Vec<Act>, low: i32, is_voxelised: bool) -> Result<(), AllocError> {
     let (min, max) = (all(low), all(low.wrapping_add(7)));
     acts.push(Act::Fill(min, max, on(1)))?;
@@ -215,7 +217,7 @@ fn filled_leaves_shrink(rt: HostRuntime) -> Result<(), AllocError> {
     Ok(())
 }
 
-// A cube of 40 voxels loses 16 on each side, and at a corner of the range on three sides alone.
+// A cube of 40 voxels along each axis loses 16 on each side, and at a corner of the range on three sides only.
 #[test]
 fn sixteen_turns_of_erosion(rt: HostRuntime) {
     let mut steps = Steps::new(&rt);
@@ -236,7 +238,7 @@ fn sixteen_turns_of_erosion(rt: HostRuntime) {
     }
 }
 
-// An inactive voxel shows its value where it becomes active, an active one where it becomes inactive.
+// A voxel that becomes active or inactive keeps its value.
 #[test]
 fn values_stay(rt: HostRuntime) {
     let mut steps = Steps::new(&rt);
@@ -296,7 +298,7 @@ fn nothing_active_stays_so(rt: HostRuntime) {
     play(&rt, rt.alloc(), start, &acts, &mut steps);
 }
 
-// Two walls with a gap of one voxel, and a hole in one. The cube reaches past what 16 turns make of them.
+// Two walls with a gap of one voxel, and a hole in one wall. The cube contains everything that 16 iterations reach.
 #[test]
 fn many_turns_in_one_call_or_in_many(rt: HostRuntime) {
     let mut steps = Steps::new(&rt);

@@ -6,7 +6,7 @@ use super::{Turn, all, at, off, on};
 use vdb_pool::Steps;
 use vdb_tree::Write;
 
-// A tree of the standard layout, whose background is 0.
+// Returns the start of a tree of the standard layout with background 0.
 fn start(limit: u32, case: usize) -> Start {
     Start {
         kind: Kind::Tree,
@@ -16,7 +16,7 @@ fn start(limit: u32, case: usize) -> Start {
     }
 }
 
-// Fills the root blocks at 0 to 2 along z with an inactive value, and with that a table of three.
+// Fills the root blocks at 0 to 2 along z with an inactive value, which fills a table of three.
 fn fill_table() -> Act {
     Act::Fill(all(0), at(4095, 4095, 12287), off(1))
 }
@@ -41,7 +41,7 @@ fn a_full_table_refuses_a_new_block(rt: HostRuntime) {
             Act::Cell(missing, off(0)),
             Act::Cell(all(100), off(1)),
             Act::Count(1),
-            // erosion takes no block
+            // erosion adds no root block
             Act::Turns(Turn::Erode, 1),
             Act::Count(0),
             Act::Cell(p, off(1)),
@@ -50,7 +50,7 @@ fn a_full_table_refuses_a_new_block(rt: HostRuntime) {
     }
 }
 
-// Between two blocks of the table nothing is new.
+// Dilation between two blocks of the table adds no root block.
 #[test]
 fn a_full_table_takes_what_lies_in_its_blocks(rt: HostRuntime) {
     let mut steps = Steps::new(&rt);
@@ -67,7 +67,7 @@ fn a_full_table_takes_what_lies_in_its_blocks(rt: HostRuntime) {
     play(&rt, rt.alloc(), start(3, 0), &acts, &mut steps);
 }
 
-// The third turn reaches the next root block: with it the two before it are refused too.
+// The third iteration reaches the next root block: the call also undoes the two before it.
 #[test]
 fn a_later_turn_is_refused(rt: HostRuntime) {
     let mut steps = Steps::new(&rt);
@@ -101,7 +101,7 @@ fn a_later_turn_is_refused(rt: HostRuntime) {
     play(&rt, rt.alloc(), start, &acts, &mut steps);
 }
 
-// Blocks of the background alone don't count, though they may have an entry in the table.
+// Root blocks of the background alone don't count, even if they have an entry in the table.
 #[test]
 fn a_background_block_gives_way(rt: HostRuntime) {
     let mut steps = Steps::new(&rt);
@@ -109,7 +109,7 @@ fn a_background_block_gives_way(rt: HostRuntime) {
         Act::Write(all(0), Write::On(1)),
         Act::Write(at(0, 0, 4096), Write::On(0)),
         Act::Refused(1),
-        // by erosion the second block becomes background
+        // erosion makes the second block background
         Act::Turns(Turn::Erode, 1),
         Act::Cell(all(0), off(1)),
         Act::Cell(at(0, 0, 4096), off(0)),

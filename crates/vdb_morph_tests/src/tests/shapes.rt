@@ -1,4 +1,5 @@
-//! Random shapes with tiles of each level, in the middle of the range and at its eight corners, beside a map of their voxels.
+//! Random shapes with tiles of each level, in the middle of the range and at its eight corners, compared with a map of their
+//! voxels.
 
 ghost use Rattle.std.specs.Prelude.{◌<◌};
 
@@ -12,14 +13,14 @@ use vdb_coord::{Bounds, Coord};
 use vdb_pool::Steps;
 use vdb_value::Cell;
 
-/// Knuth's generator of 64 bits.
+/// Knuth's generator of 64-bit numbers.
 #[derive(Drop)]
 struct Draws {
     state: u64,
 }
 
 impl Draws {
-    // A number below `bound`, by the upper bits.
+    // Returns a number below `bound`, from the upper bits.
     fn below(&mut self, bound: u64) -> u64
         requires { 0 < bound }
         ensures { result < bound }
@@ -40,14 +41,14 @@ impl Draws {
     }
 }
 
-/// Where the boxes of a shape lie.
+/// The place of the boxes of a shape.
 #[derive(Clone, Copy, Debug)]
 struct Place {
     /// The least corner.
     low: Coord,
-    /// How far the greatest corner is from the least along each axis: the boxes lie in a cube of one voxel more.
+    /// The distance of the greatest corner from the least along each axis, in voxels: the boxes lie in a cube of one voxel more.
     extent: i32,
-    /// How many voxels blocks of the tree span, less one.
+    /// The lengths of the tree's blocks along an axis in voxels, less one.
     blocks: [i32; 3],
 }
 
@@ -56,14 +57,14 @@ impl Place {
         Cube::from(self.low, self.extent.unsigned_abs().wrapping_add(1))
     }
 
-    // The whole cube.
+    // Returns the whole cube.
     fn whole(self) -> Option<Bounds> {
         let Coord { x, y, z } = self.low;
         let end = |low: i32| low.wrapping_add(self.extent);
         Bounds::new(self.low, at(end(x), end(y), end(z)))
     }
 
-    // Where a box begins and ends along an axis, of whole blocks of `last + 1` voxels.
+    // Returns the begin and the end of a box of whole blocks of `last + 1` voxels along an axis.
     fn along(self, low: i32, last: i32, draws: &mut Draws) -> (i32, i32) {
         let first = (draws.below(128) as i32) & self.extent;
         let length = (draws.below(64) as i32) & self.extent;
@@ -71,7 +72,7 @@ impl Place {
         (low.wrapping_add(first & !last), low.wrapping_add(end))
     }
 
-    // A box of whole blocks of one level, or of voxels.
+    // Returns a box of whole blocks of one level, or of voxels.
     fn bounds(self, draws: &mut Draws) -> Option<Bounds> {
         let last = match draws.below(5) {
             0 => self.blocks[0],
@@ -86,7 +87,7 @@ impl Place {
     }
 }
 
-// The place in the middle of the range, and those at its corners. The extent is one less than a power of 2.
+// Returns the place in the middle of the range and those at its corners. The extent is one less than a power of 2.
 fn places(extent: i32, blocks: [i32; 3]) -> [Place; 9] {
     let low = i32::MIN;
     let high = i32::MAX.wrapping_sub(extent);
@@ -108,7 +109,7 @@ fn places(extent: i32, blocks: [i32; 3]) -> [Place; 9] {
     ]
 }
 
-// Fills a box with a cell, and prunes the tree or makes leaves in the box at times.
+// Fills a box with a cell, and at times prunes the tree or makes leaves in the box.
 fn fill_some(
     acts: &mut Vec<Act>,
     part: Bounds,
@@ -124,7 +125,7 @@ fn fill_some(
     Ok(())
 }
 
-// Fills some boxes with these values, active or not, the whole cube before them at times.
+// Fills some boxes with these values, active or not, and at times the whole cube before them.
 fn draw(
     acts: &mut Vec<Act>,
     values: [i32; 2],
@@ -152,7 +153,7 @@ fn draw(
     Ok(())
 }
 
-// A random shape of the background's value and another one, and turns of copies of it.
+// Draws a random shape of the background's value and another one, and runs iterations on copies of it.
 fn shape(
     alloc: Global,
     values: [i32; 2],
@@ -166,7 +167,7 @@ fn shape(
     Ok(acts)
 }
 
-// Turns of random shapes in small nodes, at each place.
+// Runs iterations on random shapes in small nodes, at each place.
 fn try_small_nodes(
     rt: &impl Abort,
     alloc: Global,

@@ -6,7 +6,7 @@ use super::{Turn, all, at, off, on};
 use vdb_pool::Steps;
 use vdb_tree::Write;
 
-// A tile of a leaf's block, of 8 voxels along each axis, a box of 16, and a tile of a lower block, of 128.
+// A leaf tile of 8 voxels along each axis, a box of 16, and a tile of a lower extent, of 128.
 #[test]
 fn a_tile_grows_or_shrinks_by_its_faces(rt: HostRuntime) {
     let mut steps = Steps::new(&rt);
@@ -103,7 +103,8 @@ fn a_root_block_at_a_corner_of_the_range(rt: HostRuntime) {
     }
 }
 
-// A hole of one voxel in a tile of 128 takes its six neighbours with it. It is filled by a turn of dilation, and keeps its value.
+// Erosion of a tile of 128 with a hole of one voxel deactivates its six neighbours. An iteration of dilation fills the hole and
+// keeps its value.
 #[test]
 fn a_hole_grows_or_is_filled(rt: HostRuntime) {
     let mut steps = Steps::new(&rt);

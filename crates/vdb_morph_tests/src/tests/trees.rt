@@ -1,4 +1,4 @@
-//! The types of tree that are tested, their values, and lists of acts played in each.
+//! The tested types of tree, their values, and lists of acts played in each.
 
 use super::acts::{Act, play_in};
 use std::alloc::Global;
@@ -18,19 +18,19 @@ type Tiny = TreeOf<i32, 1, 1, 1, 1, 1, 1>;
 pub(super) enum Kind {
     /// The standard layout, of `i32`.
     Tree,
-    /// The standard layout, of truth values.
+    /// The standard layout, of booleans.
     TreeOfTruths,
     /// The layout of 4, 3 and 3 bits, of `i64`.
     Tree433,
-    /// The layout of 4, 3 and 3 bits, of truth values.
+    /// The layout of 4, 3 and 3 bits, of booleans.
     Tree433OfTruths,
     /// Blocks of 8, 16 and 32 voxels along each axis, of `i64`: the leaves are those of the two layouts.
     Leaves8,
-    /// Blocks of 2, 4 and 8 voxels along each axis, of `i32`, so that a few voxels fill one.
+    /// Blocks of 2, 4 and 8 voxels along each axis, of `i32`, so that a few voxels fill a block.
     Tiny,
 }
 
-/// A new tree, and the number of the case that it is made for.
+/// A new tree, and the number of its case.
 #[derive(Clone, Copy)]
 pub(super) struct Start {
     pub(super) kind: Kind,
@@ -40,7 +40,7 @@ pub(super) struct Start {
 }
 
 impl Start {
-    /// A tree with room for the root blocks of any test.
+    /// Returns a tree with room for the root blocks of any test.
     pub(super) fn roomy(kind: Kind, background: i32, case: usize) -> Start {
         Start {
             kind,
@@ -50,7 +50,7 @@ impl Start {
         }
     }
 
-    /// The act of this number.
+    /// Returns the act of this number.
     pub(super) fn spot(self, act: usize) -> Spot {
         Spot {
             kind: self.kind,
@@ -60,7 +60,7 @@ impl Start {
     }
 }
 
-/// Which act of which case it is, for the texts of what fails. Both are counted from 0.
+/// The number of an act and of its case, for the texts of failures. Both count from 0.
 #[derive(Clone, Copy, Debug)]
 pub(super) struct Spot {
     pub(super) kind: Kind,
@@ -68,7 +68,7 @@ pub(super) struct Spot {
     pub(super) act: usize,
 }
 
-/// A type of values that tests give by numbers. The truth values are 0 and 1.
+/// A type of values that tests give by numbers. The booleans are 0 and 1.
 pub(super) trait Numbered {
     fn from_number(number: i32) -> Self;
 
@@ -158,7 +158,7 @@ fn play_tiny(rt: &impl Abort, alloc: Global, start: Start, acts: &[Act], steps: 
     play_in(rt, alloc, tree, start, acts, steps);
 }
 
-/// Each act in turn, of a new tree.
+/// Plays each act in order, on a new tree.
 pub(super) fn play(rt: &impl Abort, alloc: Global, start: Start, acts: &[Act], steps: &mut Steps) {
     match start.kind {
         Kind::Tree => play_tree(rt, alloc, start, acts, steps),

@@ -1,4 +1,4 @@
-//! The states of the voxels of a cube, and what the definition makes of them.
+//! The states of the voxels of a cube, and the states that the definition gives them.
 
 use super::Turn;
 use super::trees::Spot;
@@ -7,17 +7,17 @@ use std::process::Abort;
 use vdb_coord::Coord;
 use vdb_value::Cell;
 
-/// A cube of coordinates, of which the range may hold a part alone.
+/// A cube of coordinates, some of which may lie past the range.
 #[derive(Clone, Copy, Debug)]
 pub(super) struct Cube {
     /// The least corner.
     low: [i64; 3],
-    /// How many voxels it spans along each axis.
+    /// The length along each axis in voxels.
     pub(super) span: u32,
 }
 
 impl Cube {
-    /// The cube from this corner on.
+    /// Returns the cube with this least corner.
     pub(super) fn from(p: Coord, span: u32) -> Cube {
         Cube {
             low: [i64::from(p.x), i64::from(p.y), i64::from(p.z)],
@@ -25,7 +25,7 @@ impl Cube {
         }
     }
 
-    /// The cube with so many voxels more on each side.
+    /// Returns the cube with `margin` voxels more on each side.
     pub(super) fn grown(self, margin: u32) -> Cube {
         let [x, y, z] = self.low;
         let margin_along = i64::from(margin);
@@ -39,7 +39,7 @@ impl Cube {
         }
     }
 
-    /// The coordinate at this place in the cube: `None` past the range.
+    /// Returns the coordinate at this place in the cube: `None` past the range.
     pub(super) fn coordinate(self, x: u32, y: u32, z: u32) -> Option<Coord> {
         let component = |low: i64, place: u32| i32::try_from(low.wrapping_add(i64::from(place)));
         Some(Coord {
@@ -49,7 +49,7 @@ impl Cube {
         })
     }
 
-    // The index of this place among all: `None` past the cube.
+    // Returns the index of this place among all: `None` past the cube.
     fn index(self, x: u32, y: u32, z: u32) -> Option<usize> {
         let span = self.span;
         if x >= span || y >= span || z >= span {
@@ -61,8 +61,8 @@ impl Cube {
     }
 }
 
-/// What a tree looks like: the cells of a cube, each value as a number, and how many voxels are active in all. Past the range of
-/// coordinates there is no voxel, and `None` stands.
+/// The look of a tree: the cells of a cube, each value as a number, and the number of active voxels of the whole tree. Past the
+/// range of coordinates no voxel exists, and the cell is `None`.
 #[derive(Drop)]
 pub(super) struct Seen {
     pub(super) cube: Cube,
@@ -79,8 +79,8 @@ impl Seen {
     }
 }
 
-/// The state of each voxel of a cube. Past the range of coordinates there is no voxel, and `None` stands; past the cube all voxels
-/// are inactive.
+/// The state of each voxel of a cube. Past the range of coordinates no voxel exists, and the state is `None`. Past the cube all
+/// voxels are inactive.
 #[derive(Drop)]
 struct VoxelMap {
     alloc: Global,
@@ -114,8 +114,8 @@ impl VoxelMap {
         }
     }
 
-    // A voxel's state after a turn, by the states before it of the voxel and of those behind its six faces. A voxel that isn't
-    // there makes no other active or inactive.
+    // Returns a voxel's state after an iteration, from the states before it of the voxel and of those behind its six faces. A
+    // voxel past the range neither activates nor deactivates another.
     fn after(&self, turn: Turn, x: u32, y: u32, z: u32) -> Option<bool> {
         let state = self.state(x, y, z)?;
         let neighbours = [
@@ -159,7 +159,7 @@ impl VoxelMap {
     }
 }
 
-// A cell of the cube has the map's state, and the value that it had before, after turns in one call and in many.
+// Checks that a cell of the cube has the map's state and its old value, after iterations in one call and in many.
 fn expect_cell(
     rt: &impl Abort,
     map: &VoxelMap,
@@ -186,7 +186,7 @@ fn expect_cell(
     }
 }
 
-// So do all. No voxel past the cube is active.
+// Checks all cells of the cube, and that no voxel past the cube is active.
 fn expect_map(
     rt: &impl Abort,
     map: &VoxelMap,
@@ -207,7 +207,8 @@ fn expect_map(
     assert_eq!(rt; often.active, active, "by {what:?} in many calls, {spot:?}");
 }
 
-/// Turns made one tree of another, in one call and in as many calls. All active voxels lie in the cube, before and after.
+/// Checks iterations from one tree to another, in one call and in as many calls. All active voxels lie in the cube, before and
+/// after.
 pub(super) fn expect_turns(
     rt: &impl Abort,
     alloc: Global,

@@ -1,4 +1,4 @@
--- Groups of commands, told apart by functions of their own.
+-- Groups of commands, each with a function of its own.
 use Rattle.std.specs.Prelude.{Bool, true, false}
 use Rattle.vdb_scene.specs.declared.command.Command.{Command}
 use Rattle.vdb_scene.specs.declared.command.Command.TheVariants as commands

@@ -4,7 +4,7 @@ use super::acts::{run_from, shows_near};
 use super::*;
 use vdb_coord::Coord;
 
-/// A command that looks up a voxel through an accessor.
+/// Returns a command that looks up a voxel through an accessor.
 fn get_by(name: Name, accessor: i64, at: Point) -> Command {
     Command::Get {
         name,
@@ -13,7 +13,7 @@ fn get_by(name: Name, accessor: i64, at: Point) -> Command {
     }
 }
 
-/// A command that sets a voxel through an accessor.
+/// Returns a command that sets a voxel through an accessor.
 fn set_by(name: Name, accessor: i64, at: Point, value: i64) -> Command {
     Command::Set {
         name,
@@ -23,7 +23,7 @@ fn set_by(name: Name, accessor: i64, at: Point, value: i64) -> Command {
     }
 }
 
-/// The coordinate that an accessor of a grid of 32-bit numbers was last given.
+/// Returns the last coordinate given to an accessor of a grid of 32-bit numbers.
 fn cached(scene: &Scene, name: Name, accessor: usize) -> Option<Coord> {
     match scene.get(&name) {
         Some(AnyGrid::I32(grid)) => {
@@ -82,7 +82,7 @@ fn a_command_near_the_last_one_visits_one_node(rt: HostRuntime) {
     assert!(rt; steps.count().wrapping_sub(before) <= 1);
 }
 
-/// A command that gives each voxel of a box one value, active.
+/// Returns a command that sets each voxel of a box to one active value.
 fn fill(name: Name, corners: Corners, value: i64) -> Command {
     Command::Fill {
         name,
@@ -92,17 +92,17 @@ fn fill(name: Name, corners: Corners, value: i64) -> Command {
     }
 }
 
-/// A command that makes leaves in a box.
+/// Returns a command that makes leaves in a box.
 fn voxelise(name: Name, corners: Corners) -> Command {
     Command::Voxelise { name, corners }
 }
 
-/// A command that clears all around a box.
+/// Returns a command that clears everything outside a box.
 fn clip(name: Name, corners: Corners) -> Command {
     Command::Clip { name, corners }
 }
 
-/// Commands that dilate and erode a grid.
+/// Returns a command that dilates a grid.
 fn dilate(name: Name, turns: i64) -> Command {
     let turns = Num::Near(turns);
     Command::Dilate { name, turns }
@@ -113,20 +113,20 @@ fn erode(name: Name, turns: i64) -> Command {
     Command::Erode { name, turns }
 }
 
-/// The box between two places.
+/// Returns the box between two points.
 fn between(min: Point, max: Point) -> Corners {
     Corners { min, max }
 }
 
-/// A command, and then look-ups by accessor 3 in the leaf block of the coordinate that it was last given, by at most one visit each.
+/// A command, and then look-ups by accessor 3 in the leaf extent of its last coordinate, by at most one node visit each.
 type Turn = [Act; 3];
 
-/// A look-up of a 32-bit number by accessor 3, in the leaf block of the coordinate that it was last given.
+/// Returns a look-up of a 32-bit number by accessor 3, in the leaf extent of its last coordinate.
 fn looks(name: Name, at: Point, (value, on): (i32, bool)) -> Act {
     shows_near(get_by(name, 3, at), Scalar::I32(value), on)
 }
 
-/// Carries out acts, and then turns, on a scene of their own. The acts of all turns are counted through.
+/// Carries out acts, and then each group of acts, on a scene of their own. The acts of all groups count from 0.
 fn play_turns(rt: &(impl Abort + AllocGlobal), acts: &[Act], turns: &[Turn], steps: &mut Steps) {
     let mut scene = Scene::new(rt.alloc());
     run(rt, &mut scene, acts, steps);
@@ -135,8 +135,8 @@ fn play_turns(rt: &(impl Abort + AllocGlobal), acts: &[Act], turns: &[Turn], ste
     }
 }
 
-/// Grids of 32-bit numbers: `a` with a voxel that accessor 3 was given, `b` with a line through its leaf block, `e`, which holds its
-/// background, and `x`, whose background is too great for a sum. The grid `m` has truth values.
+/// Returns acts that create grids of 32-bit numbers and the boolean grid `m`. The grid `a` has a voxel given to accessor 3, `b` a
+/// line through its leaf extent. The grid `e` holds its background, and the background of `x` is too great for a sum.
 fn with_line(rt: &impl Abort) -> [Act; 7] {
     let (a, b, e) = (letter(rt, b'a'), letter(rt, b'b'), letter(rt, b'e'));
     let (m, x) = (letter(rt, b'm'), letter(rt, b'x'));
@@ -152,7 +152,7 @@ fn with_line(rt: &impl Abort) -> [Act; 7] {
     ]
 }
 
-/// A change of the grid `a`, and what the voxels at (8, 8, 15) and at (8, 8, 8) are then.
+/// Returns a change of the grid `a`, and the cells of the voxels at (8, 8, 15) and (8, 8, 8) after it.
 fn changes(rt: &impl Abort, command: Command, far: (i32, bool), last: (i32, bool)) -> Turn {
     let a = letter(rt, b'a');
     [
@@ -162,7 +162,7 @@ fn changes(rt: &impl Abort, command: Command, far: (i32, bool), last: (i32, bool
     ]
 }
 
-/// Changes of the tree of `a`, and of its values by those of two others.
+/// Returns changes of the tree of `a`, and of its values by those of two others.
 fn all_changes(rt: &impl Abort) -> [Turn; 17] {
     let (name, other, empty) = (letter(rt, b'a'), letter(rt, b'b'), letter(rt, b'e'));
     let far = point(8, 8, 15);
@@ -210,7 +210,7 @@ fn no_change_of_a_grid_makes_an_accessor_forget(rt: HostRuntime) {
     play_turns(&rt, &acts, &turns, &mut steps);
 }
 
-/// What is refused on the grid `a`, which stays as it is.
+/// Returns a command on the grid `a` that fails and leaves it unchanged.
 fn refuses(rt: &impl Abort, command: Command, refusal: Refusal) -> Turn {
     let a = letter(rt, b'a');
     [
@@ -220,7 +220,7 @@ fn refuses(rt: &impl Abort, command: Command, refusal: Refusal) -> Turn {
     ]
 }
 
-/// What is refused on `a`, also with `m` of truth values and `x`, whose values are too great for a sum.
+/// Returns commands on `a` that fail, also with the boolean grid `m` and with `x`, whose values are too great for a sum.
 fn all_refusals(rt: &impl Abort) -> [Turn; 14] {
     let (name, truths, great) = (letter(rt, b'a'), letter(rt, b'm'), letter(rt, b'x'));
     let (low, high) = (point(0, 0, 0), point(128, 127, 127));
@@ -264,8 +264,8 @@ fn no_refused_command_makes_an_accessor_forget(rt: HostRuntime) {
     play_turns(&rt, &acts, &turns, &mut steps);
 }
 
-/// A grid `s` of at most one root block, which is full of inactive cells but for a voxel at its end that accessor 3 was given, and `b`
-/// with a voxel in another root block.
+/// Returns acts that create the grids `s` and `b`. The grid `s` may have one root block, and all its cells are inactive except a voxel
+/// at its end that accessor 3 was given. The grid `b` has a voxel in another root block.
 fn with_full_table(rt: &impl Abort) -> [Act; 5] {
     let (s, b) = (letter(rt, b's'), letter(rt, b'b'));
     let small = Command::Grid {
@@ -289,7 +289,7 @@ fn with_full_table(rt: &impl Abort) -> [Act; 5] {
     ]
 }
 
-/// What would take the grid `s` a second root block.
+/// Returns a command that would give the grid `s` a second root block.
 fn overflows(rt: &impl Abort, command: Command) -> Turn {
     let s = letter(rt, b's');
     [

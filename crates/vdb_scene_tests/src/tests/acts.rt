@@ -1,4 +1,4 @@
-//! Tests as lists of acts: commands that a scene is given, and what each must be answered. A list costs the proof next to nothing, where
+//! Tests as lists of acts: commands on a scene, and the answers that they must get. A list costs the proof next to nothing, and
 //! as many calls in a row cost much.
 
 use std::process::Abort;
@@ -7,28 +7,28 @@ use vdb_pool::Steps;
 use vdb_scene::{Answer, Command, Name, Refusal, Scalar, Scene};
 use vdb_walk::Census;
 
-/// What a command must be answered.
+/// The answer that a command must get.
 #[derive(Drop)]
 enum Expected {
     Done,
     Refused(Refusal),
     /// A value, and whether the voxel is active.
     Cell(Scalar, bool),
-    /// The same, by at most one visit.
+    /// A value and a state, by at most one node visit.
     NearCell(Scalar, bool),
     Count(u128),
     Bounds(Option<(Coord, Coord)>),
     Census(Census),
 }
 
-/// A command, and what it must be answered.
+/// A command, and the answer that it must get.
 #[derive(Drop)]
 pub(super) struct Act {
     command: Command,
     expected: Expected,
 }
 
-/// A command that is answered `ok`.
+/// Returns a command that must answer `ok`.
 pub(super) fn done(command: Command) -> Act {
     Act {
         command,
@@ -36,7 +36,7 @@ pub(super) fn done(command: Command) -> Act {
     }
 }
 
-/// A command that is refused so.
+/// Returns a command that must fail with this error.
 pub(super) fn refused(command: Command, refusal: Refusal) -> Act {
     Act {
         command,
@@ -44,7 +44,7 @@ pub(super) fn refused(command: Command, refusal: Refusal) -> Act {
     }
 }
 
-/// A command that is answered by this cell.
+/// Returns a command that must answer this cell.
 pub(super) fn shows(command: Command, value: Scalar, on: bool) -> Act {
     Act {
         command,
@@ -52,7 +52,7 @@ pub(super) fn shows(command: Command, value: Scalar, on: bool) -> Act {
     }
 }
 
-/// A command that is answered by this cell, and visits one node at most.
+/// Returns a command that must answer this cell, by at most one node visit.
 pub(super) fn shows_near(command: Command, value: Scalar, on: bool) -> Act {
     Act {
         command,
@@ -60,7 +60,7 @@ pub(super) fn shows_near(command: Command, value: Scalar, on: bool) -> Act {
     }
 }
 
-/// A command that is answered by this count of active voxels.
+/// Returns a command that must answer this count of active voxels.
 pub(super) fn counts(command: Command, active: u128) -> Act {
     Act {
         command,
@@ -68,7 +68,7 @@ pub(super) fn counts(command: Command, active: u128) -> Act {
     }
 }
 
-/// A command that is answered by the box from one corner to another, or that there is none.
+/// Returns a command that must answer the bounding box from one corner to another, or that no voxel is active.
 pub(super) fn spans(command: Command, corners: Option<(Coord, Coord)>) -> Act {
     Act {
         command,
@@ -76,7 +76,8 @@ pub(super) fn spans(command: Command, corners: Option<(Coord, Coord)>) -> Act {
     }
 }
 
-/// The census of a grid: root blocks that hold anything but the background, and blocks of each level that aren't constant.
+/// Returns the census of a grid: root blocks with a cell other than the inactive background, and blocks of each level that
+/// aren't constant.
 pub(super) fn blocks(name: Name, [roots, upper, lower, leaf]: [u64; 4]) -> Act {
     Act {
         command: Command::Census { name },
@@ -113,7 +114,7 @@ fn holds(scene: &mut Scene, act: &Act, steps: &mut Steps) -> bool {
     is_expected(&answer, visits, &act.expected)
 }
 
-/// Carries out acts on a scene. One that fails is told by its number, counted from `first` on.
+/// Carries out acts on a scene. A failure names the act by its number, counted from `first`.
 pub(super) fn run_from(
     rt: &impl Abort,
     scene: &mut Scene,

@@ -1,8 +1,8 @@
-//! Boxes that are filled and clipped.
+//! Filling and clipping of boxes.
 
 use super::*;
 
-/// A command that fills a box.
+/// Returns a command that fills a box.
 fn fill(name: Name, min: Point, max: Point, value: Literal, on: bool) -> Command {
     Command::Fill {
         name,
@@ -12,7 +12,7 @@ fn fill(name: Name, min: Point, max: Point, value: Literal, on: bool) -> Command
     }
 }
 
-/// A command that clears all around a box.
+/// Returns a command that clears everything outside a box.
 fn clip(name: Name, min: Point, max: Point) -> Command {
     Command::Clip {
         name,
@@ -20,7 +20,7 @@ fn clip(name: Name, min: Point, max: Point) -> Command {
     }
 }
 
-/// A grid in which boxes are filled, and then all around one is cleared.
+/// Fills boxes in a grid, and then clears everything outside one.
 fn filled(rt: &impl Abort, (kind, background, value, off, on): Values) -> [Act; 19] {
     let name = letter(rt, b'a');
     let zero = point(0, 0, 0);

@@ -8,17 +8,17 @@ const KEYS: [&[u8]; META_LIMIT] = [
     b"za", b"zz",
 ];
 
-/// A key that is a name.
+/// Returns a key that is a name.
 fn key(rt: &impl Abort, bytes: &[u8]) -> Name {
     Name::new(bytes).expect(rt, "a key is a name")
 }
 
-/// A text that has the form of one.
+/// Returns a text of valid form.
 fn text(rt: &impl Abort, bytes: &[u8]) -> MetaText {
     MetaText::new(bytes).expect(rt, "a text has its form")
 }
 
-/// Whether the pair at this place has this key and this text.
+/// Returns whether the pair at this place has this key and this text.
 fn is_pair(metas: &Metas, i: usize, key: &[u8], text: &[u8]) -> bool {
     if i >= metas.len() {
         return false;
@@ -27,7 +27,7 @@ fn is_pair(metas: &Metas, i: usize, key: &[u8], text: &[u8]) -> bool {
     name.bytes() == key && words.bytes() == text
 }
 
-/// Pairs under each of the sixteen keys, which were put from the last to the first. The text of each is its key.
+/// Returns pairs under each of the sixteen keys, set from the last to the first. The text of each is its key.
 fn full(rt: &(impl Abort + AllocGlobal)) -> Metas {
     let mut metas = Metas::new(rt.alloc());
     for bytes in KEYS.iter().rev() {
@@ -37,7 +37,7 @@ fn full(rt: &(impl Abort + AllocGlobal)) -> Metas {
     metas
 }
 
-/// Whether these are still the sixteen pairs of `full`.
+/// Returns whether these are still the sixteen pairs of `full`.
 fn is_full(metas: &Metas) -> bool {
     let mut same = metas.len() == META_LIMIT;
     for (i, bytes) in KEYS.iter().enumerate() {

@@ -1,10 +1,10 @@
-//! Counts of active voxels, and the box around them.
+//! Counts of active voxels, and their bounding box.
 
 use super::acts::{blocks, counts, spans};
 use super::*;
 use vdb_coord::Coord;
 
-/// A command that counts a grid's active voxels.
+/// Returns a command that counts a grid's active voxels.
 fn count(name: Name) -> Command {
     Command::Count {
         name,
@@ -12,7 +12,7 @@ fn count(name: Name) -> Command {
     }
 }
 
-/// A command that counts those of a box.
+/// Returns a command that counts the active voxels of a box.
 fn count_in(name: Name, min: Point, max: Point) -> Command {
     Command::Count {
         name,
@@ -20,7 +20,7 @@ fn count_in(name: Name, min: Point, max: Point) -> Command {
     }
 }
 
-/// Corners of a coordinate's components.
+/// Returns corners of a coordinate's components.
 fn corners(min: (i32, i32, i32), max: (i32, i32, i32)) -> Option<(Coord, Coord)> {
     let (x, y, z) = min;
     let least = Coord { x, y, z };
@@ -28,7 +28,7 @@ fn corners(min: (i32, i32, i32), max: (i32, i32, i32)) -> Option<(Coord, Coord)>
     Some((least, Coord { x, y, z }))
 }
 
-/// A grid with a box of ten voxels along each axis, of which one is made inactive, and a voxel outside it.
+/// Counts a grid with a box of ten voxels along each axis, one of which becomes inactive, and with a voxel outside it.
 fn counted(rt: &impl Abort, kind: Kind, background: Literal) -> [Act; 13] {
     let name = letter(rt, b'a');
     let (first, last) = (point(-5, 0, 3), point(4, 9, 12));
@@ -118,7 +118,7 @@ fn reports_are_refused_in_order(rt: HostRuntime) {
     play(&rt, &acts, &mut steps);
 }
 
-/// A grid whose census is taken after each change.
+/// Takes the census of a grid after each change.
 fn censuses(rt: &impl Abort, (kind, background, value, _, _): Values) -> [Act; 16] {
     let name = letter(rt, b'a');
     let unset = Command::Unset {
@@ -156,7 +156,7 @@ fn censuses(rt: &impl Abort, (kind, background, value, _, _): Values) -> [Act; 1
     ]
 }
 
-// Nodes that aren't needed make no difference, and neither does the order of the commands.
+// Neither unneeded nodes nor the order of the commands make a difference.
 #[test]
 fn blocks_that_are_no_single_tile_are_counted(rt: HostRuntime) {
     let mut steps = Steps::new(&rt);

@@ -1,7 +1,7 @@
-//! Random edits over scattered root blocks, beside boxes of one cell each.
+//! Random edits over scattered root blocks, compared with boxes of one cell each.
 //!
-//! Eight stretches of numbers along each axis cut the space into 512 boxes. An edit changes whole boxes of these, so that one
-//! cell for each of them tells what the tree is to hold.
+//! Eight stretches of numbers along each axis cut the space into 512 boxes. An edit changes whole boxes, so that one cell for
+//! each box gives the expected content of the tree.
 
 ghost use Rattle.std.specs.Prelude.{◌<◌};
 
@@ -18,11 +18,11 @@ const LEAST: i64 = -2147483648;
 
 const PAST: i64 = 2147483648;
 
-/// The first numbers of the root blocks that edits are about.
+/// The first numbers of the root blocks that edits change.
 const ROOTS: [i64; 5] = [LEAST, -4096, 0, 4096, 2147479552];
 
-/// Where the stretches of an axis begin, with the range's end last, and the cuts at both ends of what edits take of it: a
-/// voxel, a leaf block, a lower block, a root block and another voxel.
+/// The cuts of an axis: the begin of each stretch, and the range's end last. `spans` has the first and the last cut of what edits
+/// change: a voxel, a leaf extent, a lower extent, a root block and another voxel.
 #[derive(Clone, Copy)]
 struct Axis {
     cuts: [i64; 9],
@@ -71,7 +71,7 @@ impl Region {
     }
 }
 
-/// A tree, the cells of the boxes that the cuts make, by z, then by y, then by x, and what is drawn next.
+/// A tree, the cells of the boxes between the cuts, by z, then by y, then by x, and the state of the generator.
 #[derive(Drop)]
 struct Trial {
     tree: Tree<i32>,
@@ -82,7 +82,7 @@ struct Trial {
 }
 
 impl Trial {
-    // A number below the bound, by the upper bits of Knuth's generator.
+    // Returns a number below the bound, from the upper bits of Knuth's generator.
     fn below(&mut self, bound: u64) -> usize
         requires { 0 < bound }
         ensures { result < bound }
@@ -94,7 +94,7 @@ impl Trial {
         ((self.state >> 33) % bound) as usize
     }
 
-    // Cuts at the ends of a root block, and at those of blocks or voxels in it or beside it.
+    // Draws cuts at the ends of a root block, and at the ends of blocks or voxels in it or beside it.
     fn draw_axis(&mut self) -> Axis {
         let root = ROOTS[self.below(5)];
         let (places, spans) = if self.below(2) == 0 {
@@ -111,7 +111,7 @@ impl Trial {
         Axis { cuts, spans }
     }
 
-    // What lies between two cuts of an axis, or the root block where that is nothing.
+    // Returns the numbers between two cuts of an axis, or the root block if no number lies between them.
     fn stretch(&mut self, axis: usize) -> (i64, i64) {
         let (first, last) = (self.below(8), self.below(8));
         let cuts = self.axes[axis % 3].cuts;
@@ -139,7 +139,8 @@ impl Trial {
         }
     }
 
-    // A voxel or a block, often with something else along one axis. Of a root block the others would take too many leaves.
+    // Draws a voxel or a block, often with another length along one axis. Only a root block keeps its lengths: with others it
+    // would need too many leaves.
     fn draw_region(&mut self) -> Region {
         let kind = self.below(4);
         let mut region = self.region([kind; 3]);
@@ -165,7 +166,7 @@ impl Trial {
         }
     }
 
-    // One of the boxes between cuts, which has no voxel where two cuts are one.
+    // Returns one of the boxes between cuts. It has no voxel if two of its cuts are equal.
     fn piece(&self, index: usize) -> Region {
         let (i, j, k) = (index / 64 % 8, index / 8 % 8, index % 8);
         let axes = &self.axes;
@@ -188,7 +189,7 @@ impl Trial {
         }
     }
 
-    // How many numbers of each stretch of an axis the region has.
+    // Returns how many numbers of each stretch of an axis the region has.
     fn lengths(&self, axis: usize, region: &Region) -> [u64; 8] {
         let cuts = &self.axes[axis % 3].cuts;
         let (from, to) = (region.from[axis % 3], region.to[axis % 3]);
@@ -202,7 +203,7 @@ impl Trial {
         lengths
     }
 
-    // How many voxels of the region are active.
+    // Returns the number of active voxels of the region.
     fn active_in(&self, region: &Region) -> u128 {
         if region.is_empty() {
             return 0;
@@ -220,7 +221,7 @@ impl Trial {
         total
     }
 
-    // How many voxels of the region are active and come before p in block order.
+    // Returns the number of active voxels of the region that come before p in block order.
     fn active_before(&self, region: &Region, p: [i64; 3]) -> u128 {
         let mut total = 0u128;
         let mut rest = *region;
@@ -230,7 +231,7 @@ impl Trial {
         total
     }
 
-    // How many of them are in blocks of this size before the one around p, which is what is left of the region.
+    // Returns the number of active voxels in blocks of this size before the one around p, and cuts the region to that block.
     fn pass(&self, region: &mut Region, p: [i64; 3], size: i64) -> u128 {
         let mut total = 0u128;
         for i in 0..3usize {
@@ -244,7 +245,7 @@ impl Trial {
         total
     }
 
-    // The cell of the piece that holds p.
+    // Returns the cell of the piece that contains p.
     fn cell(&self, p: [i64; 3]) -> Option<Cell<i32>> {
         for i in 0..512usize {
             if self.piece(i).holds(p) {
@@ -254,7 +255,7 @@ impl Trial {
         None
     }
 
-    // The least and the greatest corner of the box around the active pieces.
+    // Returns the least and the greatest corner of the bounding box of the active pieces.
     fn corners(&self, rt: &impl Abort) -> Option<(Coord, Coord)> {
         let mut found: Option<(Coord, Coord)> = None;
         for i in 0..512usize {
@@ -268,7 +269,7 @@ impl Trial {
         found
     }
 
-    // A fill is refused where it would take more than 4,096 root blocks.
+    // Fills a region. The call may fail with `RootLimit` only if the region meets more than 4,096 root blocks.
     fn fill(&mut self, rt: &impl Abort) -> Result<(), TreeRefusal> {
         let region = self.draw_region();
         let (value, on) = (self.draw_value(), self.below(3) > 0);
@@ -283,7 +284,7 @@ impl Trial {
         Ok(())
     }
 
-    // Another edit, or a change of the nodes alone.
+    // Makes another edit, or a change of the nodes alone.
     fn edit(&mut self, rt: &impl Abort) -> Result<(), TreeRefusal> {
         match self.below(5) {
             0 => {
@@ -324,13 +325,13 @@ impl Trial {
         }
     }
 
-    // Compares how many voxels of the region are active.
+    // Compares the number of active voxels of the region.
     fn expect_count(&mut self, rt: &impl Abort, region: &Region) {
         let active = count(&self.tree, Some(region.bounds(rt)), &mut self.steps);
         assert_eq!(rt; active, self.active_in(region));
     }
 
-    // Compares how many voxels are active, and the box around them.
+    // Compares the number of active voxels, and their bounding box.
     fn expect_totals(&mut self, rt: &impl Abort) {
         let all = Region {
             from: [LEAST; 3],
@@ -345,7 +346,7 @@ impl Trial {
         assert!(rt; corners == self.corners(rt));
     }
 
-    // Compares what was reported with the active voxel of the region that has so many before it.
+    // Compares a reported voxel with the active voxel of the region that has this many before it.
     fn expect_voxel(
         &self,
         rt: &impl Abort,
@@ -431,8 +432,8 @@ fn random_edits_over_scattered_root_blocks(rt: HostRuntime) -> Result<(), TreeRe
     Ok(())
 }
 
-// Slabs of one cell make up a cube, so many of this breadth. Once it is pruned, the cube is one entry in so many nodes, but
-// there is one node more while the last block of the breadth differs.
+// Fills a cube with this many slabs of one cell and of this breadth. After pruning the cube is one entry in this many nodes, with
+// one node more while the last block of the breadth differs.
 fn expect_one_entry(
     rt: &impl Abort,
     tree: &mut Tree<i32>,

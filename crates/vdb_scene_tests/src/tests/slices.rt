@@ -1,9 +1,9 @@
-//! The visits of a slice.
+//! The node visits of a slice.
 
 use super::*;
 use vdb_value::Cell;
 
-/// A command that answers a row of a plane.
+/// Returns a command that answers a row of a plane.
 fn row(name: Name, max_x: i64) -> Command {
     let zero = Num::Near(0);
     Command::Slice {
@@ -45,6 +45,6 @@ fn a_row_goes_on_along_its_path(rt: HostRuntime) {
         }
         _ => assert!(rt; false),
     }
-    // Three nodes to the first cell, two to the first of the second leaf, and one to each of the others.
+    // three nodes to the first cell, two to the first of the second leaf, and one to each of the others
     assert_eq!(rt; visits.count(), 19);
 }

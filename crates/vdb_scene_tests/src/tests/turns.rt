@@ -1,8 +1,8 @@
-//! Grids that are dilated and eroded.
+//! Dilation and erosion of grids.
 
 use super::*;
 
-/// A command that dilates a grid.
+/// Returns a command that dilates a grid.
 fn dilate(name: Name, turns: i64) -> Command {
     Command::Dilate {
         name,
@@ -10,7 +10,7 @@ fn dilate(name: Name, turns: i64) -> Command {
     }
 }
 
-/// A command that erodes a grid.
+/// Returns a command that erodes a grid.
 fn erode(name: Name, turns: i64) -> Command {
     Command::Erode {
         name,
@@ -18,7 +18,7 @@ fn erode(name: Name, turns: i64) -> Command {
     }
 }
 
-/// A grid with a voxel that two turns of dilation surround, and that turns of erosion leave again.
+/// Returns a grid with a voxel that two iterations of dilation surround, and that iterations of erosion leave again.
 fn grown(rt: &impl Abort, (kind, background, value, off, there): Values) -> [Act; 17] {
     let name = letter(rt, b'a');
     let middle = point(-1, 7, 4095);

@@ -7,14 +7,14 @@ use vdb_scene::{MetaText, Metas, Name};
 /// The answer of three pairs.
 const THREE: &[u8] = b"a9 ~\nb \"x=1\"\nb_0 !\nend 3\n";
 
-/// Puts a text under a key.
+/// Sets the text of a key.
 fn put(rt: &impl Abort, metas: &mut Metas, key: &[u8], text: &[u8]) {
     let key = Name::new(key).expect(rt, "a key is a name");
     let text = MetaText::new(text).expect(rt, "a text has its form");
     assert!(rt; metas.set(key, text) == Ok(()));
 }
 
-/// Three pairs, which are put by falling keys.
+/// Returns three pairs, set by falling keys.
 fn three(rt: &(impl Abort + AllocGlobal)) -> Metas {
     let mut metas = Metas::new(rt.alloc());
     put(rt, &mut metas, b"b_0", b"!");
@@ -23,7 +23,7 @@ fn three(rt: &(impl Abort + AllocGlobal)) -> Metas {
     metas
 }
 
-/// A key and a text of the greatest lengths, which end with this byte.
+/// Returns a key and a text of the maximum lengths, which end with this byte.
 fn longest(last: u8) -> ([u8; 16], [u8; 64]) {
     let (mut key, mut text) = ([b'k'; 16], [b'#'; 64]);
     key[15] = last;

@@ -1,4 +1,4 @@
--- What a line that is carried out answers.
+-- The answers of a line that is carried out.
 use Rattle.std.specs.Prelude.{◌≡◌, ℕ, Bool, true, false, List, [], ◌∷◌, Option, Some, None, Result, Ok, Err}
 use Rattle.std.specs.List.{list_any}
 use Rattle.std.specs.Io.KnownBytes.{Appends}
@@ -12,7 +12,7 @@ use Rattle.vdb_script.specs.declared.source.ScriptFault.TheVariants.{Read, TooLo
 use Rattle.vdb_shell.specs.Session.{is_refused}
 use Rattle.vdb_shell.specs.declared.playing.Turn.{Turn}
 
--- the answers of a line went out, or at a fault a prefix of the only one
+-- the answers of a line were written, or at a fault a prefix of the only one
 abbrev pub GoesOut : {A E : Type 0} → Option (List ℕ) → Option (List ℕ) → Result A E → List Reply → Type 0
 GoesOut old new (Ok a) replies = Appends old new (answers_text replies)
 GoesOut old new (Err e) replies = (reply : Reply) × (replies ≡ reply ∷ []) × HasCut old new (text reply)
@@ -24,7 +24,7 @@ pub record TakesTurn (s : Scene) (line : List ℕ) (turn : Turn) (old new : Opti
   pub out : GoesOut old new turn.written replies
   pub refused : turn.refused ≡ list_any is_refused replies
 
--- whether a script ended since its reader failed
+-- whether a script ended because its reader failed
 abbrev pub is_read_ending : {A : Type 0} → Result A (Option ScriptFault) → Bool
 is_read_ending (Ok a) = false
 is_read_ending (Err None) = false

@@ -1,4 +1,4 @@
-//! Command lines, as they are read.
+//! Reading of command lines.
 
 use clap::error::ErrorKind;
 use std::process::Abort;

@@ -1,5 +1,4 @@
-//! The line on standard error and the exit status of each end that a session can have, and what a session asks for after a
-//! fault.
+//! The line on standard error and the exit status of each end of a session, and the calls of a session after a fault.
 
 use super::FIRST;
 use super::sessions::{Given, play};
@@ -77,7 +76,7 @@ fn each_end_is_told(rt: HostRuntime) -> Result<(), AllocError> {
     for (bytes, status) in [(FIRST, 0), (refused, 1)] {
         let (script, answers) = (Source::new(bytes), Sink::new(rt.alloc()));
         expect_end(&rt, script, answers, "", status, &mut steps)?;
-        // a fault comes before a refusal
+        // a fault comes before an error
         let script = Source::new(bytes).endless(b'#');
         let answers = Sink::new(rt.alloc());
         let line = "vdb: script: too-long";
@@ -113,7 +112,7 @@ const LISTED: &[u8] =
 #[test]
 fn a_failed_writer_is_not_asked_again(rt: HostRuntime) {
     let mut steps = Steps::new(&rt);
-    // each call after the one that fails, or takes nothing, would take all that it is given
+    // each call after the one that fails, or takes nothing, would take all of its bytes
     for fails in [true, false] {
         for fails_at in 1..=9u64 {
             let given = Given {

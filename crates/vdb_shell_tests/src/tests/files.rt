@@ -9,18 +9,18 @@ use vdb_pool::Steps;
 use vdb_script::ScriptFault;
 use vdb_shell::{Fault, status};
 
-/// Grid `a` of i32 with background 0, in which (1, 2, 3) is 5, active, in version 1.
+/// Grid `a` of i32 with background 0 and the active value 5 at (1, 2, 3), in version 1.
 const OLD_VOXEL: &[u8] =
     b"VDBS\0\x01\0\x01\x01a\x01\0\0\0\0\0\0\0\x01\0\0\0\0\0\0\0\0\0\0\0\0\x03\0\x01\0\0\x03\0\x01\0\0\x03\0\x01\0\x53\x02\0\0\0\x05";
 
-/// The same in version 2.
+/// Grid `a` of i32 with background 0 and the active value 5 at (1, 2, 3), in version 2.
 const VOXEL: &[u8] =
     b"VDBS\0\x02\0\x01\x01a\x01\0\0\0\0\0\0\x10\0\0\0\0\0\x01\0\0\0\0\0\0\0\0\0\0\0\0\x03\0\x01\0\0\x03\0\x01\0\0\x03\0\x01\0\x53\x02\0\0\0\x05";
 
 /// The empty scene, in version 2.
 const EMPTY: &[u8] = b"VDBS\0\x02\0\0";
 
-/// Makes a grid of which the spelling would be too long, four times.
+/// Creates a grid whose encoding would be too long, four times.
 const FOUR_BIG: &[u8] =
     b"grid a bool false\nfill a 0 0 0 0 4095 4095 true on\ncopy a b\ncopy a c\ncopy a d\n";
 
@@ -70,7 +70,7 @@ fn carry_out(
     play(rt, given, steps)
 }
 
-/// What a session left: its status and its fault, its answers and what was saved.
+/// Checks the results of a session: its status and its fault, its answers and the saved bytes.
 fn expect_left(
     rt: &impl Abort,
     left: &Left,
@@ -208,7 +208,7 @@ fn after_a_fault_of_the_answers_nothing_is_saved(rt: HostRuntime) {
     }
 }
 
-/// The line of a fault.
+/// Checks the line of a fault.
 fn expect_line(rt: &(impl Abort + AllocGlobal), fault: Fault, line: &str) {
     let text = format!(in rt.alloc(); "{}", fault).expect(rt, "memory");
     assert_eq!(rt; text.as_str(), line);

@@ -7,26 +7,26 @@ use std::mem;
 use std::process::Abort;
 use vdb_pool::Steps;
 
-/// Grid `a` of i32 with background 0, in which the lower block at the origin is 3, active.
+/// Grid `a` of i32 with background 0, in which the lower extent at the origin is an active tile of 3.
 const BLOCK: &[u8] =
     b"VDBS\0\x02\0\x01\x01a\x01\0\0\0\0\0\0\x10\0\0\0\0\0\x01\0\0\0\0\0\0\0\0\0\0\0\0\x03\0\x01\0\0\x02\0\0\0\x03";
 
-/// Limits that a grid may not have, and one whose root blocks fill the table.
+/// Limits outside the range, and one whose root blocks fill the table.
 const LIMITS: &[u8] =
     b"grid c i32 0 0\ngrid c i32 0 65537\ngrid c bool 0 0\ngrid c i32 0 true\ngrid c i32 0 65536\nfill c 0 0 0 65535 262143 262143 1 on\ncount c all\nset c - -1 0 0 1\n";
 
 const LIMITS_ANSWERED: &[u8] =
     b"error value-range\nerror value-range\nerror kind\nerror syntax\nok\nok\ncount 4503599627370496\nerror root-limit\n";
 
-/// Limits, pairs and cells of grids of each kind.
+/// Limits, pairs and cells of grids of each type.
 const GRIDS: &[u8] =
     b"grid a i32 0 2\nmeta a unit mm\nmeta a by lab\nset a - 0 0 0 1\nset a 0 -1 4095 7 -5\nunset a 0 -1 4095 8 6\ncopy a b\nunmeta b by\ngrid t bool true 1\nstate t - 5 5 5 on\nset t - 5 5 6 false\ngrid w i64 -9223372036854775808\nfill w -9 -9 -9 300 9 9 9223372036854775807 off\nonly w - 0 0 0 0\ndilate t 3\n";
 
-/// What those grids are asked then.
+/// Queries of those grids.
 const ASKED: &[u8] =
     b"metas a\nmetas b\nset a - 4096 0 0 1\nget a 0 -1 4095 7\nget a 0 -1 4095 8\nlist b -1 0 0 0 4095 9 9\nset t - -1 0 0 true\ncount t all\nget t - 5 5 6\nget w - 0 0 0\nget w - 300 9 9\nget w - 301 9 9\ncount w all\ncensus w\nprune w\ncensus a\ngrid w i32 0\n";
 
-/// A session that loads these bytes, plays a script and saves, in which no line is refused.
+/// Loads these bytes, plays a script without errors and saves.
 fn carried_out(
     rt: &(impl Abort + AllocGlobal),
     file: Option<&[u8]>,
@@ -39,8 +39,8 @@ fn carried_out(
     left
 }
 
-/// Checks that it makes no difference whether a scene is saved and loaded between two parts of a script: neither to the answers,
-/// which are returned, nor to the scene in the end.
+/// Checks that saving and loading a scene between two parts of a script changes neither the answers, which it returns, nor the
+/// last scene.
 fn kept_between(
     rt: &(impl Abort + AllocGlobal),
     first: &[u8],
@@ -66,7 +66,7 @@ fn kept_between(
     answers
 }
 
-/// Bytes one after another.
+/// Returns two texts, one after the other.
 fn joined(rt: &(impl Abort + AllocGlobal), first: &[u8], second: &[u8]) -> Vec<u8> {
     let mut bytes = Vec::new(rt.alloc());
     bytes.extend_from_slice(first).expect(rt, "memory");
@@ -88,7 +88,7 @@ fn a_limit_and_a_full_root_table_are_kept(rt: HostRuntime) {
     let left = carried_out(&rt, None, LIMITS, &mut steps);
     assert_eq!(rt; left.outcome.status, 1);
     assert_eq!(rt; left.answers.bytes.as_slice(), LIMITS_ANSWERED);
-    // 65,536 root blocks of 17 bytes each behind 24 bytes
+    // 65,536 root blocks of 17 bytes each after 24 bytes
     assert_eq!(rt; left.saved.bytes.len(), 1_114_136);
     let one_more = b"set c - -1 0 0 1\n";
     let left = carried_out(&rt, Some(left.saved.bytes.as_slice()), one_more, &mut steps);

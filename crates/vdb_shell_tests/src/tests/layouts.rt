@@ -1,4 +1,4 @@
-//! Random scripts with prunes and voxelisings put in anywhere, which must not change an answer.
+//! Random scripts with prunes and voxelisings anywhere, which must not change an answer.
 
 use super::random::Draws;
 use super::sessions::{Given, play};
@@ -7,7 +7,7 @@ use std::alloc::AllocError;
 use std::process::Abort;
 use vdb_pool::Steps;
 
-/// Adds a number, drawn from -9 to 16.
+/// Adds a random number from -9 to 16.
 fn add_component(text: &mut Vec<u8>, draws: &mut Draws) -> Result<i32, AllocError> {
     let number = draws.below(26) as i32 - 9;
     if number < 0 {
@@ -30,7 +30,7 @@ fn add_place(text: &mut Vec<u8>, draws: &mut Draws) -> Result<(), AllocError> {
     Ok(())
 }
 
-/// Adds a line that writes voxels of the grid `a`; where its corners are no box it is refused.
+/// Adds a line that writes voxels of the grid `a`. If its corners are not a box, the line fails.
 fn add_write(text: &mut Vec<u8>, draws: &mut Draws) -> Result<(), AllocError> {
     match draws.below(5) {
         0 => {
@@ -62,7 +62,7 @@ fn add_write(text: &mut Vec<u8>, draws: &mut Draws) -> Result<(), AllocError> {
     }
 }
 
-/// Adds a line that changes the layout of a grid alone.
+/// Adds a line that changes only the layout of a grid.
 fn add_layout(text: &mut Vec<u8>, grid: u8, turn: usize) -> Result<(), AllocError> {
     if turn == 0 {
         text.extend_from_slice(b"prune ")?;
@@ -74,7 +74,7 @@ fn add_layout(text: &mut Vec<u8>, grid: u8, turn: usize) -> Result<(), AllocErro
     text.extend_from_slice(b" -9 -8 -9 8 16 12\n")
 }
 
-/// A script of writes and reports on the grid `a`, with changes of the layout of `grid`.
+/// Writes a script of writes and reports on the grid `a`, with changes of the layout of `grid`.
 fn script(text: &mut Vec<u8>, grid: u8, seed: u64) -> Result<(), AllocError> {
     let mut draws = Draws { state: seed };
     text.extend_from_slice(b"grid a i32 0\ngrid z i32 0\n")?;
@@ -93,7 +93,7 @@ fn script(text: &mut Vec<u8>, grid: u8, seed: u64) -> Result<(), AllocError> {
     Ok(())
 }
 
-/// The answers of a script.
+/// Returns the answers of a script.
 fn played(
     rt: &(impl Abort + AllocGlobal),
     grid: u8,

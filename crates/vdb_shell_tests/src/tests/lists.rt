@@ -1,4 +1,4 @@
-//! Lists of voxels as scripts are answered.
+//! Lists of voxels, as scripts answer them.
 
 use super::sessions::expect;
 use std::alloc::AllocError;
@@ -20,7 +20,7 @@ fn lists_are_answered(rt: HostRuntime) {
             b"ok\nok\nok\nok\nok\nok\n-1 0 0 1\n0 0 7 1\n0 1 0 1\n0 0 8 1\n8 0 0 1\nend 5\n-1 0 0 1\n0 0 7 1\n0 1 0 1\n0 0 8 1\n8 0 0 1\nend 5\n-1 0 0 1\n0 0 7 1\nmore 2\n-1 0 0 1\n0 0 7 1\n0 1 0 1\n0 0 8 1\n8 0 0 1\nend 5\n-1 0 0 1\n0 0 7 1\n0 1 0 1\n0 0 8 1\nmore 4\n0 0 7 1\nend 1\nend 0\n".as_slice(),
             0,
         ),
-        // inactive values stay out, and lower blocks come before leaves of the next
+        // inactive values are left out, and lower extents come before leaves of the next
         (
             b"grid b bool true\nset b - 127 0 0 false\nset b - 0 0 128 true\nunset b - 1 1 1 false\nlist b 0 0 0 127 127 128 9\nlist b 0 0 0 127 127 127 9\n".as_slice(),
             b"ok\nok\nok\nok\n127 0 0 false\n0 0 128 true\nend 2\n127 0 0 false\nend 1\n".as_slice(),
@@ -32,13 +32,13 @@ fn lists_are_answered(rt: HostRuntime) {
             b"ok\nok\n2147483647 2147483646 -2147483648 -9223372036854775808\n2147483647 2147483647 -2147483648 -9223372036854775808\nend 2\n".as_slice(),
             0,
         ),
-        // refusals in their order
+        // errors in their order
         (
             b"list a 1 0 0 0 0 0 0\ngrid a i32 0\nlist a 1 0 0 0 0 0 0\nlist a 1 0 0 0 0 0 4097\nlist a 1 0 2147483648 0 0 0 1\nlist a 1 0 0 0 0 0 9223372036854775808\nlist a 1 0 0 0 0 0 1\nlist a 0 0 0 0 0 0 -1\nlist a 0 0 0 0 0 0\nlist a 0 0 0 0 0 0 all\nlist a 0 0 0 0 0 0 1\n".as_slice(),
             b"error no-grid\nok\nerror value-range\nerror value-range\nerror value-range\nerror value-range\nerror box\nerror value-range\nerror syntax\nerror syntax\nend 0\n".as_slice(),
             1,
         ),
-        // counts over tiles and over all that there is
+        // counts over tiles and over all coordinates
         (
             b"grid a i32 0\nfill a 0 0 0 65535 65535 65535 1 on\ncount a all\nset a 0 -1 -1 -1 1\ncount a 65535 0 0 2147483647 0 9\nbounds a\ncensus a\n".as_slice(),
             b"ok\nok\ncount 281474976710656\nerror root-limit\ncount 10\nbounds 0 0 0 65535 65535 65535\ncensus 4096 0 0 0\n".as_slice(),
@@ -49,7 +49,7 @@ fn lists_are_answered(rt: HostRuntime) {
             b"ok\nok\nerror root-limit\nerror root-limit\ncount 0\n".as_slice(),
             1,
         ),
-        // the census is of the cells, not of the nodes that there are
+        // the census depends on the cells, not on the nodes
         (
             b"grid a i32 0\nfill a 0 0 0 127 127 127 3 on\nvoxelise a 0 0 0 127 127 127\ncensus a\nbounds a\ncount a all\nprune a\ncensus a".as_slice(),
             b"ok\nok\nok\ncensus 1 1 0 0\nbounds 0 0 0 127 127 127\ncount 2097152\nok\ncensus 1 1 0 0\n".as_slice(),

@@ -1,4 +1,4 @@
-//! Random scripts on a few blocks, beside a map of voxels.
+//! Random scripts on a few blocks, compared with a map of voxels.
 
 ghost use Rattle.std.specs.Prelude.{◌<◌};
 
@@ -7,14 +7,14 @@ use super::sessions::expect;
 use std::alloc::{AllocError, Global};
 use vdb_pool::Steps;
 
-/// What is drawn next: numbers by Knuth's generator of 64 bits.
+/// Knuth's generator of 64-bit numbers.
 #[derive(Drop)]
 pub(super) struct Draws {
     pub(super) state: u64,
 }
 
 impl Draws {
-    /// A number below the bound, by the upper bits.
+    /// Returns a number below the bound, from the upper bits.
     pub(super) fn below(&mut self, bound: u64) -> usize
         requires { 0 < bound }
         ensures { result < bound }
@@ -27,14 +27,14 @@ impl Draws {
     }
 }
 
-/// What a voxel is to hold: one of the texts of values, and a state.
+/// The expected content of a voxel: one of the texts of values, and a state.
 #[derive(Clone, Copy)]
 struct Wanted {
     value: usize,
     on: bool,
 }
 
-/// Numbers in a row along an axis, and which of the four components are among them.
+/// Consecutive numbers along an axis, and which of the four components are among them.
 #[derive(Clone, Copy)]
 struct Stretch<'a> {
     first: &'a [u8],
@@ -42,7 +42,7 @@ struct Stretch<'a> {
     holds: [bool; 4],
 }
 
-/// The stretches that boxes are made of. The first six have at most twelve numbers, the others reach far.
+/// Returns a stretch of a box. The first six stretches have at most twelve numbers, the others reach far.
 fn a_stretch<'a>(number: usize) -> Stretch<'a> {
     let (first, last, holds) = match number {
         0 => (
@@ -81,7 +81,7 @@ fn a_stretch<'a>(number: usize) -> Stretch<'a> {
     Stretch { first, last, holds }
 }
 
-/// A script, the answers that are wanted, and the voxels.
+/// A script, the expected answers, and the voxels.
 #[derive(Drop)]
 pub(super) struct Trial<'a> {
     accessors: [&'a [u8]; 3],
@@ -93,7 +93,7 @@ pub(super) struct Trial<'a> {
 }
 
 impl<'a> Trial<'a> {
-    /// A grid `a` of a kind, whose background is the first of the values.
+    /// Creates a script with a grid `a` of a type, whose background is the first of the values.
     pub(super) fn new(
         alloc: Global,
         kind: &'a [u8],
@@ -104,7 +104,7 @@ impl<'a> Trial<'a> {
         add_line(&mut script, made.as_slice())?;
         let mut answers = Vec::new(alloc);
         add_line(&mut answers, [b"ok".as_slice()].as_slice())?;
-        // two leaf blocks, two lower nodes' blocks and two root blocks, at both sides of 0
+        // two leaf extents, two lower extents and two root blocks, at both sides of 0
         let components = [
             b"-1".as_slice(),
             b"0".as_slice(),
@@ -124,7 +124,7 @@ impl<'a> Trial<'a> {
         })
     }
 
-    /// Adds the commands of a turn: one on a voxel, and in some turns others that change many voxels or none.
+    /// Adds the commands of a round: one on a voxel, and in some rounds others that change many voxels or none.
     pub(super) fn take_turn(
         &mut self,
         turn: u64,
@@ -146,7 +146,7 @@ impl<'a> Trial<'a> {
             self.add(b"voxelise a -1 -1 -1 8 8 8\n", b"ok\n")?;
         }
         if turn % 500 == 249 {
-            // a copy of a copy goes on in the grid's place
+            // a copy of a copy replaces the grid
             self.add(b"copy a b\ndrop a\ncopy b a\ndrop b\n", b"ok\nok\nok\nok\n")?;
         }
         Ok(())
@@ -158,7 +158,7 @@ impl<'a> Trial<'a> {
         self.answers.extend_from_slice(answers)
     }
 
-    /// Adds a command on a voxel, and its answer. Commands 0 to 4 write, any other looks up.
+    /// Adds a command on a voxel, and its answer. Commands 0 to 4 write, all others look up.
     fn turn(&mut self, command: usize, draws: &mut Draws) -> Result<(), AllocError> {
         let accessor = self.accessors[draws.below(3)];
         let (x, y, z) = (draws.below(4), draws.below(4), draws.below(4));
@@ -242,7 +242,7 @@ impl<'a> Trial<'a> {
         Ok(())
     }
 
-    /// Adds a command that clears all around a box, and its answer.
+    /// Adds a command that clears everything outside a box, and its answer.
     fn clip(&mut self, draws: &mut Draws) -> Result<(), AllocError> {
         let x = a_stretch(draws.below(8));
         let y = a_stretch(draws.below(8));
@@ -267,7 +267,7 @@ impl<'a> Trial<'a> {
         Ok(())
     }
 
-    /// Makes the voxels in a box, or those outside it, others.
+    /// Changes the voxels in a box, or those outside it.
     fn change(&mut self, x: Stretch, y: Stretch, z: Stretch, inside: bool, new: Wanted) {
         for i in 0..64usize {
             let held = x.holds[i / 16] && y.holds[i / 4 % 4] && z.holds[i % 4];
@@ -278,7 +278,7 @@ impl<'a> Trial<'a> {
     }
 }
 
-/// The values of grids of truth values, of numbers of 32 bits and of numbers of 64 bits, each behind the word of its kind.
+/// Returns the values of boolean grids, of 32-bit and of 64-bit grids, each with the word of its type.
 pub(super) fn kinds<'a>() -> [(&'a [u8], [&'a [u8]; 3]); 3] {
     [
         (

@@ -1,4 +1,4 @@
-//! Sessions over memory, each carried out by one function.
+//! Sessions over memory, played by one function.
 
 ghost use Rattle.std.specs.Prelude.{◌≡◌, false};
 ghost use Rattle.vdb_shell.specs.Files.{any_failed};
@@ -10,7 +10,7 @@ use vdb_pool::Steps;
 use vdb_scene::Watched;
 use vdb_shell::{Outcome, session};
 
-/// What a session reads and where it writes.
+/// The inputs and outputs of a session.
 #[derive(Drop)]
 pub(super) struct Given<'a> {
     pub(super) load: Option<Source<'a>>,
@@ -20,7 +20,7 @@ pub(super) struct Given<'a> {
 }
 
 impl<'a> Given<'a> {
-    /// A script alone: nothing is loaded or saved.
+    /// Creates a session with a script alone: nothing is loaded or saved.
     pub(super) fn script(alloc: Global, script: Source<'a>) -> Given<'a> {
         Given {
             load: None,
@@ -30,7 +30,7 @@ impl<'a> Given<'a> {
         }
     }
 
-    /// A script that is given in pieces of `step` bytes, as is the scene file, where there is one. A file is saved where `saves` says so.
+    /// Creates a session whose script and scene file, if any, come in pieces of `step` bytes. It saves a file if `saves` is true.
     pub(super) fn files(
         alloc: Global,
         file: Option<&'a [u8]>,
@@ -52,7 +52,7 @@ impl<'a> Given<'a> {
     }
 }
 
-/// What a writer took, how often it was called, and whether a call of it failed.
+/// The bytes that a writer took, the number of its calls, and whether one of them failed.
 #[derive(Drop)]
 pub(super) struct Written {
     pub(super) bytes: Vec<u8>,
@@ -60,13 +60,13 @@ pub(super) struct Written {
     pub(super) failed: bool,
 }
 
-/// What a session leaves.
+/// The results of a session.
 #[derive(Drop)]
 pub(super) struct Left {
     pub(super) outcome: Outcome,
     /// Whether a call of the scene file's reader failed.
     pub(super) load_failed: bool,
-    /// How often the script's reader was called.
+    /// The number of calls of the script's reader.
     pub(super) reads: u64,
     pub(super) answers: Written,
     pub(super) saved: Written,
@@ -146,7 +146,7 @@ fn what_was_written(rt: &(impl Abort + AllocGlobal), writer: Option<&Watched<Sin
     }
 }
 
-/// Plays a script that is given in pieces of `step` bytes, and checks its answers and its status.
+/// Plays a script in pieces of `step` bytes, and checks its answers and its status.
 pub(super) fn expect(
     rt: &(impl Abort + AllocGlobal),
     script: &[u8],

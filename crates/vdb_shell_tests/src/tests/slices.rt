@@ -1,4 +1,4 @@
-//! Slices as scripts are answered.
+//! Slices, as scripts answer them.
 
 use super::sessions::expect;
 use std::alloc::AllocError;
@@ -13,13 +13,13 @@ fn slices_are_answered(rt: HostRuntime) {
             b"ok\nok\nrow 0 (0) 7 (0)\nrow 1 (0) (0) (0)\nend 2\nerror too-large\nerror box\n".as_slice(),
             1,
         ),
-        // x goes along a row, also where both are below 0, and z stays
+        // x goes along a row, also if both ends are below 0, and z stays
         (
             b"grid m bool true\nset m - -1 -2 5 false\nslice m 5 -2 -2 0 -1\nslice m 4 -1 -2 -1 -2\n".as_slice(),
             b"ok\nok\nrow -2 (true) false (true)\nrow -1 (true) (true) (true)\nend 2\nrow -2 (true)\nend 1\n".as_slice(),
             0,
         ),
-        // refusals in their order
+        // errors in their order
         (
             b"grid a i32 0\nslice b 2147483648 1 0 0 64\nslice a 2147483648 1 0 0 64\nslice a 0 1 0 0 -2147483649\nslice a 0 0 65 64 0\nslice a 0 0 0 64 0\nslice a 0 0 0 0 64\nslice a 0 -2147483648 -2147483648 2147483647 2147483647\nslice a 0 0 0 0\n".as_slice(),
             b"ok\nerror no-grid\nerror value-range\nerror value-range\nerror box\nerror too-large\nerror too-large\nerror too-large\nerror syntax\n".as_slice(),

@@ -3,8 +3,8 @@
 use std::alloc::Global;
 use std::io::{self, Read, Write};
 
-/// A reader over memory that gives at most `step` bytes at once, and fails at its call numbered `fails_at`. After its last byte it gives
-/// `then` for ever, where there is one.
+/// A reader over memory that gives at most `step` bytes at once, and fails at its call numbered `fails_at`. After its last byte
+/// it gives `then` forever, if that is a byte.
 #[derive(Drop)]
 pub(super) struct Source<'a> {
     bytes: &'a [u8],
@@ -15,7 +15,7 @@ pub(super) struct Source<'a> {
 }
 
 impl<'a> Source<'a> {
-    /// A reader that gives as much as there is room for.
+    /// Creates a reader that fills each buffer.
     pub(super) fn new(bytes: &'a [u8]) -> Source<'a> {
         Source {
             bytes,
@@ -26,21 +26,21 @@ impl<'a> Source<'a> {
         }
     }
 
-    /// The same reader, in pieces of at most so many bytes.
+    /// Returns the same reader, in pieces of at most `step` bytes.
     pub(super) fn by(self, step: usize) -> Source<'a> {
         let mut it = self;
         it.step = step;
         it
     }
 
-    /// The same reader, which fails at its call of this number.
+    /// Returns the same reader, which fails at its call of this number.
     pub(super) fn failing(self, at: u64) -> Source<'a> {
         let mut it = self;
         it.fails_at = at;
         it
     }
 
-    /// The same reader, which gives this byte for ever after its last one.
+    /// Returns the same reader, which gives this byte forever after its last one.
     pub(super) fn endless(self, then: u8) -> Source<'a> {
         let mut it = self;
         it.then = Some(then);
@@ -74,7 +74,7 @@ pub(super) struct Sink {
 }
 
 impl Sink {
-    /// A writer that takes all.
+    /// Creates a writer that takes all bytes.
     pub(super) fn new(alloc: Global) -> Sink {
         Sink {
             taken: Vec::new(alloc),
@@ -85,14 +85,14 @@ impl Sink {
         }
     }
 
-    /// The same writer, in pieces of at most so many bytes.
+    /// Returns the same writer, in pieces of at most `step` bytes.
     pub(super) fn by(self, step: usize) -> Sink {
         let mut it = self;
         it.step = step;
         it
     }
 
-    /// The same writer, which fails at its call of this number, or takes no byte there.
+    /// Returns the same writer, which fails at its call of this number, or takes no byte there.
     pub(super) fn failing(self, at: u64, fails: bool) -> Sink {
         let mut it = self;
         it.fails_at = at;

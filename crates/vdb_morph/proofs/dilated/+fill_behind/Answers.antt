@@ -1,4 +1,4 @@
--- What lies behind the first face becomes active after what lies behind the others.
+-- The first face's slab becomes active after those of the other faces.
 use Rattle.std.proofs.Common.{◌∙◌, ap, refl, sym, Bool, List}
 use Rattle.vdb_coord.specs.declared.face.Face.{Face}
 use Rattle.vdb_tree.specs.Field.{Field, fill}

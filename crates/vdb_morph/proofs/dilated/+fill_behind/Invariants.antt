@@ -1,4 +1,4 @@
--- Each call has a face less.
+-- Each call has one face less.
 use Rattle.std.proofs.Common.{length}
 use Rattle.vdb_morph.proofs.dilated.+fill_behind.Given as goal
 

@@ -1,4 +1,4 @@
--- What lies behind the faces of a box is what the box spreads to.
+-- A box spreads to the voxels behind its faces.
 use Rattle.std.proofs.Common.{◌∙◌, Bool}
 use Rattle.vdb_tree.specs.Layout.{bits_of, cell_at, field_of}
 use Rattle.vdb_morph.proofs.SpreadBoxes.{active_behind}

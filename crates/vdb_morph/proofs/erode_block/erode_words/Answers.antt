@@ -1,4 +1,4 @@
--- The states that were put are those of the eroded field.
+-- The written states are those of the eroded field.
 use Rattle.std.proofs.Common.{◌∙◌}
 use Rattle.vdb_tree.specs.Field.{erode}
 use Rattle.vdb_tree.specs.Layout.{bits_of, field_of}

@@ -1,4 +1,4 @@
--- Both masks tell the state behind the face.
+-- Both masks have the state behind the face.
 use Rattle.std.proofs.Common.{◌≡◌, ap, ◌∙◌, rules, subst, sym, ℕ, ◌&&◌}
 use Rattle.vdb_coord.specs.Blocks.{offset}
 use Rattle.vdb_coord.specs.declared.Level.TheVariants.{Leaf}

@@ -1,4 +1,4 @@
--- The states of the block there, or none where the range ends.
+-- The states of the block there, or all on if the range ends.
 use Rattle.std.proofs.Common.{◌≡◌, false, refl, rules, subst}
 use Rattle.vdb_coord.specs.Blocks.{block_number, block_numbers, offset}
 use Rattle.vdb_coord.specs.Faces.{toward}

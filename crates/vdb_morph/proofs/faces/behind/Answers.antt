@@ -1,4 +1,4 @@
--- The neighbours of the corners at the face make the box behind it.
+-- The neighbours of the corners at the face are the corners of the box behind it.
 use Rattle.std.proofs.Common.{◌∙◌, sym}
 use Rattle.vdb_morph.proofs.Layers.{no_greatest, no_least, slab_none, slab_some}
 use Rattle.vdb_morph.proofs.faces.behind.Goals as goal

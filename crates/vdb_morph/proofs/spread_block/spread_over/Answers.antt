@@ -1,4 +1,4 @@
--- What lies over a face, by the mask of the block behind the opposite one.
+-- The voxels over a face, by the mask of the block behind the opposite face.
 use Rattle.std.proofs.Common.{◌≡◌, ap, ◌∙◌, refl, sym, subst, ℕ, Bool, false, List}
 use Rattle.std.proofs.Math.Path.{fun_ext}
 use Rattle.vdb_coord.specs.Blocks.{block_number, block_numbers, offset}
@@ -16,7 +16,7 @@ use Rattle.vdb_morph.proofs.Activating.{active_nowhere}
 use Rattle.vdb_morph.proofs.Spreads.{over_beyond, over_is, over_off}
 use Rattle.vdb_morph.proofs.spread_block.spread_over.Goals as goal
 
--- what is said of leaves of 3 bits, where a leaf has as many
+-- facts about leaves of 3 bits, for a leaf of 3 bits
 of_three : (u l f : ℕ) (none mask over : List Bool) (face : Face) → f ≡ 3 → ((q : Coord) → is_on over (offset (bits_of u l 3) Leaf q) ≡ state_beside (bits_of u l 3) none mask face q)
     → (q : Coord) → is_on over (offset (bits_of u l f) Leaf q) ≡ state_beside (bits_of u l f) none mask face q
 of_three u l f none mask over face e h =

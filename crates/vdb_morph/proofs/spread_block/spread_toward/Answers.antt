@@ -1,4 +1,4 @@
--- A write, or nothing where the range ends.
+-- A write, or nothing if the range ends.
 use Rattle.std.proofs.Common.{ap, ◌∙◌, sym, true}
 use Rattle.vdb_coord.specs.Faces.{toward}
 use Rattle.vdb_coord.specs.Space.{coord_eq, everywhere, is_inside}

@@ -1,4 +1,4 @@
--- The block itself, and then face by face.
+-- The block itself, and then each face.
 use Rattle.std.proofs.Common.{◌≡◌, ap, ◌∙◌, refl, sym, subst, ℕ, ◌&&◌, take, arith, rules}
 use Rattle.std.specs.List.{list_any}
 use Rattle.vdb_coord.specs.Blocks.{offset}

@@ -1,4 +1,4 @@
--- A leaf of the states is written, or its tile is there already.
+-- A leaf of the states is written, or its tile exists already.
 use Rattle.std.proofs.Common.{◌∙◌, refl}
 use Rattle.vdb_node.specs.Nodes.{entry_count}
 use Rattle.vdb_tree.specs.Layout.{bits_of, cell_at, field_of}

@@ -1,4 +1,4 @@
--- The states join none.
+-- The states join an empty tree.
 use Rattle.std.proofs.Common.{◌∙◌, Bool, ap}
 use Rattle.vdb_tree.specs.Field.{Field, unite}
 use Rattle.vdb_tree.specs.Layout.{bits_of, field_of}

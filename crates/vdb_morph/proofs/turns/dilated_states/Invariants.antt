@@ -4,7 +4,7 @@ use Rattle.vdb_tree.specs.Layout.{bits_of, field_of}
 use Rattle.vdb_morph.specs.internal.Turning.{topology}
 use Rattle.vdb_morph.proofs.turns.dilated_states.Given as goal
 
--- so many turns were made
+-- the iterations made so far
 abbrev pub invariant-loop : goal.invariant-loop
 invariant-loop g l =
     let bits = bits_of g.row.U g.row.L g.row.F in

@@ -16,6 +16,6 @@ invariant-loop-stock g l = record {
   stays : l.fn.stock.ended ≡ true → l.stock.ended ≡ true;
 }
 
--- each piece takes of the budget
+-- each piece uses up a part of the budget
 abbrev pub decreases-loop-stock : goal.decreases-loop-stock
 decreases-loop-stock g l = budget l.stock

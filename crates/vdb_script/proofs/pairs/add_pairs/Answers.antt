@@ -6,7 +6,7 @@ use Rattle.vdb_script.specs.Text.{pair_line}
 use Rattle.vdb_script.proofs.Pages.{so_far_cut, so_far_more}
 use Rattle.vdb_script.proofs.pairs.add_pairs.Goals as goal
 
--- the first of those that are left
+-- the first of the pairs that are left
 first_left : {X : Type 0} (xs : List X) (i : ℕ) (x : X) → slice_get xs i ≡ Some x → drop i xs ≡ x ∷ drop (i + 1) xs
 first_left xs i x is = drop_more xs i x (slice_get_within xs i x is) ∙ ap (λ y. y ∷ drop (i + 1) xs) (get_or_from_slice_get xs i x x is)
 

@@ -7,7 +7,7 @@ use Rattle.vdb_script.specs.Text.{answers_text}
 use Rattle.vdb_shell.proofs.Told.{Handed}
 use Rattle.vdb_shell.proofs.playing.play.Given as goal
 
--- what was yielded of the script so far, and the answers to it
+-- the yielded part of the script so far, and the answers to it
 abbrev pub invariant-lines : goal.invariant-lines
 invariant-lines g l = record {
   told : (bytes : List ℕ) → g.R.Read.remaining (source l.fn.script) ≡ Some bytes →

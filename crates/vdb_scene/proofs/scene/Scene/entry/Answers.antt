@@ -7,7 +7,7 @@ use Rattle.vdb_scene.specs.Scene.{is_named}
 use Rattle.vdb_scene.proofs.Entries.{lookup-over}
 use Rattle.vdb_scene.proofs.scene.Scene.entry.Goals as goal
 
--- what a borrowed entry is in the abstract scene
+-- a borrowed entry as the abstract scene has it
 lent : (o : Option (Bor GridEntry)) → option_map (λ entry. grid_of entry.now) o ≡ option_map grid_of (option_copied o)
 lent None = refl
 lent (Some e) = refl
