@@ -33,7 +33,7 @@ module _ {V : Type 0} (bits : Bits) (t : Layout V) (skip : Skip) where
   IsNextPart outer p (Some part) = IsNextPartAt outer p part
 
   module _ (box : Box) where
-    -- a coordinate of p's outer block, past p's inner block: the first of the box in its own inner block; a walk may pass over those between
+    -- a coordinate of p's outer block, past p's inner one: the first of the box in its own inner block; a walk may pass over those between
     pub record IsJumpAt (outer level : Level) (p next : Coord) : Type 0 where
       pub inside : IsTrue (is_inside box next)
       pub outer_block : block_number bits outer next ≡ block_number bits outer p
