@@ -78,7 +78,6 @@ impl<
     /// looks for the next of the box. Past a key of the box without an entry it looks for the next of the table. So it takes no
     /// more iterations than the table has keys, and no more than the number of upper extents that meet the box: a small box in
     /// a large table is as cheap as a large box over a small table.
-    /// as cheap as a large box over a small table.
     pub(crate) fn next_key_in(&self, bounds: Bounds, after: Option<Coord>) -> Option<Coord>
         ensures { IsNextMet (bits_of U L F) bounds self.now.root after result }
     {
