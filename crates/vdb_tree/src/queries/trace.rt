@@ -40,7 +40,7 @@ impl<
     }
 
     /// Returns the cell at `p`, by the descent from the lowest node of the path to `q` that contains `p`; this visits that
-    /// node, too. It returns the path to `p` as well (OpenVDB's `ValueAccessor::getValue` does this with the nodes that it
+    /// node, too. It sets `path` to the path to `p` (OpenVDB's `ValueAccessor::getValue` does this with the nodes that it
     /// caches).
     #[inline(always)]
     pub fn descend(
@@ -219,8 +219,8 @@ impl<
         (a.x == b.x) & (a.y == b.y) & (a.z == b.z) // one branch for the three
     }
 
-    /// Returns the cell at `p` and the path to `p`, by the descent from the last of some nodes around `p`, or from the root if
-    /// there is none.
+    /// Returns the cell at `p`, by the descent from the last of some nodes around `p`, or from the root if there is none. It
+    /// sets `path` to the path to `p`.
     #[inline(always)]
     fn descend_from(
         &self,
@@ -244,7 +244,8 @@ impl<
         }
     }
 
-    /// Returns the cell at `p` and the path to `p`, by the descent from the root.
+    /// Returns the cell at `p`, by the descent from the root. It sets `path` to the path to `p`, as do the descents from an
+    /// upper node, a lower node and a leaf.
     #[tactic(auto, unfolding(crate::specs::Layout::cell_at))]
     fn descend_from_root(
         &self,
