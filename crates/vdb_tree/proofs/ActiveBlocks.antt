@@ -1,4 +1,4 @@
--- Whether a block has an active voxel, entry by entry.
+-- Tests whether a block has an active voxel, entry by entry.
 use Rattle.std.proofs.Common.{◌≡◌, inl, inr, ℕ, ◌+◌, ◌<◌, Bool, true, false, List, [], ◌∷◌, length, arith, refl, sym, ap, subst, ◌∙◌, IsTrue}
 use Rattle.std.specs.List.{count_by, filter}
 use Rattle.std.specs.Set.{is_member}
@@ -29,7 +29,7 @@ use Rattle.vdb_tree.proofs.RootCounts.{nothing_apart}
 use Rattle.vdb_tree.proofs.Rooted.{one_more, or_cases, or_first}
 use Rattle.vdb_tree.proofs.UnlikeEntries.{from_or_below, here_or_later}
 
--- ---- a test that some coordinate of a box passes, or none
+-- ---- a test that holds at some coordinate of a box, or at none
 
 module _ (b : Box) (t : Coord → Bool) where
   some_passes : 0 < count_by t (coordinates b) → (q : Coord) × IsTrue (is_inside b q) × (t q ≡ true)
@@ -55,7 +55,7 @@ module _ (b : Box) (t : Coord → Bool) where
       let size = length-filter t (coordinates b) in
       omega (arith, one, size, none))
 
--- ---- the voxels of a leaf block, by their count
+-- ---- the voxels of a leaf extent, by their count
 
 module _ {V : Type 0} (bits : Bits) (f : Field V) (level : Level) (p : Coord) where
   pub active_counted : 0 < count f (block_around bits level p) → HasActive bits f level p
@@ -71,7 +71,7 @@ module _ {V : Type 0} (bits : Bits) (f : Field V) (level : Level) (p : Coord) wh
   pub inactive_none : IsInactiveFrom bits f level p 0 0
   inactive_none q b more less = absurd (omega (arith, less))
 
-  -- an inactive entry that others inactive come before
+  -- an inactive entry after inactive ones
   pub inactive_next : (from index : ℕ) → IsInactiveFrom bits f level p 0 from → IsInactiveFrom bits f level p from index → IsInactiveAt bits f level p index → IsInactiveFrom bits f level p 0 (index + 1)
   inactive_next from index before passed here q b least less =
       elim (from_or_below (offset bits level q) from) [
@@ -82,7 +82,7 @@ module _ {V : Type 0} (bits : Bits) (f : Field V) (level : Level) (p : Coord) wh
         ]
       ]
 
-  -- all are
+  -- if the entries up to the last are inactive, the block is
   pub inactive_all : (from : ℕ) → IsInactiveFrom bits f level p 0 from → IsInactiveFrom bits f level p from (entries bits level) → IsInactive bits f level p
   inactive_all from before rest q b =
       elim (from_or_below (offset bits level q) from) [
@@ -90,7 +90,7 @@ module _ {V : Type 0} (bits : Bits) (f : Field V) (level : Level) (p : Coord) wh
         | inr k ↦ rest q b k (offset_below bits level q)
       ]
 
--- ---- an entry, by a coordinate in it
+-- ---- an entry, given a coordinate in it
 
 module _ {V : Type 0} (bits : Bits) (f : Field V) (p c : Coord) where
   module _ (same : block_number bits Upper c ≡ block_number bits Upper p) where

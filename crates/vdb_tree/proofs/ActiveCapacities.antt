@@ -1,4 +1,4 @@
--- Entries for the active root blocks of another tree: the united field counted in root blocks, and walks over the other tree's keys.
+-- Entries for the active upper extents of another tree: the union counted in upper extents, and walks over the other tree's keys.
 use Rattle.std.proofs.Common.{◌≡◌, ◌≢◌, ◌⊎◌, inl, inr, ℕ, ◌+◌, ◌-◌, ◌<◌, ◌≤◌, Bool, true, false, ◌||◌, List, ◌∷◌, length, refl, sym, ap, subst, ◌∙◌, arith, IsTrue}
 use Rattle.std.specs.Prelude.{IsSome, Option, Some, None}
 use Rattle.std.specs.List.{IsDistinct}
@@ -40,7 +40,7 @@ neither_first : (a b : Bool) → (a || b) ≡ false → a ≡ false
 neither_first true b h = cc
 neither_first false b h = refl
 
--- ---- how many root blocks the united field needs
+-- ---- how many upper extents the union needs
 
 module _ {V X : Type 0} (eq : V → V → Bool) (exact : (x y : V) → eq x y ≡ true → x ≡ y) (itself : (x : V) → eq x x ≡ true) (bits : Bits) (configured : AreBits bits) (t : Layout V) (u : Layout X) where
   abbrev united : Field V
@@ -49,7 +49,7 @@ module _ {V X : Type 0} (eq : V → V → Bool) (exact : (x y : V) → eq x y �
   united_cell : (q : Coord) → IsTrue (is_inside everywhere q) → united.cell q ≡ record { value = (cell_at bits t q).value; on = (cell_at bits t q).on || (cell_at bits u q).on }
   united_cell q range = rw range refl
 
-  -- a table with capacity keeps to the limit
+  -- if the table has capacity, the union keeps to the limit
   pub unite_within : HasCapacityForActive bits u t → roots eq bits united ≤ t.limit
   unite_within capacity =
       let a = roots_at_most eq bits united capacity.keys each in
@@ -74,7 +74,7 @@ module _ {V X : Type 0} (eq : V → V → Bool) (exact : (x y : V) → eq x y �
             | inr out ↦ absurd (never h (uniform_block_from eq exact itself bits Upper united k (background_cell t) (λ q at. still k out q (in_root bits configured k q within at) at)))
           ]
 
-  -- a root block with an entry of a swept table still isn't all background
+  -- an upper extent with an entry in a swept table still isn't all background in the union
   held_stays : IsSwept bits t → (k : Coord) → IsTrue (is_inside (block_numbers bits Upper) k) → IsSome (root_at t.root k) → is_background eq united (block bits Upper k) ≡ false
   held_stays swept k within held = not_true _ (λ flat.
       let corner = (block bits Upper k).min in
@@ -89,13 +89,13 @@ module _ {V X : Type 0} (eq : V → V → Bool) (exact : (x y : V) → eq x y �
         | inr empty ↦ never (rw (← number, empty) refl) held
       ])
 
-  -- nor is one in which a voxel becomes active
+  -- an upper extent in which a voxel becomes active isn't all background
   active_stays : (k q : Coord) → IsTrue (is_inside (block_numbers bits Upper) k) → key bits q ≡ k → (cell_at bits u q).on ≡ true → is_background eq united (block bits Upper k) ≡ false
   active_stays k q within at on = not_true _ (λ flat.
       let now = sym (united_cell q (in_root bits configured k q within at)) ∙ uniform_block eq exact itself bits Upper united k (background_cell t) flat q at in
       never (ap (λ (c : Cell V). c.on) now) (or_second (cell_at bits t q).on (cell_at bits u q).on on))
 
-  -- a swept table without capacity would exceed the limit
+  -- if a swept table has no capacity, the union exceeds the limit
   pub unite_exceeds : IsSound bits t → IsSound bits u → IsSwept bits t → LacksCapacityForActive bits u t → t.limit < roots eq bits united
   unite_exceeds sound other swept lacks =
       let a = roots_at_least eq bits united lacks.keys lacks.apart each in
@@ -111,7 +111,7 @@ module _ {V X : Type 0} (eq : V → V → Bool) (exact : (x y : V) → eq x y �
                 (within, active_stays k q.0 within q.1 q.2)
           ]
 
--- ---- the test of a root block of the other tree
+-- ---- the test of an upper extent of the other tree
 
 module _ {X : Type 0} (bits : Bits) (configured : AreBits bits) (u : Layout X) (p : Coord) (here : IsTrue (is_inside everywhere p)) where
   state_of : (q : Coord) → block_number bits Upper q ≡ block_number bits Upper p → (cell_at bits u q).on ≡ ((field_of bits u).cell q).on
@@ -126,18 +126,18 @@ module _ {X : Type 0} (bits : Bits) (configured : AreBits bits) (u : Layout X) (
 -- ---- walks over the keys of the other tree
 
 module _ {X : Type 0} (bits : Bits) (u : Layout X) where
-  -- what is active past a key is under the next one, or past that
+  -- what is active past a key is under the next key, or past that
   here_or_past : (passed : Option Coord) (k : Coord) → IsNextKey u.root passed (Some k) → (q : Coord) → (cell_at bits u q).on ≡ true → IsPast passed (key bits q) → (key bits q ≡ k) ⊎ IsPast (Some k) (key bits q)
   here_or_past passed k next q on past = at_least k (key bits q) (next.2 (key bits q) past (active_entered bits u q on))
 
-  -- where no key is left, nothing is active past it
+  -- if no key is left past one, nothing is active past it
   none_past : (passed : Option Coord) → IsNextKey u.root passed None → (q : Coord) → (cell_at bits u q).on ≡ true → IsPast passed (key bits q) → ⊥
   none_past passed none q on past = unheld _ (active_entered bits u q on) (none (key bits q) past)
 
   module _ {V : Type 0} (t : Layout V) where
-    -- ---- whether there is capacity
+    -- ---- whether the table has capacity
 
-    -- the keys of the table with those of the other tree's active root blocks that were passed, and how many more the limit allows
+    -- the keys of the table, those of the passed active upper extents of the other tree, and how many more the limit allows
     pub record CountsActive (passed : Option Coord) (capacity : ℕ) : Type 0 where
       pub keys : List Coord
       pub apart : IsDistinct coord_eq keys
@@ -163,7 +163,7 @@ module _ {X : Type 0} (bits : Bits) (u : Layout X) where
       still : (j : Coord) → is_member coord_eq so_far.keys j ≡ true → IsSome (root_at t.root j) ⊎ (IsActiveKey bits u j × (IsPast (Some k) j → ⊥))
       still j m = elim (so_far.each j m) [ inl held ↦ inl held | inr h ↦ inr (h.0, behind j h.1) ]
 
-      -- what adds no key
+      -- a step that adds no key
       counts_same : ((q : Coord) → key bits q ≡ k → (cell_at bits u q).on ≡ true → is_member coord_eq so_far.keys (key bits q) ≡ true) → CountsActive (Some k) capacity
       counts_same here = record {
         keys = so_far.keys;
@@ -177,11 +177,11 @@ module _ {X : Type 0} (bits : Bits) (u : Layout X) where
         each = still;
       }
 
-      -- a key with an entry is counted already
+      -- a key with an entry is already counted
       pub counts_held : IsSome (root_at t.root k) → CountsActive (Some k) capacity
       counts_held held = counts_same (λ q e on. so_far.entered (key bits q) (subst (λ (n : Coord). IsSome (root_at t.root n)) (sym e) held))
 
-      -- a root block without active voxels needs none
+      -- an upper extent without active voxels needs no key
       pub counts_idle : ((q : Coord) → key bits q ≡ k → (cell_at bits u q).on ≡ false) → CountsActive (Some k) capacity
       counts_idle idle = counts_same (λ q e on. absurd (never (idle q e) on))
 
@@ -192,7 +192,7 @@ module _ {X : Type 0} (bits : Bits) (u : Layout X) where
         not_past : (j : Coord) → j ≡ k → IsPast (Some k) j → ⊥
         not_past j e later = less_apart k j later (sym e)
 
-        -- another takes capacity
+        -- another key takes one of the capacity
         pub counts_more : 0 < capacity → CountsActive (Some k) (capacity - 1)
         counts_more some = record {
           keys = k ∷ so_far.keys;
@@ -212,7 +212,7 @@ module _ {X : Type 0} (bits : Bits) (u : Layout X) where
           ];
         }
 
-        -- where there is none left, it is one too many
+        -- if no capacity is left, another key is one too many
         pub counts_full : capacity ≡ 0 → LacksCapacityForActive bits u t
         counts_full full = record {
           keys = k ∷ so_far.keys;
@@ -224,7 +224,7 @@ module _ {X : Type 0} (bits : Bits) (u : Layout X) where
           ];
         }
 
-    -- past the last key all are counted
+    -- past the last key all keys are counted
     pub counts_all : (passed : Option Coord) (capacity : ℕ) → CountsActive passed capacity → IsNextKey u.root passed None → HasCapacityForActive bits u t
     counts_all passed capacity done none = record {
       keys = done.keys;
@@ -233,17 +233,17 @@ module _ {X : Type 0} (bits : Bits) (u : Layout X) where
       met = λ q on. elim (done.met q on) [ inr m ↦ m | inl past ↦ absurd (none_past passed none q on past) ];
     }
 
-    -- ---- the table gets entries
+    -- ---- adding entries to the table
 
     module _ (capacity : HasCapacityForActive bits u t) (k : Coord) (active : IsActiveKey bits u k) where
       listed : is_member coord_eq capacity.keys k ≡ true
       listed = subst (λ (n : Coord). is_member coord_eq capacity.keys n ≡ true) active.1 (capacity.met active.0 active.2)
 
-      -- where an active root block has no entry, the table has capacity for one
+      -- if an active upper extent has no entry, the table has capacity for one
       pub active_capacity : IsDistinct coord_eq (keys_of t.root) → HasCapacity t k
       active_capacity apart = capacity_from t capacity.keys capacity.entered k listed capacity.few apart
 
-      -- once it has its entry, the others still have capacity
+      -- once an upper extent has its entry, the table still has capacity for the others
       pub active_capacity_stays : (n : Layout V) → n.limit ≡ t.limit → ((j : Coord) → j ≢ k → root_at n.root j ≡ root_at t.root j) → HasCapacityForActive bits u n
       active_capacity_stays n same table = record {
         keys = capacity.keys;
@@ -253,7 +253,7 @@ module _ {X : Type 0} (bits : Bits) (u : Layout X) where
       }
 
   module _ {V : Type 0} where
-    -- each active root block of the other tree up to the last key passed has its entry
+    -- each active upper extent of the other tree up to the last passed key has its entry
     pub record EntersActive (old new : Layout V) (passed : Option Coord) : Type 0 where
       pub keeps : Keeps bits old new
       pub nodes : MakesNoNode bits old new

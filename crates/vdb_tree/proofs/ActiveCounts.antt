@@ -41,11 +41,11 @@ nothing_apart : IsDistinct coord_eq []
 unfolding IsDistinct
 nothing_apart = tt
 
--- those of a box that pass a test are as many as those of a list that pass another, if they are the same
+-- a box has as many coordinates that pass a test as a list has that pass another, if these are the same coordinates
 count_listed : (b : Box) (t : Coord → Bool) (keys : List Coord) → IsDistinct coord_eq keys → ((p : Coord) → is_member coord_eq keys p ≡ (is_inside b p && t p)) → count_by t (coordinates b) ≡ length keys
 count_listed b t keys apart same = sym (length-filter t (coordinates b)) ∙ count_by_members b t keys apart same
 
--- of those of a box that pass a test, the ones of a list, which pass a second too, and the others
+-- the coordinates of a box that pass a test are those of a list, which pass a second test too, and the others
 count_split : (b : Box) (t s v : Coord → Bool) (keys : List Coord) → IsDistinct coord_eq keys → ((p : Coord) → is_member coord_eq keys p ≡ ((is_inside b p && t p) && s p))
     → ((p : Coord) → ((is_inside b p && t p) && not (s p)) ≡ (is_inside b p && v p)) → length keys + count_by v (coordinates b) ≡ count_by t (coordinates b)
 count_split b t s v keys apart first others =
@@ -62,7 +62,7 @@ count_split b t s v keys apart first others =
         (distinct_filter coord_eq r (filter t (coordinates b)) (distinct_filter coord_eq t (coordinates b) (distinct_coordinates b))) distinct
         (λ q. is_member-filter coord_equiv r q (λ x e. ap r (coord_exact q x e)) (filter t (coordinates b)) ∙ ap (λ i. i && r q) (member_passing b t q) ∙ same q)
 
--- ---- truth values: inside the block, active, before the next entry, before this entry, inside the entry
+-- ---- booleans: inside the block, active, before the next entry, before this entry, inside the entry
 
 first_way : (i o l c : Bool) → (c ≡ true → i ≡ true) → (c ≡ true → l ≡ true) → ((i && (o && l)) && c) ≡ (c && o)
 first_way i o l true h k = rw (h refl, k refl) (step o)
@@ -163,7 +163,7 @@ module _ {V : Type 0} (f : Field V) (bits : Bits) (level : Level) (p : Coord) wh
           | inr k ↦ absurd (false_true out (entry_holds bits level p q index small (in_block q i) (omega (arith, less, k))))
         ]
 
-    -- an entry adds what it has
+    -- an entry adds its own active voxels
     pub below_more : count f part + active_below from ≡ active_below (index + 1)
     below_more =
         let mine = filter on (coordinates part) in
@@ -178,7 +178,7 @@ module _ {V : Type 0} (f : Field V) (bits : Bits) (level : Level) (p : Coord) wh
     pub below_next : (total more : ℕ) → total ≡ active_below from → more ≡ count f part → total + more ≡ active_below (index + 1)
     below_next total more h k = let sum = below_more in omega (arith, sum, h, k)
 
-  -- where the rest is inactive all are counted
+  -- if the remaining entries are inactive, all active voxels are counted
   pub below_all : (from total : ℕ) → IsInactiveFrom bits f level p from (entries bits level) → total ≡ active_below from → total ≡ count f block
   below_all from total inactive h = h ∙ count_listed block (λ q. on q && ltb (offset bits level q) from) (filter on (coordinates block)) (distinct_filter coord_eq on (coordinates block) (distinct_coordinates block))
       (λ q. member_passing block on q ∙ step (is_inside block q) (on q) (ltb (offset bits level q) from) (λ i gone. inactive q (in_block q i) (from_test (offset bits level q) from gone) (offset_below bits level q)))
@@ -190,7 +190,7 @@ module _ {V : Type 0} (f : Field V) (bits : Bits) (level : Level) (p : Coord) wh
       step true false l h = refl
       step false o l h = refl
 
-  -- ---- how many there can be
+  -- ---- how many active voxels there can be
 
   module _ (configured : AreBits bits) (here : IsTrue (is_inside everywhere p)) where
     pub block_few : length (coordinates block) ≤ 2 ^ 96
@@ -239,7 +239,7 @@ module _ {V : Type 0} (bits : Bits) (configured : AreBits bits) (t : Layout V) (
     pub tile_none : cell.on ≡ false → 0 ≡ count f around
     tile_none h = sym (count_listed around (λ q. (f.cell q).on) [] nothing_apart (λ q. none_on (is_inside around q) (f.cell q).on (λ i. state q i ∙ h)))
 
-  -- ---- what a node says of its inactive tiles
+  -- ---- what a node says about its inactive tiles
 
   module _ (entry : Coord → Entry V) (tiled : (c : Cell V) (q : Coord) → entry q ≡ Tile c → cell_at bits t q ≡ c) (node : List (Entry V)) (x : Cell V)
       (by : (q : Coord) → block_number bits level q ≡ block_number bits level p → entry q ≡ slice_index_or node (offset bits level q) (Tile x)) where

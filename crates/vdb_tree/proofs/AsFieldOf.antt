@@ -1,4 +1,4 @@
--- Operations, blocks and outcomes before and after each value of a field is made another.
+-- Operations, blocks and outcomes before and after each value of a field is mapped.
 use Rattle.std.proofs.Common.{refl, ◌≡◌, ap, sym, subst, ◌∙◌, Bool, true, false, cond, not, ◌&&◌, ℕ, ◌<◌, ◌≤◌, Result, Ok, Err, filter, length}
 use Rattle.std.specs.List.{list_all}
 use Rattle.std.proofs.Math.Bool.{beq}
@@ -47,13 +47,13 @@ pub as_field_of_combine : {V U : Type 0} (make : V → U) (both : V → V → V)
     → as_field_of make (combine both f g) ≡ combine both_made (as_field_of make f) (as_field_of make g)
 as_field_of_combine make both both_made f g h = rw (h f.background g.background) (same_cells _ _ _ (λ p in_range. rw in_range (rw (h (f.cell p).value (g.cell p).value) refl)))
 
--- outside the range of coordinates both are the background
+-- outside the range of coordinates both fields have the background
 outside : {V U : Type 0} (make : V → U) (b : Bool) (x : Cell V) (v : V) → cond b (as_cell_of make (cond b x (off v))) (off (make v)) ≡ as_cell_of make (cond b x (off v))
 outside make true x v = refl
 outside make false x v = refl
 
 module _ {V U : Type 0} (make : V → U) (background : V) (cells : Coord → Cell V) where
-  -- each cell of the field is made another
+  -- each cell of the field has its value mapped
   pub as_field_of_cell : (p : Coord) → (as_field_of make (field background cells)).cell p ≡ as_cell_of make ((field background cells).cell p)
   as_field_of_cell p = outside make (is_inside everywhere p) (cells p) background
 
@@ -80,12 +80,12 @@ module _ {V U : Type 0} (make : V → U) (background : V) (cells : Coord → Cel
     as_field_of_constant box =
         ap (λ c. is_uniform made_eq (as_field_of make (field background cells)) box c) (as_field_of_cell box.min) ∙ as_field_of_uniform box ((field background cells).cell box.min)
 
-    -- how many root blocks hold anything but the background
+    -- how many upper extents hold anything but the background
     pub as_field_of_roots : (bits : Bits) → roots made_eq bits (as_field_of make (field background cells)) ≡ roots eq bits (field background cells)
     as_field_of_roots bits =
         ap (λ (test : Coord → Bool). length (filter test (coordinates (block_numbers bits Upper)))) (fun_ext (λ n. ap not (as_field_of_uniform (block bits Upper n) (off background))))
 
-    -- the outcome of a call whose changed field this is
+    -- the outcome of a call with this changed field
     pub as_outcome_of : (bits : Bits) (limit : ℕ) (old after : Field V) (changed : Field U) (result : Result (Unit {0}) TreeRefusal)
         → as_field_of make (field background cells) ≡ changed
         → IsOutcome eq bits limit old (field background cells) after result → IsOutcome made_eq bits limit (as_field_of make old) changed (as_field_of make after) result
@@ -107,14 +107,14 @@ as_outcome_of_write make eq made_eq same bits limit p w f after result h =
 
 module _ {V U : Type 0} (make : V → U) (eq : V → V → Bool) (made_eq : U → U → Bool) (same : (v w : V) → made_eq (make v) (make w) ≡ eq v w)
     (bits : Bits) (limit : ℕ) (box : Box) (f after : Field V) (result : Result (Unit {0}) TreeRefusal) where
-  -- that of filling a box
+  -- the outcome of filling a box
   pub as_outcome_of_fill : (c : Cell V) → IsOutcome eq bits limit f (fill box c f) after result
       → IsOutcome made_eq bits limit (as_field_of make f) (fill box (as_cell_of make c) (as_field_of make f)) (as_field_of make after) result
   as_outcome_of_fill c h =
       as_outcome_of make f.background (λ q. cond (is_inside box q) c (f.cell q)) eq made_eq same bits limit f after
       (fill box (as_cell_of make c) (as_field_of make f)) result (as_field_of_fill make box c f) h
 
-  -- and that of clipping one
+  -- the outcome of clipping to a box
   pub as_outcome_of_clip : IsOutcome eq bits limit f (clip box f) after result
       → IsOutcome made_eq bits limit (as_field_of make f) (clip box (as_field_of make f)) (as_field_of make after) result
   as_outcome_of_clip h =

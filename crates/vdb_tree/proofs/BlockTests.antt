@@ -27,7 +27,7 @@ none_is_some : {A : Type 0} (x : A) → ◌≡◌ {A = Option A} None (Some x) �
 none_is_some x e = cc
 
 module _ {V : Type 0} (eq : V → V → Bool) (exact : (x y : V) → eq x y ≡ true → x ≡ y) (itself : (x : V) → eq x x ≡ true) (bits : Bits) (t : Layout V) where
-  -- the test of a tile's cell
+  -- the test by a tile's cell
   pub tile_test : (level : Level) (p : Coord) (tile cell : Cell V) (same : Bool) → entry_over bits level t p ≡ Tile tile → same ≡ cell_eq eq tile cell → IsTrue same ↔ IsConstantBlock bits level t p cell
   tile_test level p tile cell same over e = (
     (λ h. subst (IsConstantBlock bits level t p) (cell_exact eq exact itself tile cell (sym e ∙ h)) (tile_block bits t level p tile over)),
@@ -36,7 +36,7 @@ module _ {V : Type 0} (eq : V → V → Bool) (exact : (x y : V) → eq x y ≡ 
         e ∙ ap (cell_eq eq tile) (sym one) ∙ cell_itself eq exact itself tile),
   )
 
-  -- the test of a leaf's one cell
+  -- the test by a leaf's one cell
   pub one_test : (level : Level) (p : Coord) (one cell : Cell V) (o : Option (Cell V)) (same : Bool) → o ≡ Some one → ((c : Cell V) → (o ≡ Some c) ↔ IsConstantBlock bits level t p c) → same ≡ cell_eq eq one cell
       → IsTrue same ↔ IsConstantBlock bits level t p cell
   one_test level p one cell o same was found e = (
@@ -47,7 +47,7 @@ module _ {V : Type 0} (eq : V → V → Bool) (exact : (x y : V) → eq x y ≡ 
   )
 
 module _ {V : Type 0} (bits : Bits) (t : Layout V) where
-  -- a leaf without one cell
+  -- the test by a leaf without one cell
   pub none_test : (level : Level) (p : Coord) (cell : Cell V) (o : Option (Cell V)) → o ≡ None → ((c : Cell V) → (o ≡ Some c) ↔ IsConstantBlock bits level t p c) → IsTrue false ↔ IsConstantBlock bits level t p cell
   none_test level p cell o was found = ((λ h. absurd (false_true h)), (λ h. absurd (none_is_some cell (sym was ∙ (found cell).1 h))))
 
@@ -66,11 +66,11 @@ module _ {V : Type 0} (bits : Bits) (t : Layout V) where
         never : (n : ℕ) → n < 0 → ⊥
         never n h = omega (arith, h)
 
-    -- an entry that isn't the cell
+    -- an entry that doesn't have the cell
     pub entry_differs : (i : ℕ) → (same : Bool) → same ≡ false → (IsTrue same ↔ IsConstantAt bits level t p i cell) → IsTrue false ↔ IsConstantBlock bits level t p cell
     entry_differs i same was test = ((λ h. absurd (false_true h)), (λ h. absurd (false_true (sym was ∙ test.1 (λ q b o. h q b)))))
 
-    -- the test of an entry, by that of a coordinate in it
+    -- the test of an entry, by the test at a coordinate in it
     pub entry_test : (i : ℕ) (c : Coord) → block_number bits level c ≡ block_number bits level p → offset bits level c ≡ i → (same : Bool) → (IsTrue same ↔ IsConstantEntry level c cell) → IsTrue same ↔ IsConstantAt bits level t p i cell
     entry_test i c in_block at same test = (
       (λ h q b o. test.0 h q (entry_from_offset bits level q c (b ∙ sym in_block) (o ∙ sym at))),

@@ -1,4 +1,4 @@
--- The cells of a block, and what the tests of the field say of it.
+-- The cells of a block, and what the tests of the field say about it.
 use Rattle.std.proofs.Common.{◌≡◌, refl, sym, subst, ◌∙◌, Bool, true, false, IsTrue}
 use Rattle.std.specs.Prelude.{◌↔◌}
 use Rattle.vdb_coord.specs.Blocks.{block, block_around, block_number}
@@ -25,11 +25,11 @@ never {b} h k = let e : false ≡ true = sym h ∙ k in cc
 module _ {V : Type 0} (eq : V → V → Bool) (exact : (x y : V) → eq x y ≡ true → x ≡ y) (itself : (x : V) → eq x x ≡ true) where
   -- ---- any field
 
-  -- each cell of a uniform block is the one
+  -- each cell of a uniform block is its one cell
   pub uniform_block : (bits : Bits) (level : Level) (f : Field V) (n : Coord) (c : Cell V) → is_uniform eq f (block bits level n) c ≡ true → (q : Coord) → block_number bits level q ≡ n → f.cell q ≡ c
   uniform_block bits level f n c h q e = uniform_cells eq exact itself f (block bits level n) c h q (inside_numbered bits level n q e)
 
-  -- and a block with each cell the same is uniform
+  -- a block whose cells are all the same is uniform
   pub uniform_block_from : (bits : Bits) (level : Level) (f : Field V) (n : Coord) (c : Cell V) → ((q : Coord) → block_number bits level q ≡ n → f.cell q ≡ c) → is_uniform eq f (block bits level n) c ≡ true
   uniform_block_from bits level f n c h = uniform_from eq exact itself f (block bits level n) c (λ q i. h q (number_in_block bits level n q i))
 
@@ -52,13 +52,13 @@ module _ {V : Type 0} (eq : V → V → Bool) (exact : (x y : V) → eq x y ≡ 
     uniform_test c true h = sym (uniform_cell_from c (h.0 refl))
     uniform_test c false h = sym (not_true _ (λ k. never refl (h.1 (uniform_cell c k))))
 
-    -- the cells of a constant block are one
+    -- the cells of a constant block are one cell
     pub constant_block : is_constant eq (field_of bits t) (block_around bits level p) ≡ true → IsConstantBlock bits level t p (cell_at bits t p)
     constant_block h q e =
         let cell = uniform_cell ((field_of bits t).cell (block_around bits level p).min) h in
         cell q e ∙ sym (cell p refl)
 
-    -- a block whose cells are one is constant
+    -- a block whose cells are one cell is constant
     pub constant_from : (c : Cell V) → IsConstantBlock bits level t p c → is_constant eq (field_of bits t) (block_around bits level p) ≡ true
     constant_from c h =
         let corner = (block_around bits level p).min in
@@ -69,15 +69,15 @@ module _ {V : Type 0} (eq : V → V → Bool) (exact : (x y : V) → eq x y ≡ 
     pub non_constant_from : IsNonConstantBlock bits level t p → is_constant eq (field_of bits t) (block_around bits level p) ≡ false
     non_constant_from non_constant = not_true _ (λ h. non_constant (cell_at bits t p) (constant_block h))
 
-    -- and the other way round
+    -- a block that isn't constant has different cells
     pub non_constant_block : is_constant eq (field_of bits t) (block_around bits level p) ≡ false → IsNonConstantBlock bits level t p
     non_constant_block h c k = never h (constant_from c k)
 
-    -- the cells of a background block are the background, inactive
+    -- the cells of a background block are the inactive background
     pub background_block : is_background eq (field_of bits t) (block_around bits level p) ≡ true → IsConstantBlock bits level t p (background_cell t)
     background_block h = uniform_cell (background_cell t) h
 
-    -- a block whose cells are that is a background block
+    -- a block whose cells are the inactive background is a background block
     pub background_from : IsConstantBlock bits level t p (background_cell t) → is_background eq (field_of bits t) (block_around bits level p) ≡ true
     background_from h = uniform_cell_from (background_cell t) h
 
@@ -85,6 +85,6 @@ module _ {V : Type 0} (eq : V → V → Bool) (exact : (x y : V) → eq x y ≡ 
     pub non_background_from : (IsConstantBlock bits level t p (background_cell t) → ⊥) → is_background eq (field_of bits t) (block_around bits level p) ≡ false
     non_background_from other = not_true _ (λ h. other (background_block h))
 
-    -- and the other way round
+    -- a block that isn't all background has another cell
     pub non_background_block : is_background eq (field_of bits t) (block_around bits level p) ≡ false → IsConstantBlock bits level t p (background_cell t) → ⊥
     non_background_block h k = never h (background_from k)

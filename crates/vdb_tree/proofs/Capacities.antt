@@ -1,4 +1,4 @@
--- Fills of a box, counted in root blocks: those of the table with those that meet the box.
+-- Fills of a box, counted in upper extents: those of the table with those that meet the box.
 use Rattle.std.proofs.Common.{◌≡◌, ◌≢◌, ◌⊎◌, inl, inr, ℕ, ◌<◌, ◌≤◌, Bool, true, false, List, ◌∷◌, length, refl, sym, subst, ◌∙◌, arith, IsTrue}
 use Rattle.std.specs.Prelude.{IsSome, filter, Err, IfErr, Ok, OnOk, Result}
 use Rattle.std.specs.List.{IsDistinct}
@@ -46,7 +46,7 @@ module _ {V : Type 0} (box : Box) (cell : Cell V) (f : Field V) (q : Coord) (wit
   fill_outside : is_inside box q ≡ false → (fill box cell f).cell q ≡ f.cell q
   fill_outside h = rw (within, h) refl
 
--- a coordinate of a root block that there is lies within the range
+-- a coordinate of an existing upper extent lies within the range
 pub in_root : (bits : Bits) → AreBits bits → (k q : Coord) → IsTrue (is_inside (block_numbers bits Upper) k) → block_number bits Upper q ≡ k → IsTrue (is_inside everywhere q)
 in_root bits configured k q within at = numbered_in_range bits Upper configured q (subst (λ (n : Coord). is_inside (block_numbers bits Upper) n ≡ true) (sym at) within)
 
@@ -61,8 +61,8 @@ module _ {V : Type 0} (eq : V → V → Bool) (exact : (x y : V) → eq x y ≡ 
   abbrev filled : Field V
   filled = fill box cell was
 
-  -- keys among which are those of the table, and those of the box unless the cell is the background, are as many as the roots
-  -- at least
+  -- the roots are at most as many as these keys, if the keys of the table are among them, and the keys of the box, too, unless
+  -- the cell is the background
   pub fill_at_most : (keys : List Coord) → ((k : Coord) → IsSome (root_at t.root k) → is_member coord_eq keys k ≡ true)
       → ((p : Coord) → IsTrue (is_inside box p) → (cell ≡ background_cell t) ⊎ (is_member coord_eq keys (key bits p) ≡ true)) → roots eq bits filled ≤ length keys
   fill_at_most keys entered met = roots_at_most eq bits filled keys each
@@ -91,13 +91,13 @@ module _ {V : Type 0} (eq : V → V → Bool) (exact : (x y : V) → eq x y ≡ 
             | inr out ↦ absurd (never h (uniform_block_from eq exact itself bits Upper filled k (background_cell t) (λ q at. still k out q (in_root bits configured k q within at) at)))
           ]
 
-  -- a box filled with the background cell adds no root
+  -- filling a box with the background cell adds no root
   pub fill_background : IsSound bits t → cell ≡ background_cell t → roots eq bits filled ≤ t.limit
   fill_background sound same =
       let a = fill_at_most (keys_of t.root) (key_member t) (λ p i. inl same) in
       omega (arith, a, length-keys_of t.root, sound.limit)
 
-  -- a table with capacity for the box keeps to the limit
+  -- if the table has capacity for the box, the filled field keeps to the limit
   pub fill_within : HasCapacityFor bits t box → roots eq bits filled ≤ t.limit
   fill_within capacity = let a = fill_at_most capacity.keys capacity.entered (λ p i. inr (capacity.met p i)) in let b = capacity.few in omega (arith, a, b)
 
@@ -105,7 +105,7 @@ module _ {V : Type 0} (eq : V → V → Bool) (exact : (x y : V) → eq x y ≡ 
     range_of : (p : Coord) → IsTrue (is_inside box p) → IsTrue (is_inside everywhere p)
     range_of p i = within_each box everywhere p in_range i
 
-    -- a root block that held anything but the background, or that meets the box, holds anything but the background
+    -- an upper extent that held anything but the background, or that meets the box, holds anything but the background
     still_non_background : (k : Coord) → IsTrue (is_inside (block_numbers bits Upper) k) → ((is_background eq was (block bits Upper k) ≡ false) ⊎ MeetsRootBlock bits box k) → is_background eq filled (block bits Upper k) ≡ false
     still_non_background k within h = not_true _ (λ u. elim h [
       | inl before ↦ never before (uniform_block_from eq exact itself bits Upper was k (background_cell t) (λ q at. kept u q at (in_root bits configured k q within at)))
@@ -120,12 +120,12 @@ module _ {V : Type 0} (eq : V → V → Bool) (exact : (x y : V) → eq x y ≡ 
               | inr o ↦ sym (fill_outside box cell was q range o) ∙ now
             ]
 
-    -- distinct keys of such blocks are as many as the roots at most
+    -- distinct keys of such upper extents are at most as many as the roots
     pub fill_at_least : (keys : List Coord) → IsDistinct coord_eq keys
         → ((k : Coord) → is_member coord_eq keys k ≡ true → IsTrue (is_inside (block_numbers bits Upper) k) × ((is_background eq was (block bits Upper k) ≡ false) ⊎ MeetsRootBlock bits box k)) → length keys ≤ roots eq bits filled
     fill_at_least keys apart each = roots_at_least eq bits filled keys apart (λ k m. let h = each k m in (h.0, still_non_background k h.0 h.1))
 
-    -- the root block of a key of a swept table isn't all background
+    -- the upper extent of a key of a swept table isn't all background
     swept_non_background : IsSwept bits t → (k : Coord) → IsTrue (is_inside (block_numbers bits Upper) k) → IsSome (root_at t.root k) → is_background eq was (block bits Upper k) ≡ false
     swept_non_background swept k within held =
         let corner = (block bits Upper k).min in
@@ -137,7 +137,7 @@ module _ {V : Type 0} (eq : V → V → Bool) (exact : (x y : V) → eq x y ≡ 
           | inr empty ↦ never (rw (← number, empty) refl) held
         ]))
 
-    -- a swept table without capacity for the box would exceed the limit
+    -- if a swept table has no capacity for the box, the filled field exceeds the limit
     pub fill_exceeds : IsSound bits t → IsSwept bits t → LacksCapacityFor bits t box → t.limit < roots eq bits filled
     fill_exceeds sound swept lacks =
         let a = fill_at_least lacks.keys lacks.apart each in
@@ -151,7 +151,7 @@ module _ {V : Type 0} (eq : V → V → Bool) (exact : (x y : V) → eq x y ≡ 
               | inr p ↦ (subst (λ (n : Coord). is_inside (block_numbers bits Upper) n ≡ true) p.2 (number_in_range bits Upper p.0 (range_of p.0 p.1)), inr p)
             ]
 
-    -- each block that meets the box gets a root
+    -- each upper extent that meets the box becomes a root
     pub fill_meeting : is_box box ≡ true → blocks_meeting bits Upper box ≤ roots eq bits filled
     fill_meeting is =
         let test : Coord → Bool = λ n. meets (block bits Upper n) box in
@@ -162,7 +162,7 @@ module _ {V : Type 0} (eq : V → V → Bool) (exact : (x y : V) → eq x y ≡ 
         let p = common_from_meets (block bits Upper k) box (block_is_box bits k) is hs.1 in
         (hs.0, inr (p.0, p.2, number_in_block bits Upper k p.0 p.1)))
 
-    -- so a box that meets more of them than the limit would exceed it
+    -- a box that meets more upper extents than the limit exceeds it
     pub fill_too_wide : is_box box ≡ true → t.limit < blocks_meeting bits Upper box → t.limit < roots eq bits filled
     fill_too_wide is wide = let a = fill_meeting is in omega (arith, a, wide)
 
@@ -177,10 +177,10 @@ capacity_or_lack bits t box capacity lacks =
     let many = lacks.many in
     omega (arith, among, few, many)
 
--- ---- the table gets entries
+-- ---- adding entries to the table
 
 module _ {V : Type 0} (t : Layout V) (keys : List Coord) (entered : (k : Coord) → IsSome (root_at t.root k) → is_member coord_eq keys k ≡ true) (k : Coord) (listed : is_member coord_eq keys k ≡ true) where
-  -- where a key has no entry that is among so many as the limit, with those of the table, the table has capacity for one
+  -- if a key has no entry, and is among as many keys as the limit with those of the table, the table has capacity for one more
   pub capacity_from : length keys ≤ t.limit → IsDistinct coord_eq (keys_of t.root) → HasCapacity t k
   capacity_from few apart =
       elim (some_or_none (root_at t.root k)) [
@@ -197,7 +197,7 @@ module _ {V : Type 0} (t : Layout V) (keys : List Coord) (entered : (k : Coord) 
             | inr s ↦ entered j (member_entry t j s)
           ]
 
-  -- once it has its entry, the keys of the table are still among them
+  -- once the key has its entry, the keys of the table are still among those keys
   pub entered_still : (n : Layout V) → ((j : Coord) → j ≢ k → root_at n.root j ≡ root_at t.root j) → (j : Coord) → IsSome (root_at n.root j) → is_member coord_eq keys j ≡ true
   entered_still n table j held = elim (coord_cases j k) [
     | inl e ↦ subst (λ (i : Coord). is_member coord_eq keys i ≡ true) (sym e) listed
@@ -205,11 +205,11 @@ module _ {V : Type 0} (t : Layout V) (keys : List Coord) (entered : (k : Coord) 
   ]
 
 module _ {V : Type 0} (bits : Bits) (t : Layout V) (box : Box) (capacity : HasCapacityFor bits t box) (p : Coord) (inside : IsTrue (is_inside box p)) where
-  -- where a root block of the box has no entry, the table has capacity for one
+  -- if an upper extent of the box has no entry, the table has capacity for one
   pub capacity_at : IsDistinct coord_eq (keys_of t.root) → HasCapacity t (key bits p)
   capacity_at apart = capacity_from t capacity.keys capacity.entered (key bits p) (capacity.met p inside) capacity.few apart
 
-  -- once it has its entry, the others still have capacity
+  -- once an upper extent has its entry, the table still has capacity for the others
   pub capacity_stays : (n : Layout V) → n.limit ≡ t.limit → ((k : Coord) → k ≢ key bits p → root_at n.root k ≡ root_at t.root k) → HasCapacityFor bits n box
   capacity_stays n same table = record {
     keys = capacity.keys;
@@ -218,19 +218,19 @@ module _ {V : Type 0} (bits : Bits) (t : Layout V) (box : Box) (capacity : HasCa
     met = capacity.met;
   }
 
--- ---- what comes of it
+-- ---- results of calls
 
 module _ {V : Type 0} (eq : V → V → Bool) (bits : Bits) (limit : ℕ) (changed : Field V) where
-  -- RootLimit, where the limit would be exceeded
+  -- `RootLimit` if the limit would be exceeded
   pub obeys_full : (result : Result (Unit {0}) TreeRefusal) → result ≡ Err RootLimit → limit < roots eq bits changed → ObeysLimit eq bits limit changed result
   obeys_full result refused h = rw refused h
 
-  -- `Memory` alone, where it would not
+  -- only `Memory` if the limit would not be exceeded
   pub obeys_within : (result : Result (Unit {0}) TreeRefusal) → IfErr result (λ refusal. refusal ≡ Memory) → roots eq bits changed ≤ limit → ObeysLimit eq bits limit changed result
   obeys_within (Ok _) memory h = h
   obeys_within (Err refusal) memory h = rw memory h
 
--- what is there for certain, is there or needn't be
+-- either the plain fact, or the entries of the box
 pub or_entered : {E : Type 0} (box : Box) (Plain : Type 0) (Entered : Coord → Type 0) (result : Result (Unit {0}) E) → OnOk result ((p : Coord) → IsTrue (is_inside box p) → Entered p)
     → OnOk result ((p : Coord) → IsTrue (is_inside box p) → Plain ⊎ Entered p)
 or_entered box Plain Entered (Ok _) h = λ p inside. inr (h p inside)

@@ -1,4 +1,4 @@
--- Walks over the root blocks that meet a box: whether the table has capacity for them, and their entries.
+-- Walks over the upper extents that meet a box: whether the table has capacity for them, and their entries.
 use Rattle.std.proofs.Common.{◌≡◌, ◌⊎◌, inl, inr, ℕ, ℤ, ◌+◌, ◌-◌, ◌<◌, ◌<ℤ◌, true, false, List, ◌∷◌, length, refl, sym, subst, ◌∙◌, arith, IsTrue}
 use Rattle.std.specs.Prelude.{Option, Some, None, IsSome, is_none}
 use Rattle.std.specs.List.{IsDistinct}
@@ -62,7 +62,7 @@ before_twice l m n a b =
       ]
     ]
 
--- ---- entries that are there or aren't
+-- ---- present and absent entries
 
 pub none_from : {A : Type 0} (o : Option A) → is_none o ≡ true → o ≡ None
 none_from None h = refl
@@ -73,10 +73,10 @@ some_from None h = cc
 some_from (Some x) h = refl
 
 module _ {V : Type 0} (bits : Bits) (box : Box) where
-  -- ---- whether there is capacity
+  -- ---- whether the table has capacity
 
   module _ (t : Layout V) where
-    -- the keys of the table with those of the box that were passed, and how many more the limit allows
+    -- the keys of the table, those of the passed upper extents of the box, and how many more the limit allows
     pub record IsCounted (IsPassed : Coord → Type 0) (capacity : ℕ) : Type 0 where
       pub keys : List Coord
       pub apart : IsDistinct coord_eq keys
@@ -85,11 +85,11 @@ module _ {V : Type 0} (bits : Bits) (box : Box) where
       pub met : (q : Coord) → IsTrue (is_inside box q) → IsPassed q → is_member coord_eq keys (key bits q) ≡ true
       pub each : (k : Coord) → is_member coord_eq keys k ≡ true → IsSome (root_at t.root k) ⊎ ((q : Coord) × IsTrue (is_inside box q) × (key bits q ≡ k) × IsPassed q)
 
-    -- all before a block
+    -- all upper extents before a block are counted
     abbrev pub CountsTo : Coord → ℕ → Type 0
     CountsTo p capacity = IsCounted (λ q. IsBlockBefore bits Upper q p) capacity
 
-    -- and that block
+    -- all upper extents before a block are counted, and the block too
     abbrev pub CountsWith : Coord → ℕ → Type 0
     CountsWith p capacity = IsCounted (λ q. IsBlockBefore bits Upper q p ⊎ (block_number bits Upper q ≡ block_number bits Upper p)) capacity
 
@@ -104,7 +104,7 @@ module _ {V : Type 0} (bits : Bits) (box : Box) where
     }
 
     module _ (p : Coord) (capacity : ℕ) (so_far : CountsTo p capacity) where
-      -- a block with an entry is counted already
+      -- an upper extent with an entry is already counted
       pub counts_held : IsSome (root_at t.root (key bits p)) → CountsWith p capacity
       counts_held held = record {
         keys = so_far.keys;
@@ -128,7 +128,7 @@ module _ {V : Type 0} (bits : Bits) (box : Box) where
         more : IsDistinct coord_eq (key bits p ∷ so_far.keys)
         more = one_more (key bits p) so_far.keys so_far.apart fresh
 
-        -- another takes capacity
+        -- another key takes one of the capacity
         pub counts_more : 0 < capacity → CountsWith p (capacity - 1)
         counts_more some = record {
           keys = key bits p ∷ so_far.keys;
@@ -145,7 +145,7 @@ module _ {V : Type 0} (bits : Bits) (box : Box) where
           ];
         }
 
-        -- where there is none left, it is one too many
+        -- if no capacity is left, another key is one too many
         pub counts_full : capacity ≡ 0 → LacksCapacityFor bits t box
         counts_full full = record {
           keys = key bits p ∷ so_far.keys;
@@ -182,7 +182,7 @@ module _ {V : Type 0} (bits : Bits) (box : Box) where
 
   -- ---- entries
 
-  -- each block of the box before this one has its entry
+  -- each upper extent of the box before this one has its entry
   pub record EntersTo (old new : Layout V) (p : Coord) : Type 0 where
     pub keeps : Keeps bits old new
     pub adds : AddsNodes bits old new

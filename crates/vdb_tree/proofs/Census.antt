@@ -37,7 +37,7 @@ module _ {N : Type 0} where
   gathered (None ∷ ns) f = gathered ns (λ s. f (suc s))
   gathered (Some n ∷ ns) f = f 0 ∷ gathered ns (λ s. f (suc s))
 
-  -- it is one for each
+  -- the results are as many as the held slots
   length_gathered : (ns : List (Option N)) (f : ℕ → Coord) → length (gathered ns f) ≡ count_by is_some ns
   length_gathered [] f = refl
   length_gathered (None ∷ ns) f =
@@ -54,7 +54,7 @@ module _ {N : Type 0} where
   all_gathered P (None ∷ ns) f h = all_gathered P ns (λ s. f (suc s)) (λ s k. h (suc s) k)
   all_gathered P (Some n ∷ ns) f h = (h 0 refl, all_gathered P ns (λ s. f (suc s)) (λ s k. h (suc s) k))
 
-  -- they are distinct if the function tells the held slots apart
+  -- the results are distinct if the function tells the held slots apart
   distinct_gathered : (ns : List (Option N)) (f : ℕ → Coord) → ((r s : ℕ) → IsSome (slice_index_or ns r None) → IsSome (slice_index_or ns s None) → f r ≡ f s → r ≡ s)
       → IsDistinct coord_eq (gathered ns f)
   unfolding IsDistinct
@@ -65,7 +65,7 @@ module _ {N : Type 0} where
     distinct_gathered ns (λ s. f (suc s)) (λ r s a b e. let k = h (suc r) (suc s) a b e in omega (arith, k)),
   )
 
-  -- that of a held slot is among them
+  -- the result of a held slot is among them
   member_gathered : (ns : List (Option N)) (f : ℕ → Coord) (k : Coord) (s : ℕ) → IsSome (slice_index_or ns s None) → coord_eq k (f s) ≡ true → is_member coord_eq (gathered ns f) k ≡ true
   member_gathered [] f k s h e = cc
   member_gathered (None ∷ ns) f k zero h e = cc
@@ -73,7 +73,7 @@ module _ {N : Type 0} where
   member_gathered (Some n ∷ ns) f k zero h e = or_first _ _ e
   member_gathered (Some n ∷ ns) f k (suc s) h e = or_second _ _ (member_gathered ns (λ r. f (suc r)) k s h e)
 
-  -- and there are no others
+  -- each member is the result of a held slot
   slot_gathered : (ns : List (Option N)) (f : ℕ → Coord) (k : Coord) → is_member coord_eq (gathered ns f) k ≡ true → (s : ℕ) × IsSome (slice_index_or ns s None) × (k ≡ f s)
   slot_gathered [] f k h = cc
   slot_gathered (None ∷ ns) f k h = let r = slot_gathered ns (λ s. f (suc s)) k h in (suc r.0, r.1, r.2)
@@ -101,7 +101,7 @@ module _ {V N : Type 0} (bits : Bits) (level : Level) (entry : Coord → Entry V
   owner_entry : (s : ℕ) → IsSome (node_at pool s) → entry (owner s) ≡ Child s
   owner_entry s h = picked_has (λ p. entry p ≡ Child s) (node_at pool s) (λ k. (owned.met s k).0) (λ k. (owned.met s k).1) h
 
-  -- the numbers of the blocks over which the nodes stand
+  -- the numbers of the blocks over which the nodes lie
   abbrev owned_blocks : List Coord
   owned_blocks = gathered pool.nodes (λ s. block_number bits level (owner s))
 
@@ -125,7 +125,7 @@ module _ {V N : Type 0} (bits : Bits) (level : Level) (entry : Coord → Entry V
       (owner r.0, r.0, owner_entry r.0 r.1, r.2)
 
   module _ (t : Coord → Bool) where
-    -- at least as many nodes are held as blocks pass a test, if over each of these stands one
+    -- if a node lies over each block that passes a test, at least as many nodes are held as blocks pass
     pub nodes_at_least : ((p : Coord) → IsTrue (is_inside (block_numbers bits level) (block_number bits level p)) → t (block_number bits level p) ≡ true → IsTrue (is_child (entry p)))
         → count_by t (coordinates (block_numbers bits level)) ≤ count_of pool
     nodes_at_least needed =
@@ -140,7 +140,7 @@ module _ {V N : Type 0} (bits : Bits) (level : Level) (entry : Coord → Entry V
             (subst (λ (n : Coord). t n ≡ true) (sym number) test)) in
             subst (λ (n : Coord). is_member coord_eq owned_blocks n ≡ true) number (owned_block corner child.0 child.1)
 
-    -- and at most as many, if a node stands over no others
+    -- if nodes lie over such blocks only, at most as many nodes are held as blocks pass
     pub nodes_at_most : ((p : Coord) (slot : ℕ) → entry p ≡ Child slot → IsTrue (is_inside (block_numbers bits level) (block_number bits level p)) × (t (block_number bits level p) ≡ true))
         → count_of pool ≤ count_by t (coordinates (block_numbers bits level))
     nodes_at_most met =
@@ -156,7 +156,7 @@ module _ {V N : Type 0} (bits : Bits) (level : Level) (entry : Coord → Entry V
 -- ---- the whole tree
 
 module _ {V : Type 0} (bits : Bits) (configured : AreBits bits) (t : Layout V) (sound : IsSound bits t) where
-  -- nodes stand only over coordinates in range
+  -- nodes lie only over coordinates in range
   upper_in_range : (p : Coord) (slot : ℕ) → root_entry bits t p ≡ Child slot → IsTrue (is_inside everywhere p)
   upper_in_range p slot child =
       elim (some_or_none (root_at t.root (key bits p))) [
@@ -191,7 +191,7 @@ module _ {V : Type 0} (eq : V → V → Bool) (exact : (x y : V) → eq x y ≡ 
       nodes_at_least bits level (entry_over bits level t) pool by owned (λ n. not (is_constant eq (field_of bits t) (block bits level n)))
       (λ p within test. (has_needed eq exact itself bits configured t).nodes level p (numbered_in_range bits level configured p within) (was_false _ test))
 
-  -- and in a least tree there are no others
+  -- in a least tree each node lies over a block that isn't constant
   non_constant_at_least : {N : Type 0} (level : Level) (pool : Contents N) → IsByBlock bits level (entry_over bits level t) → IsOwned bits level (entry_over bits level t) pool
       → IsLeast eq bits t → count_of pool ≤ non_constant eq bits level (field_of bits t)
   non_constant_at_least level pool by owned least =
@@ -209,7 +209,7 @@ module _ {V : Type 0} (eq : V → V → Bool) (exact : (x y : V) → eq x y ≡ 
     leaf = non_constant_at_most Leaf t.leaves (lower_by_block bits t) sound.leaves;
   }
 
-  -- each entry of a least tree is for a root block that holds anything but the background
+  -- each entry of a least tree belongs to an upper extent that holds anything but the background
   entries_at_most : IsLeast eq bits t → length t.root ≤ roots eq bits (field_of bits t)
   entries_at_most least =
       subst (λ n. n ≤ roots eq bits (field_of bits t)) (length-keys_of t.root)
@@ -223,7 +223,7 @@ module _ {V : Type 0} (eq : V → V → Bool) (exact : (x y : V) → eq x y ≡ 
             (least.entries corner (corner_in_range bits Upper configured k within) (subst (λ (n : Coord). IsSome (root_at t.root n)) (sym number) held)),
       )))
 
-  -- a least tree has just those
+  -- a least tree has exactly the entries and nodes that its field needs
   pub counts_least : IsLeast eq bits t → counts_of t ≡ least_counts eq bits (field_of bits t)
   counts_least least =
       let few = counts_at_least in

@@ -1,4 +1,4 @@
--- Cells of worked examples, found by computing.
+-- Cells of worked examples, checked by computing.
 use Rattle.std.proofs.Common.{refl, ◌≡◌, ℕ, ℤ, pos, true, false}
 use Rattle.std.specs.Int.{int_max, int_min}
 use Rattle.std.specs.Ordering.{int_eq}
@@ -45,16 +45,16 @@ summed = refl
 united : at 1 1 1 (unite (new (pos 9)) (write (coord (pos 1) (pos 1) (pos 1)) (On true) (new false))) ≡ record { value = pos 9; on = true }
 united = refl
 
--- a cell at the corner has three neighbours less
+-- a cell at the corner lacks three neighbours
 corner : at 1 1 1 (turns 2 erode (fill (box 0 3) (record { value = pos 1; on = true }) (new (pos 0)))) ≡ record { value = pos 1; on = false }
 corner = refl
 
--- two turns from one cell reach 25
+-- two iterations from one cell reach 25 cells
 reached : count (turns 2 dilate (write (coord (pos 4) (pos 4) (pos 4)) (On (pos 1)) (new (pos 0)))) (box 2 6) ≡ 25
 unfolding coordinates
 reached = refl
 
--- clipped to a corner of 5 by 5 by 5
+-- a fill clipped to a corner of 5 by 5 by 5 voxels
 clipped : count (clip (box 5 20) (fill (box 0 9) (record { value = pos 4; on = true }) (new (pos 0)))) (box 4 9) ≡ 125
 unfolding coordinates
 clipped = refl

@@ -1,4 +1,4 @@
--- What stays where the children of a node become tiles, one after another.
+-- What stays when the children of a node become tiles, one after another.
 use Rattle.std.proofs.Common.{◌≡◌, ◌≢◌, ◌⊎◌, inl, inr, ℕ, ◌+◌, ◌-◌, ◌<◌, ◌≤◌, refl, sym, ◌∙◌, arith}
 use Rattle.vdb_coord.specs.Blocks.{block_number, entries, offset}
 use Rattle.vdb_coord.specs.Entries.{entry_number}
@@ -29,14 +29,14 @@ never j h = omega (arith, h)
 least : (n : ℕ) → 0 ≤ n
 least n = omega arith
 
--- the index after one that a node has
+-- the index after an index of a node
 pub after : (from i n : ℕ) → from ≤ i → i < n → (from < i + 1) × (i + 1 ≤ n)
 after from i n h k = (omega (arith, h), omega (arith, k))
 
 pub fits : (i : ℕ) → i < 32768 → i + 1 < 4294967296
 fits i h = omega (arith, h)
 
--- what is left of a node gets less
+-- fewer entries of a node are left
 pub fewer_left : (from next n : ℕ) → from < next → next ≤ n → n - next < n - from
 fewer_left from next n h k = omega (arith, h, k)
 
@@ -53,7 +53,7 @@ module _ {V : Type 0} (bits : Bits) where
     entries = λ q d. descent_trans bits old mid new q (a.entries q d) (b.entries q d);
   }
 
-  -- what lies beyond the block around it lies beyond a block
+  -- a change that keeps what is beyond an inner block keeps what is beyond the outer one
   pub beyond_wider : (outer inner : Level) → ((q r : Coord) → block_number bits inner q ≡ block_number bits inner r → block_number bits outer q ≡ block_number bits outer r)
       → (old new : Layout V) (p c : Coord) → block_number bits outer c ≡ block_number bits outer p → KeepsBeyond bits inner old new c → KeepsBeyond bits outer old new p
   beyond_wider outer inner up old new p c at keeps = record {
@@ -66,7 +66,7 @@ module _ {V : Type 0} (bits : Bits) where
       → ((q : Coord) → block_number bits level q ≢ block_number bits level p → SameDescent bits old new q) → KeepsBeyond bits level old new p
   filled_beyond level old new p cell fills others = record { head = fills.head; cells = fills.cells.there; entries = others }
 
-  -- of a block within a box, it lies outside
+  -- a change that keeps what is beyond a covered block keeps what is outside the box's part of it
   pub beyond_outside : (box : Box) (level : Level) (old new : Layout V) (p : Coord) → IsCovered bits box level p → KeepsBeyond bits level old new p → KeepsOutside bits box level old new (block_number bits level p)
   beyond_outside box level old new p covered keeps = record {
     head = keeps.head;
@@ -83,7 +83,7 @@ module _ {V : Type 0} (bits : Bits) where
     pub clears_all : (entry : Coord → Entry V) → IsChildless bits level entry p 0 (entries bits level) → (q : Coord) (slot : ℕ) → block_number bits level q ≡ block_number bits level p → entry q ≡ Child slot → ⊥
     clears_all entry none q slot b e = none q slot b (least (offset bits level q)) (offset_below bits level q) e
 
-    -- those before an offset and those from it on
+    -- the entries before an offset, and those from it on
     pub clears_end : (entry : Coord → Entry V) (from to : ℕ) → IsChildless bits level entry p from to → IsChildless bits level entry p 0 from → IsChildless bits level entry p 0 to
     clears_end entry from to late early q slot b more less e = elim (below_or (offset bits level q) from) [
       | inl k ↦ early q slot b more k e

@@ -1,4 +1,4 @@
--- What the one tile or cell of a node says of its block.
+-- What the one tile or cell of a node says about its block.
 use Rattle.std.proofs.Common.{◌≡◌, inl, inr, ℕ, ◌+◌, ◌-◌, ◌*◌, ◌^◌, ◌<◌, ◌≤◌, List, length, refl, sym, ap, ◌∙◌, arith, get_or}
 use Rattle.std.proofs.Math.Pow.{pow_mono}
 use Rattle.std.specs.Prelude.{◌↔◌, Option, Some, slice_index_or}
@@ -26,7 +26,7 @@ use Rattle.vdb_tree.proofs.Descents.{leaf_cell}
 use Rattle.vdb_tree.proofs.Levels.{tile_no_child}
 use Rattle.vdb_tree.proofs.Pools.{below_or}
 
--- a node has some entries, and few
+-- a node has at least one entry, and not too many
 pub entries_some : (bits : Bits) (level : Level) (p : Coord) → 1 ≤ entries bits level
 entries_some bits level p = let k = offset_below bits level p in omega (arith, k)
 
@@ -43,7 +43,7 @@ last_within bits level p n e = let k = entries_some bits level p in let f = entr
 pub last_ends : (bits : Bits) (level : Level) (p : Coord) (n : ℕ) → n ≡ entries bits level → (n - 1) + 1 ≡ entries bits level
 last_ends bits level p n e = let k = entries_some bits level p in omega (arith, k, e)
 
--- a list that reads one thing at the last index, whatever the default, does so at each before it
+-- a list whose read at the last index doesn't depend on the default reads each earlier index independently of it
 pub one_read : {A : Type 0} (xs : List A) (last : ℕ) (e : A) → ((d : A) → slice_index_or xs last d ≡ e) → (i : ℕ) → i < last + 1 → (d f : A) → slice_index_or xs i d ≡ slice_index_or xs i f
 one_read xs last e h i k d f =
     elim (below_or last (length xs)) [
@@ -51,13 +51,13 @@ one_read xs last e h i k d f =
       | inr more ↦ ap (get_or xs i) (sym (get_or_past xs last d more) ∙ h d ∙ sym (h f) ∙ get_or_past xs last f more)
     ]
 
--- and so does a leaf
+-- a leaf whose read at the last index doesn't depend on the default reads each earlier index independently of it
 pub one_cell : {V : Type 0} (leaf : LeafOf V) (last : ℕ) (e : Cell V) → ((d : Cell V) → cell_in d leaf last ≡ e) → (i : ℕ) → i < last + 1 → (d f : Cell V) → cell_in d leaf i ≡ cell_in f leaf i
 one_cell leaf last e h i k d f =
     let same = one_read leaf.values last e.value (λ v. ap (λ (c : Cell _). c.value) (h (record { value = v; on = d.on }))) i k d.value f.value in
     rw same refl
 
--- what a node reads at its indexes is what stands in its block
+-- what a node reads at its indexes is what its block has
 module _ {D E : Type 0} (bits : Bits) (level : Level) (p : Coord) (g : Coord → E) (read : D → ℕ → E) (e : D) (x : E)
     (by : (q : Coord) → block_number bits level q ≡ block_number bits level p → g q ≡ read e (offset bits level q)) where
   pub block_from_node : ((d : D) (i : ℕ) → i < entry_count (node_bits bits level) → read d i ≡ x) → (q : Coord) → block_number bits level q ≡ block_number bits level p → g q ≡ x
@@ -70,7 +70,7 @@ module _ {D E : Type 0} (bits : Bits) (level : Level) (p : Coord) (g : Coord →
       let at = corner_of_entry bits level p i small in
       one i (omega (arith, end, small)) d e ∙ ap (read e) (sym at.1) ∙ sym (by (corner bits level p i) at.0) ∙ h (corner bits level p i) at.0
 
--- a node is constant where its block is
+-- a node is constant if and only if its block is
 pub leaf_iff : {V : Type 0} (bits : Bits) (t : Layout V) (p : Coord) (s : ℕ) (leaf : LeafOf V) → lower_entry bits t p ≡ Child s → node_at t.leaves s ≡ Some leaf
     → (last : ℕ) → last + 1 ≡ entries bits Leaf → (e : Cell V) → ((d : Cell V) → cell_in d leaf last ≡ e) → (c : Cell V) (o : Option (Cell V))
     → ((o ≡ Some c) ↔ IsConstantLeaf leaf (entry_count (node_bits bits Leaf)) c) → (o ≡ Some c) ↔ IsConstantBlock bits Leaf t p c
@@ -89,7 +89,7 @@ module _ {V : Type 0} (bits : Bits) (level : Level) (p : Coord) (entry : Coord �
     (λ h. given.1 (node_from_block bits level p entry (λ d i. slice_index_or node i d) (Tile x) (Tile c) by last end (one_read node last e reads) h)),
   )
 
-  -- a child is no default
+  -- a child isn't the default
   has_child : (i slot : ℕ) → slice_index_or node i (Tile x) ≡ Child slot → HasChild node i
   has_child i slot e = (
     slot,
@@ -100,7 +100,7 @@ module _ {V : Type 0} (bits : Bits) (level : Level) (p : Coord) (entry : Coord �
         ],
   )
 
-  -- its next child is that of its block
+  -- a node's next child is the next child of its block
   pub next_corner : (from index : ℕ) → IsNextChildAt node (entry_count (node_bits bits level)) from index → (q : Coord) → q ≡ corner bits level p index → IsNextCornerAt bits level entry p from index q
   next_corner from index next q is =
       let small : index < entries bits level = rw (entries_is bits level) next.within in

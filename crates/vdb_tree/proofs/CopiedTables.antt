@@ -1,4 +1,4 @@
--- Entries put into another table, key after key, in the order of keys.
+-- Entries copied into another table, key after key, in the order of keys.
 use Rattle.std.proofs.Common.{◌≡◌, inl, inr, ◌+◌, ◌≤◌, List, length, arith, ap, sym, ◌∙◌}
 use Rattle.std.specs.Prelude.{Option, Some, None, if◌then◌else◌}
 use Rattle.std.specs.List.{IsDistinct}
@@ -30,7 +30,7 @@ module _ {V : Type 0} (root : List (Coord × Entry V)) where
     distinct = distinct;
   }
 
-  -- the next key's entry is put
+  -- copying the entry of the next key
   pub copied_next : (old new : List (Coord × Entry V)) (passed : Option Coord) (key : Coord) (entry : Entry V) → IsCopiedTo root old passed → IsNextKey root passed (Some key) → root_at root key ≡ Some entry
       → ((k : Coord) → root_at new k ≡ (if coord_eq key k then Some entry else root_at old k)) → length new ≤ length old + 1 → IsDistinct coord_eq (keys_of new) → IsCopiedTo root new (Some key)
   copied_next old new passed key entry copied next at put size distinct = record {
@@ -51,7 +51,7 @@ module _ {V : Type 0} (root : List (Coord × Entry V)) where
     distinct = distinct;
   }
 
-  -- where no key is left, all are copied
+  -- if no key is left, all entries are copied
   pub copied_all : (copy : List (Coord × Entry V)) (passed : Option Coord) → IsCopiedTo root copy passed → IsNextKey root passed None → (k : Coord) → root_at copy k ≡ root_at root k
   copied_all copy passed copied next k =
       elim (past_or_not passed k) [

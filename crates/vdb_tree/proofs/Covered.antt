@@ -12,7 +12,7 @@ use Rattle.vdb_coord.proofs.Meeting.{number_of_last, within_each}
 use Rattle.vdb_coord.proofs.Nesting.{inside_numbered, lower_from_leaf, upper_from_lower}
 use Rattle.vdb_tree.specs.SplitBox.{IsCovered}
 
--- the last coordinate of a block has its number
+-- the last coordinate of a block has the block's number
 number_of_end : (bits : Bits) (level : Level) (n : Coord) → block_number bits level (block bits level n).max ≡ n
 number_of_end bits level n =
     let k = block_bits bits level in
@@ -22,7 +22,7 @@ number_of_end bits level n =
     λ i. record { x = x i; y = y i; z = z i }
 
 module _ (bits : Bits) (box : Box) where
-  -- a block is covered around each of its coordinates
+  -- a covered block is covered around each of its coordinates
   pub covered_by_block : (level : Level) (p q : Coord) → block_number bits level q ≡ block_number bits level p → IsCovered bits box level p → IsCovered bits box level q
   covered_by_block level p q same h = subst (λ (n : Coord). IsTrue (is_within (block bits level n) box)) (sym same) h
 
@@ -30,14 +30,14 @@ module _ (bits : Bits) (box : Box) where
   pub covered_inside : (level : Level) (p q : Coord) → IsCovered bits box level p → block_number bits level q ≡ block_number bits level p → IsTrue (is_inside box q)
   covered_inside level p q covered same = within_each (block_around bits level p) box q covered (inside_numbered bits level (block_number bits level p) q same)
 
-  -- and a block of which it holds each is within it
+  -- a block is covered if the box holds each of its coordinates
   pub covered_from : (level : Level) (p : Coord) → ((q : Coord) → block_number bits level q ≡ block_number bits level p → IsTrue (is_inside box q)) → IsCovered bits box level p
   covered_from level p all =
       let b = block_around bits level p in
       let n = block_number bits level p in
       and_true (is_inside box b.min) (is_inside box b.max) (all b.min (number_of_corner bits level n)) (all b.max (number_of_end bits level n))
 
-  -- so a block in it is within the box too
+  -- an inner block of a covered block is covered
   covered_below : (outer inner : Level) → ((q r : Coord) → block_number bits inner q ≡ block_number bits inner r → block_number bits outer q ≡ block_number bits outer r)
       → (p : Coord) → IsCovered bits box outer p → IsCovered bits box inner p
   covered_below outer inner up p covered = covered_from inner p (λ q same. covered_inside outer p q covered (up q p same))

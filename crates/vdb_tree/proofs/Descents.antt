@@ -1,4 +1,4 @@
--- What a tree's entries and cells are, by its nodes.
+-- A tree's entries and cells, given by its nodes.
 use Rattle.std.proofs.Common.{◌≡◌, ℕ, List, refl, ap, ◌∙◌}
 use Rattle.std.specs.Prelude.{Some, slice_index_or}
 use Rattle.vdb_coord.specs.Blocks.{block_number, offset}
@@ -14,7 +14,7 @@ use Rattle.vdb_tree.specs.Layout.{Layout, cell_at, entry_of_key, lower_entry, ba
 use Rattle.vdb_tree.proofs.Levels.{IsByBlock, below_by_entry}
 
 module _ {V : Type 0} (bits : Bits) (t : Layout V) where
-  -- the entry over a block is one all over it
+  -- all coordinates of a block have the same entry over them
   pub root_by_block : IsByBlock bits Upper (root_entry bits t)
   root_by_block q r e = ap (entry_of_key t) e
 
@@ -39,7 +39,7 @@ module _ {V : Type 0} (bits : Bits) (t : Layout V) where
   unfolding cell_at
   leaf_cell p s leaf child was q b = let e = lower_by_block q p b ∙ child in rw (e, was) refl
 
-  -- below a tile are tiles of its cell, and that cell
+  -- below a tile each entry is a tile of its cell, and each cell is that cell
   pub tile_upper : (c : Cell V) (q : Coord) → root_entry bits t q ≡ Tile c → upper_entry bits t q ≡ Tile c
   tile_upper c q e = rw e refl
 

@@ -10,6 +10,6 @@ few_entries b h =
     let k : 2 ^ (3 * b) ≤ 2 ^ 15 = pow-le-pow_right {n = 2} two {i = 3 * b} {j = 15} few in
     k
 
--- the index after one of a node
+-- the index after an index of a node
 pub next_fits : (i b : ℕ) → b ≤ 5 → i < entry_count b → i + 1 < 2 ^ 32
 next_fits i b h k = omega (arith, few_entries b h, k)

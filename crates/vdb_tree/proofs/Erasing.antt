@@ -1,4 +1,4 @@
--- Entries of background root blocks are taken away, in the order of keys.
+-- Removal of the entries of background upper extents, in the order of keys.
 use Rattle.std.proofs.Common.{◌≡◌, IsTrue, inl, inr, refl, subst, sym, ◌∙◌}
 use Rattle.std.specs.Prelude.{Option, Some, None}
 use Rattle.vdb_coord.specs.Blocks.{key}
@@ -31,7 +31,7 @@ module _ {V : Type 0} (bits : Bits) where
   pub adds_background_itself : (t : Layout V) → AddsBackgroundTiles bits t t
   adds_background_itself t = record { keeps = keeps_same bits t; nodes = λ level q h. h; tiles = λ level q tile e. inl e }
 
-  -- the entries are the same
+  -- if the entries are the same, only background tiles are added
   pub adds_background_none : (old new : Layout V) → Keeps bits old new → ((q : Coord) → SameDescent bits old new q) → AddsBackgroundTiles bits old new
   adds_background_none old new keeps same = record { keeps = keeps; nodes = same_no_node bits old new same; tiles = λ level q tile e. inl (sym (same q level) ∙ e) }
 
@@ -42,17 +42,17 @@ module _ {V : Type 0} (bits : Bits) where
     tiles = λ level q tile e. elim (b.tiles level q tile e) [ inl f ↦ a.tiles level q tile f | inr p ↦ inr (p ∙ background_stays old mid a.keeps) ];
   }
 
-  -- what is split for the background cell stays so
+  -- what is split for the background cell stays split
   pub split_background : (old new : Layout V) → AddsBackgroundTiles bits old new → (box : Box) → IsSplit bits box (background_cell old) old → IsSplit bits box (background_cell old) new
   split_background old new adds box edges = record {
     tiles = λ level p inside tile e. elim (adds.tiles level p tile e) [ inl f ↦ edges.tiles level p inside tile f | inr same ↦ inr same ];
     entered = λ p inside. inl (sym (background_stays old new adds.keeps));
   }
 
-  -- ---- one root block
+  -- ---- one upper extent
 
   module _ (t : Layout V) (p k : Coord) (number : key bits p ≡ k) where
-    -- a block that holds anything but the background keeps its entry
+    -- an upper extent that holds anything but the background keeps its entry
     pub erases_none : (IsConstantBlock bits Upper t p (background_cell t) → ⊥) → ErasesRoot bits t t k
     erases_none other = record {
       adds = adds_background_itself t;
@@ -60,7 +60,7 @@ module _ {V : Type 0} (bits : Bits) where
       here = λ q e entry some const. other (λ r same. const r (same ∙ number ∙ sym e));
     }
 
-    -- all of a constant block is one cell, of which no node is needed
+    -- a constant block has one cell, and needs no node
     none_needed : (n : Layout V) (level : Level) (q : Coord) (cell : Cell V) → ((r : Coord) → key bits r ≡ key bits q → cell_at bits n r ≡ cell) → IsNeededTo bits Upper n q → IsTrue (is_child (entry_over bits level n q)) → ⊥
     none_needed n Upper q cell const needed child = let e = child_of (root_entry bits n q) child in needed.2 e.0 e.1 cell (λ r same. const r same)
     none_needed n Lower q cell const needed child = let e = child_of (upper_entry bits n q) child in needed.1 e.0 e.1 cell (λ r same. const r (upper_from_lower bits r q same))
@@ -68,7 +68,7 @@ module _ {V : Type 0} (bits : Bits) where
         let e = child_of (lower_entry bits n q) child in
         needed.0 e.0 e.1 cell (λ r same. const r (upper_from_lower bits r q (lower_from_leaf bits r q same)))
 
-    -- a background block is pruned: a tile of its is the background
+    -- a background block is pruned: its tile is the background
     pub erases_pruned : (n : Layout V) → IsConstantBlock bits Upper t p (background_cell t) → PrunesRoot bits t n k → ErasesRoot bits t n k
     erases_pruned n const prunes = record {
       adds = record {
@@ -88,9 +88,9 @@ module _ {V : Type 0} (bits : Bits) where
       here = λ q e. (prunes.here q e).1;
     }
 
-  -- ---- one after another
+  -- ---- upper extents one after another
 
-  -- no root block up to this key has the entry of a background one, and the table past it stays
+  -- no upper extent up to this key has the entry of a background one, and the table past the key stays
   pub record ErasesTo (old new : Layout V) (passed : Option Coord) : Type 0 where
     pub adds : AddsBackgroundTiles bits old new
     pub keys : MakesNoKey old new
@@ -100,12 +100,12 @@ module _ {V : Type 0} (bits : Bits) where
   pub erased_none : (t : Layout V) → ErasesTo t t None
   erased_none t = record { adds = adds_background_itself t; keys = λ k h. h; ahead = λ k h. refl; done = λ q h. absurd (h tt) }
 
-  -- the next key of the table, as the table was at first
+  -- the next key of the table is the one that it had at first
   pub next_of_old : (old mid : Layout V) (passed : Option Coord) (k : Coord) → ErasesTo old mid passed → IsNextKey mid.root passed (Some k) → IsNextKey old.root passed (Some k)
   next_of_old old mid passed k erases next =
       (rw (← erases.ahead k next.1) next.0, next.1, λ j past some. next.2 j past (rw (erases.ahead j past) some))
 
-  -- a root block without an entry hasn't that of a background one
+  -- an upper extent without an entry has no background entry
   absent_erased : (t : Layout V) (q : Coord) → root_at t.root (key bits q) ≡ None → IsNoBackgroundRoot bits t q
   absent_erased t q none = λ entry some const. none_some entry (sym none ∙ some)
     where
@@ -133,7 +133,7 @@ module _ {V : Type 0} (bits : Bits) where
         ];
   }
 
-  -- where no key is left, the table is swept
+  -- if no key is left, the table is swept
   pub erased_end : (old new : Layout V) (passed : Option Coord) → ErasesTo old new passed → IsNextKey new.root passed None → (q : Coord) → IsNoBackgroundRoot bits new q
   erased_end old new passed so_far next q =
       elim (past_or_not passed (key bits q)) [

@@ -72,14 +72,14 @@ below_same_or_past m n = grind arith
 -- ---- the next start
 
 module _ {V : Type 0} (bits : Bits) (t : Layout V) (box : Box) (skip : Skip) (outer level : Level) (is : AreEntries bits outer level) (p : Coord) (here : IsTrue (is_inside box p)) where
-  -- what lies in the node is up to the block around p, or in a later entry
+  -- a coordinate of the node is up to the block around p, or in a later entry
   in_node : (q : Coord) → block_number bits outer q ≡ block_number bits outer p → IsUpToBlock bits level p q ⊎ (offset bits outer p < offset bits outer q)
   in_node q e = elim (below_same_or_past (offset bits outer q) (offset bits outer p)) [
     | inl a ↦ inl (inl (is.ahead q p e a))
     | inr r ↦ elim r [ inl s ↦ inl (inr (is.one q p e s)) | inr b ↦ inr b ]
   ]
 
-  -- by an entry of which the box has some
+  -- the next start, by an entry that the box meets
   jump_at : (index : ℕ) → IsNextEntryAt bits t skip outer p index → (n : Coord) → IsTrue (is_inside box n) → block_number bits outer n ≡ block_number bits outer p → offset bits outer n ≡ index
       → ((q : Coord) → IsTrue (is_inside box q) → block_number bits level q ≡ block_number bits level n → ComesBefore bits q n → ⊥) → IsJumpAt bits t skip box outer level p n
   jump_at index next n inside same at least = record {
@@ -102,13 +102,13 @@ module _ {V : Type 0} (bits : Bits) (t : Layout V) (box : Box) (skip : Skip) (ou
     first = least;
   }
 
-  -- no entry is left
+  -- no entry is left: the walk may pass over the rest
   jump_none : ArePassed bits t skip outer p (entries bits outer) → IsLast bits t skip box outer level p
   jump_none none = record {
     passed = λ q i e. elim (in_node q e) [ inl u ↦ inl u | inr later ↦ inr (none.passed q e later (offset_below bits outer q)) ];
   }
 
-  -- by the box alone
+  -- the next start, by the box alone
   module _ (part : Box) (within : (q : Coord) → IsTrue (is_inside part q) → IsTrue (is_inside box q) × (block_number bits outer q ≡ block_number bits outer p))
       (all : (q : Coord) → IsTrue (is_inside box q) → block_number bits outer q ≡ block_number bits outer p → IsTrue (is_inside part q)) where
     first_within : (n : Coord) → IsFirstPast bits level part p n → (q : Coord) → IsTrue (is_inside box q) → block_number bits level q ≡ block_number bits level n → ComesBefore bits q n → ⊥
@@ -141,7 +141,7 @@ module _ {V : Type 0} (bits : Bits) (t : Layout V) (box : Box) (skip : Skip) (ou
   pub none_left : ArePassed bits t skip outer p (entries bits outer) → IsLast bits t skip box outer level p
   none_left none = jump_none bits t box skip outer level (entries_of bits outer level above) p here none
 
-  -- the least corner of what the box has of the next entry
+  -- the least corner of the box in the next entry is a start
   by_entry : (index : ℕ) → IsNextEntryAt bits t skip outer p index → (part : Box)
       → ((q : Coord) → is_inside part q ≡ (is_inside box q && is_inside (sub_block bits outer (block_around bits outer p) index) q)) → is_box part ≡ true
       → IsJumpAt bits t skip box outer level p part.min
@@ -179,7 +179,7 @@ module _ {V : Type 0} (bits : Bits) (t : Layout V) (skip : Skip) (outer : Level)
   }
 
 module _ {V : Type 0} (bits : Bits) (t : Layout V) (p : Coord) (s : ℕ) (node : List (Entry V)) (from : ℕ) (found : Option ℕ) where
-  -- of a lower node
+  -- the next entry of a lower node
   module _ (child : upper_entry bits t p ≡ Child s) (was : node_at t.lowers s ≡ Some node) (is : from ≡ offset bits Lower p + 1) where
     pub lower_unlike : (cell : Cell V) → cell ≡ background_cell t → IsFirstWithout (IsTileOf cell node) (entry_count bits.lower) from found → IsNextEntry bits t Background Lower p found
     lower_unlike cell same h = next_entry bits t Background Lower p (IsTileOf cell node)
@@ -189,7 +189,7 @@ module _ {V : Type 0} (bits : Bits) (t : Layout V) (p : Coord) (s : ℕ) (node :
     lower_active h = next_entry bits t Inactive Lower p (IsInactiveTile node)
         (λ q b tile. inactive_skipped bits t Leaf q (record { value = tile.0; on = false }) (lower_node_entry bits t p s node child was q b ∙ tile.1 (Tile (background_cell t))) refl q refl) from is found h
 
-  -- of an upper node
+  -- the next entry of an upper node
   module _ (child : root_entry bits t p ≡ Child s) (was : node_at t.uppers s ≡ Some node) (is : from ≡ offset bits Upper p + 1) where
     pub upper_unlike : (cell : Cell V) → cell ≡ background_cell t → IsFirstWithout (IsTileOf cell node) (entry_count bits.upper) from found → IsNextEntry bits t Background Upper p found
     upper_unlike cell same h = next_entry bits t Background Upper p (IsTileOf cell node)

@@ -65,7 +65,7 @@ no_later n k h = elim h [
 ]
 
 module _ (keys : Box) (t : Coord) where
-  -- a row of the box behind its first row, before it or past a key
+  -- from a key, skip to the first row of its slab, into its own row, or to the next row
   pub skip_rows : t.y <ℤ keys.min.y → SkipsTo keys t (Some (coord t.x keys.min.y keys.min.z))
   skip_rows h =
       let n = coord t.x keys.min.y keys.min.z in (
@@ -87,7 +87,7 @@ module _ (keys : Box) (t : Coord) where
             ]),
       )
 
-  -- a key behind the least of its row that isn't in the box is past the row
+  -- a key past the least of its row that isn't in the box is past the row
   past_row : is_inside keys t ≡ false → keys.min.z ≤ℤ t.z → (k : Coord) → IsTrue (is_inside keys k) → t.x ≡ k.x → t.y ≡ k.y → t.z <ℤ k.z → ⊥
   past_row not low k i x y z =
       let at = inside_parts keys k i in
@@ -105,7 +105,7 @@ module _ (keys : Box) (t : Coord) where
             ]),
       )
 
-  -- where the slab of its x has no key past it
+  -- past the last row of a slab, the slab has no key left
   pub slab_beyond : keys.max.y <ℤ t.y → (k : Coord) → IsTrue (is_inside keys k) → k.x ≡ t.x → coord_cmp t k ≡ Less → ⊥
   slab_beyond h k i x past =
       let at = inside_parts keys k i in
@@ -172,7 +172,7 @@ module _ {V : Type 0} (bits : Bits) (box : Box) (root : List (Coord × Entry V))
       pub met_found : IsNextMet bits box root (Some after) (Some n)
       met_found = (next.0, so_far.on n next.1, λ k past met held. next.2 k (so_far.none k past met held) held)
 
-      -- where it doesn't meet the box, those that do come past it
+      -- if the next key isn't one of the box, the keys that meet the box come past it
       module _ (not : is_inside (numbers_over bits Upper box) n ≡ false) where
         beyond_it : (k : Coord) → coord_cmp after k ≡ Less → MeetsRootBlock bits box k → IsSome (root_at root k) → coord_cmp n k ≡ Less
         beyond_it k past met held = elim (at_least n k (next.2 k (so_far.none k past met held) held)) [

@@ -1,4 +1,4 @@
--- Which keys of a table may be those of root blocks that meet a box.
+-- Which keys of a table may belong to upper extents that meet a box.
 use Rattle.std.proofs.Common.{◌≡◌, ◌⊎◌, inl, inr, true, false, List, refl, sym, subst, ◌∙◌, IsTrue}
 use Rattle.std.specs.Prelude.{Option, Some, None, IsSome, is_some}
 use Rattle.std.specs.Ordering.{is_eq, is_gt, is_lt, is_some_and, ordering_then, partial_ordering_then}
@@ -32,13 +32,13 @@ comes_past Equal Equal Greater h = cc
 comes_past Equal Greater c h = cc
 comes_past Greater b c h = cc
 
--- what isn't there is absent
+-- an option that has no value is absent
 pub none_not : {A : Type 0} (o : Option A) → is_some o ≡ false → o ≡ None
 none_not None h = refl
 none_not (Some x) h = cc
 
 module _ {V : Type 0} (bits : Bits) (box : Box) (root : List (Coord × Entry V)) where
-  -- the key of a coordinate of the box comes no earlier than that of its least corner
+  -- the key of a coordinate of the box comes no earlier than the key of the box's least corner
   from_first : (q : Coord) → IsTrue (is_inside box q) → (key bits q ≡ key bits box.min) ⊎ (coord_cmp (key bits box.min) (key bits q) ≡ Less)
   from_first q inside = elim (which_before (key bits q) (key bits box.min)) [
     | inl before ↦ absurd (none_before bits Upper box q inside before)
@@ -48,7 +48,7 @@ module _ {V : Type 0} (bits : Bits) (box : Box) (root : List (Coord × Entry V))
     ]
   ]
 
-  -- where that key has an entry, it is the first
+  -- if the key of the least corner has an entry, it is the first
   pub met_first : IsSome (root_at root (key bits box.min)) → IsNextMet bits box root None (Some (key bits box.min))
   met_first held = (
     held,
@@ -59,7 +59,7 @@ module _ {V : Type 0} (bits : Bits) (box : Box) (root : List (Coord × Entry V))
     ],
   )
 
-  -- where it has none, the next past it is
+  -- if the key of the least corner has no entry, the next key past it is the first
   pub met_past_first : root_at root (key bits box.min) ≡ None → (o : Option Coord) → IsNextMet bits box root (Some (key bits box.min)) o → IsNextMet bits box root None o
   met_past_first none None next = λ k past met. elim (from_first met.0 met.1) [
     | inl same ↦ subst (λ (j : Coord). root_at root j ≡ None) (sym same ∙ met.2) none

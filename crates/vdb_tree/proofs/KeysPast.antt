@@ -18,12 +18,12 @@ abbrev pub is_key_past : Option Coord → Coord → Bool
 is_key_past None k = true
 is_key_past (Some a) k = is_lt (coord_cmp a k)
 
--- how many pass a test
+-- how many elements of a list pass a test
 abbrev pub passing : {E : Type 0} → (E → Bool) → List E → ℕ
 passing test [] = 0
 passing test (e ∷ es) = cond (test e) 1 0 + passing test es
 
--- how many keys of the table come past it
+-- how many keys of the table come past this one
 abbrev pub keys_past : {V : Type 0} → Option Coord → List (Coord × Entry V) → ℕ
 keys_past after root = passing (λ e. is_key_past after e.0) root
 
@@ -46,7 +46,7 @@ one_later true false m n h k = let e : false ≡ true = h refl in cc
 one_later false true m n h k = omega (arith, k)
 one_later false false m n h k = omega (arith, k)
 
--- a test that fails at the key is passed by fewer entries
+-- a test that fails at a key of the table, and implies the other test, is passed by fewer entries
 fewer_keys : {V : Type 0} (few many : Coord → Bool) → ((k : Coord) → few k ≡ true → many k ≡ true) → (key : Coord) → few key ≡ false → many key ≡ true
     → (root : List (Coord × Entry V)) → IsSome (root_at root key) → passing (λ e. few e.0) root < passing (λ e. many e.0) root
 fewer_keys few many h key out in_many [] held = let e : false ≡ true = held in cc
@@ -75,7 +75,7 @@ pub past_on : (after : Option Coord) (k l : Coord) → IsPast after k → coord_
 past_on None k l h later = tt
 past_on (Some a) k l h later = coord_total.trans a k l h later
 
--- past a key of the table there are fewer than before it
+-- past a key of the table there are fewer keys than past one before it
 pub fewer_beyond : {V : Type 0} (root : List (Coord × Entry V)) (passed : Option Coord) (k : Coord) → IsSome (root_at root k) → IsPast passed k → keys_past (Some k) root < keys_past passed root
 fewer_beyond root passed k held past =
     fewer_keys (is_key_past (Some k)) (is_key_past passed) (λ l h. past_test passed l (past_on passed k l past (less_of (coord_cmp k l) h))) k itself (past_test passed k past) root held
@@ -83,7 +83,7 @@ fewer_beyond root passed k held past =
     itself : is_lt (coord_cmp k k) ≡ false
     itself = elim (bool_cases (is_lt (coord_cmp k k))) [ inl e ↦ absurd (less_apart k k (less_of (coord_cmp k k) e) refl) | inr e ↦ e ]
 
--- past a key behind it there are fewer, too
+-- past a key that comes after a key of the table there are fewer keys, too
 pub fewer_leap : {V : Type 0} (root : List (Coord × Entry V)) (passed : Option Coord) (k n : Coord) → IsSome (root_at root k) → IsPast passed k → coord_cmp k n ≡ Less → keys_past (Some n) root < keys_past passed root
 fewer_leap root passed k n held past on =
     fewer_keys (is_key_past (Some n)) (is_key_past passed) (λ l h. past_test passed l (past_on passed k l past (coord_total.trans k n l on (less_of (coord_cmp n l) h)))) k before (past_test passed k past) root held
@@ -91,6 +91,6 @@ fewer_leap root passed k n held past on =
     before : is_lt (coord_cmp n k) ≡ false
     before = elim (bool_cases (is_lt (coord_cmp n k))) [ inl e ↦ absurd (less_once k n on (less_of (coord_cmp n k) e)) | inr e ↦ e ]
 
--- past the next key there are fewer
+-- past the next key there are fewer keys
 pub fewer_past : {V : Type 0} (root : List (Coord × Entry V)) (passed : Option Coord) (k : Coord) → IsNextKey root passed (Some k) → keys_past (Some k) root < keys_past passed root
 fewer_past root passed k next = fewer_beyond root passed k next.0 next.1

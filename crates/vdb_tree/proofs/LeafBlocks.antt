@@ -1,4 +1,4 @@
--- What a field has in a leaf block, by what stands over it.
+-- What a field has in a leaf extent, by the entry over it.
 use Rattle.std.proofs.Common.{◌≡◌, ℕ, Bool, List, IsTrue, ap, refl, sym, ◌∙◌}
 use Rattle.std.specs.Prelude.{Some}
 use Rattle.vdb_coord.specs.Blocks.{block_number}
@@ -18,18 +18,18 @@ use Rattle.vdb_tree.proofs.Fields.{cell_inside}
 use Rattle.vdb_tree.proofs.Levels.{like_coords, unlike_coords}
 
 module _ {V : Type 0} (bits : Bits) (t : Layout V) (p : Coord) where
-  -- a leaf has the cells of its block
+  -- a leaf has the cells of its extent
   pub leaf_around : (u : ℕ) (n : LeafOf V) → lower_entry bits t p ≡ Child u → node_at t.leaves u ≡ Some n → IsLeafAround bits (field_of bits t) p n
   leaf_around u n child was q inside e = cell_inside t.background (cell_at bits t) q inside ∙ leaf_cell bits t p u n child was q e
 
-  -- where a tile stands, all cells are p's
+  -- below a tile all cells are p's
   pub tile_around : (cell : Cell V) → lower_entry bits t p ≡ Tile cell → IsTrue (is_inside everywhere p)
       → (q : Coord) → IsTrue (is_inside everywhere q) → block_number bits Leaf q ≡ block_number bits Leaf p → (field_of bits t).cell q ≡ (field_of bits t).cell p
   tile_around cell tile here q inside e =
       cell_inside t.background (cell_at bits t) q inside ∙ tile_cell bits t cell q (lower_by_block bits t q p e ∙ tile)
       ∙ sym (cell_inside t.background (cell_at bits t) p here ∙ tile_cell bits t cell p tile)
 
--- states set all over p's leaf block, coordinate by coordinate
+-- states set in all of p's leaf extent, coordinate by coordinate
 pub sets_states : {V : Type 0} (bits : Bits) (old new : Field V) (p : Coord) (mask : List Bool) → new ≡ with_states_of bits p mask old → SetsStates bits old new p mask
 sets_states bits old new p mask e = record {
   here = λ q inside b.

@@ -1,4 +1,4 @@
--- The active voxels of a leaf block, counted by the states of its leaf.
+-- The active voxels of a leaf extent, counted by the states of its leaf.
 use Rattle.std.proofs.Common.{◌≡◌, ◌⊎◌, inl, inr, sym, ap, ◌∙◌, refl, subst, ℕ, zero, suc, ◌+◌, ◌<◌, ◌≤◌, Bool, true, false, ◌&&◌, cond, List, [], ◌∷◌, length, arith, IsTrue}
 use Rattle.std.specs.List.{IsDistinct, filter, range_with_len}
 use Rattle.std.specs.Set.{is_member}
@@ -35,7 +35,7 @@ module _ (bits : Bits) (p : Coord) (mask : List Bool) where
   abbrev corner : ℕ → Coord
   corner i = (sub_block bits Leaf (block_around bits Leaf p) i).min
 
-  -- the voxels of m entries, from entry a on, whose states are on
+  -- the voxels of those of m entries, from entry a on, whose states are on
   abbrev keys : ℕ → ℕ → List Coord
   keys a zero = []
   keys a (suc m) = cond (is_on mask a) (corner a ∷ keys (a + 1) m) (keys (a + 1) m)
@@ -48,7 +48,7 @@ module _ (bits : Bits) (p : Coord) (mask : List Bool) where
       step true ks is e = ap suc e
       step false ks is e = e
 
-  -- a voxel of the leaf around p, of an entry from a on, whose state is on
+  -- a voxel of the leaf around p, in an entry from a on, whose state is on
   abbrev IsOnFrom : ℕ → Coord → Type 0
   IsOnFrom a q = (block_number bits Leaf q ≡ block_number bits Leaf p) × (a ≤ offset bits Leaf q) × (is_on mask (offset bits Leaf q) ≡ true)
 
@@ -107,7 +107,7 @@ module _ (bits : Bits) (p : Coord) (mask : List Bool) where
       step others true = one_more (corner a) (keys (a + 1) m) others alone
       step others false = others
 
-  -- all of them are those of the block whose states are on
+  -- all entries: the voxels of the block whose states are on
   abbrev block : Box
   block = block_around bits Leaf p
 

@@ -35,12 +35,12 @@ use Rattle.vdb_tree.proofs.Pools.{node_puts}
 same_some : {N : Type 0} (n m : N) → Some n ≡ Some m → n ≡ m
 same_some n m e = cc
 
--- in the layout, another leaf in the slot
+-- the layout with another leaf in the slot
 abbrev pub with_leaf : {V : Type 0} → Layout V → ℕ → LeafOf V → Layout V
 with_leaf t u m = record t { leaves = with_node t.leaves u m }
 
 module _ {V : Type 0} (bits : Bits) (t : Layout V) (u : ℕ) (n m : LeafOf V) (was : node_at t.leaves u ≡ Some n) where
-  -- the tree stays sound
+  -- the tree is sound with another leaf in the slot
   pub leaf_sound : IsSound bits t → IsSound bits (with_leaf t u m)
   leaf_sound sound = record {
     limit = sound.limit;
@@ -51,7 +51,7 @@ module _ {V : Type 0} (bits : Bits) (t : Layout V) (u : ℕ) (n m : LeafOf V) (w
     leaves = owned_after bits Leaf (lower_entry bits t) t.leaves (with_node t.leaves u m) u n m was (node_puts t.leaves u n m was) sound.leaves;
   }
 
-  -- every path stays
+  -- every path stays live
   lives_after : (path : TreePath V) (q : Coord) → Lives bits t path q → Lives bits (with_leaf t u m) path q
   lives_after Empty q h = tt
   lives_after (ToUpper a) q h = h
@@ -62,7 +62,7 @@ module _ {V : Type 0} (bits : Bits) (t : Layout V) (u : ℕ) (n m : LeafOf V) (w
   pub whole_after : (path : TreePath V) (q : Coord) → IsWhole bits t path q → IsWhole bits (with_leaf t u m) path q
   whole_after path q h = record { lives = lives_after path q h.lives; whole = h.whole }
 
-  -- the cells beyond the leaf over p stay
+  -- the cells outside the leaf over p stay
   pub elsewhere : (p : Coord) → lower_entry bits t p ≡ Child u → IsSound bits t → (q : Coord) → block_number bits Leaf q ≢ block_number bits Leaf p
       → cell_at bits (with_leaf t u m) q ≡ cell_at bits t q
   unfolding cell_at

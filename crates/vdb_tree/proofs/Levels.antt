@@ -59,11 +59,11 @@ pub tile_or_child : {V : Type 0} (e : Entry V) → ((c : Cell V) × (e ≡ Tile 
 tile_or_child (Tile c) = inl (c, refl)
 tile_or_child (Child r) = inr (r, refl)
 
--- f is one all over each block of the level
+-- f has one value all over each block of the level
 abbrev pub IsByBlock : {E : Type 0} → Bits → Level → (Coord → E) → Type 0
 IsByBlock bits level f = (q r : Coord) → block_number bits level q ≡ block_number bits level r → f q ≡ f r
 
--- f is one all over each entry of the level's nodes
+-- f has one value all over each entry of the level's nodes
 abbrev pub IsByEntry : {E : Type 0} → Bits → Level → (Coord → E) → Type 0
 IsByEntry bits level f = (q r : Coord) → entry_number bits level q ≡ entry_number bits level r → f q ≡ f r
 
@@ -95,7 +95,7 @@ module _ {N : Type 0} (old new : Contents N) (s : ℕ) where
 -- ---- what is read below an entry
 
 module _ {V N E : Type 0} (read : N → ℕ → E) (tile : Cell V → E) (missing : E) where
-  -- where the entry's node stands, so does what is read
+  -- if the entry's node stays, what is read stays
   pub within_same : (old new : Contents N) (x : Entry V) (i : ℕ) → ((r : ℕ) → x ≡ Child r → node_at new r ≡ node_at old r)
       → within read tile missing new x i ≡ within read tile missing old x i
   within_same old new (Tile c) i h = refl
@@ -125,7 +125,7 @@ module _ {V N E : Type 0} (read : N → ℕ → E) (tile : Cell V → E) (missin
         let at = offset_from_entry bits level q r e in
         rw (up, at) refl
 
-    -- one entry of a node changes
+    -- an entry of a node changes
     pub node_turns : (f : Coord → Entry V) (old new : Contents N) (p : Coord) (u : ℕ) (n m : N) (x : E) → IsByBlock bits level f → IsOwned bits level f old
         → f p ≡ Child u → node_at old u ≡ Some n → Puts old new u (Some m) → read m (offset bits level p) ≡ x → ((j : ℕ) → j ≢ offset bits level p → read m j ≡ read n j)
         → Turns (entry_number bits level) p (below old f) (below new f) x
@@ -154,7 +154,7 @@ module _ {V N E : Type 0} (read : N → ℕ → E) (tile : Cell V → E) (missin
 -- ---- owners
 
 module _ {V N : Type 0} (bits : Bits) (level : Level) where
-  -- a node changes
+  -- owners when a node changes
   pub owned_after : (f : Coord → Entry V) (old new : Contents N) (s : ℕ) (m n : N) → node_at old s ≡ Some m → Puts old new s (Some n) → IsOwned bits level f old → IsOwned bits level f new
   owned_after f old new s m n was put owned = record {
     met = λ r h. owned.met r (held_before old new s m n was put r h);
@@ -169,7 +169,7 @@ module _ {V N : Type 0} (bits : Bits) (level : Level) where
     own = λ p q r e d. owned.own p q r (sym (same p) ∙ e) (sym (same q) ∙ d);
   }
 
-  -- a pool gets capacity
+  -- owners when a pool gets capacity
   pub owned_nodes : (f : Coord → Entry V) (old new : Contents N) → new.nodes ≡ old.nodes → IsOwned bits level f old → IsOwned bits level f new
   owned_nodes f old new same owned = record {
     met = λ r h. owned.met r (rw (← same) h);
@@ -177,7 +177,7 @@ module _ {V N : Type 0} (bits : Bits) (level : Level) where
     own = owned.own;
   }
 
-  -- a tile becomes a new node
+  -- owners when a tile becomes a new node
   pub split_owned : (f g : Coord → Entry V) (old new : Contents N) (p : Coord) (s : ℕ) (n : N) (c : Cell V) → IsOwned bits level f old → node_at old s ≡ None
       → ((q : Coord) → block_number bits level q ≡ block_number bits level p → f q ≡ Tile c) → Turns (block_number bits level) p f g (Child s) → Puts old new s (Some n) → IsOwned bits level g new
   split_owned f g old new p s n c owned free tiled turns put = record {
@@ -211,6 +211,6 @@ module _ {V N : Type 0} (bits : Bits) (level : Level) where
         ];
   }
     where
-      -- elsewhere the child is an older one
+      -- over any other block the child is an older one
       new_slot : (q : Coord) (r : ℕ) → block_number bits level q ≢ block_number bits level p → g q ≡ Child r → s ≡ r → ⊥
       new_slot q r d e k = not_vacant old new s r (owned.held q r (sym (turns.there q d) ∙ e)) free (sym k)

@@ -1,4 +1,4 @@
--- Which nodes and which keys come, while nodes come in place of tiles.
+-- Which nodes and keys are added when nodes are made in place of tiles.
 use Rattle.std.proofs.Common.{◌≡◌, ◌≢◌, ◌⊎◌, inl, inr, refl, sym, ap, subst, ◌∙◌, true, IsTrue}
 use Rattle.std.specs.Prelude.{IsSome}
 use Rattle.vdb_coord.specs.Blocks.{block_number, key}
@@ -31,7 +31,7 @@ level_cases Upper Lower = inr (λ e. cc)
 level_cases Upper Upper = inl refl
 
 module _ {V : Type 0} (bits : Bits) where
-  -- ---- what is elsewhere
+  -- ---- other blocks
 
   pub elsewhere_itself : (t : Layout V) (p : Coord) → KeepsElsewhere bits t t p
   elsewhere_itself t p level q d = refl
@@ -45,11 +45,11 @@ module _ {V : Type 0} (bits : Bits) where
   pub elsewhere_twice : (old mid new : Layout V) (p : Coord) → KeepsElsewhere bits old mid p → KeepsElsewhere bits mid new p → KeepsElsewhere bits old new p
   elsewhere_twice old mid new p a b level q d = b level q d ∙ a level q d
 
-  -- the same entries, and then others over p's block of a level
+  -- entries that stay, and then change only over p's block of a level
   pub but_after : (level : Level) (old mid new : Layout V) (p : Coord) → ((q : Coord) → SameDescent bits old mid q) → KeepsAllBut bits level mid new p → KeepsAllBut bits level old new p
   but_after level old mid new p same but l q h = but l q h ∙ same q l
 
-  -- ---- which nodes come
+  -- ---- which nodes are added
 
   -- a tile isn't a child
   tile_isnt : (level : Level) (t : Layout V) (q : Coord) (tile : Cell V) {X : Type 0} → entry_over bits level t q ≡ Tile tile → IsTrue (is_child (entry_over bits level t q)) → X
@@ -76,14 +76,14 @@ module _ {V : Type 0} (bits : Bits) where
   pub no_node_makes : (Holds : Level → Coord → Cell V → Type 0) (old new : Layout V) → MakesNoNode bits old new → MakesOnly bits Holds old new
   no_node_makes Holds old new none level q tile at child = tile_isnt level old q tile at (none level q child)
 
-  -- a node in place of the active tile around a coordinate of the box
+  -- a node made in place of the active tile around a coordinate of the box
   pub active_made : (box : Box) (old new : Layout V) (p : Coord) → IsTrue (is_inside box p) → (cell_at bits old p).on ≡ true → KeepsElsewhere bits old new p → MakesOnly bits (IsActiveIn bits box) old new
   active_made box old new p inside on keeps level q tile at child = elim (coord_cases (block_number bits level q) (block_number bits level p)) [
     | inl e ↦ (ap (λ (c : Cell V). c.on) (sym (tile_block bits old level q tile at p (sym e))) ∙ on, (p, inside, sym e))
     | inr d ↦ tile_isnt level new q tile (keeps level q d ∙ at) child
   ]
 
-  -- a node in place of a tile over p, a coordinate of the box, that the box doesn't cover
+  -- a node made in place of a tile over p, a coordinate of the box, that the box doesn't cover
   pub cut_made : (box : Box) (cell : Cell V) (level : Level) (old new : Layout V) (p : Coord) (tile : Cell V) → IsTrue (is_inside box p) → (IsCovered bits box level p → ⊥) → entry_over bits level old p ≡ Tile tile → tile ≢ cell
       → KeepsAllBut bits level old new p → MakesOnly bits (IsCut bits box cell) old new
   cut_made box cell level old new p tile inside partly tiled other but l q t at child = elim (level_cases l level) [
@@ -99,7 +99,7 @@ module _ {V : Type 0} (bits : Bits) where
             ((p, inside, sym e), λ covered. partly (covered_by_block bits box level q p (sym e) covered), λ is_cell. other (sym one ∙ is_cell))
       ]
 
-  -- ---- which keys come
+  -- ---- which keys are added
 
   pub keys_in_none : (box : Box) (old new : Layout V) → MakesNoKey old new → MakesKeysIn bits box old new
   keys_in_none box old new none k h = inl (none k h)
@@ -107,7 +107,7 @@ module _ {V : Type 0} (bits : Bits) where
   pub keys_in_twice : (box : Box) (old mid new : Layout V) → MakesKeysIn bits box old mid → MakesKeysIn bits box mid new → MakesKeysIn bits box old new
   keys_in_twice box old mid new a b k h = elim (b k h) [ inl held ↦ a k held | inr met ↦ inr met ]
 
-  -- the key of a root block that holds a coordinate of the box
+  -- the added key of an upper extent that holds a coordinate of the box
   pub keys_in_but : (box : Box) (old new : Layout V) (p : Coord) → IsTrue (is_inside box p) → ((k : Coord) → k ≢ key bits p → root_at new.root k ≡ root_at old.root k) → MakesKeysIn bits box old new
   keys_in_but box old new p inside table k h = elim (coord_cases k (key bits p)) [
     | inl e ↦ inr (p, inside, sym e)
@@ -122,7 +122,7 @@ module _ {V : Type 0} (bits : Bits) where
   ]
 
 module _ {V : Type 0} where
-  -- where the table stays but for a key that it has
+  -- if the table stays except under a key that it has, no key is added
   pub keys_but : (old new : Layout V) (j : Coord) → IsSome (root_at old.root j) → ((k : Coord) → k ≢ j → root_at new.root k ≡ root_at old.root k) → MakesNoKey old new
   keys_but old new j held table k h = elim (coord_cases k j) [
     | inl e ↦ subst (λ (i : Coord). IsSome (root_at old.root i)) (sym e) held

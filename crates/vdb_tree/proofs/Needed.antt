@@ -1,4 +1,4 @@
--- Which nodes and entries a tree must have, and which it has if it is least.
+-- Which nodes and entries a tree must have, and which a least tree has.
 use Rattle.std.proofs.Common.{◌≡◌, ◌⊎◌, inl, inr, ℕ, Bool, true, refl, ap, ◌∙◌, IsTrue}
 use Rattle.std.specs.Prelude.{Option, Some, None, IsSome}
 use Rattle.vdb_coord.specs.Blocks.{key}
@@ -18,12 +18,12 @@ use Rattle.vdb_tree.proofs.Blocks.{non_constant_block, non_constant_from, never,
 use Rattle.vdb_tree.proofs.Descents.{lower_by_block, root_by_block, tile_cell, tile_lower, tile_upper, upper_by_block}
 use Rattle.vdb_tree.proofs.Levels.{tile_or_child}
 
--- an option has a value or hasn't
+-- an option has a value or it has none
 pub some_or_none : {A : Type 0} (o : Option A) → ((x : A) × (o ≡ Some x)) ⊎ (o ≡ None)
 some_or_none (Some x) = inl (x, refl)
 some_or_none None = inr refl
 
--- the child of an entry that is one
+-- the child of an entry that is a child
 pub child_of : {V : Type 0} (e : Entry V) → IsTrue (is_child e) → (slot : ℕ) × (e ≡ Child slot)
 child_of (Child slot) h = (slot, refl)
 child_of (Tile c) h = cc
@@ -35,17 +35,17 @@ pub is_some_from : {A : Type 0} (o : Option A) (x : A) → o ≡ Some x → IsSo
 is_some_from o x h = rw h refl
 
 module _ {V : Type 0} (bits : Bits) (t : Layout V) where
-  -- over a block without an entry stands a tile
+  -- a block without an entry is covered by a tile
   pub absent_entry : (p : Coord) → root_at t.root (key bits p) ≡ None → root_entry bits t p ≡ Tile (background_cell t)
   absent_entry p none = rw none refl
 
-  -- a tile over a block means that it is constant
+  -- a block under a tile is constant
   pub tile_block : (level : Level) (p : Coord) (c : Cell V) → entry_over bits level t p ≡ Tile c → IsConstantBlock bits level t p c
   tile_block Upper p c h q e = tile_cell bits t c q (tile_lower bits t c q (tile_upper bits t c q (root_by_block bits t q p e ∙ h)))
   tile_block Lower p c h q e = tile_cell bits t c q (tile_lower bits t c q (upper_by_block bits t q p e ∙ h))
   tile_block Leaf p c h q e = tile_cell bits t c q (lower_by_block bits t q p e ∙ h)
 
-  -- an absent key, that it is the background
+  -- an upper extent with an absent key is all background
   pub absent_block : (p : Coord) → root_at t.root (key bits p) ≡ None → IsConstantBlock bits Upper t p (background_cell t)
   absent_block p none = tile_block Upper p (background_cell t) (absent_entry p none)
 

@@ -40,7 +40,7 @@ first_digit b n =
     more : (x : ℤ) → x ≡ x +ℤ pos 0
     more x = grind (arith, ints)
 
--- the corner of an entry of a lower node is the first coordinate of a leaf block
+-- the corner of an entry of a lower node is the first coordinate of a leaf extent
 pub corner_first : (bits : Bits) (p : Coord) (i : ℕ) → i < entries bits Lower → offset bits Leaf (corner bits Lower p i) ≡ 0
 corner_first bits p i small =
     let low = bits.leaf in
@@ -64,7 +64,7 @@ corner_first bits p i small =
 false_true : false ≡ true → ⊥
 false_true e = cc
 
--- an entry that is a child at one default is so at each
+-- an entry that is a child for one default is a child for each
 child_at_any : {V : Type 0} (xs : List (Entry V)) (i : ℕ) (c : Cell V) (s : ℕ) → slice_index_or xs i (Tile c) ≡ Child s → HasChild xs i
 child_at_any xs i c s h =
     elim (from_or_below (length xs) i) [
@@ -72,7 +72,7 @@ child_at_any xs i c s h =
       | inr within ↦ (s, λ d. get_or_default xs i d (Tile c) within ∙ h)
     ]
 
--- a child, by the test for one
+-- an entry that passes the test is a child
 slot_of : {V : Type 0} (e : Entry V) → IsTrue (is_child e) → (s : ℕ) × (e ≡ Child s)
 slot_of (Child s) h = (s, refl)
 slot_of (Tile c) h = absurd (false_true h)
@@ -80,7 +80,7 @@ slot_of (Tile c) h = absurd (false_true h)
 child_of : {V : Type 0} (e : Entry V) (s : ℕ) → e ≡ Child s → IsTrue (is_child e)
 child_of e s h = rw h refl
 
--- the entries of p's node of the level, whose children are asked for
+-- the children of the entries of p's node of the level
 module _ {V : Type 0} (bits : Bits) (level : Level) (f : Coord → Entry V) (p : Coord) (node : List (Entry V)) (tile : Cell V)
     (same : (q : Coord) → block_number bits level q ≡ block_number bits level p → f q ≡ slice_index_or node (offset bits level q) (Tile tile)) where
   has_child : (q : Coord) → block_number bits level q ≡ block_number bits level p → IsTrue (is_child (f q)) → HasChild node (offset bits level q)
@@ -91,7 +91,7 @@ module _ {V : Type 0} (bits : Bits) (level : Level) (f : Coord → Entry V) (p :
   below_count : (q : Coord) → offset bits level q < entry_count (node_bits bits level)
   below_count q = subst (λ (n : ℕ). offset bits level q < n) (entries_is bits level) (offset_below bits level q)
 
-  -- the next child stands over a coordinate, and each later one at no lesser offset
+  -- the next child lies over a coordinate, and each later one has no lower offset
   pub next_found : (from index : ℕ) → IsNextChildAt node (entry_count (node_bits bits level)) from index → (c : Coord) → c ≡ corner bits level p index
       → IsFrom bits level p from c × IsTrue (is_child (f c)) × ((q : Coord) → IsFrom bits level p from q → IsTrue (is_child (f q)) → offset bits level c ≤ offset bits level q)
   next_found from index next c e =
@@ -112,7 +112,7 @@ module _ {V : Type 0} (bits : Bits) (level : Level) (f : Coord → Entry V) (p :
   none_found from next q h child = next (offset bits level q) h.from_on (below_count q) (has_child q h.block child)
 
 module _ {V : Type 0} (bits : Bits) (t : Layout V) where
-  -- a leaf stands below a lower node, and that below an upper one
+  -- a leaf lies below a lower node, and a lower node below an upper one
   pub leaf_below_lower : (q : Coord) → IsTrue (in_leaf bits t q) → IsTrue (is_child (upper_entry bits t q))
   leaf_below_lower q h =
       elim (tile_or_child (upper_entry bits t q)) [
@@ -127,7 +127,7 @@ module _ {V : Type 0} (bits : Bits) (t : Layout V) where
         | inr e ↦ child_of (root_entry bits t q) e.0 e.1
       ]
 
-  -- none lies in a tile
+  -- no leaf lies in a tile
   pub no_leaf_in_root_tile : (p : Coord) (c : Cell V) → root_entry bits t p ≡ Tile c → (q : Coord) → block_number bits Upper q ≡ block_number bits Upper p → IsTrue (in_leaf bits t q) → ⊥
   no_leaf_in_root_tile p c e q b h =
       let k = leaf_below_upper q h in
@@ -140,9 +140,9 @@ module _ {V : Type 0} (bits : Bits) (t : Layout V) where
       let tile = upper_by_block bits t q p b ∙ e in
       false_true (rw tile at k)
 
-  -- ---- the answers
+  -- ---- answers of the calls
 
-  -- the next lower node of an upper one
+  -- the next lower node of an upper node
   pub next_lower_some : (p : Coord) (s from index : ℕ) (node : List (Entry V)) → root_entry bits t p ≡ Child s → node_at t.uppers s ≡ Some node
       → IsNextChildAt node (entry_count bits.upper) from index → (c : Coord) → IsTrue (is_inside everywhere c) → c ≡ corner bits Upper p index → IsNextLower bits t p from (Some c)
   next_lower_some p s from index node child was next c inside e =
@@ -170,7 +170,7 @@ module _ {V : Type 0} (bits : Bits) (t : Layout V) where
   next_leaf_none p s from node child was next =
       λ q corner h. none_found bits Lower (lower_entry bits t) p node (background_cell t) (lower_node_entry bits t p s node child was) from next q h corner.leaf
 
-  -- and none in a tile
+  -- no leaf is next in a tile
   pub no_leaf_root : (p : Coord) (from : ℕ) (c : Cell V) → root_entry bits t p ≡ Tile c → IsFirstLeaf bits t (IsFrom bits Lower p from) None
   no_leaf_root p from c e = λ q corner h. no_leaf_in_root_tile p c e q (upper_from_lower bits q p h.block) corner.leaf
 

@@ -23,13 +23,13 @@ use Rattle.vdb_tree.proofs.Seeking.{first_of_early, first_of_late}
 false_true : false ≡ true → ⊥
 false_true e = cc
 
--- the first leaf of a part is the first of the whole, if there is one
+-- the first leaf of the early part, if found, is the first of the whole
 pub found_early : {V : Type 0} (bits : Bits) (t : Layout V) (All Early Late : Coord → Type 0) → ((q : Coord) → IsLeafCorner bits t q → All q → Early q ⊎ Late q) → ((q : Coord) → Early q → All q)
     → ((p q : Coord) → Early p → Late q → is_lt (block_cmp bits q p) ≡ false) → (found : Option Coord) → is_some found ≡ true → IsFirstLeaf bits t Early found → IsFirstLeaf bits t All found
 found_early bits t All Early Late whole early before (Some p) h first = first_of_early bits t All Early Late whole p early before first
 found_early bits t All Early Late whole early before None h first = absurd (false_true h)
 
--- and there is none in the part where none is found
+-- a part in which no leaf is found has none
 pub none_early : {V : Type 0} (bits : Bits) (t : Layout V) (Early : Coord → Type 0) → (found : Option Coord) → is_some found ≡ false → IsFirstLeaf bits t Early found → IsFirstLeaf bits t Early None
 none_early bits t Early None h first = first
 none_early bits t Early (Some p) h first = absurd (false_true (sym h))
@@ -40,7 +40,7 @@ greater_or_same m n h = grind arith
 module _ {V : Type 0} (bits : Bits) (t : Layout V) where
   -- ---- an upper node
 
-  -- after some steps from an entry on: the leaves that are left begin at later ones
+  -- after some entries from one on: the leaves that are left begin at later entries
   pub record IsUpperPassed (p : Coord) (from next : ℕ) : Type 0 where
     pub start : from ≤ next
     pub left : (q : Coord) → IsLeafCorner bits t q → IsFrom bits Upper p from q → next ≤ offset bits Upper q
@@ -67,12 +67,12 @@ module _ {V : Type 0} (bits : Bits) (t : Layout V) where
         let k = l.from_on in
         not_after bits r q (inr (upper_from_lower bits r c h.block ∙ lower.1.block ∙ sym l.block, inl (omega (arith, o, k))))
 
-    -- a leaf of the next lower node is the first
+    -- a leaf of the next lower node is the first leaf
     pub upper_found : (found : Option Coord) → is_some found ≡ true → IsFirstLeaf bits t (IsFrom bits Lower c 0) found → IsFirstLeaf bits t (IsFrom bits Upper p from) found
     upper_found found h first =
         found_early bits t (IsFrom bits Upper p from) (IsFrom bits Lower c 0) (IsFrom bits Upper p (offset bits Upper c + 1)) upper_whole upper_early upper_before found h first
 
-    -- if it has none, it is passed
+    -- if the next lower node has no leaf, the walk passes it
     pub upper_next : (found : Option Coord) → is_some found ≡ false → IsFirstLeaf bits t (IsFrom bits Lower c 0) found → IsUpperPassed p from (offset bits Upper c + 1)
     upper_next found h first =
         let none = none_early bits t (IsFrom bits Lower c 0) found h first in
@@ -83,7 +83,7 @@ module _ {V : Type 0} (bits : Bits) (t : Layout V) where
           left = λ q corner h. elim (upper_whole q corner h) [ inl e ↦ absurd (none q corner e) | inr l ↦ l.from_on ];
         }
 
-  -- at the start
+  -- before the first entry
   pub upper_start : (p : Coord) (from : ℕ) → IsUpperPassed p from from
   upper_start p from = record { start = omega arith; left = λ q corner h. h.from_on }
 
@@ -94,7 +94,7 @@ module _ {V : Type 0} (bits : Bits) (t : Layout V) where
 
   -- ---- the table
 
-  -- after some keys: the leaves that are left lie under later ones
+  -- after some keys: the leaves that are left lie under later keys
   pub record IsTablePassed (after passed : Option Coord) : Type 0 where
     pub start : (k : Coord) → IsPast passed k → IsPast after k
     pub left : (q : Coord) → IsLeafCorner bits t q → IsPast after (key bits q) → IsPast passed (key bits q)
@@ -133,12 +133,12 @@ module _ {V : Type 0} (bits : Bits) (t : Layout V) where
     table_before : (r q : Coord) → IsFrom bits Upper c 0 r → IsKeyPast bits (Some k) q → is_lt (block_cmp bits q r) ≡ false
     table_before r q h l = not_after bits r q (inl (subst (λ (n : Coord). coord_cmp n (key bits q) ≡ Less) (sym (h.block ∙ at)) l))
 
-    -- a leaf under the next key is the first
+    -- a leaf under the next key is the first leaf
     pub table_found : (found : Option Coord) → is_some found ≡ true → IsFirstLeaf bits t (IsFrom bits Upper c 0) found → IsFirstLeaf bits t (IsKeyPast bits after) found
     table_found found h first =
         found_early bits t (IsKeyPast bits after) (IsFrom bits Upper c 0) (IsKeyPast bits (Some k)) table_whole table_early table_before found h first
 
-    -- if it has none, it is passed
+    -- if the next key has no leaf, the walk passes it
     pub table_next : (found : Option Coord) → is_some found ≡ false → IsFirstLeaf bits t (IsFrom bits Upper c 0) found → IsTablePassed after (Some k)
     table_next found h first =
         let none = none_early bits t (IsFrom bits Upper c 0) found h first in
@@ -170,7 +170,7 @@ module _ {V : Type 0} (bits : Bits) (t : Layout V) where
       (record { inside = first.0.inside; first = first.0.first; leaf = first.0.leaf; past = first.1 }, λ q h. first.2 q (record { inside = h.inside; first = h.first; leaf = h.leaf }) h.past)
   next_leaf_is after None first = λ q h. first q (record { inside = h.inside; first = h.first; leaf = h.leaf }) h.past
 
-  -- all leaves come past no coordinate
+  -- with no coordinate to be past, all leaves count
   pub all_leaves : (found : Option Coord) → IsFirstLeaf bits t (IsKeyPast bits None) found → IsNextLeaf bits t None found
   all_leaves (Some p) first =
       (record { inside = first.0.inside; first = first.0.first; leaf = first.0.leaf; past = refl }, λ q h. first.2 q (record { inside = h.inside; first = h.first; leaf = h.leaf }) tt)
@@ -189,7 +189,7 @@ module _ {V : Type 0} (bits : Bits) (t : Layout V) where
   below_same l m n e h = omega (arith, e, h)
 
   module _ (last : Coord) where
-    -- past it, in its lower block, in its upper block and under later keys
+    -- leaves past a coordinate: in its lower extent, in its upper extent and under later keys
     abbrev pub InLower : Coord → Type 0
     InLower q = IsFrom bits Lower last (offset bits Lower last + 1) q
 
@@ -235,7 +235,7 @@ module _ {V : Type 0} (bits : Bits) (t : Layout V) where
     upper_before_later : (p q : Coord) → InUpper p → InLater q → is_lt (block_cmp bits q p) ≡ false
     upper_before_later p q h l = not_after bits p q (inl (subst (λ (n : Coord). coord_cmp n (key bits q) ≡ Less) (sym h.block) l))
 
-    -- a leaf of its lower node is the next
+    -- a leaf of the coordinate's lower node is the next
     pub past_in_lower : (found : Option Coord) → is_some found ≡ true → IsFirstLeaf bits t InLower found → IsNextLeaf bits t (Some last) found
     past_in_lower found h first = next_leaf_is (Some last) found (found_early bits t InAll InLower InRest past_whole lower_in_all lower_before found h first)
 
@@ -243,11 +243,11 @@ module _ {V : Type 0} (bits : Bits) (t : Layout V) where
       past_in_rest : (found : Option Coord) → IsFirstLeaf bits t InRest found → IsNextLeaf bits t (Some last) found
       past_in_rest found first = next_leaf_is (Some last) found (first_of_late bits t InAll InLower InRest past_whole found rest_in_all (none_early bits t InLower lower no_lower of_lower) first)
 
-      -- or else one of its upper node
+      -- without one, a leaf of its upper node is the next
       pub past_in_upper : (found : Option Coord) → is_some found ≡ true → IsFirstLeaf bits t InUpper found → IsNextLeaf bits t (Some last) found
       past_in_upper found h first = past_in_rest found (found_early bits t InRest InUpper InLater (λ q corner r. r) (λ q u. inl u) upper_before_later found h first)
 
-      -- or else one under a later key
+      -- without either, a leaf under a later key is the next
       pub past_in_later : (upper : Option Coord) → is_some upper ≡ false → IsFirstLeaf bits t InUpper upper → (found : Option Coord) → IsFirstLeaf bits t InLater found → IsNextLeaf bits t (Some last) found
       past_in_later upper no_upper of_upper found first =
           past_in_rest found (first_of_late bits t InRest InUpper InLater (λ q corner r. r) found (λ q l. inr l) (none_early bits t InUpper upper no_upper of_upper) first)

@@ -1,4 +1,4 @@
--- Painting root block after root block, in the order of keys.
+-- Painting upper extent after upper extent, in the order of keys.
 use Rattle.std.proofs.Common.{◌≡◌, ◌≢◌, ◌⊎◌, inl, inr, false, refl, sym, ap, ◌∙◌, IsTrue}
 use Rattle.std.specs.Prelude.{Option, Some, None, IsSome}
 use Rattle.vdb_coord.specs.Blocks.{key}
@@ -30,7 +30,7 @@ use Rattle.vdb_tree.proofs.Passes.{descent_trans, head_same, head_trans}
 use Rattle.vdb_tree.proofs.RootSweeps.{apart, equal_left, past_or_not, same_keys}
 
 module _ {V : Type 0} (bits : Bits) (box : Box) (cell : Cell V) where
-  -- the box is painted up to this key, and the table past it stays
+  -- the box is painted up to this key, and the table past the key stays
   pub record PaintsRootsTo (old new : Layout V) (passed : Option Coord) : Type 0 where
     pub head : KeepsHead old new
     pub keys : (k : Coord) → IsSome (root_at old.root k) → IsSome (root_at new.root k)
@@ -49,13 +49,13 @@ module _ {V : Type 0} (bits : Bits) (box : Box) (cell : Cell V) where
     done = λ q inside h. absurd (h tt);
   }
 
-  -- the next key of the table, as the table was at first
+  -- the next key of the table is the one that it had at first
   pub next_at_first : (old mid : Layout V) (passed : Option Coord) (k : Coord) → PaintsRootsTo old mid passed → IsNextMet bits box mid.root passed (Some k) → IsNextMet bits box old.root passed (Some k)
   next_at_first old mid passed k paints next =
       (rw (← paints.ahead k next.1) next.0, next.1, λ j past met some. next.2 j past met (rw (paints.ahead j past) some))
 
   module _ (old : Layout V) (entered : (q : Coord) → IsTrue (is_inside box q) → (cell ≡ background_cell old) ⊎ IsSome (root_at old.root (key bits q))) where
-    -- a root block without an entry is painted, since the cell is the background
+    -- an upper extent without an entry is painted, because the cell is the background
     absent_painted : (t : Layout V) → KeepsHead old t → ((k : Coord) → IsSome (root_at old.root k) → IsSome (root_at t.root k)) → (q : Coord) → IsTrue (is_inside box q)
         → root_at t.root (key bits q) ≡ None → IsPainted bits box cell Upper t q
     absent_painted t head keys q inside none = elim (entered q inside) [
@@ -100,7 +100,7 @@ module _ {V : Type 0} (bits : Bits) (box : Box) (cell : Cell V) where
       pub roots_split : AreSplit bits box cell mid → AreSplit bits box cell new
       roots_split = split_after bits box cell Upper Upper mid new k outside painted
 
-    -- ---- where no key is left
+    -- ---- no key is left
 
     module _ (new : Layout V) (passed : Option Coord) (paints : PaintsRootsTo old new passed) (none : IsNextMet bits box new.root passed None) where
       all_painted : (q : Coord) → IsTrue (is_inside box q) → IsPainted bits box cell Upper new q
@@ -122,7 +122,7 @@ module _ {V : Type 0} (bits : Bits) (box : Box) (cell : Cell V) where
       painted_tiles Lower p covered = (all_painted p (covered_inside bits box Lower p p covered refl)).1.1 covered
       painted_tiles Upper p covered = (all_painted p (covered_inside bits box Upper p p covered refl)).1.2 covered
 
-      -- a tree split for a box and the same cell stays so
+      -- a tree split for a box and the same cell stays split
       pub painted_again : AreSplit bits box cell new → (other : Box) → IsSplit bits other cell old → IsSplit bits other cell new
       painted_again are other edges = record {
         tiles = λ level p inside tile e. elim (bool_cases (is_inside box p)) [

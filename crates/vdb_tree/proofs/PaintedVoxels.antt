@@ -18,7 +18,7 @@ use Rattle.vdb_tree.specs.internal.Paints.{IsRun, PaintsVoxels, voxels}
 use Rattle.vdb_tree.proofs.Pools.{below_or}
 use Rattle.vdb_tree.proofs.VoxelRuns.{in_run_of_offset, offset_in_run}
 
--- each coordinate is a block of its own
+-- for these bits each coordinate is a block of its own
 own_block : (p q : Coord) → block_number voxels Leaf p ≡ block_number voxels Leaf q → p ≡ q
 own_block p q e = sym (entry_number_leaf voxels p) ∙ e ∙ entry_number_leaf voxels q
 
@@ -27,7 +27,7 @@ own_block p q e = sym (entry_number_leaf voxels p) ∙ e ∙ entry_number_leaf v
 own_last : (x : ℤ) → last_of 0 (number_at 0 x) ≡ x
 own_last x = let e : number_at 0 x ≡ x = ap (λ (p : Coord). p.x) (entry_number_leaf voxels (coord x x x)) in rw e (grind (arith, ints))
 
--- a number behind another that has one above it
+-- the number after one that is below another fits
 pub bumped : (x m : ℤ) → SFits w32 x → SFits w32 m → lt_z (to_z w32 (of_z w32 x)) (to_z w32 (of_z w32 m)) ≡ true
     → (to_z w32 (of_z w32 (to_z w32 (of_z w32 x) +ℤ pos 1)) ≡ x +ℤ pos 1) × (x <ℤ m) × SFits w32 (x +ℤ pos 1)
 bumped x m fx fm h =
@@ -38,7 +38,7 @@ bumped x m fx fm h =
 pub covered : (x m : ℤ) → SFits w32 x → SFits w32 m → lt_z (to_z w32 (of_z w32 x)) (to_z w32 (of_z w32 m)) ≡ false → m ≤ℤ x
 covered x m fx fm h = let k = simp to_z-of_z at h in grind (arith, ints)
 
--- a number of 32 bits isn't past the greatest
+-- a number of 32 bits isn't above the greatest
 pub greatest : (x : ℤ) → SFits w32 x → x ≤ℤ pos 2147483647
 greatest x h = grind (arith, ints)
 
@@ -60,7 +60,7 @@ module _ (part : Box) (p : Coord) (inside : is_inside part p ≡ true) where
 
 -- ---- the walk
 
--- an index within a run of them, before it or past it
+-- an index lies within a run of indexes, before it or past it
 side : (from to i : ℕ) → (from ≤ i) × (i < to) ⊎ ((i < from) ⊎ (to ≤ i))
 side from to i = elim (below_or i from) [
   | inl less ↦ inr (inl less)
@@ -70,21 +70,21 @@ side from to i = elim (below_or i from) [
   ]
 ]
 
--- where each coordinate is a block of its own, blocks come one before another as coordinates do
+-- if each coordinate is a block of its own, blocks have the order of coordinates
 background_before : (a b : Coord) → IsBlockBefore voxels Leaf a b → IsBefore a b
 background_before a b h = let e = entry_number_leaf voxels a in let f = entry_number_leaf voxels b in subst (λ (t : Coord). IsBefore t b) e (subst (λ (t : Coord). IsBefore (block_number voxels Leaf a) t) f h)
 
 block_before : (a b : Coord) → IsBefore a b → IsBlockBefore voxels Leaf a b
 block_before a b h = let e = entry_number_leaf voxels a in let f = entry_number_leaf voxels b in subst (λ (t : Coord). IsBefore t (block_number voxels Leaf b)) (sym e) (subst (λ (t : Coord). IsBefore a t) (sym f) h)
 
--- what is passed by the last of a run doesn't come after it
+-- a coordinate up to the last of a run doesn't come after it
 not_after : (last q : Coord) → IsBlockBefore voxels Leaf q last ⊎ (block_number voxels Leaf q ≡ block_number voxels Leaf last) → IsBefore last q → ⊥
 not_after last q h past = elim h [
   | inl before ↦ before_not_past q last (background_before q last before) past
   | inr same ↦ before_not_same last q past (sym (own_block q last same))
 ]
 
--- what comes no later than a run is in it, or comes before it
+-- a coordinate up to the end of a run is in it, or comes before it
 run_or_before : (p q : Coord) → (IsBefore q p → ⊥) ⊎ IsBlockBefore voxels Leaf q p
 run_or_before p q = elim (which_before q p) [
   | inl before ↦ inr (block_before q p before)
@@ -95,7 +95,7 @@ run_or_before p q = elim (which_before q p) [
 ]
 
 module _ {V : Type 0} (bits : Bits) (part : Box) (cell : Cell V) where
-  -- painted before a coordinate of the part
+  -- the coordinates of the part before this one are painted
   pub record PaintsVoxelsTo (old new : LeafOf V) (p : Coord) : Type 0 where
     pub inside : IsTrue (is_inside part p)
     pub done : (q : Coord) → IsTrue (is_inside part q) → IsBlockBefore voxels Leaf q p → (d : Cell V) → cell_in d new (offset bits Leaf q) ≡ cell

@@ -20,7 +20,7 @@ use Rattle.vdb_tree.proofs.Levels.{coord_cases, tile_no_child}
 use Rattle.vdb_tree.proofs.Passes.{descent_trans, entry_by_block, head_same, head_trans, tile_gives}
 
 module _ {V : Type 0} (bits : Bits) (box : Box) where
-  -- ---- what lies outside
+  -- ---- what lies outside the painted block
 
   pub outside_itself : (level : Level) (t : Layout V) (n : Coord) → KeepsOutside bits box level t t n
   outside_itself level t n = record { head = head_same t; cells = λ q out. refl; entries = λ q out over. refl }
@@ -32,7 +32,7 @@ module _ {V : Type 0} (bits : Bits) (box : Box) where
     entries = λ q out. descent_trans bits old mid new q (a.entries q out) (b.entries q out);
   }
 
-  -- in a block of a block
+  -- a change that keeps what is outside the box's part of an inner block keeps what is outside its part of the outer one
   pub outside_wider : (outer inner : Level) (old new : Layout V) (n m : Coord) → ((q : Coord) → block_number bits inner q ≡ m → block_number bits outer q ≡ n)
       → KeepsOutside bits box inner old new m → KeepsOutside bits box outer old new n
   outside_wider outer inner old new n m up keeps = record {
@@ -41,7 +41,7 @@ module _ {V : Type 0} (bits : Bits) (box : Box) where
     entries = λ q out. keeps.entries q (λ inside same. out inside (up q same));
   }
 
-  -- a covered block filled with a cell
+  -- a covered block filled with a cell changes nothing outside
   pub filled_outside : (level : Level) (old new : Layout V) (p : Coord) (cell : Cell V) → IsCovered bits box level p → Fills bits level old new p cell
       → ((q : Coord) → block_number bits level q ≢ block_number bits level p → SameDescent bits old new q) → KeepsOutside bits box level old new (block_number bits level p)
   filled_outside level old new p cell covered fills others = record {
@@ -53,7 +53,7 @@ module _ {V : Type 0} (bits : Bits) (box : Box) where
   module _ (cell : Cell V) where
     -- ---- what is painted
 
-    -- a tile of the cell
+    -- a tile of the cell is painted
     pub tile_painted : (level : Level) (t : Layout V) (q : Coord) → entry_over bits level t q ≡ Tile cell → IsPainted bits box cell level t q
     tile_painted Leaf t q e = (tile_gives bits Leaf t q cell e, λ _. e)
     tile_painted Lower t q e = (tile_gives bits Lower t q cell e, (λ _. tile_lower bits t cell q e, λ _. e))
@@ -64,7 +64,7 @@ module _ {V : Type 0} (bits : Bits) (box : Box) where
     pub tiles_painted : (level : Level) (t : Layout V) (p : Coord) → entry_over bits level t p ≡ Tile cell → ArePainted bits box cell level level t (block_number bits level p)
     tiles_painted level t p e q inside same = tile_painted level t q (entry_by_block bits level t q p same ∙ e)
 
-    -- a tile that isn't covered is one of the cell
+    -- a tile that the box doesn't cover has the cell
     pub uncovered_tile : (level : Level) (t : Layout V) (p : Coord) (tile : Cell V) → AreSplit bits box cell t → IsTrue (is_inside box p) → (IsCovered bits box level p → ⊥)
         → entry_over bits level t p ≡ Tile tile → entry_over bits level t p ≡ Tile cell
     uncovered_tile level t p tile edges inside not e = elim (edges level p inside tile e) [
@@ -80,14 +80,14 @@ module _ {V : Type 0} (bits : Bits) (box : Box) where
     pub painted_moved : (level : Level) (old new : Layout V) (q : Coord) → cell_at bits new q ≡ cell_at bits old q → SameDescent bits old new q → IsPainted bits box cell level old q → IsPainted bits box cell level new q
     painted_moved level old new q at same h = (at ∙ h.0, tiles_moved level old new q same h.1)
 
-    -- where the block isn't covered, it need be no tile
+    -- if the box doesn't cover the block, the block need not be a tile
     pub uncovered_lower : (t : Layout V) (p : Coord) → (IsCovered bits box Lower p → ⊥) → ArePainted bits box cell Lower Leaf t (block_number bits Lower p) → ArePainted bits box cell Lower Lower t (block_number bits Lower p)
     uncovered_lower t p not painted q inside same = let h = painted q inside same in (h.0, (h.1, λ c. absurd (not (covered_by_block bits box Lower q p (sym same) c))))
 
     pub uncovered_upper : (t : Layout V) (p : Coord) → (IsCovered bits box Upper p → ⊥) → ArePainted bits box cell Upper Lower t (block_number bits Upper p) → ArePainted bits box cell Upper Upper t (block_number bits Upper p)
     uncovered_upper t p not painted q inside same = let h = painted q inside same in (h.0, (h.1.0, h.1.1, λ c. absurd (not (covered_by_block bits box Upper q p (sym same) c))))
 
-    -- where it is, it has no children
+    -- if the box covers the block, the block has no children
     pub lower_childless : (t : Layout V) (p : Coord) → IsCovered bits box Lower p → ArePainted bits box cell Lower Leaf t (block_number bits Lower p)
         → (q : Coord) (slot : ℕ) → block_number bits Lower q ≡ block_number bits Lower p → entry_over bits Leaf t q ≡ Child slot → ⊥
     lower_childless t p covered painted q slot same e =

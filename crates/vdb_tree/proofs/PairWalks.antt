@@ -36,7 +36,7 @@ false_true e = cc
 -- ---- the lower of two levels
 
 module _ (bits : Bits) where
-  -- its block lies in one block of each
+  -- the block of the lower level lies in one block of each level
   in_first : (l m : Level) (q p : Coord) → block_number bits (lower_level l m) q ≡ block_number bits (lower_level l m) p → block_number bits l q ≡ block_number bits l p
   in_first Leaf m q p e = e
   in_first Lower Leaf q p e = lower_from_leaf bits q p e
@@ -55,7 +55,7 @@ module _ (bits : Bits) where
   in_second Lower Upper q p e = upper_from_lower bits q p e
   in_second Upper m q p e = e
 
-  -- the blocks of the one level lie in those of the other
+  -- the blocks of one level lie in blocks of the other
   abbrev Nests : Level → Level → Type 0
   Nests l m = (q p : Coord) → block_number bits l q ≡ block_number bits l p → block_number bits m q ≡ block_number bits m p
 
@@ -66,21 +66,21 @@ module _ (bits : Bits) where
   nests_either Lower Upper = inl (λ q p e. upper_from_lower bits q p e)
   nests_either Upper m = inr (λ q p e. in_first Upper m q p e)
 
--- a leaf's level is the lower one
+-- if one of two levels is the leaf's, it is the lower one
 pub leaf_is_lower : (l m : Level) → (l ≡ Leaf) ⊎ (m ≡ Leaf) → lower_level l m ≡ Leaf
 leaf_is_lower l m (inl e) = ap (λ (k : Level). lower_level k m) e
 leaf_is_lower Leaf m (inr e) = refl
 leaf_is_lower Lower m (inr e) = ap (lower_level Lower) e
 leaf_is_lower Upper m (inr e) = e
 
--- a leaf block, around its least corner
+-- a leaf extent, around its least corner
 pub leaf_box : (bits : Bits) (level : Level) (p : Coord) (box : Box) → box ≡ block_around bits level p → level ≡ Leaf → box ≡ block_around bits Leaf box.min
 leaf_box bits level p box around leaf =
     let is : box ≡ block_around bits Leaf p = around ∙ ap (λ (l : Level). block_around bits l p) leaf in
     let number : block_number bits Leaf box.min ≡ block_number bits Leaf p = ap (λ (b : Box). block_number bits Leaf b.min) is ∙ number_of_corner bits Leaf (block_number bits Leaf p) in
     is ∙ ap (block bits Leaf) (sym number)
 
--- a block lies in one root block
+-- a block lies in one upper extent
 pub in_one_root : (bits : Bits) (level : Level) (p : Coord) (box : Box) → box ≡ block_around bits level p → (q r : Coord) → IsTrue (is_inside box q) → IsTrue (is_inside box r) → key bits q ≡ key bits r
 in_one_root bits level p box around q r first second = to_root q first ∙ sym (to_root r second)
   where
@@ -102,7 +102,7 @@ module _ (bits same_bits : Bits) (is : same_bits ≡ bits) (p q : Coord) (o : Or
   pub least_if_greater : o ≡ Greater → (r : Coord) → ComesBefore bits r q → ComesBefore bits r p × ComesBefore bits r q
   least_if_greater e r h = (comes_on bits r q p h (ap is_lt ((block_total bits).antisymm q p ∙ ap ordering_reverse (cmp ∙ e))), h)
 
--- what comes before the lesser is left after neither
+-- what comes before the lesser start is left after neither start
 pub lesser_gone : (bits : Bits) (a b : Option Coord) (p q n : Coord) → a ≡ Some p → b ≡ Some q → ((r : Coord) → ComesBefore bits r n → ComesBefore bits r p × ComesBefore bits r q)
     → (r : Coord) → is_left bits (Some n) r ≡ false → (is_left bits a r ≡ false) × (is_left bits b r ≡ false)
 lesser_gone bits a b p q n first second least r gone =
@@ -117,15 +117,15 @@ module _ {V : Type 0} (bits : Bits) (t : Layout V) (p : Coord) (level : Level) (
   in_tile : (q : Coord) → block_number bits (end_level bits t p) q ≡ block_number bits (end_level bits t p) p → block_number bits level q ≡ block_number bits level p
   in_tile q e = subst (λ (l : Level). block_number bits l q ≡ block_number bits l p) end.0 e
 
-  -- its tile's cell
+  -- the cell of the tree's tile around p
   pub tile_cells : (q : Coord) → IsTrue (is_inside everywhere q) × (block_number bits (end_level bits t p) q ≡ block_number bits (end_level bits t p) p) → (field_of bits t).cell q ≡ cell
   tile_cells q at = cell_inside t.background (cell_at bits t) q at.0 ∙ tile_block bits t level p q cell end.1 (in_tile q at.1)
 
-  -- the background, if that is the tile's
+  -- if the tile around p is the background, so are its cells
   pub tile_background : cell ≡ background_cell t → (q : Coord) → block_number bits (end_level bits t p) q ≡ block_number bits (end_level bits t p) p → IsSkipped bits Background t q
   tile_background same q e = background_skipped bits t level p cell end.1 same q (in_tile q e)
 
--- its leaf's cells
+-- the cells of the tree's leaf around p
 pub leaf_cells : {V : Type 0} (bits : Bits) (t : Layout V) (p : Coord) → end_level bits t p ≡ Leaf → (box : Box)
     → ((q : Coord) → IsTrue (is_inside box q) → IsTrue (is_inside everywhere q) × (block_number bits (end_level bits t p) q ≡ block_number bits (end_level bits t p) p))
     → (leaf : LeafOf V) → IsLeafAround bits (field_of bits t) p leaf → IsPartOfLeaf bits (field_of bits t) box leaf
@@ -137,14 +137,14 @@ leaf_cells bits t p ends box within leaf is =
 -- ---- starts
 
 module _ {V : Type 0} (bits : Bits) (t u : Layout V) where
-  -- pairs have one level all over the block of one
+  -- all coordinates of a pair's block have one pair level
   same_pair : (p n : Coord) → block_number bits (pair_level bits t u p) n ≡ block_number bits (pair_level bits t u p) p → pair_level bits t u n ≡ pair_level bits t u p
   same_pair p n e =
       let first = same_end bits t p n (in_first bits (end_level bits t p) (end_level bits u p) n p e) in
       let second = same_end bits u p n (in_second bits (end_level bits t p) (end_level bits u p) n p e) in
       ap (λ (l : Level). lower_level l (end_level bits u n)) first ∙ ap (lower_level (end_level bits t p)) second
 
-  -- a start of one of the trees is a start of a pair
+  -- a start of one tree is a start of a pair
   first_start : (n : Coord) → IsStart bits t everywhere n → IsPairStart bits t u n
   first_start n start = record {
     inside = start.inside;
@@ -157,7 +157,7 @@ module _ {V : Type 0} (bits : Bits) (t u : Layout V) where
     first = λ q i b e. start.first q i b (in_second bits (end_level bits t n) (end_level bits u n) q n e);
   }
 
-  -- and so is the first coordinate past the block of a pair
+  -- the first coordinate past the block of a pair is a start of a pair
   module _ (p n : Coord) (here : IsTrue (is_inside everywhere p)) (found : IsFirstPast bits (pair_level bits t u p) everywhere p n) where
     abbrev At : Level → Coord → Coord → Type 0
     At level q r = block_number bits level q ≡ block_number bits level r
@@ -193,7 +193,7 @@ module _ {V : Type 0} (bits : Bits) (t u : Layout V) where
   next_start p here level is None h = tt
   next_start p here level is (Some n) h = past_start p n here (subst (λ (l : Level). IsFirstPast bits l everywhere p n) is h)
 
-  -- and the first coordinate of all
+  -- the first coordinate of all is a start of a pair
   pub least_start : (n : Coord) (all : Box) → n ≡ all.min → all ≡ everywhere → IsPairStart bits t u n
   least_start n all corner is =
       let at : n ≡ everywhere.min = corner ∙ ap (λ (b : Box). b.min) is in
@@ -212,7 +212,7 @@ module _ {V : Type 0} (bits : Bits) (t u : Layout V) where
     pub is : level ≡ pair_level bits t u p
     pub around : box ≡ block_around bits level p
 
-  -- by the two ends of the descents
+  -- the level of a pair, by the two ends of the descents
   pub pair_level_is : (p : Coord) (l m level : Level) → l ≡ end_level bits t p → m ≡ end_level bits u p → level ≡ lower_level l m → level ≡ pair_level bits t u p
   pair_level_is p l m level first second lower = lower ∙ ap (λ (k : Level). lower_level k m) first ∙ ap (lower_level (end_level bits t p)) second
 
@@ -225,7 +225,7 @@ module _ {V : Type 0} (bits : Bits) (t u : Layout V) where
   around_walk old p at walk few level is box around =
       record { few = few; here = (subst (λ (o : Option Coord). IfSome o (IsPairStart bits t u)) at walk.start).inside; is = is; around = around }
 
-  -- it lies in one block of each tree
+  -- the block of a pair lies in one block of each tree
   module _ (p : Coord) (level : Level) (box : Box) (block_is : IsAround p level box) where
     numbers_in : (q : Coord) → IsTrue (is_inside box q) → block_number bits level q ≡ block_number bits level p
     numbers_in q i = number_in_block bits level (block_number bits level p) q (subst (λ (b : Box). IsTrue (is_inside b q)) block_is.around i)
@@ -305,7 +305,7 @@ module _ {V : Type 0} (bits : Bits) (t u : Layout V) where
     past_between v level None h q i gone = h q i
     past_between v level (Some n) h q i gone = h.between q i (before_not_left bits n q gone)
 
-    -- a tree has the background over what was left and comes before its next start
+    -- a tree has the background over what was left and comes before the tree's next start
     past_skipped : (v : Layout V) → IsBackgroundOver p v → (next : Option Coord) → IsStartAfter bits v everywhere Background (end_level bits v p) p next
         → (q : Coord) → IsTrue (is_inside everywhere q) → IsTrue (is_left bits old.at q) → is_left bits next q ≡ false → IsSkipped bits Background v q
     past_skipped v over next after q i l gone = elim (past_between v (end_level bits v p) next after q i gone) [
@@ -321,7 +321,7 @@ module _ {V : Type 0} (bits : Bits) (t u : Layout V) where
         | inr e ↦ past_later u (end_level bits u p) b also q (subst (λ (o : Option Coord). IsTrue (is_left bits o q)) e l)
       ]
 
-      -- the walk passes over what comes before both starts
+      -- the walk passes over what comes before both next starts
       passes : IsBackgroundOver p t → IsBackgroundOver p u → ((q : Coord) → is_left bits new.at q ≡ false → (is_left bits a q ≡ false) × (is_left bits b q ≡ false))
           → PassesPairs bits t u old new (λ q. false)
       passes over also_over least = record {
@@ -347,7 +347,7 @@ module _ {V : Type 0} (bits : Bits) (t u : Layout V) where
         subst (λ (o : Option Coord). left_count bits o < left_count bits old.at) (sym there)
         (subst (λ (o : Option Coord). left_count bits next < left_count bits o) (sym at) (step_nearer bits t p next h))
 
-    -- past a pair
+    -- the walk goes on past a pair
     module _ (level : Level) (box : Box) (block_is : IsAround p level box) (found : IsNextCoord bits level everywhere p next) where
       pub walk_past : IsPairWalk bits t u new
       walk_past = walk_goes (next_start p start_of_walk.inside level block_is.is next found)
@@ -355,7 +355,7 @@ module _ {V : Type 0} (bits : Bits) (t u : Layout V) where
       pub step_yields : YieldsPair bits t u old new box
       step_yields = yields old new p at start_of_walk block_is.few level block_is.is box block_is.around (subst (IsNextCoord bits level everywhere p) (sym there) found)
 
-    -- to the lesser of the next starts of the trees, past the background
+    -- the walk goes on past the background, to the lesser of the trees' next starts
     module _ (a b : Option Coord) (after : IsStartAfter bits t everywhere Background (end_level bits t p) p a) (also : IsStartAfter bits u everywhere Background (end_level bits u p) p b)
         (one : (next ≡ a) ⊎ (next ≡ b)) where
       pub walk_on : IsPairWalk bits t u new
@@ -370,7 +370,7 @@ module _ {V : Type 0} (bits : Bits) (t u : Layout V) where
           passes old new p at start_of_walk a b after also (elim one [ inl e ↦ inl (there ∙ e) | inr e ↦ inr (there ∙ e) ]) over also_over
           (λ q gone. least q (subst (λ (o : Option Coord). is_left bits o q ≡ false) there gone))
 
-  -- by where a walk is, and not by its paths
+  -- a step depends on where a walk is, not on its paths
   pub passes_from : (old mid new : TreePairWalk V) → mid.at ≡ old.at → (but : Coord → Bool) → PassesPairs bits t u mid new but → PassesPairs bits t u old new but
   passes_from old mid new same but more = record {
     later = λ q l. subst (λ (o : Option Coord). IsTrue (is_left bits o q)) same (more.later q l);
@@ -385,7 +385,7 @@ module _ {V : Type 0} (bits : Bits) (t u : Layout V) where
     gone = more.gone;
   }
 
-  -- ---- steps in turn
+  -- ---- steps one after another
 
   module _ (a b c : TreePairWalk V) (first : PassesPairs bits t u a b (λ q. false)) where
     pub passes_on : (but : Coord → Bool) → PassesPairs bits t u b c but → PassesPairs bits t u a c but
@@ -412,6 +412,6 @@ module _ {V : Type 0} (bits : Bits) (t u : Layout V) where
   some_on bounds_of a b c first None h = tt
   some_on bounds_of a b c first (Some pair) h = yields_on a b c first (bounds_of pair) h
 
-  -- a walk at its start
+  -- a walk at its start has passed nothing
   pub passes_none : (a : TreePairWalk V) → PassesPairs bits t u a a (λ q. false)
   passes_none a = record { later = λ q l. l; passed = λ q i l gone out. absurd (false_true (sym gone ∙ l)) }

@@ -1,4 +1,4 @@
--- Walks over the parts of a tree that begin at a coordinate: the start around it.
+-- Walks over the parts of a tree that begin at the part around a coordinate.
 use Rattle.std.proofs.Common.{◌≡◌, inl, inr, Bool, true, false, ap, refl, subst, sym, ◌∙◌}
 use Rattle.std.specs.Prelude.{not, Some, IsTrue}
 use Rattle.std.specs.Ordering.{is_lt}
@@ -25,7 +25,7 @@ gone_before bits p q h = by (is_lt (block_cmp bits q p)) h
     by true h = refl
     by false h = cc
 
--- the blocks of each level lie in root blocks
+-- the blocks of each level lie in upper extents
 pub in_upper : (bits : Bits) (level : Level) (q n : Coord) → block_number bits level q ≡ block_number bits level n → block_number bits Upper q ≡ block_number bits Upper n
 in_upper bits Upper q n e = e
 in_upper bits Lower q n e = upper_from_lower bits q n e
@@ -36,7 +36,7 @@ module _ {V : Type 0} (bits : Bits) (t : Layout V) where
   in_lower (Tile c) n p e = e
   in_lower (Child s) n p e = lower_from_leaf bits n p e
 
-  -- descents end alike all over the block where one ends
+  -- descents end in the same tile or leaf all over the block where one ends
   pub same_end : (p n : Coord) → block_number bits (end_level bits t p) n ≡ block_number bits (end_level bits t p) p → end_level bits t n ≡ end_level bits t p
   same_end p n e =
       let root : root_entry bits t n ≡ root_entry bits t p = root_by_block bits t n p (in_upper bits (end_level bits t p) n p e) in
@@ -61,7 +61,7 @@ module _ {V : Type 0} (bits : Bits) (t : Layout V) where
           first = λ q i b e. not_before_min bits part q (all q i (subst (λ (l : Level). block_number bits l q ≡ block_number bits l part.min) same e ∙ at.1)) b;
         }
 
-    -- what comes before it comes before p
+    -- what comes before the part's least corner comes before p
     pub before_start : IsTrue (is_inside box p) → (q : Coord) → ComesBefore bits q part.min → ComesBefore bits q p
     before_start here q b =
         let i : IsTrue (is_inside part p) = all p here refl in

@@ -46,7 +46,7 @@ at_least k l h = by (coord_cmp k l) refl
     by Equal e = inl (sym (key_equal k l e))
     by Greater e = absurd (false_true (sym h ∙ ap is_gt e))
 
--- of two keys one comes first, or they are one
+-- of two keys one comes first, or they are equal
 key_ways : (k l : Coord) → (coord_cmp k l ≡ Less) ⊎ ((k ≡ l) ⊎ (coord_cmp l k ≡ Less))
 key_ways k l = by (coord_cmp k l) refl
   where
@@ -58,7 +58,7 @@ key_ways k l = by (coord_cmp k l) refl
 -- ---- what is left
 
 module _ (bits : Bits) where
-  -- what comes before the start isn't left, and the other way round
+  -- a coordinate is left if and only if it doesn't come before the start
   pub left_not_before : (p q : Coord) → IsTrue (is_left bits (Some p) q) → ComesBefore bits q p → ⊥
   left_not_before p q h b = let e : is_lt (block_cmp bits q p) ≡ true = b in false_true (rw e at h)
 
@@ -172,7 +172,7 @@ module _ {V : Type 0} (bits : Bits) (t : Layout V) where
         between = λ q i b. jump_last none q i (h.between q i b);
       }
 
-  -- past a leaf block in a lower node, and past a lower block in an upper node
+  -- the next start past a leaf extent in a lower node, and past a lower extent in an upper node
   pub leaf_found : (box : Box) (skip : Skip) (p : Coord) → end_level bits t p ≡ Leaf → (n : Coord) → IsJumpAt bits t skip box Lower Leaf p n → IsStartAfter bits t box skip Leaf p (Some n)
   leaf_found box skip p node n found = jump_found box Lower Leaf skip p n found (ends_in_leaf p n node found.outer_block)
 
@@ -185,13 +185,13 @@ module _ {V : Type 0} (bits : Bits) (t : Layout V) where
   pub lower_none : (box : Box) (skip : Skip) (p : Coord) → IsLast bits t skip box Upper Lower p → (found : Option Coord) → IsStartAfter bits t box skip Upper p found → IsStartAfter bits t box skip Lower p found
   lower_none box skip p = jump_outer box Upper Lower skip p (upper_from_lower bits)
 
-  -- a leaf isn't an upper tile
+  -- the end level of a leaf isn't upper
   pub leaf_below : (p : Coord) → end_level bits t p ≡ Leaf → end_level bits t p ≡ Upper → ⊥
   leaf_below p e u = leaf_not_upper (sym e ∙ u)
 
   -- ---- under later keys
 
-  -- an absent root block is the background, inactive
+  -- an absent upper extent is the inactive background
   absent_cell : (q : Coord) → root_at t.root (key bits q) ≡ None → cell_at bits t q ≡ background_cell t
   absent_cell q none =
       let tile : root_entry bits t q ≡ Tile (background_cell t) = rw none refl in
@@ -213,7 +213,7 @@ module _ {V : Type 0} (bits : Bits) (t : Layout V) where
   some_or_none (Some x) = inl refl
   some_or_none None = inr refl
 
-  -- the keys past p's up to one have no entry where the box meets them
+  -- no key past p's, up to one, has an entry and meets the box
   pub record IsKeysPassed (box : Box) (p passed : Coord) : Type 0 where
     pub start : (k : Coord) → coord_cmp passed k ≡ Less → coord_cmp (key bits p) k ≡ Less
     pub absent : (q : Coord) → IsTrue (is_inside box q) → coord_cmp (key bits p) (key bits q) ≡ Less → (coord_cmp passed (key bits q) ≡ Less) ⊎ (root_at t.root (key bits q) ≡ None)
@@ -279,11 +279,11 @@ module _ {V : Type 0} (bits : Bits) (t : Layout V) where
     ]
   ]
 
-  -- the keys of a box come no later than that of its greatest corner
+  -- the keys of a box come no later than the key of its greatest corner
   not_past_last : (box : Box) (q : Coord) → IsTrue (is_inside box q) → coord_cmp (key bits box.max) (key bits q) ≡ Less → ⊥
   not_past_last box q i h = not_past_max bits box q i (from_key bits box.max q h)
 
-  -- the next key comes past them
+  -- the next key comes past the keys of the box
   pub keys_stop : (box : Box) (p passed : Coord) → IsKeysPassed box p passed → (k : Coord) → IsNextKey t.root (Some passed) (Some k) → coord_cmp (key bits box.max) k ≡ Less
       → (skip : Skip) → IsStartAfter bits t box skip Upper p None
   keys_stop box p passed done k next past skip q i = elim (key_ways (key bits q) (key bits p)) [
@@ -302,7 +302,7 @@ module _ {V : Type 0} (bits : Bits) (t : Layout V) where
 
   -- ---- the part around a start
 
-  -- a tile of the background, inactive, may be passed over
+  -- a walk may pass over a tile of the inactive background
   pub background_skipped : (level : Level) (p : Coord) (cell : Cell V) → entry_over bits level t p ≡ Tile cell → cell ≡ background_cell t
       → (q : Coord) → block_number bits level q ≡ block_number bits level p → IsSkipped bits Background t q
   background_skipped level p cell tile same q e = either_way (is_inside everywhere q) (cell_at bits t q) (background_cell t) (tile_block bits t level p q cell tile e ∙ same)
@@ -311,20 +311,20 @@ module _ {V : Type 0} (bits : Bits) (t : Layout V) where
   on_either true x y h k = h
   on_either false x y h k = k
 
-  -- and so may an inactive one
+  -- a walk may pass over an inactive tile
   pub inactive_skipped : (level : Level) (p : Coord) (cell : Cell V) → entry_over bits level t p ≡ Tile cell → cell.on ≡ false
       → (q : Coord) → block_number bits level q ≡ block_number bits level p → IsSkipped bits Inactive t q
   inactive_skipped level p cell tile inactive q e =
       on_either (is_inside everywhere q) (cell_at bits t q) (background_cell t) (ap (λ (c : Cell V). c.on) (tile_block bits t level p q cell tile e) ∙ inactive) refl
 
-  -- and so may a root block without an entry
+  -- a walk may pass over an upper extent without an entry
   pub none_skipped : (level : Level) (p : Coord) → level ≡ Upper → root_at t.root (key bits p) ≡ None
       → (q : Coord) → block_number bits level q ≡ block_number bits level p → IsSkipped bits Absent t q
   none_skipped level p top none q e =
       let same : key bits q ≡ key bits p = subst (λ (l : Level). block_number bits l q ≡ block_number bits l p) top e in
       ap (root_at t.root) same ∙ none
 
-  -- what the box has of a block, by two clauses
+  -- what the box has of a block, by two clauses of a contract
   pub part_is : (box part : Box) (level : Level) (p : Coord) → end_level bits t p ≡ level
       → ((q : Coord) → IsTrue (is_inside part q) → IsTrue (is_inside box q) × (block_number bits level q ≡ block_number bits level p))
       → ((q : Coord) → IsTrue (is_inside box q) → block_number bits level q ≡ block_number bits level p → IsTrue (is_inside part q)) → IsPartAround bits t box p part
@@ -343,7 +343,7 @@ module _ {V : Type 0} (bits : Bits) (t : Layout V) where
 
   -- ---- a step of a walk
 
-  -- the walk went from the start p to the one past the part around it
+  -- the walk went from the start p to the start past the part around it
   pub record IsStep (old new : TreeWalk V) (p : Coord) : Type 0 where
     pub at : old.at ≡ Some p
     pub same_box : new.box ≡ old.box
@@ -367,7 +367,7 @@ module _ {V : Type 0} (bits : Bits) (t : Layout V) where
         (subst (λ (x : Box). IsStartAfter bits t x skip (end_level bits t p) p next) boxes after));
   }
 
-  -- it stands at a start of its box again
+  -- after a step the walk is at a start of its box again
   pub walk_goes : (mid new : TreeWalk V) (box : Box) (skip : Skip) (level : Level) (p : Coord) (next : Option Coord) → IsWalk bits t mid → box ≡ mid.box → IsStartAfter bits t box skip level p next
       → new ≡ record mid { at = next } → IsWalk bits t new
   walk_goes mid new box skip level p next walk box_is after went = rw went (record {
@@ -416,7 +416,7 @@ module _ {V : Type 0} (bits : Bits) (t : Layout V) where
     step_gone None h q i e = refl
     step_gone (Some n) h q i e = gone_if_before bits n q (h.past q i e)
 
-    -- what was left and isn't any more lies where the descent to p ends, or was passed over
+    -- what was left and isn't any more lies in the block where the descent to p ends, or was passed over
     step_passed : (q : Coord) → IsTrue (is_inside old.box q) → IsTrue (is_left bits old.at q) → is_left bits new.at q ≡ false → Ends q ⊎ IsSkipped bits old.skip t q
     step_passed q i l gone = elim (step_between new.at after q i gone) [
       | inl u ↦ elim u [ inl b ↦ absurd (was_left q l b) | inr e ↦ inl e ]
@@ -459,7 +459,7 @@ module _ {V : Type 0} (bits : Bits) (t : Layout V) where
         gone = λ q i. step_gone new.at after q (in_part q i).0 (in_part q i).1;
       }
 
-  -- by what was found around the start
+  -- a step yields what was found around the start
   pub some_yields : {P : Type 0} (bounds_of : P → Box) (old new : TreeWalk V) (p : Coord) → IsStep old new p → (box : Box) → box ≡ old.box → (found : Option P)
       → IfSome found (λ part. IsPartAround bits t box p (bounds_of part)) → IfSome found (λ part. YieldsBox bits t old new (bounds_of part))
   some_yields bounds_of old new p step box same None h = tt
@@ -472,12 +472,12 @@ module _ {V : Type 0} (bits : Bits) (t : Layout V) where
       step_skips old new p step (λ q i e. subst (λ (k : Skip). IsSkipped bits k t q) also (h q (subst (λ (b : Box). IsTrue (is_inside b q)) (sym same) i) e))
   none_passes old new p step box same skip also (Some part) h = tt
 
-  -- fewer coordinates are left
+  -- a step leaves fewer coordinates
   pub step_nearer : (p : Coord) (next : Option Coord) → IfSome next (λ n. coordinates_past bits n < coordinates_past bits p) → left_count bits next < left_count bits (Some p)
   step_nearer p None h = omega arith
   step_nearer p (Some n) h = omega (arith, h)
 
-  -- ---- steps in turn
+  -- ---- steps one after another
 
   module _ (a b c : TreeWalk V) (first : Passes bits t a b (λ q. false)) where
     pub passes_on : (but : Coord → Bool) → Passes bits t b c but → Passes bits t a c but
@@ -504,11 +504,11 @@ module _ {V : Type 0} (bits : Bits) (t : Layout V) where
   some_on bounds_of a b c first None h = tt
   some_on bounds_of a b c first (Some part) h = yields_on a b c first (bounds_of part) h
 
-  -- a walk at its start
+  -- a walk at its start has passed nothing
   pub passes_none : (a : TreeWalk V) → Passes bits t a a (λ q. false)
   passes_none a = record { box = refl; skip = refl; later = λ q l. l; passed = λ q i l gone out. absurd (false_true (sym gone ∙ l)) }
 
--- where none is found under a key, no coordinate of the box lies there
+-- if nothing is found under a key, no coordinate of the box lies there
 pub none_under : (bits : Bits) (box : Box) (k : Coord) (found : Option Coord) → is_some found ≡ false → IfNone found ((q : Coord) → IsTrue (is_inside box q) → key bits q ≡ k → ⊥)
     → (q : Coord) → IsTrue (is_inside box q) → key bits q ≡ k → ⊥
 none_under bits box k None h none = none
@@ -519,7 +519,7 @@ pub start_nearer : {V : Type 0} (bits : Bits) (t : Layout V) (box : Box) (skip :
     → IsStartAfter bits t box skip level p (Some n) → coordinates_past bits n < coordinates_past bits p
 start_nearer bits t box skip level p n here there after = fewer_past bits p n there (after.past p here refl)
 
--- what holds where none was found
+-- a fact that holds if nothing was found
 pub if_none : {P : Type 0} {Q : Type 0} (found : Option P) → is_some found ≡ false → IfNone found Q → Q
 if_none None h k = k
 if_none (Some x) h k = absurd (false_true (sym h))

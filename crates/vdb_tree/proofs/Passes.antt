@@ -43,7 +43,7 @@ module _ {V : Type 0} (bits : Bits) where
   pub keeps_trans : (old mid new : Layout V) → Keeps bits old mid → Keeps bits mid new → Keeps bits old new
   keeps_trans old mid new a b = record { head = head_trans old mid new a.head b.head; cells = λ q. b.cells q ∙ a.cells q }
 
-  -- a block filled with the cell that it has all over keeps every cell
+  -- filling a block with the cell that it has all over keeps every cell
   pub fills_keeps : (level : Level) (old new : Layout V) (p : Coord) (c : Cell V) → Fills bits level old new p c → IsConstantBlock bits level old p c → Keeps bits old new
   fills_keeps level old new p c fills const = record {
     head = fills.head;
@@ -54,7 +54,7 @@ module _ {V : Type 0} (bits : Bits) where
         ];
   }
 
-  -- where the table stays, so do its entries, and where the upper nodes do, theirs
+  -- if the table stays, its entries stay; if the upper nodes stay, too, so do their entries
   pub root_entry_same : (old new : Layout V) → KeepsHead old new → new.root ≡ old.root → (q : Coord) → root_entry bits new q ≡ root_entry bits old q
   root_entry_same old new head root q = rw (head.background, root) refl
 
@@ -72,9 +72,9 @@ module _ {V : Type 0} (bits : Bits) where
   pub leaf_descent : (old new : Layout V) → KeepsUppers old new → (q : Coord) → lower_entry bits new q ≡ lower_entry bits old q → SameDescent bits old new q
   leaf_descent old new k q lower = descent_by old new q (root_entry_same old new k.head k.root q) (upper_entry_same old new k q) lower
 
-  -- ---- what is needed
+  -- ---- needed nodes
 
-  -- a tile is needed
+  -- a block under a tile has no unneeded node of that level
   pub tile_needed : (level : Level) (t : Layout V) (q : Coord) (c : Cell V) → entry_over bits level t q ≡ Tile c → IsNeeded bits level t q
   tile_needed level t q c e slot f = absurd (tile_no_child {V = V} c slot (sym e ∙ f))
 
@@ -87,7 +87,7 @@ module _ {V : Type 0} (bits : Bits) where
   needed_to_moved Upper old new q keeps same h =
       (needed_moved Leaf old new q keeps same h.0, needed_moved Lower old new q keeps same h.1, needed_moved Upper old new q keeps same h.2)
 
-  -- so are those below a tile
+  -- blocks below a tile have no unneeded nodes
   pub below_tile_needed : (level : Level) (t : Layout V) (q : Coord) (c : Cell V) → entry_over bits level t q ≡ Tile c → IsNeededTo bits level t q
   below_tile_needed Leaf t q c e = tile_needed Leaf t q c e
   below_tile_needed Lower t q c e = (tile_needed Leaf t q c (tile_lower bits t c q e), tile_needed Lower t q c e)
@@ -115,7 +115,7 @@ module _ {V : Type 0} (bits : Bits) where
 
   -- ---- tiles and cells
 
-  -- the cell of a tile is that of each coordinate in it
+  -- each coordinate in a tile has the tile's cell
   pub tile_gives : (level : Level) (t : Layout V) (q : Coord) (c : Cell V) → entry_over bits level t q ≡ Tile c → cell_at bits t q ≡ c
   tile_gives Leaf t q c e = tile_cell bits t c q e
   tile_gives Lower t q c e = tile_cell bits t c q (tile_lower bits t c q e)
@@ -132,7 +132,7 @@ module _ {V : Type 0} (bits : Bits) where
   childless_if outer entry p (Some c) iff = tiles_childless outer entry p c ((iff c).0 refl)
   childless_if outer entry p None iff = tt
 
-  -- where each node of the inner level is needed, a constant block of the outer has tiles alone
+  -- if each node of the inner level is needed, a constant block of the outer level has only tiles
   pub tiles_of_constant : (inner outer : Level) (t : Layout V) (p : Coord) (c : Cell V)
       → ((q r : Coord) → block_number bits inner q ≡ block_number bits inner r → block_number bits outer q ≡ block_number bits outer r)
       → ((q : Coord) → block_number bits outer q ≡ block_number bits outer p → IsNeeded bits inner t q) → IsConstantBlock bits outer t p c → IsTiled bits outer (entry_over bits inner t) p c
@@ -164,7 +164,7 @@ module _ {V : Type 0} (bits : Bits) where
           ];
     }
 
-    -- nothing is done yet
+    -- before the first child, a pass has done nothing
     pub passes_none : (t : Layout V) → PassesTo bits level inner t t p 0 0
     passes_none t = record {
       keeps = keeps_same t;
@@ -173,7 +173,7 @@ module _ {V : Type 0} (bits : Bits) where
       done = λ q b more less. absurd (never (offset bits level q) less);
     }
 
-    -- the last entries are no children
+    -- if the remaining entries aren't children, the pass is complete
     pub passes_end : (t : Layout V) (from : ℕ) → IsChildless bits level (entry_over bits inner t) p from (entries bits level) → PassesTo bits level inner t t p from (entries bits level)
     passes_end t from none = record {
       keeps = keeps_same t;
@@ -189,7 +189,7 @@ module _ {V : Type 0} (bits : Bits) where
     pub at_corner : (entry : Coord → Entry V) (from index : ℕ) (c d : Coord) → IsNextCornerAt bits level entry p from index c → d ≡ c → IsNextCornerAt bits level entry p from index d
     at_corner entry from index c d next e = record { within = next.within; from_on = next.from_on; at = e ∙ next.at; child = (next.child.0, ap entry e ∙ next.child.1); before = next.before }
 
-    -- one child is done
+    -- a pass goes on by one child
     pub passes_step : (old new : Layout V) (from index : ℕ) (c : Coord) → IsNextCornerAt bits level (entry_over bits inner old) p from index c → Keeps bits old new
         → ((q : Coord) → entry_number bits level q ≢ entry_number bits level c → SameDescent bits old new q)
         → ((q : Coord) → entry_number bits level q ≡ entry_number bits level c → IsNeededTo bits inner new q) → PassesTo bits level inner old new p from (index + 1)

@@ -23,7 +23,7 @@ child_as : {V N : Type 0} (pool : Contents N) (e d : Entry V) (place : Place N) 
 child_as pool e d place same h = record { live = h.live; child = sym same ∙ h.child }
 
 module _ {V : Type 0} (bits : Bits) (t : Layout V) (q p : Coord) where
-  -- in one block of a level the nodes down to that level are shared
+  -- coordinates in one block of a level share the nodes down to that level
   upper_child : (u : Place (List (Entry V))) → block_number bits Upper q ≡ block_number bits Upper p → IsChildAt t.uppers (root_entry bits t q) u → IsChildAt t.uppers (root_entry bits t p) u
   upper_child u e h = child_as t.uppers (root_entry bits t q) (root_entry bits t p) u (root_by_block bits t q p e) h
 
@@ -33,7 +33,7 @@ module _ {V : Type 0} (bits : Bits) (t : Layout V) (q p : Coord) where
   leaf_child : (f : Place (LeafOf V)) → block_number bits Leaf q ≡ block_number bits Leaf p → IsChildAt t.leaves (lower_entry bits t q) f → IsChildAt t.leaves (lower_entry bits t p) f
   leaf_child f e h = child_as t.leaves (lower_entry bits t q) (lower_entry bits t p) f (lower_by_block bits t q p e) h
 
-  -- the leaf that a path to q ends in holds p where one block holds both
+  -- the leaf in which a path to q ends holds p if one block holds both
   pub leaf_shared : (u l : Place (List (Entry V))) (f : Place (LeafOf V)) → Lives bits t (ToLeaf u l f) q → coord_eq (block_number bits Leaf q) (block_number bits Leaf p) ≡ true → IsChildAt t.leaves (lower_entry bits t p) f
   leaf_shared u l f h e = leaf_child f (coord_exact _ _ e) h.2
 
@@ -72,7 +72,7 @@ module _ {V : Type 0} (bits : Bits) (q p : Coord) where
   no_leaf_upper u =
       elim (bool_cases (coord_eq (block_number bits Upper q) (block_number bits Upper p))) [ inl e ↦ rw e refl | inr e ↦ rw e refl ]
 
-  -- above the leaf, what two coordinates share ends in no leaf
+  -- what two coordinates share above the leaf ends in no leaf
   pub no_leaf_lower : (u l : Place (List (Entry V))) → ends_in_leaf {A = List (Entry V)} {B = List (Entry V)} {C = LeafOf V} (common_lower bits q p u l) ≡ false
   no_leaf_lower u l =
       elim (bool_cases (coord_eq (block_number bits Lower q) (block_number bits Lower p))) [

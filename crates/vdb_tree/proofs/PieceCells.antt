@@ -17,14 +17,14 @@ use Rattle.vdb_tree.specs.Layout.{Layout, cell_at, entry_over, field_of}
 use Rattle.vdb_tree.proofs.Descents.{lower_by_block, root_by_block, tile_cell, tile_lower, tile_upper, upper_by_block}
 use Rattle.vdb_tree.proofs.Fields.{cell_inside}
 
--- below a tile each cell of its block is its cell
+-- each cell of a tile's block is the tile's cell
 pub tile_block : {V : Type 0} (bits : Bits) (t : Layout V) (level : Level) (p q : Coord) (cell : Cell V) → entry_over bits level t p ≡ Tile cell
     → block_number bits level q ≡ block_number bits level p → cell_at bits t q ≡ cell
 tile_block bits t Upper p q cell tile e = tile_cell bits t cell q (tile_lower bits t cell q (tile_upper bits t cell q (root_by_block bits t q p e ∙ tile)))
 tile_block bits t Lower p q cell tile e = tile_cell bits t cell q (tile_lower bits t cell q (upper_by_block bits t q p e ∙ tile))
 tile_block bits t Leaf p q cell tile e = tile_cell bits t cell q (lower_by_block bits t q p e ∙ tile)
 
--- so is it in the field
+-- each cell of a tile's block is the tile's cell in the field
 pub tile_field : {V : Type 0} (bits : Bits) (t : Layout V) (level : Level) (p : Coord) (cell : Cell V) → AreBits bits → IsTrue (is_inside everywhere p)
     → entry_over bits level t p ≡ Tile cell → (same_bits : Bits) → same_bits ≡ bits → (box : Box) → box ≡ block_around same_bits level p
     → (q : Coord) → IsTrue (is_inside box q) → (field_of bits t).cell q ≡ cell
@@ -36,7 +36,7 @@ tile_field bits t level p cell few here tile same_bits bits_are box box_is q ins
 self_between : (x y : ℤ) → is_between x x y ≡ true → y ≡ x
 self_between x y h = grind (arith, ints)
 
--- the box of one coordinate holds no other
+-- the box of one coordinate holds no other coordinate
 pub only_self : (p : Coord) (box : Box) → box ≡ record { min = p; max = p } → (q : Coord) → IsTrue (is_inside box q) → q ≡ p
 only_self p box box_is q inside =
     let hs = three (is_between p.x p.x q.x) (is_between p.y p.y q.y) (is_between p.z p.z q.z) (subst (λ b. IsTrue (is_inside b q)) box_is inside) in

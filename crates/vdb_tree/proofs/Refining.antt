@@ -1,4 +1,4 @@
--- Nodes that come where another tree has nodes: one after another, in a node and in the root table.
+-- Nodes made where another tree has nodes: one after another, in a node and in the root table.
 use Rattle.std.proofs.Common.{◌≡◌, ◌⊎◌, inl, inr, ℕ, ◌+◌, ◌-◌, ◌<◌, ◌≤◌, false, refl, sym, ap, subst, ◌∙◌, arith, IsTrue, Option}
 use Rattle.std.specs.Prelude.{IfSome, Some, None, IsSome}
 use Rattle.vdb_coord.specs.Blocks.{block_number, entries, key, offset}
@@ -40,7 +40,7 @@ below_or a b = grind arith
 that_offset : (n index : ℕ) → n < index + 1 → index ≤ n → n ≡ index
 that_offset n index a b = omega (arith, a, b)
 
--- past an index that a node has, fewer are left
+-- past an index of a node, fewer entries are left
 pub nearer : (from i n : ℕ) → from ≤ i → i < n → n - (i + 1) < n - from
 nearer from i n h k = omega (arith, h, k)
 
@@ -50,7 +50,7 @@ rule_cases Unite = inl refl
 rule_cases Subtract = inr refl
 rule_cases Intersect = inr refl
 
--- a node here that holds a coordinate of the other tree's node holds each of its corners
+-- a node of this tree that holds a coordinate of the other tree's node holds each of that node's corners
 module _ {V X : Type 0} (bits : Bits) (t : Layout V) (u : Layout X) (p : Coord) (slot from : ℕ) where
   pub upper_at_corner : (o : Option (ℕ × Coord)) → root_entry bits t p ≡ Child slot → IsNextCorner bits Upper (upper_entry bits u) p from o → IfSome o (λ next. root_entry bits t next.1 ≡ Child slot)
   upper_at_corner (Some next) e h = root_by_block bits t next.1 p (corner_block bits Upper Lower p (upper_entry bits u) from next.0 next.1 h) ∙ e
@@ -61,7 +61,7 @@ module _ {V X : Type 0} (bits : Bits) (t : Layout V) (u : Layout X) (p : Coord) 
   lower_at_corner None e h = tt
 
 module _ {V X : Type 0} (bits : Bits) (rule : StateRule) (u : Layout X) where
-  -- ---- what comes
+  -- ---- which nodes are made
 
   pub refines_itself : (t : Layout V) → Refines bits rule u t t
   refines_itself t = record { keeps = keeps_itself bits t; adds = adds_itself bits t; made = makes_none bits (IsRefinable bits rule u) t t (λ q level. refl) }
@@ -73,7 +73,7 @@ module _ {V X : Type 0} (bits : Bits) (rule : StateRule) (u : Layout X) where
     made = makes_twice bits (IsRefinable bits rule u) old mid new a.keeps a.made b.made;
   }
 
-  -- one node, where the other tree has one
+  -- one node made where the other tree has one
   pub refines_node : (level : Level) (old new : Layout V) (p : Coord) (slot : ℕ) → MakesNode bits rule level old new p → entry_over bits level u p ≡ Child slot → Refines bits rule u old new
   refines_node level old new p slot makes over = record { keeps = makes.keeps; adds = makes.adds; made = only }
     where
@@ -95,9 +95,9 @@ module _ {V X : Type 0} (bits : Bits) (rule : StateRule) (u : Layout X) where
         | inl same ↦ subst (λ (m : Level). entry_over bits m old q ≡ Tile tile → IsTrue (is_child (entry_over bits m new q)) → IsRefinable bits rule u m q tile) (sym same) (here q tile) at child
       ]
 
-  -- ---- where nothing is left to come
+  -- ---- nothing more to make
 
-  -- below a tile of the other tree
+  -- below a tile of the other tree nothing is to be made
   pub refined_under : (level : Level) (t : Layout V) (q : Coord) (c : Cell X) → entry_over bits level u q ≡ Tile c → IsRefinedTo bits rule u level t q
   refined_under Leaf t q c e = λ tile slot _ f. absurd (tile_no_child {V = X} c slot (sym e ∙ f))
   refined_under Lower t q c e = (λ tile slot _ f. absurd (tile_no_child {V = X} c slot (sym (tile_lower bits u c q e) ∙ f)), λ tile slot _ f. absurd (tile_no_child {V = X} c slot (sym e ∙ f)))
@@ -108,7 +108,7 @@ module _ {V X : Type 0} (bits : Bits) (rule : StateRule) (u : Layout X) where
         λ tile slot _ f. absurd (tile_no_child {V = X} c slot (sym e ∙ f)),
       )
 
-  -- in a tile with the state that the rule makes
+  -- in a tile with the state that the rule makes, nothing is to be made
   tile_made : (level : Level) (t : Layout V) (q : Coord) (c : Cell V) → c.on ≡ made rule → entry_over bits level t q ≡ Tile c → IsRefinedAt bits rule u level t q
   tile_made level t q c on e tile slot f _ = ap (λ (d : Cell V). d.on) (same_tile tile c (sym f ∙ e)) ∙ on
 
@@ -119,11 +119,11 @@ module _ {V X : Type 0} (bits : Bits) (rule : StateRule) (u : Layout X) where
       let l = tile_upper bits t c q e in
       (tile_made Leaf t q c on (tile_lower bits t c q l), tile_made Lower t q c on l, tile_made Upper t q c on e)
 
-  -- over a node
+  -- over a node, nothing is to be made
   pub refined_child : (level : Level) (t : Layout V) (q : Coord) (slot : ℕ) → entry_over bits level t q ≡ Child slot → IsRefinedAt bits rule u level t q
   refined_child level t q slot e tile other f _ = absurd (tile_no_child {V = V} tile slot (sym f ∙ e))
 
-  -- while nodes come
+  -- what is refined stays refined when nodes are added
   pub refined_stays : (level : Level) (t n : Layout V) (q : Coord) → AddsNodes bits t n → IsRefinedTo bits rule u level t q → IsRefinedTo bits rule u level n q
   refined_stays Leaf t n q adds h = λ tile slot e f. h tile slot (adds.tiles Leaf q tile e) f
   refined_stays Lower t n q adds h = (λ tile slot e f. h.0 tile slot (adds.tiles Leaf q tile e) f, λ tile slot e f. h.1 tile slot (adds.tiles Lower q tile e) f)
@@ -132,7 +132,7 @@ module _ {V X : Type 0} (bits : Bits) (rule : StateRule) (u : Layout X) where
 
   -- ---- a pass over the children of the other tree's node
 
-  -- nothing is left to come in the level's node around p where the entry is before an offset
+  -- at entries before an offset of the level's node around p, nothing is left to make
   pub record RefinesTo (level inner : Level) (old new : Layout V) (p : Coord) (to : ℕ) : Type 0 where
     pub refines : Refines bits rule u old new
     pub done : (q : Coord) → block_number bits level q ≡ block_number bits level p → offset bits level q < to → IsRefinedTo bits rule u inner new q
@@ -141,7 +141,7 @@ module _ {V X : Type 0} (bits : Bits) (rule : StateRule) (u : Layout X) where
     pub to_none : (t : Layout V) → RefinesTo level inner t t p 0
     to_none t = record { refines = refines_itself t; done = λ q b less. absurd (no_offset (offset bits level q) less) }
 
-    -- entries of the other tree that are no children are passed over
+    -- entries of the other tree that aren't children are passed over
     childless_refined : (t : Layout V) (from to : ℕ) → IsChildless bits level (entry_over bits inner u) p from to → (q : Coord) → block_number bits level q ≡ block_number bits level p → from ≤ offset bits level q → offset bits level q < to → IsRefinedTo bits rule u inner t q
     childless_refined t from to none q b more less = elim (tile_or_child (entry_over bits inner u q)) [
       | inl h ↦ refined_under inner t q h.0 h.1
@@ -174,7 +174,7 @@ module _ {V X : Type 0} (bits : Bits) (rule : StateRule) (u : Layout X) where
 
   -- ---- a pass over the keys of the other tree
 
-  -- nothing is left to come in the root blocks up to this key that had an entry
+  -- in the upper extents up to this key that had an entry, nothing is left to make
   pub record RefinesRoots (old new : Layout V) (passed : Option Coord) : Type 0 where
     pub refines : Refines bits rule u old new
     pub done : (q : Coord) → (IsPast passed (key bits q) → ⊥) → IsSome (root_at old.root (key bits q)) → IsRefinedTo bits rule u Upper new q
@@ -182,7 +182,7 @@ module _ {V X : Type 0} (bits : Bits) (rule : StateRule) (u : Layout X) where
   pub roots_none : (t : Layout V) → RefinesRoots t t None
   roots_none t = record { refines = refines_itself t; done = λ q not_past. absurd (not_past tt) }
 
-  -- a root block without an entry in the other tree
+  -- an upper extent without an entry in the other tree is refined
   absent_refined : (t : Layout V) (q : Coord) → root_at u.root (key bits q) ≡ None → IsRefinedTo bits rule u Upper t q
   absent_refined t q none = refined_under Upper t q (background_cell u) (absent_entry bits u q none)
 

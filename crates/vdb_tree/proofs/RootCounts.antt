@@ -1,4 +1,4 @@
--- A walk over the keys of the table that counts the root blocks that hold anything but the background.
+-- A walk over the keys of the table that counts the upper extents that hold anything but the background.
 use Rattle.std.proofs.Common.{◌≡◌, ◌⊎◌, inl, inr, ℕ, ◌+◌, ◌≤◌, Bool, true, false, List, [], ◌∷◌, length, arith, refl, sym, ap, subst, IsTrue}
 use Rattle.std.specs.Prelude.{◌↔◌, Option, Some, None, IsSome}
 use Rattle.std.specs.List.{IsDistinct}
@@ -29,7 +29,7 @@ pub nothing_apart : IsDistinct coord_eq []
 unfolding IsDistinct
 nothing_apart = tt
 
--- what is there isn't absent
+-- an option with a value isn't absent
 pub unheld : {A : Type 0} (o : Option A) → IsSome o → o ≡ None → ⊥
 unheld (Some x) h e = cc
 unheld None h e = never refl h
@@ -42,18 +42,18 @@ at_least k l h = by (coord_cmp k l) refl
     by Equal e = inl (sym (key_equal k l e))
     by Greater e = absurd (never h (ap is_gt e))
 
--- every key of a table comes past none
+-- without a key to be past, every key of a table counts
 pub all_past : {V : Type 0} (root : List (Coord × Entry V)) → keys_past None root ≡ length root
 all_past [] = refl
 all_past (e ∷ es) = omega (arith, all_past es)
 
 module _ {V : Type 0} (eq : V → V → Bool) (bits : Bits) (t : Layout V) where
-  -- a root block of the field isn't all background
+  -- an upper extent of the field isn't all background
   abbrev pub IsNonBackground : Coord → Type 0
   IsNonBackground k = is_background eq (field_of bits t) (block bits Upper k) ≡ false
 
-  -- the keys counted so far: those of root blocks that hold anything but the background, of the table's keys up to the last one
-  -- passed
+  -- the keys counted so far: among the table's keys up to the last passed one, those of upper extents that hold anything but
+  -- the background
   pub record IsCounted (passed : Option Coord) (count : ℕ) : Type 0 where
     pub keys : List Coord
     pub apart : IsDistinct coord_eq keys
@@ -76,11 +76,11 @@ module _ {V : Type 0} (eq : V → V → Bool) (exact : (x y : V) → eq x y ≡ 
   }
 
   module _ (passed : Option Coord) (count : ℕ) (done : IsCounted eq bits t passed count) (k : Coord) (next : IsNextKey t.root passed (Some k)) where
-    -- a member isn't past the key
+    -- a counted key doesn't come past the last passed key
     not_later : (j : Coord) → is_member coord_eq done.keys j ≡ true → coord_cmp k j ≡ Less → ⊥
     not_later j m later = done.behind j m (past_on passed k j next.1 later)
 
-    -- a key of the table that is left, is a member, or is the next
+    -- a key of the table is left, is counted, or is the next
     left_or_here : (j : Coord) → IsSome (root_at t.root j) → IsNonBackground eq bits t j → (coord_cmp k j ≡ Less) ⊎ ((j ≡ k) ⊎ (is_member coord_eq done.keys j ≡ true))
     left_or_here j held h =
         elim (done.all j held h) [
@@ -88,7 +88,7 @@ module _ {V : Type 0} (eq : V → V → Bool) (exact : (x y : V) → eq x y ≡ 
           | inr m ↦ inr (inr m)
         ]
 
-    -- a background block isn't counted
+    -- a background extent isn't counted
     pub counted_background : (is_background eq (field_of bits t) (block bits Upper k) ≡ true) → IsCounted eq bits t (Some k) count
     counted_background flat = record {
       keys = done.keys;
@@ -107,7 +107,7 @@ module _ {V : Type 0} (eq : V → V → Bool) (exact : (x y : V) → eq x y ≡ 
       few = let a = fewer_past t.root passed k next in let b = done.few in omega (arith, a, b);
     }
 
-    -- another block is
+    -- an extent that isn't all background is counted
     pub counted_more : IsTrue (is_inside (block_numbers bits Upper) k) → IsNonBackground eq bits t k → IsCounted eq bits t (Some k) (count + 1)
     counted_more inside other = record {
       keys = k ∷ done.keys;
@@ -135,7 +135,7 @@ module _ {V : Type 0} (eq : V → V → Bool) (exact : (x y : V) → eq x y ≡ 
     }
 
     module _ (c : Coord) (at : block_number bits Upper c ≡ k) (inside : IsTrue (is_inside everywhere c)) (same : Bool) (test : IsTrue same ↔ IsConstantBlock bits Upper t c (background_cell t)) where
-      -- the test of the block around its first coordinate
+      -- an extent is tested by the block around its first coordinate
       pub next_background : same ≡ true → IsCounted eq bits t (Some k) count
       next_background h = counted_background (subst (λ (n : Coord). is_background eq (field_of bits t) (block bits Upper n) ≡ true) at (background_from eq exact itself bits configured Upper t c inside (test.0 h)))
 
@@ -143,7 +143,7 @@ module _ {V : Type 0} (eq : V → V → Bool) (exact : (x y : V) → eq x y ≡ 
       next_non_background within h =
           counted_more within (subst (IsNonBackground eq bits t) at (non_background_from eq exact itself bits configured Upper t c inside (λ one. never h (test.1 one))))
 
-  -- past the last key all are counted
+  -- past the last key all keys are counted
   pub counted_end : (passed : Option Coord) (count : ℕ) → IsCounted eq bits t passed count → IsNextKey t.root passed None → count ≡ roots eq bits (field_of bits t)
   counted_end passed count done none =
       let few = roots_at_most eq bits (field_of bits t) done.keys (λ k inside h. elim (done.all k (held k inside h) h) [ inl past ↦ absurd (unheld (root_at t.root k) (held k inside h) (none k past)) | inr m ↦ m ]) in

@@ -1,4 +1,4 @@
--- Pruning root block after root block, in the order of keys.
+-- Pruning upper extent after upper extent, in the order of keys.
 use Rattle.std.proofs.Common.{◌≡◌, ◌≢◌, ◌≤◌, ◌⊎◌, inl, inr, ℕ, Bool, true, false, List, refl, sym, ap, ◌∙◌, arith, length}
 use Rattle.std.specs.Prelude.{Option, Some, None, IsSome, if◌then◌else◌}
 use Rattle.std.specs.List.{IsDistinct}
@@ -50,18 +50,18 @@ pub apart : (p q : Coord) → coord_cmp p q ≡ Less → q ≢ p
 apart p q less e = less_apart p q less (sym e)
 
 module _ {V : Type 0} (bits : Bits) where
-  -- the root block around q is pruned
+  -- the upper extent around q is pruned
   abbrev pub IsPruned : Layout V → Coord → Type 0
   IsPruned t q = IsNeededTo bits Upper t q × IsNoBackgroundRoot bits t q
 
-  -- a root block without an entry is
+  -- an upper extent without an entry is pruned
   absent_pruned : (t : Layout V) (q : Coord) → root_at t.root (key bits q) ≡ None → IsPruned t q
   absent_pruned t q none = (below_tile_needed bits Upper t q (background_cell t) (absent_entry bits t q none), λ entry some. absurd (none_some entry (sym none ∙ some)))
     where
       none_some : {A : Type 0} (x : A) → ◌≡◌ {A = Option A} None (Some x) → ⊥
       none_some x e = cc
 
-  -- every root block up to this key is pruned, and the table past it stays
+  -- every upper extent up to this key is pruned, and the table past the key stays
   pub record SweepsTo (old new : Layout V) (passed : Option Coord) : Type 0 where
     pub keeps : Keeps bits old new
     pub ahead : (k : Coord) → IsPast passed k → root_at new.root k ≡ root_at old.root k
@@ -70,7 +70,7 @@ module _ {V : Type 0} (bits : Bits) where
   pub sweep_none : (t : Layout V) → SweepsTo t t None
   sweep_none t = record { keeps = keeps_same bits t; ahead = λ k h. refl; done = λ q h. absurd (h tt) }
 
-  -- the next key of the table, as the table was at first
+  -- the next key of the table is the one that it had at first
   pub next_as_before : (old mid : Layout V) (passed : Option Coord) (k : Coord) → SweepsTo old mid passed → IsNextKey mid.root passed (Some k) → IsNextKey old.root passed (Some k)
   next_as_before old mid passed k sweeps next =
       (rw (← sweeps.ahead k next.1) next.0, next.1, λ j past some. next.2 j past (rw (sweeps.ahead j past) some))
@@ -98,7 +98,7 @@ module _ {V : Type 0} (bits : Bits) where
         ];
   }
 
-  -- where no key is left, all is pruned
+  -- if no key is left, every upper extent is pruned
   pub sweep_end : (old new : Layout V) (passed : Option Coord) → SweepsTo old new passed → IsNextKey new.root passed None → (q : Coord) → IsPruned new q
   sweep_end old new passed sweeps next q =
       elim (past_or_not passed (key bits q)) [
@@ -106,15 +106,15 @@ module _ {V : Type 0} (bits : Bits) where
         | inl past ↦ absent_pruned new q (next (key bits q) past)
       ]
 
--- an entry put or taken under one key leaves the others
+-- an entry put or removed under one key leaves the others
 pub other_key : {V : Type 0} (old new : List (Coord × Entry V)) (at k : Coord) (o : Option (Entry V)) → ((j : Coord) → root_at new j ≡ (if coord_eq at j then o else root_at old j)) → k ≢ at → root_at new k ≡ root_at old k
 other_key old new at k o changed d = let e = unlike_coords at k (λ s. d (sym s)) in changed k ∙ rw e refl
 
--- and it is there
+-- an entry put under a key is under that key
 pub that_key : {V : Type 0} (old new : List (Coord × Entry V)) (at : Coord) (o : Option (Entry V)) → ((j : Coord) → root_at new j ≡ (if coord_eq at j then o else root_at old j)) → root_at new at ≡ o
 that_key old new at o changed = let e = like_coords at at refl in changed at ∙ rw e refl
 
--- the background entry over p is taken away
+-- the background entry over p is removed
 module _ {V : Type 0} (bits : Bits) (t : Layout V) (p : Coord) (root : List (Coord × Entry V))
     (removed : (k : Coord) → root_at root k ≡ (if coord_eq (key bits p) k then None else root_at t.root k)) where
   abbrev pub without_entry : Layout V
@@ -168,8 +168,8 @@ module _ {V : Type 0} (bits : Bits) (t : Layout V) (p : Coord) (root : List (Coo
     }
 
 module _ {V : Type 0} (bits : Bits) where
-  -- a root block is pruned when its nodes are needed and it has no background tile: a background block that isn't constant by a
-  -- node has one
+  -- an upper extent is pruned if its nodes are needed and it isn't a background tile: the node of a background extent isn't
+  -- needed, so such an extent would be that tile
   pub prunes_root : (old mid new : Layout V) (p : Coord) → Keeps bits old mid → ((q : Coord) → key bits q ≢ key bits p → SameDescent bits old mid q)
       → ((k : Coord) → k ≢ key bits p → root_at mid.root k ≡ root_at old.root k) → ((q : Coord) → key bits q ≡ key bits p → IsNeededTo bits Upper mid q)
       → Keeps bits mid new → ((q : Coord) → SameDescent bits mid new q) → ((k : Coord) → k ≢ key bits p → root_at new.root k ≡ root_at mid.root k)
@@ -193,7 +193,7 @@ module _ {V : Type 0} (bits : Bits) where
           let at : root_entry bits new q ≡ Child r.0 = rw some r.1 in
           all.2 r.0 at (background_cell new) const
 
--- an entry that is found equal to a tile is that tile
+-- an entry that equals a tile by the test is that tile
 pub equal_tile : {V : Type 0} (eq : V → V → Bool) (exact : (x y : V) → eq x y ≡ true → x ≡ y) (itself : (x : V) → eq x x ≡ true) (same : Entry V → Entry V → Bool)
     → ((s : ℕ) (c : Cell V) → same (Child s) (Tile c) ≡ false) → ((d c : Cell V) → same (Tile d) (Tile c) ≡ cell_eq eq d c) → (o : Option (Entry V)) (c : Cell V) → option_eq same o (Some (Tile c)) ≡ true → o ≡ Some (Tile c)
 equal_tile eq exact itself same child tile None c h = let f : false ≡ true = h in cc

@@ -42,7 +42,7 @@ with_state cell state = record { value = cell.value; on = state }
 true_false : true ≡ false → ⊥
 true_false e = cc
 
--- a state that the rule would make stays
+-- if a state is the one that the rule makes, it stays
 made_stays : (rule : StateRule) (s t : Bool) → s ≡ made rule → state_of rule s t ≡ s
 made_stays Unite true t e = refl
 made_stays Unite false t e = absurd (true_false (sym e))
@@ -51,7 +51,7 @@ made_stays Subtract false t e = refl
 made_stays Intersect true t e = absurd (true_false e)
 made_stays Intersect false t e = refl
 
--- so does one where the rule doesn't act
+-- if the rule doesn't act, a state stays
 idle_stays : (rule : StateRule) (s t : Bool) → t ≢ acts_at rule → state_of rule s t ≡ s
 idle_stays Unite s true d = absurd (d refl)
 idle_stays Unite true false d = refl
@@ -63,7 +63,7 @@ idle_stays Intersect s false d = absurd (d refl)
 idle_stays Intersect true true d = refl
 idle_stays Intersect false true d = refl
 
--- where it acts, the state is the one that it makes
+-- if the rule acts, the state becomes the one that it makes
 acted : (rule : StateRule) (s t : Bool) → t ≡ acts_at rule → state_of rule s t ≡ made rule
 acted Unite true t e = refl
 acted Unite false true e = refl
@@ -81,7 +81,7 @@ unlike_states true false h e = true_false e
 unlike_states false true h e = true_false (sym e)
 unlike_states false false h e = absurd (true_false (sym h))
 
--- a tile of another state than the one at which the rule acts
+-- a tile whose state isn't the one at which the rule acts is idle
 pub idle_tile : {X : Type 0} (rule : StateRule) (entry : Entry X) (tile : Cell X) (state : Bool) → entry ≡ Tile tile → state ≡ acts_at rule → IsTrue (not (beq tile.on state)) → IsIdleTile rule entry
 idle_tile rule entry tile state e acts other = (tile, e, λ k. unlike_states tile.on state other (k ∙ sym acts))
 
@@ -102,13 +102,13 @@ ruled_field bits Subtract u old new b cells = same_field bits new old.background
 ruled_field bits Intersect u old new b cells = same_field bits new old.background _ b (λ q inside. rw inside (cells q))
 
 module _ {V X : Type 0} (bits : Bits) (rule : StateRule) (u : Layout X) where
-  -- the cell of a settled coordinate is that of the rule
+  -- the cell of a settled coordinate is the cell that the rule makes
   stays : (t : Layout V) (q : Coord) → IsSettled bits rule u t q → cell_at bits t q ≡ record { value = (cell_at bits t q).value; on = state_of rule (cell_at bits t q).on (cell_at bits u q).on }
   stays t q s = ap (with_state (cell_at bits t q)) (sym s)
 
   -- ---- parts
 
-  -- nothing is to be set
+  -- if every coordinate is settled, nothing is to be set
   pub sets_nothing : (In : Coord → Type 0) (t : Layout V) → ((q : Coord) → In q → IsSettled bits rule u t q) → SetsWithin bits rule u In t t
   sets_nothing In t settled = record {
     head = head_same t;
@@ -146,7 +146,7 @@ module _ {V X : Type 0} (bits : Bits) (rule : StateRule) (u : Layout X) where
           ],
         )
 
-    -- one part after another
+    -- setting one part, and then another, sets both
     pub sets_join : SetsWithin bits rule u C old new
     sets_join = record {
       head = head_trans old mid new first.head second.head;
@@ -157,7 +157,7 @@ module _ {V X : Type 0} (bits : Bits) (rule : StateRule) (u : Layout X) where
       keys = λ k e. first.keys k (second.keys k e);
     }
 
-  -- the tree stays refined
+  -- the tree stays refined after a part is set
   pub refined_after : (In : Coord → Type 0) (old new : Layout V) → SetsWithin bits rule u In old new → IsRefinedFor bits rule old u → IsRefinedFor bits rule new u
   refined_after In old new sets refined = record {
     tiles = λ l q tile slot e child.
@@ -188,13 +188,13 @@ module _ {V X : Type 0} (bits : Bits) (rule : StateRule) (u : Layout X) where
     keys = λ k e. e;
   }
 
-  -- the other tree has a tile of a state at which the rule doesn't act
+  -- the block of an idle tile of the other tree is settled
   pub idle_block : (level : Level) (t : Layout V) (p : Coord) (over : Entry X) → entry_over bits level u p ≡ over → IsIdleTile rule over → SetsBlock bits rule u level t t p
   idle_block level t p over e idle = settled_block level t p (λ q same.
       let cell = tile_gives bits level u q idle.0 (entry_by_block bits level u q p same ∙ e ∙ idle.1) in
       idle_stays rule (cell_at bits t q).on (cell_at bits u q).on (λ k. idle.2 (sym (ap (λ (c : Cell X). c.on) cell) ∙ k)))
 
-  -- it has a node, and this tree a tile that is refined
+  -- the other tree has a node, and this tree a refined tile: the block is settled
   pub refined_block : (level : Level) (t : Layout V) (p : Coord) (tile : Cell V) (slot : ℕ) → IsRefinedFor bits rule t u → entry_over bits level t p ≡ Tile tile → entry_over bits level u p ≡ Child slot → SetsBlock bits rule u level t t p
   refined_block level t p tile slot refined e child = settled_block level t p (λ q same.
       let here = entry_by_block bits level t q p same ∙ e in
@@ -203,7 +203,7 @@ module _ {V X : Type 0} (bits : Bits) (rule : StateRule) (u : Layout X) where
         | inr idle ↦ idle_stays rule (cell_at bits t q).on (cell_at bits u q).on idle
       ])
 
-  -- both have tiles
+  -- both trees have a tile: the tile is replaced
   pub tile_block : (level : Level) (old new : Layout V) (p : Coord) (was : Cell V) (beside : Cell X) → entry_over bits level old p ≡ Tile was → entry_over bits level u p ≡ Tile beside → beside.on ≡ acts_at rule
       → KeepsHead old new → Turns (block_number bits level) p (cell_at bits old) (cell_at bits new) (made_tile rule was)
       → ((l : Level) (q : Coord) → (entry_over bits l new q ≡ entry_over bits l old q) ⊎ ((entry_over bits l old q ≡ Tile was) × (entry_over bits l new q ≡ Tile (made_tile rule was))))
@@ -227,7 +227,7 @@ module _ {V X : Type 0} (bits : Bits) (rule : StateRule) (u : Layout X) where
     keys = keys;
   }
 
-  -- the changed entries, where a tile of an upper node became another
+  -- the changed entries if a tile of an upper node is replaced
   lower_turned : (old new : Layout V) (p : Coord) (was cell : Cell V) → upper_entry bits old p ≡ Tile was → KeepsHead old new → new.root ≡ old.root
       → Turns (block_number bits Lower) p (upper_entry bits old) (upper_entry bits new) (Tile cell) → Turns (block_number bits Lower) p (lower_entry bits old) (lower_entry bits new) (Tile cell)
       → (l : Level) (q : Coord) → (entry_over bits l new q ≡ entry_over bits l old q) ⊎ ((entry_over bits l old q ≡ Tile was) × (entry_over bits l new q ≡ Tile cell))
@@ -251,7 +251,7 @@ module _ {V X : Type 0} (bits : Bits) (rule : StateRule) (u : Layout X) where
       (lower_turned old new p was cell e fills.head root uppers lowers))
       (λ k none. sym (ap (λ (r : List (Coord × Entry V)). root_at r k) root) ∙ none)
 
-  -- so it is where a tile of the table became another
+  -- the changed entries if a tile of the table is replaced
   upper_turned : (old new : Layout V) (p : Coord) (was cell : Cell V) → root_entry bits old p ≡ Tile was → Turns (block_number bits Upper) p (root_entry bits old) (root_entry bits new) (Tile cell)
       → Turns (block_number bits Upper) p (upper_entry bits old) (upper_entry bits new) (Tile cell) → Turns (block_number bits Upper) p (lower_entry bits old) (lower_entry bits new) (Tile cell)
       → (l : Level) (q : Coord) → (entry_over bits l new q ≡ entry_over bits l old q) ⊎ ((entry_over bits l old q ≡ Tile was) × (entry_over bits l new q ≡ Tile cell))
@@ -287,11 +287,11 @@ module _ {V X : Type 0} (bits : Bits) (rule : StateRule) (u : Layout X) where
   -- ---- the entries of a node
 
   module _ (level : Level) (p : Coord) where
-    -- nothing is done yet
+    -- before the first entry nothing is set
     pub sets_none : (t : Layout V) → SetsWithin bits rule u (IsAmong bits level p 0 0) t t
     sets_none t = sets_nothing (IsAmong bits level p 0 0) t (λ q h. absurd (not_below (offset bits level q) 0 h.before (least (offset bits level q))))
 
-    -- the entries before an offset and those from it on
+    -- the entries before an offset are set, and then those from it on
     pub sets_on : (old mid new : Layout V) (from to : ℕ) → from ≤ to → SetsWithin bits rule u (IsAmong bits level p 0 from) old mid → SetsWithin bits rule u (IsAmong bits level p from to) mid new
         → SetsWithin bits rule u (IsAmong bits level p 0 to) old new
     sets_on old mid new from to le = sets_join (IsAmong bits level p 0 from) (IsAmong bits level p from to) (IsAmong bits level p 0 to)
@@ -305,7 +305,7 @@ module _ {V X : Type 0} (bits : Bits) (rule : StateRule) (u : Layout X) where
         below : (n : ℕ) → n < from → n < to
         below n k = omega (arith, k, le)
 
-    -- the last of them
+    -- the last entries are set
     pub sets_last : (old mid new : Layout V) (from : ℕ) → from ≤ entries bits level → SetsWithin bits rule u (IsAmong bits level p 0 from) old mid → SetsWithin bits rule u (IsAmong bits level p from (entries bits level)) mid new
         → SetsBlock bits rule u level old new p
     sets_last old mid new from le early late =
@@ -319,7 +319,7 @@ module _ {V X : Type 0} (bits : Bits) (rule : StateRule) (u : Layout X) where
           keys = all.keys;
         }
 
-    -- the first that the rule may change
+    -- the first entry that the rule may change is set
     pub sets_entry : (inner : Level) (old new : Layout V) (from index : ℕ) (c : Coord) → block_number bits level c ≡ block_number bits level p → offset bits level c ≡ index
         → ((q : Coord) → block_number bits inner q ≡ block_number bits inner c → entry_number bits level q ≡ entry_number bits level c)
         → ((q : Coord) → entry_number bits level q ≡ entry_number bits level c → block_number bits inner q ≡ block_number bits inner c)
@@ -354,9 +354,9 @@ module _ {V X : Type 0} (bits : Bits) (rule : StateRule) (u : Layout X) where
         exactly : (n : ℕ) → n < index + 1 → index ≤ n → n ≡ index
         exactly n a b = omega (arith, a, b)
 
-  -- ---- the root blocks
+  -- ---- the upper extents
 
-  -- each root block up to this key has the states of the rule, and the table past it stays
+  -- each upper extent up to this key has the states of the rule, and the table past the key stays
   pub record SetsTo (old new : Layout V) (passed : Option Coord) : Type 0 where
     pub sets : SetsWithin bits rule u (λ q. IsPast passed (key bits q) → ⊥) old new
     pub refined : IsRefinedFor bits rule new u
@@ -365,7 +365,7 @@ module _ {V X : Type 0} (bits : Bits) (rule : StateRule) (u : Layout X) where
   pub roots_none : (t : Layout V) → IsRefinedFor bits rule t u → SetsTo t t None
   roots_none t refined = record { sets = sets_nothing (λ q. IsPast None (key bits q) → ⊥) t (λ q h. absurd (h tt)); refined = refined; ahead = λ k h. refl }
 
-  -- a root block without an entry stays
+  -- an upper extent without an entry stays
   absent_settled : (t : Layout V) → IsRefinedFor bits rule t u → (q : Coord) → root_at t.root (key bits q) ≡ None → IsSettled bits rule u t q
   absent_settled t refined q none =
       elim (refined.entered q none) [
@@ -373,7 +373,7 @@ module _ {V X : Type 0} (bits : Bits) (rule : StateRule) (u : Layout X) where
         | inr idle ↦ idle_stays rule (cell_at bits t q).on (cell_at bits u q).on idle
       ]
 
-  -- the next key of the table, as the table was at first
+  -- the next key of the table is the one that it had at first
   pub next_at_first : (old mid : Layout V) (passed : Option Coord) (k : Coord) → SetsTo old mid passed → IsNextKey mid.root passed (Some k) → IsNextKey old.root passed (Some k)
   next_at_first old mid passed k so_far next =
       (rw (← so_far.ahead k next.1) next.0, next.1, λ j past some. next.2 j past (rw (so_far.ahead j past) some))
@@ -399,7 +399,7 @@ module _ {V X : Type 0} (bits : Bits) (rule : StateRule) (u : Layout X) where
     ahead = λ j later. turn.table j (apart k j later) ∙ so_far.ahead j (past_on passed k j next.1 later);
   }
 
-  -- where no key is left, all states are those of the rule
+  -- if no key is left, all states are those of the rule
   roots_all : (old new : Layout V) (passed : Option Coord) → IsRefinedFor bits rule old u → SetsTo old new passed → IsNextKey new.root passed None
       → (q : Coord) → cell_at bits new q ≡ record { value = (cell_at bits old q).value; on = state_of rule (cell_at bits old q).on (cell_at bits u q).on }
   roots_all old new passed refined so_far none q = elim (past_or_not passed (key bits q)) [
@@ -417,7 +417,7 @@ module _ {V : Type 0} (bits : Bits) (level : Level) (p : Coord) (t : Layout V) (
   inactive_at : (q : Coord) → block_number bits level q ≡ block_number bits level p → IsInactiveTile node (offset bits level q) → (cell_at bits t q).on ≡ false
   inactive_at q b h = ap (λ (c : Cell V). c.on) (tiled (record { value = h.0; on = false }) q (by q b ∙ h.1 (Tile x)))
 
-  -- what the node's masks say
+  -- what the node's masks say about its entries
   pub next_active : (from : ℕ) (o : Option ℕ) → IsFirstWithout (IsInactiveTile node) (entry_count (node_bits bits level)) from o → IsNextWithout bits level p (λ q. (cell_at bits t q).on ≡ false) from o
   next_active from (Some index) next = record {
     within = rw (entries_is bits level) next.within;

@@ -1,4 +1,4 @@
--- A rule that makes states inactive makes no more root blocks that hold anything but the background.
+-- A rule that makes states inactive adds no upper extent that holds anything but the background.
 use Rattle.std.proofs.Common.{◌≡◌, ◌≢◌, ◌∙◌, refl, true, false, Bool, not, ◌&&◌, cond, ◌≤◌, ℕ, arith, sym}
 use Rattle.vdb_coord.specs.Blocks.{block, block_numbers}
 use Rattle.vdb_coord.specs.Space.{everywhere, is_inside}
@@ -16,7 +16,7 @@ use Rattle.vdb_tree.proofs.Blocks.{never}
 use Rattle.vdb_tree.proofs.Rooted.{not_from, was_false}
 use Rattle.vdb_tree.proofs.Uniform.{uniform_cells, uniform_from}
 
--- root blocks that hold anything but the background are no more where none comes
+-- if each root of one field is a root of another, it has no more roots than the other
 pub fewer_roots : {V : Type 0} (eq : V → V → Bool) (bits : Bits) (f g : Field V)
     → ((k : Coord) → is_background eq f (block bits Upper k) ≡ true → is_background eq g (block bits Upper k) ≡ true) → roots eq bits g ≤ roots eq bits f
 fewer_roots eq bits f g h =
@@ -27,7 +27,7 @@ fewer_roots eq bits f g h =
     non_background true imp e = absurd (never e (imp refl))
     non_background false imp e = refl
 
--- an inactive background cell stays one
+-- an inactive background cell stays one under a rule that makes states inactive
 stays_off : {V : Type 0} (state : Bool → Bool → Bool) → ((t : Bool) → state false t ≡ false) → (v : V) (inside t : Bool) (x : Cell V) → x ≡ off v
     → cond inside (record { value = x.value; on = state x.on t }) (off v) ≡ off v
 stays_off state quiet v true t x e = let k = quiet t in rw (e, k) refl
@@ -45,7 +45,7 @@ module _ {V X : Type 0} (eq : V → V → Bool) (exact : (x y : V) → eq x y �
   ruled_within Subtract other f g = states_within (λ s t. s && not t) (λ t. refl) f g
   ruled_within Intersect other f g = states_within (λ s t. s && t) (λ t. refl) f g
 
-  -- so it keeps to the limit
+  -- a rule that makes states inactive keeps to the limit
   pub ruled_keeps : (rule : StateRule) → rule ≢ Unite → (f : Field V) (g : Field X) (few limit : ℕ) → roots eq bits f ≤ few → few ≡ limit → roots eq bits (ruled rule f g) ≤ limit
   ruled_keeps rule other f g few limit h e = let k = ruled_within rule other f g in omega (arith, h, k, e)
 

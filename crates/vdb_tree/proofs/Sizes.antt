@@ -1,4 +1,4 @@
--- Nodes take little memory themselves, whatever their bits: the hidden goal of each call on a node of a pool.
+-- The size of a node itself is small, whatever its bits: the hidden goal of each call on a node of a pool.
 use Rattle.std.proofs.Common.{◌+◌, ◌*◌, ◌^◌, ◌<◌, ◌≤◌, ℕ, max, arith}
 use Rattle.vdb_node.proofs.Sizes.{leaf_fits, node_fits, up_le}
 use prog.Memory.{up}

@@ -1,4 +1,4 @@
--- What is split for a box, and stays so while nodes come.
+-- Tiles that are split for a box, and stay split when nodes are added.
 use Rattle.std.proofs.Common.{◌≡◌, ◌≢◌, ◌⊎◌, inl, inr, ℕ, true, refl, sym, ap, ◌∙◌, IsTrue, Some, None, Option, Ok, Err}
 use Rattle.std.specs.Prelude.{IsSome, OnOk, Result}
 use Rattle.vdb_coord.specs.Blocks.{block_number, key}
@@ -26,13 +26,13 @@ use Rattle.vdb_tree.proofs.Needed.{absent_entry, is_some_from, some_or_none}
 use Rattle.vdb_tree.proofs.Splits.{adds_itself, adds_twice, keeps_itself, keeps_twice}
 use Rattle.vdb_tree.proofs.RootSweeps.{apart as later_apart, equal_left, past_or_not, same_keys}
 
--- what follows from a value where there is one
+-- if a result has a value, a fact that follows from a fact about the value
 pub on_ok : {A E : Type 0} {P Q : Type 0} (r : Result A E) → OnOk r P → (P → Q) → OnOk r Q
 on_ok (Ok x) h f = f h
 on_ok (Err e) h f = tt
 
 module _ {V : Type 0} (bits : Bits) (box : Box) (cell : Cell V) where
-  -- what is covered need not be split, nor what lies in a tile of the cell
+  -- what the box covers need not be split, nor what lies in a tile of the cell
   pub split_within : (level : Level) (t : Layout V) (q : Coord) → IsCovered bits box level q → IsSplitTo bits box cell level t q
   split_within Leaf t q h = λ tile e. inl h
   split_within Lower t q h = (λ tile e. inl (leaf_covered bits box q h), λ tile e. inl h)
@@ -48,7 +48,7 @@ module _ {V : Type 0} (bits : Bits) (box : Box) (cell : Cell V) where
   pub split_child : (level : Level) (t : Layout V) (q : Coord) (slot : ℕ) → entry_over bits level t q ≡ Child slot → IsSplitAt bits box cell level t q
   split_child level t q slot child = λ tile e. absurd (tile_no_child tile slot (sym e ∙ child))
 
-  -- while nodes come
+  -- what is split stays split when nodes are added
   pub split_stays : (level : Level) (t n : Layout V) (q : Coord) → AddsNodes bits t n → IsSplitTo bits box cell level t q → IsSplitTo bits box cell level n q
   split_stays Leaf t n q adds h = λ tile e. h tile (adds.tiles Leaf q tile e)
   split_stays Lower t n q adds h = (λ tile e. h.0 tile (adds.tiles Leaf q tile e), λ tile e. h.1 tile (adds.tiles Lower q tile e))
@@ -81,7 +81,7 @@ module _ {V : Type 0} (bits : Bits) (box : Box) (cell : Cell V) where
       pub split_all : IsNextBlock bits level part p None → (q : Coord) → IsTrue (is_inside part q) → IsSplitTo bits box cell level n q
       split_all h q inside = up_to q inside (h q inside)
 
-  -- ---- the root blocks in the order of keys
+  -- ---- the upper extents in the order of keys
 
   pub record SplitsRoots (old new : Layout V) (passed : Option Coord) : Type 0 where
     pub keeps : Keeps bits old new
@@ -95,7 +95,7 @@ module _ {V : Type 0} (bits : Bits) (box : Box) (cell : Cell V) where
   roots_none t = record { keeps = keeps_itself bits t; adds = adds_itself bits t; made = makes_none bits (IsCut bits box cell) t t (λ q level. refl); keys = λ k h. h; ahead = λ k h. refl; done = λ q inside h. absurd (h tt) }
 
   module _ (old t n : Layout V) (passed : Option Coord) (so_far : SplitsRoots old t passed) where
-    -- the next key of the table, as the table was at first
+    -- the next key of the table is the one that it had at first
     pub next_at_first : (next : Option Coord) → IsNextMet bits box t.root passed next → IsNextMet bits box old.root passed next
     next_at_first None next = λ k past met. sym (so_far.ahead k past) ∙ next k past met
     next_at_first (Some k) next = (rw (← so_far.ahead k next.1) next.0, next.1, λ j past met some. next.2 j past met (rw (so_far.ahead j past) some))
@@ -121,7 +121,7 @@ module _ {V : Type 0} (bits : Bits) (box : Box) (cell : Cell V) where
             ];
       }
 
-      -- where no key is left, the tree is split for all of the box
+      -- if no key is left, the tree is split for all of the box
       pub roots_end : IsNextMet bits box t.root passed None → ((k : Coord) → root_at n.root k ≡ root_at t.root k) → (q : Coord) → IsTrue (is_inside box q) → (cell ≡ background_cell n) ⊎ IsSome (root_at n.root (key bits q)) → IsSplitTo bits box cell Upper n q
       roots_end next same q inside entered =
           elim (some_or_none (root_at n.root (key bits q))) [
@@ -135,7 +135,7 @@ module _ {V : Type 0} (bits : Bits) (box : Box) (cell : Cell V) where
             ]
           ]
 
-  -- where the tree is split for each root block of the box that has an entry or needs none, it is split for the box
+  -- a tree is split for a box if it is split for each upper extent of the box that has an entry or needs none
   pub split_whole : (mid new : Layout V) → Keeps bits mid new → AddsNodes bits mid new → ((p : Coord) → IsTrue (is_inside box p) → (cell ≡ background_cell mid) ⊎ IsSome (root_at mid.root (key bits p)))
       → ((q : Coord) → IsTrue (is_inside box q) → (cell ≡ background_cell new) ⊎ IsSome (root_at new.root (key bits q)) → IsSplitTo bits box cell Upper new q) → IsSplit bits box cell new
   split_whole mid new keeps adds entered edges = record { tiles = λ level p inside. each level p (edges p inside (still p inside)); entered = still }
@@ -151,7 +151,7 @@ module _ {V : Type 0} (bits : Bits) (box : Box) (cell : Cell V) where
       each Lower p h = h.1
       each Leaf p h = h.0
 
--- what was split stays so while nodes come
+-- a tree split for a box stays split when nodes are added
 pub box_stays : {V : Type 0} (bits : Bits) (box : Box) (cell : Cell V) (t n : Layout V) → Keeps bits t n → AddsNodes bits t n → IsSplit bits box cell t → IsSplit bits box cell n
 box_stays bits box cell t n keeps adds edges = record {
   tiles = λ level p inside tile e. edges.tiles level p inside tile (adds.tiles level p tile e);

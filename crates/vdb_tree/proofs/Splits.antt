@@ -1,4 +1,4 @@
--- A tile becomes a node with its cell all over, and no cell changes.
+-- Splitting a tile into a node with its cell all over: no cell changes.
 use Rattle.std.proofs.Common.{ap, arith, ◌≡◌, ◌≤◌, ◌<◌, ℕ, List, refl, sym, ◌∙◌, length, inl, inr, IsTrue}
 use Rattle.std.specs.Prelude.{Some, None, IsSome, slice_index_or, if◌then◌else◌}
 use Rattle.std.specs.List.{IsDistinct}
@@ -31,7 +31,7 @@ use Rattle.vdb_tree.proofs.Levels.{Puts, bool_cases, coord_cases, like_coords, n
 pub index_below : (bits : Bits) (level : Level) (p : Coord) → offset bits level p < entry_count (node_bits bits level)
 index_below bits level p = let h = offset_below bits level p in rw (entries_is bits level) at h
 
--- an entry put under p's key is the one over p's root block, and the others stay
+-- an entry put under p's key is the entry over p's upper extent, and the others stay
 pub root_turns : {V : Type 0} (bits : Bits) (t n : Layout V) (p : Coord) (x : Entry V) → n.background ≡ t.background
     → ((k : Coord) → root_at n.root k ≡ (if coord_eq (key bits p) k then Some x else root_at t.root k)) → Turns (block_number bits Upper) p (root_entry bits t) (root_entry bits n) x
 root_turns bits t n p x same changed = record {
@@ -45,7 +45,7 @@ root_turns bits t n p x same changed = record {
       rw (a, b, same) refl;
 }
 
--- the keys stay those of root blocks where one of them gets an entry
+-- the keys stay those of upper extents when one of these gets an entry
 pub root_keys : {V : Type 0} (bits : Bits) (t : Layout V) (root : List (Coord × Entry V)) (at : Coord) (x : Entry V) → IsSound bits t → IsTrue (is_inside (block_numbers bits Upper) at)
     → ((k : Coord) → root_at root k ≡ (if coord_eq at k then Some x else root_at t.root k)) → (k : Coord) → IsSome (root_at root k) → IsTrue (is_inside (block_numbers bits Upper) k)
 root_keys bits t root at x sound inside changed k h =
@@ -54,7 +54,7 @@ root_keys bits t root at x sound inside changed k h =
       | inr e ↦ let c = changed k in sound.keys k (rw (c, e) at h)
     ]
 
--- a key of the table is that of a root block
+-- a key of the table belongs to an upper extent
 pub entered_key : {V : Type 0} (bits : Bits) (t : Layout V) (p : Coord) → IsSound bits t → IsSome (root_at t.root (key bits p)) → IsTrue (is_inside (block_numbers bits Upper) (key bits p))
 entered_key bits t p sound h = sound.keys (key bits p) h
 
@@ -68,7 +68,7 @@ module _ {V : Type 0} (bits : Bits) where
     cells = λ q. b.cells q ∙ a.cells q;
   }
 
-  -- where the entries over lower blocks stay, and the lower nodes do, so do the entries below
+  -- if the entries over lower extents and the lower nodes stay, so do the entries below
   pub lowers_from : (old new : Layout V) → new.background ≡ old.background → new.lowers ≡ old.lowers → ((q : Coord) → upper_entry bits new q ≡ upper_entry bits old q)
       → (q : Coord) → lower_entry bits new q ≡ lower_entry bits old q
   lowers_from old new b l same q = let e = same q in rw (e, b, l) refl
@@ -78,7 +78,7 @@ module _ {V : Type 0} (bits : Bits) where
   unfolding cell_at
   cells_from old new b l same q = let e = same q in rw (e, b, l) refl
 
-  -- whose tiles were such before
+  -- each tile of the new entries was a tile before
   abbrev IsFewerTiles : (Coord → Entry V) → (Coord → Entry V) → Type 0
   IsFewerTiles f g = (q : Coord) (cell : Cell V) → g q ≡ Tile cell → f q ≡ Tile cell
 
@@ -113,7 +113,7 @@ module _ {V : Type 0} (bits : Bits) where
   pub adds_twice : (s t n : Layout V) → AddsNodes bits s t → AddsNodes bits t n → AddsNodes bits s n
   adds_twice s t n a b = record { tiles = λ level q cell e. a.tiles level q cell (b.tiles level q cell e); keys = λ k h. b.keys k (a.keys k h) }
 
-  -- what lies in a leaf still does
+  -- what lies in a leaf still lies in a leaf
   pub adds_leaves : (s t : Layout V) → AddsNodes bits s t → (q : Coord) → IsTrue (in_leaf bits s q) → IsTrue (in_leaf bits t q)
   adds_leaves s t a q h = elim (tile_or_child (lower_entry bits t q)) [
     | inl e ↦ absurd (never (ap is_child (a.tiles Leaf q e.0 e.1)) h)
@@ -248,7 +248,7 @@ module _ {V : Type 0} (bits : Bits) where
     with_leaf_but Lower q h = refl
     with_leaf_but Leaf q h = elim h [ inl d ↦ absurd (d refl) | inr d ↦ leaf_turns.there q d ]
 
-  -- a root block gets the tile that it stood for
+  -- an upper extent without an entry gets the tile that its absence stands for
   module _ (t : Layout V) (sound : IsSound bits t) (p : Coord) (c : Cell V) (root : List (Coord × Entry V))
       (tiled : root_entry bits t p ≡ Tile c)
       (changed : (q : Coord) → root_at root q ≡ (if coord_eq (key bits p) q then Some (Tile c) else root_at t.root q)) where
@@ -326,7 +326,7 @@ module _ {V : Type 0} (bits : Bits) where
       leaves = owned_as bits Leaf _ _ _ same_lowers (owned_nodes bits Leaf _ t.leaves n.leaves f sound.leaves);
     }
 
-    -- the entries are the same
+    -- over each coordinate the entries are the same
     pub alike_descent : (q : Coord) → SameDescent bits t n q
     alike_descent q Upper = same_root q
     alike_descent q Lower = same_uppers q

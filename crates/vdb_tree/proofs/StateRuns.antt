@@ -1,4 +1,4 @@
--- What a pass over the entries of a node has done that sets states by a rule.
+-- What a pass has done that sets the states of a node's entries by a rule.
 use Rattle.std.proofs.Common.{◌≡◌, ◌≢◌, ◌⊎◌, inl, inr, ℕ, ◌+◌, ◌<◌, ◌≤◌, Bool, true, false, List, refl, sym, ap, ◌∙◌, arith, IsTrue, subst}
 use Rattle.std.specs.Prelude.{IfNone, IfSome, Option, Some, None}
 use Rattle.vdb_coord.specs.Blocks.{block_around, block_number, entries, offset, sub_block}
@@ -30,9 +30,9 @@ use Rattle.vdb_tree.proofs.Fields.{cell_inside}
 use Rattle.vdb_tree.proofs.Levels.{coord_cases, same_tile, tile_no_child}
 use Rattle.vdb_tree.proofs.Passes.{head_same, head_trans, root_entry_same, upper_entry_same}
 
--- ---- truth values
+-- ---- booleans
 
--- a state that the rule doesn't act on stays
+-- if the rule doesn't act on a state, it stays
 pub idle_stays : (rule : StateRule) (s t : Bool) → t ≢ acts_at rule → state_of rule s t ≡ s
 idle_stays Unite s true idle = absurd (idle refl)
 idle_stays Unite true false idle = refl
@@ -44,7 +44,7 @@ idle_stays Intersect true true idle = refl
 idle_stays Intersect false true idle = refl
 idle_stays Intersect s false idle = absurd (idle refl)
 
--- where the rule acts a state becomes what the rule makes
+-- if the rule acts, a state becomes what the rule makes
 pub acting_makes : (rule : StateRule) (s t : Bool) → t ≡ acts_at rule → state_of rule s t ≡ made rule
 acting_makes Unite true t same = refl
 acting_makes Unite false t same = same
@@ -54,7 +54,7 @@ acting_makes Subtract false t same = refl
 acting_makes Intersect true t same = same
 acting_makes Intersect false t same = refl
 
--- what the rule makes stays
+-- a state that is what the rule makes stays
 pub made_stays : (rule : StateRule) (s t : Bool) → s ≡ made rule → state_of rule s t ≡ s
 made_stays Unite true t e = refl
 made_stays Unite false t e = absurd (let k : false ≡ true = e in cc)
@@ -63,13 +63,13 @@ made_stays Subtract false t e = refl
 made_stays Intersect true t e = absurd (let k : true ≡ false = e in cc)
 made_stays Intersect false t e = refl
 
--- a rule that makes states active acts on active ones alone
+-- a rule that makes states active acts only on active ones
 pub unites_idle : (rule : StateRule) (t : Bool) → made rule ≡ true → t ≡ false → t ≢ acts_at rule
 unites_idle Unite t e off same = let k : false ≡ true = sym off ∙ same in cc
 unites_idle Subtract t e off same = let k : false ≡ true = e in cc
 unites_idle Intersect t e off same = let k : false ≡ true = e in cc
 
--- the test of a state
+-- the test whether the rule acts
 pub acting_at : (rule : StateRule) (t : Bool) → acts rule t ≡ true → t ≡ acts_at rule
 acting_at Unite t e = e
 acting_at Subtract t e = e
@@ -91,7 +91,7 @@ never a n h k = omega (arith, h, k)
 least : (n : ℕ) → 0 ≤ n
 least n = omega arith
 
--- the states of a leaf are those of its block
+-- the states of a leaf are those of its extent
 pub states_of_leaf : {V : Type 0} (bits : Bits) (t : Layout V) (p : Coord) (slot : ℕ) (leaf : LeafOf V) → lower_entry bits t p ≡ Child slot → node_at t.leaves slot ≡ Some leaf
     → (mask : List Bool) → mask ≡ leaf.states → AreStatesOf bits t p mask
 states_of_leaf {V} bits t p slot leaf child was mask same q b =
@@ -102,11 +102,11 @@ states_of_leaf {V} bits t p slot leaf child was mask same q b =
 pub corner_there : (bits : Bits) (p : Coord) (index : ℕ) (c : Coord) → index < entries bits Lower → c ≡ (sub_block bits Lower (block_around bits Lower p) index).min → block_number bits Lower c ≡ block_number bits Lower p
 corner_there bits p index c small is = let k = corner_of_entry bits Lower p index small in rw is k.0
 
--- the index of an entry is small
+-- the index of an entry of a lower node is below 2 to the power 15
 pub index_small : (bits : Bits) (i : ℕ) → AreBits bits → i < entries bits Lower → i < 32768
 index_small bits i configured h = let k = entries_few bits Lower configured in omega (arith, h, k)
 
--- a mask of one state fills a leaf
+-- a leaf whose mask is one state all over has that state in all of its extent
 pub leaf_fills : {V : Type 0} (bits : Bits) (old new : Layout V) (p : Coord) (mask : List Bool) (on : Bool) (capacity : ℕ) → SetsLeaf bits old new p mask
     → entry_count bits.leaf ≤ capacity → ((i : ℕ) → i < capacity → is_on mask i ≡ on) → FillsLeafStates bits old new p on
 leaf_fills bits old new p mask on capacity sets few all = record {
@@ -128,7 +128,7 @@ module _ {V X : Type 0} (bits : Bits) (rule : StateRule) (u : Layout X) where
 
   -- ---- one block
 
-  -- where nothing is to change nothing changes
+  -- if nothing is to change in a block, it is settled
   pub block_settled : (level : Level) (t : Layout V) (p : Coord)
       → ((q : Coord) → block_number bits level q ≡ block_number bits level p → state_of rule (cell_at bits t q).on (cell_at bits u q).on ≡ (cell_at bits t q).on) → SetsBlock bits rule u level t t p
   block_settled level t p settled = record {
@@ -140,13 +140,13 @@ module _ {V X : Type 0} (bits : Bits) (rule : StateRule) (u : Layout X) where
     keys = λ k e. e;
   }
 
-  -- below a tile on which the rule doesn't act
+  -- below an idle tile of the other tree nothing changes
   pub idle_settled : (t : Layout V) (p : Coord) (tile : Cell X) → lower_entry bits u p ≡ Tile tile → tile.on ≢ acts_at rule → SetsBlock bits rule u Leaf t t p
   idle_settled t p tile over idle = block_settled Leaf t p (λ q b.
       let at = tile_cell bits u tile q (lower_by_block bits u q p b ∙ over) in
       rw at (idle_stays rule (cell_at bits t q).on tile.on idle))
 
-  -- a tile where the other tree has a leaf
+  -- if the other tree has a leaf, a refined tile is settled
   pub refined_settled : (t : Layout V) (p : Coord) (cell : Cell V) (slot : ℕ) → IsRefinedFor bits rule t u → lower_entry bits t p ≡ Tile cell → lower_entry bits u p ≡ Child slot → SetsBlock bits rule u Leaf t t p
   refined_settled t p cell slot refined tiled over = block_settled Leaf t p (λ q b.
       let at = lower_by_block bits t q p b ∙ tiled in
@@ -165,7 +165,7 @@ module _ {V X : Type 0} (bits : Bits) (rule : StateRule) (u : Layout X) where
     children_stay lowers Lower q slot e = upper_entry_same bits old new above q ∙ e
     children_stay lowers Leaf q slot e = lowers q slot e
 
-    -- a tile that was there, or that has the state that the rule makes
+    -- a tile that existed before, or that has the state that the rule makes
     abbrev IsOldOrMade : Level → Coord → Cell V → Type 0
     IsOldOrMade l q tile = (was : Cell V) × (entry_over bits l old q ≡ Tile was) × ((tile ≡ was) ⊎ (tile.on ≡ made rule))
 
@@ -219,13 +219,13 @@ module _ {V X : Type 0} (bits : Bits) (rule : StateRule) (u : Layout X) where
         same : (q : Coord) → lower_entry bits new q ≡ lower_entry bits old q
         same q = rw (above.head.background, above.root, above.uppers, lowers) refl
 
-    -- all of them become what the rule makes
+    -- all states of a leaf become what the rule makes
     pub leaf_filled : (tile : Cell X) (on : Bool) → FillsLeafStates bits old new p on → on ≡ made rule → lower_entry bits u p ≡ Tile tile → tile.on ≡ acts_at rule → SetsBlock bits rule u Leaf old new p
     leaf_filled tile on sets is over acting = leaf_set (λ q. on) sets.here sets.there sets.lowers (λ q b.
         let other = tile_cell bits u tile q (lower_by_block bits u q p b ∙ over) in
         is ∙ rw other (sym (acting_makes rule (cell_at bits old q).on tile.on acting)))
 
-    -- the states of two leaves are made one
+    -- the states of two leaves are combined
     pub leaf_merged : (mask copy mine others : List Bool) → SetsLeaf bits old new p mask → AreStatesOf bits old p mine → AreStatesOf bits u p others → copy ≡ mine
         → ((i : ℕ) → is_on mask i ≡ state_of rule (is_on copy i) (is_on others i)) → SetsBlock bits rule u Leaf old new p
     leaf_merged mask copy mine others sets first second copied one = leaf_set (λ q. is_on mask (offset bits Leaf q)) sets.here sets.there sets.lowers (λ q b.
@@ -234,7 +234,7 @@ module _ {V X : Type 0} (bits : Bits) (rule : StateRule) (u : Layout X) where
 
   -- ---- refined trees
 
-  -- a tree stays refined
+  -- a tree stays refined after a block is set
   pub refined_kept : (old new : Layout V) → IsRefinedFor bits rule old u
       → ((l : Level) (q : Coord) (tile : Cell V) → entry_over bits l new q ≡ Tile tile → (was : Cell V) × (entry_over bits l old q ≡ Tile was) × ((tile ≡ was) ⊎ (tile.on ≡ made rule)))
       → ((k : Coord) → root_at new.root k ≡ None → root_at old.root k ≡ None) → IsRefinedFor bits rule new u
@@ -256,7 +256,7 @@ module _ {V X : Type 0} (bits : Bits) (rule : StateRule) (u : Layout X) where
         let at = tile_cell bits u tile q (tile_lower bits u tile q (upper_by_block bits u q p among.0 ∙ over)) in
         rw at (idle_stays rule (cell_at bits t q).on tile.on idle)
 
-    -- each entry in its turn
+    -- without a skip, the next entry to set is the one at this index
     pub each_index : (from : ℕ) (o : Option ℕ) → IfSome o (λ index. (index ≡ from) × (from < entries bits Lower)) → IfNone o (entries bits Lower ≤ from) → IsNextToSet bits rule u Lower t p from o
     each_index from (Some index) some none = record {
       within = less index some.0 some.1;
@@ -291,7 +291,7 @@ module _ {V X : Type 0} (bits : Bits) (rule : StateRule) (u : Layout X) where
       by_mine is from (Some index) next = record { within = next.within; from_on = next.from_on; before = mine_settled is from index next.before }
       by_mine is from None none = mine_settled is from (entries bits Lower) none
 
-      -- one that makes them active passes over what is inactive in the other tree
+      -- a rule that makes states active passes over what is inactive in the other tree
       pub by_others : made rule ≡ true → (from : ℕ) (o : Option ℕ) → IsNextActive bits (field_of bits u) Lower p from o → IsNextToSet bits rule u Lower t p from o
       by_others is from (Some index) next = record { within = next.within; from_on = next.from_on; before = others_settled is from index next.before }
       by_others is from None none = others_settled is from (entries bits Lower) none
@@ -299,7 +299,7 @@ module _ {V X : Type 0} (bits : Bits) (rule : StateRule) (u : Layout X) where
   -- ---- the pass
 
   module _ (p : Coord) where
-    -- nothing is done yet
+    -- before the first entry nothing is done
     pub run_none : (t : Layout V) (from : ℕ) → SetsRun bits rule u Lower t t p from from
     run_none t from = record {
       head = head_same t;
@@ -310,7 +310,7 @@ module _ {V X : Type 0} (bits : Bits) (rule : StateRule) (u : Layout X) where
       keys = λ k e. e;
     }
 
-    -- nothing is to be done any more
+    -- if the remaining entries are settled, nothing is left to do
     pub run_end : (t : Layout V) (from to : ℕ) → AreSettled bits rule u Lower t p from to → SetsRun bits rule u Lower t t p from to
     run_end t from to settled = record {
       head = head_same t;
@@ -356,7 +356,7 @@ module _ {V X : Type 0} (bits : Bits) (rule : StateRule) (u : Layout X) where
         up_to : (n : ℕ) → n ≡ index → n < index + 1
         up_to n e = omega (arith, e)
 
-    -- one run after another
+    -- a run after another run is one run
     pub run_join : (old mid new : Layout V) (from i j : ℕ) → from ≤ i → i ≤ j → SetsRun bits rule u Lower old mid p from i → SetsRun bits rule u Lower mid new p i j → SetsRun bits rule u Lower old new p from j
     run_join old mid new from i j low high first then = record {
       head = head_trans old mid new first.head then.head;
@@ -389,7 +389,7 @@ module _ {V X : Type 0} (bits : Bits) (rule : StateRule) (u : Layout X) where
         earlier : (n : ℕ) → n < i → n < j
         earlier n h = omega (arith, h, high)
 
-    -- all entries are done
+    -- if the run covers all entries, the lower extent is done
     pub run_all : (old new : Layout V) → SetsRun bits rule u Lower old new p 0 (entries bits Lower) → SetsBlock bits rule u Lower old new p
     run_all old new run = record {
       head = run.head;

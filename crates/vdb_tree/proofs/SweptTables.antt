@@ -1,4 +1,4 @@
--- A swept table stays so where no key and no background cell comes.
+-- A swept table stays swept if no key and no background cell is added.
 use Rattle.std.proofs.Common.{◌≡◌, ◌∙◌, refl, sym, ap, false, List, inl, inr}
 use Rattle.std.specs.Prelude.{None, Option, Some, IsSome, IsTrue, if◌then◌else◌}
 use Rattle.vdb_coord.specs.Blocks.{key}
@@ -13,7 +13,7 @@ use Rattle.vdb_tree.proofs.Blocks.{never}
 use Rattle.vdb_tree.proofs.Levels.{coord_cases}
 use Rattle.vdb_tree.proofs.RootSweeps.{other_key, that_key}
 
--- where it isn't known that the table is swept
+-- without knowledge that the table is swept, nothing is to be shown
 pub not_known : {A : Type 0} → IsTrue false → A
 not_known h = absurd (never {b = false} refl h)
 
@@ -21,7 +21,7 @@ entry_from : {V : Type 0} (o : Option (Entry V)) → IsSome o → (entry : Entry
 entry_from None h = cc
 entry_from (Some entry) h = (entry, refl)
 
--- a table in which one key that has no entry gets none brings no key
+-- if a key without an entry gets none, no key is added to the table
 pub updated_held : {V : Type 0} (old new : List (Coord × Entry V)) (at : Coord) (o : Option (Entry V)) → ((k : Coord) → root_at new k ≡ (if coord_eq at k then o else root_at old k))
     → (IsSome o → IsSome (root_at old at)) → (k : Coord) → IsSome (root_at new k) → IsSome (root_at old k)
 updated_held old new at o updates held k h =
@@ -39,11 +39,11 @@ module _ {V : Type 0} (bits : Bits) (old new : Layout V) (keys : (k : Coord) →
   background_stays : new.background ≡ old.background → background_cell new ≡ background_cell old
   background_stays same = ap (λ b. record { value = b; on = false }) same
 
-  -- every cell stays
+  -- if every cell stays, a swept table stays swept
   pub kept_swept : Keeps bits old new → IsSwept bits old → IsSwept bits new
   kept_swept keeps = still_swept (λ q h. sym (keeps.cells q) ∙ h ∙ background_stays keeps.head.background)
 
-  -- one cell changes, to another than the background
+  -- if one cell changes, and not to the background, a swept table stays swept
   pub changed_swept : (p : Coord) (cell : Cell V) → Changes bits old new p cell → (cell ≡ background_cell new → ⊥) → IsSwept bits old → IsSwept bits new
   changed_swept p cell changes other =
       still_swept (λ q h.

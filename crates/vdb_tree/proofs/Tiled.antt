@@ -1,4 +1,4 @@
--- What the descents meet after a node became a tile.
+-- What the descents meet after a node is collapsed into a tile.
 use Rattle.std.proofs.Common.{◌≡◌, ◌≢◌, inl, inr, ℕ, ◌≤◌, cond, List, length, refl, sym, ap, ◌∙◌, arith}
 use Rattle.std.specs.Prelude.{Option, Some, None, IsSome, slice_index_or}
 use Rattle.std.specs.List.{IsDistinct}
@@ -25,7 +25,7 @@ use Rattle.vdb_tree.proofs.Levels.{IsByBlock, Puts, child_slot, coord_cases, lik
 
 -- ---- at any level
 
--- what is read below entries that became tiles, where the nodes of the others stay
+-- what is read below entries that became tiles, if the nodes of the others stay
 pub below_turns : {V N E : Type 0} (read : N → ℕ → E) (tile : Cell V → E) (missing : E) (number : Coord → Coord) (index : Coord → ℕ) (f g : Coord → Entry V) (old new : Contents N) (p : Coord) (c : Cell V)
     → Turns number p f g (Tile c) → ((q : Coord) (r : ℕ) → number q ≢ number p → f q ≡ Child r → node_at new r ≡ node_at old r)
     → Turns number p (λ q. within read tile missing old (f q) (index q)) (λ q. within read tile missing new (g q) (index q)) (tile c)
@@ -36,7 +36,7 @@ below_turns read tile missing number index f g old new p c turns stay = record {
       rw a (within_same read tile missing old new (f q) (index q) (λ r e. stay q r d e));
 }
 
--- a child after it lies elsewhere, and was there before
+-- a child after the change is in another block, and was there before
 elsewhere : {V : Type 0} (number : Coord → Coord) (f g : Coord → Entry V) (p : Coord) (c : Cell V) → Turns number p f g (Tile c) → (q : Coord) (r : ℕ) → g q ≡ Child r → (number q ≢ number p) × (f q ≡ Child r)
 elsewhere number f g p c turns q r e =
     elim (coord_cases (number q) (number p)) [
@@ -59,11 +59,11 @@ module _ {V N : Type 0} (bits : Bits) (level : Level) (f g : Coord → Entry V) 
   }
 
   module _ (old new : Contents N) (s : ℕ) (owned : IsOwned bits level f old) (child : f p ≡ Child s) (taken : Puts old new s None) where
-    -- elsewhere the child is another
+    -- in any other block the child is another one, and its node stays
     pub other_stays : (q : Coord) (r : ℕ) → block_number bits level q ≢ block_number bits level p → f q ≡ Child r → node_at new r ≡ node_at old r
     other_stays q r d e = taken.others r (λ k. d (owned.own q p s (e ∙ ap Child k) child))
 
-    -- a child became a tile, and its node was taken
+    -- a child became a tile, and its node was removed
     pub dropped_owned : IsByBlock bits level f → Turns (block_number bits level) p f g (Tile c) → IsOwned bits level g new
     dropped_owned by turns = record {
       held = λ q r e. let w = elsewhere (block_number bits level) f g p c turns q r e in rw (other_stays q r w.0 w.1) (owned.held q r w.1);
@@ -241,7 +241,7 @@ module _ {V : Type 0} (bits : Bits) (t : Layout V) (p : Coord) (o : Option (Entr
     there = λ q d. ap (λ x. option_map_or (λ entry. entry) x (Tile (background_cell t))) (root_elsewhere (key bits q) d);
   }
 
-  -- no other key has an entry than before
+  -- no key without an entry gets one
   pub root_keys : (IsSome o → IsSome (root_at t.root (key bits p))) → (k : Coord) → IsSome (root_at root k) → IsSome (root_at t.root k)
   root_keys had k h =
       elim (coord_cases k (key bits p)) [
@@ -249,7 +249,7 @@ module _ {V : Type 0} (bits : Bits) (t : Layout V) (p : Coord) (o : Option (Entr
         | inr d ↦ let r = root_elsewhere k d in rw (← r) h
       ]
 
--- a child in the table is no absent entry
+-- if the table has a child under a key, the entry isn't absent
 pub root_present : {V : Type 0} (bits : Bits) (t : Layout V) (p : Coord) (s : ℕ) → root_entry bits t p ≡ Child s → IsSome (root_at t.root (key bits p))
 root_present bits t p s e = present (root_at t.root (key bits p)) (background_cell t) e
   where
@@ -285,7 +285,7 @@ module _ {V : Type 0} (bits : Bits) (t : Layout V) (sound : IsSound bits t) (p :
   pub upper_fills : Fills bits Upper t upper_dropped p c
   upper_fills = record { head = record { background = refl; limit = refl }; cells = upper_cells }
 
-  -- below tiles there are no leaves either
+  -- below the tile there are no leaves either
   leafless : (q : Coord) (r : ℕ) → block_number bits Upper q ≡ block_number bits Upper p → lower_entry bits t q ≡ Child r → ⊥
   leafless q r b e =
       elim (tile_or_child (upper_entry bits t q)) [

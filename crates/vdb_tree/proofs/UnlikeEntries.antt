@@ -37,7 +37,7 @@ pub here_or_later : (a i : ℕ) → i ≤ a → a < i + 1 → a ≡ i
 here_or_later a i h k = omega (arith, h, k)
 
 module _ {V : Type 0} (bits : Bits) (t : Layout V) (level : Level) (p : Coord) (cell : Cell V) where
-  -- what a node says of the tiles of a cell, its block says of the cell
+  -- what a node says about the tiles of a cell, its block says about the cell
   module _ (entry : Coord → Entry V) (tiled : (q : Coord) → entry q ≡ Tile cell → cell_at bits t q ≡ cell) (node : List (Entry V)) (x : Cell V)
       (by : (q : Coord) → block_number bits level q ≡ block_number bits level p → entry q ≡ slice_index_or node (offset bits level q) (Tile x)) where
     pub unlike_at : (from index : ℕ) → IsFirstWithoutAt (IsTileOf cell node) (entry_count (node_bits bits level)) from index → IsNextUnlikeAt bits (cell_at bits t) level p cell from index
@@ -54,7 +54,7 @@ module _ {V : Type 0} (bits : Bits) (t : Layout V) (level : Level) (p : Coord) (
     unlike from (Some index) next = unlike_at from index next
     unlike from None none = unlike_none from none
 
-  -- an entry of the cell that others of the cell come before
+  -- an entry of the cell extends the entries of the cell before it
   pub below_next : (from index : ℕ) → IsConstantBelow bits t level p cell from → IsNextUnlikeAt bits (cell_at bits t) level p cell from index → IsConstantAt bits level t p index cell → IsConstantBelow bits t level p cell (index + 1)
   below_next from index below next here q b h =
       elim (from_or_below (offset bits level q) from) [
@@ -65,7 +65,7 @@ module _ {V : Type 0} (bits : Bits) (t : Layout V) (level : Level) (p : Coord) (
         ]
       ]
 
-  -- all are of the cell
+  -- if the entries up to the last have the cell, the block has it
   pub below_all : (from : ℕ) → IsConstantBelow bits t level p cell from → IsCellFrom bits (cell_at bits t) level p cell from (entries bits level) → IsConstantBlock bits level t p cell
   below_all from below rest q b =
       elim (from_or_below (offset bits level q) from) [
@@ -73,7 +73,7 @@ module _ {V : Type 0} (bits : Bits) (t : Layout V) (level : Level) (p : Coord) (
         | inr k ↦ rest q b k (offset_below bits level q)
       ]
 
--- the first coordinate of an entry stands in the node, at that entry
+-- the first coordinate of an entry lies in the node, at that entry
 pub entry_at : (bits : Bits) (level : Level) (p c : Coord) (i : ℕ) (used : Bits) → c ≡ corner used level p i → used ≡ bits → i < entries bits level
     → (block_number bits level c ≡ block_number bits level p) × (offset bits level c ≡ i)
 entry_at bits level p c i used is same small =
@@ -81,14 +81,14 @@ entry_at bits level p c i used is same small =
     let at = corner_of_entry bits level p i small in
     (ap (block_number bits level) one ∙ at.0, ap (offset bits level) one ∙ at.1)
 
--- the index after an entry's is within the node, and fits 32 bits
+-- the index after an entry's index is within the node, and fits 32 bits
 pub index_after : (index n : ℕ) → index < n → index + 1 ≤ n
 index_after index n h = omega (arith, h)
 
 pub index_fits : (index n : ℕ) → index < n → n ≤ 32768 → index + 1 < 2 ^ 32
 index_fits index n h k = omega (arith, h, k)
 
--- what is left of the node gets less
+-- past an entry, fewer entries of the node are left
 pub nearer : (from index n : ℕ) → from ≤ index → index < n → n - (index + 1) < n - from
 nearer from index n h k = omega (arith, h, k)
 
@@ -104,14 +104,14 @@ not_both a b h k = omega (arith, h, k)
 past_last : (a n from : ℕ) → a < n → n ≤ from → a < from
 past_last a n from h k = omega (arith, h, k)
 
--- ---- the entries of a block, of whatever it consists
+-- ---- the entries of any block
 
 module _ {V : Type 0} (bits : Bits) (cells : Coord → Cell V) (level : Level) (p : Coord) (cell : Cell V) where
-  -- nothing comes between an entry and itself
+  -- no entry lies between an entry and itself
   pub unlike_here : (from : ℕ) → from < entries bits level → IsNextUnlike bits cells level p cell from (Some from)
   unlike_here from h = record { within = h; from_on = itself from; before = λ q b more less. absurd (not_both (offset bits level q) from more less) }
 
-  -- past the last entry none is left
+  -- past the last entry no entry is left
   pub unlike_past : (from : ℕ) → entries bits level ≤ from → IsNextUnlike bits cells level p cell from None
   unlike_past from h q b more less = absurd (not_both (offset bits level q) from more (past_last (offset bits level q) (entries bits level) from less h))
 
@@ -132,11 +132,11 @@ module _ {V : Type 0} (bits : Bits) (configured : AreBits bits) (level : Level) 
   unlike_in_field cell from (Some index) next = record { within = next.within; from_on = next.from_on; before = λ q b more less. cell_is q b ∙ next.before q b more less }
   unlike_in_field cell from None none = λ q b more less. cell_is q b ∙ none q b more less
 
-  -- and a block of one cell has it at each entry
+  -- a block of one cell has it at each entry
   pub unlike_in_tile : (cell : Cell V) (from : ℕ) → IsConstantBlock bits level t p cell → IsNextUnlike bits (field_of bits t).cell level p cell from None
   unlike_in_tile cell from h q b more less = cell_is q b ∙ h q b
 
-  -- the cell at p is the only one that there can be
+  -- the cell at p is the only candidate for the one cell
   module _ (c : Cell V) (at : cell_at bits t p ≡ c) (same : Bool) (test : IsTrue same ↔ IsConstantBlock bits level t p c) where
     only : (d : Cell V) → IsOneCell bits level (field_of bits t) p d → c ≡ d
     only d h = sym at ∙ block_from d h p refl

@@ -21,7 +21,7 @@ use Rattle.vdb_tree.specs.internal.Paints.{IsRun}
 abbrev IsWithin : ℤ → ℤ → ℤ → Type 0
 IsWithin low high x = (low ≤ℤ x) × (x ≤ℤ high)
 
--- up to a number that lies within, from one that does
+-- a range that starts and ends within another lies within it
 within : (a b p last x : ℤ) → a ≤ℤ p → last ≤ℤ b → IsWithin p last x → IsWithin a b x
 within a b p last x h k on = let low = on.0 in let high = on.1 in (omega (arith, ints, h, low), omega (arith, ints, k, high))
 
@@ -40,7 +40,7 @@ no_less x y a b = omega (arith, ints, a, b)
 below_or_from : (x y : ℤ) → (y <ℤ x) ⊎ (x ≤ℤ y)
 below_or_from x y = grind (arith, ints)
 
--- from a number on, up to what the part and the block have
+-- the range from a number on, up to what the part and the block have
 record IsReached (from part block x : ℤ) : Type 0 where
   behind : from ≤ℤ x
   in_part : x ≤ℤ part
@@ -52,7 +52,7 @@ stays x y z a b = record { behind = omega (arith, ints); in_part = a; in_block =
 reaches : (x y z : ℤ) → x ≤ℤ y → x ≤ℤ z → IsReached x y z (int_min y z)
 reaches x y z a b = record { behind = omega (arith, ints, clamps, a, b); in_part = omega (arith, ints, clamps); in_block = omega (arith, ints, clamps) }
 
--- ---- what doesn't come before
+-- ---- coordinates that don't come before another
 
 from_x : (p q : Coord) → (IsBefore q p → ⊥) → p.x ≤ℤ q.x
 from_x p q h = elim (below_or_from p.x q.x) [ inl less ↦ absurd (h (inl less)) | inr more ↦ more ]
@@ -85,7 +85,7 @@ module _ (p last q : Coord) (from : IsBefore q p → ⊥) (to : IsBefore last q 
   between_z : last.x ≡ p.x → last.y ≡ p.y → IsWithin p.z last.z q.z
   between_z e f = let x = same_x e in let y = same_y e f in (from_z p q (sym x) (sym y) from, from_z q last (x ∙ sym e) (y ∙ sym f) to)
 
--- ---- the three kinds of runs
+-- ---- the three forms of runs
 
 all_within : (b : Box) (q : Coord) → IsWithin b.min.x b.max.x q.x → IsWithin b.min.y b.max.y q.y → IsWithin b.min.z b.max.z q.z → is_inside b q ≡ true
 all_within b q x y z = inside_from b q x.0 x.1 y.0 y.1 z.0 z.1
@@ -124,7 +124,7 @@ module _ (bits : Bits) (part : Box) (p : Coord) (inside : is_inside part p ≡ t
         number_in_block bits Leaf (block_number bits Leaf p) last
         (inside_from block last (through _ _ _ own.0.0 x.behind) x.in_block (through _ _ _ own.1.0 y.behind) y.in_block (through _ _ _ own.2.0 z.behind) z.in_block)
 
-    -- a row along z
+    -- a run is a row along z
     row_run : last.x ≡ p.x → last.y ≡ p.y → IsRun bits part p last
     row_run e f = record {
       inside = end_inside;
@@ -138,7 +138,7 @@ module _ (bits : Bits) (part : Box) (p : Coord) (inside : is_inside part p ≡ t
     }
 
     module _ (low_z : part.min.z ≡ block.min.z) (high_z : part.max.z ≡ block.max.z) where
-      -- rows that span the block
+      -- if rows span the block, a run is several rows
       plane_run : last.x ≡ p.x → IsRun bits part p last
       plane_run e = record {
         inside = end_inside;
@@ -152,7 +152,7 @@ module _ (bits : Bits) (part : Box) (p : Coord) (inside : is_inside part p ≡ t
             (same_ends _ _ _ _ _ (sym low_z) (sym high_z) (inside_parts block q (inside_numbered bits Leaf (block_number bits Leaf p) q same)).2);
       }
 
-      -- planes that span it
+      -- if planes span the block, a run is several planes
       whole_run : part.min.y ≡ block.min.y → part.max.y ≡ block.max.y → IsRun bits part p last
       whole_run low_y high_y = record {
         inside = end_inside;
@@ -166,7 +166,7 @@ module _ (bits : Bits) (part : Box) (p : Coord) (inside : is_inside part p ≡ t
             all_within part q (within _ _ _ _ _ at.0.0 x.in_part (between_x p last q from to)) (same_ends _ _ _ _ _ (sym low_y) (sym high_y) on.1) (same_ends _ _ _ _ _ (sym low_z) (sym high_z) on.2);
       }
 
-  -- the corners that the code finds
+  -- the last coordinate that the code computes
   pub row_to : (x y z : ℤ) → x ≡ p.x → y ≡ p.y → z ≡ int_min part.max.z block.max.z → IsRun bits part p (coord x y z)
   row_to x y z a b c =
       row_run (coord x y z) (subst (λ t. IsReached p.x part.max.x block.max.x t) (sym a) stays_x) (subst (λ t. IsReached p.y part.max.y block.max.y t) (sym b) stays_y)
@@ -186,12 +186,12 @@ module _ (bits : Bits) (part : Box) (p : Coord) (inside : is_inside part p ≡ t
 
 -- ---- the offsets of a run
 
--- in one block, what comes before has the lower offset
+-- in one block, a coordinate that comes before another has the lower offset
 before_less : (bits : Bits) (p q : Coord) → block_number bits Leaf p ≡ block_number bits Leaf q → IsBefore p q → offset bits Leaf p < offset bits Leaf q
 before_less bits p q same before =
     offset_less bits Leaf p q same (subst (λ (t : Coord). IsBefore t (entry_number bits Leaf q)) (sym (entry_number_leaf bits p)) (subst (λ (t : Coord). IsBefore p t) (sym (entry_number_leaf bits q)) before))
 
--- and what doesn't come before has no lower one
+-- in one block, a coordinate that doesn't come before another has no lower offset
 offset_order : (bits : Bits) (p q : Coord) → block_number bits Leaf p ≡ block_number bits Leaf q → (IsBefore q p → ⊥) → offset bits Leaf p ≤ offset bits Leaf q
 offset_order bits p q same not = elim (which_before p q) [
   | inl before ↦ less_at_most _ _ (before_less bits p q same before)
@@ -205,11 +205,11 @@ offset_order bits p q same not = elim (which_before p q) [
     itself m n e = omega (arith, e)
 
 module _ (bits : Bits) (part : Box) (p last : Coord) (run : IsRun bits part p last) where
-  -- that of the last coordinate is no less than p's
+  -- the offset of the last coordinate is no less than p's
   pub run_from : offset bits Leaf p ≤ offset bits Leaf last
   run_from = offset_order bits p last (sym run.same) run.behind
 
-  -- the part's coordinates from p up to the last have the offsets between
+  -- the part's coordinates from p up to the last have the offsets between these two
   pub offset_in_run : (q : Coord) → is_inside part q ≡ true → (IsBefore q p → ⊥) → (IsBefore last q → ⊥) → (offset bits Leaf p ≤ offset bits Leaf q) × (offset bits Leaf q < offset bits Leaf last + 1)
   offset_in_run q inside from to =
       let same = run.all q inside from to in
@@ -218,7 +218,7 @@ module _ (bits : Bits) (part : Box) (p last : Coord) (run : IsRun bits part p la
       up_to : (m n : ℕ) → m ≤ n → m < n + 1
       up_to m n h = omega (arith, h)
 
-  -- and each such offset is that of one of the part's coordinates
+  -- each offset between these two is the offset of one of the part's coordinates
   pub in_run_of_offset : (i : ℕ) → offset bits Leaf p ≤ i → i < offset bits Leaf last + 1 → (q : Coord) × (is_inside part q ≡ true) × (offset bits Leaf q ≡ i)
   in_run_of_offset i low high =
       let q = (sub_block bits Leaf (block_around bits Leaf p) i).min in
@@ -239,7 +239,7 @@ module _ (bits : Bits) (part : Box) (p last : Coord) (run : IsRun bits part p la
       higher : (a b i : ℕ) → a < b → b ≡ i → i < a + 1 → ⊥
       higher a b i h e k = omega (arith, h, e, k)
 
--- no more coordinates come after what doesn't come before
+-- if q doesn't come before p, no more coordinates come after q than after p
 pub not_further : (p q : Coord) → (IsBefore q p → ⊥) → SFits w32 q.x → SFits w32 q.y → SFits w32 q.z → coordinates_after q ≤ coordinates_after p
 not_further p q not x y z = elim (which_before p q) [
   | inl before ↦ less_at_most _ _ (fewer before)

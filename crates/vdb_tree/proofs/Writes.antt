@@ -1,4 +1,4 @@
--- What a write of a voxel comes to: the outcome of each way through it.
+-- The outcomes of a write of a voxel, one for each path through the code.
 use Rattle.std.proofs.Common.{◌≡◌, ◌⊎◌, inl, inr, ◌<◌, ◌≤◌, ℕ, Bool, true, IsTrue, refl, sym, ap, subst, ◌∙◌, arith, length, Err}
 use Rattle.std.specs.Prelude.{None, Result}
 use Rattle.vdb_coord.specs.Blocks.{key}
@@ -33,7 +33,7 @@ not_less a b h never = elim (less_or a b h) [ inl k ↦ absurd (never k) | inr e
     less_or a b h = grind arith
 
 module _ {V : Type 0} (eq : V → V → Bool) (exact : (x y : V) → eq x y ≡ true → x ≡ y) (itself : (x : V) → eq x x ≡ true) (bits : Bits) (configured : AreBits bits) where
-  -- a swept table without capacity is full of roots, and a field that differs in p's root block alone has one more
+  -- a swept table without capacity is full of roots, and a field that differs only in p's upper extent has one more
   pub exceeds : (t : Layout V) (p : Coord) → IsTrue (is_inside everywhere p) → IsSound bits t → (HasCapacity t (key bits p) → ⊥) → IsSwept bits t → (changed : Field V)
       → IsAlteredIn bits (key bits p) (field_of bits t) changed → (AreSameCells (field_of bits t) changed → ⊥) → t.limit < roots eq bits changed
   exceeds t p inside sound no_capacity swept changed altered differs =
@@ -44,7 +44,7 @@ module _ {V : Type 0} (eq : V → V → Bool) (exact : (x y : V) → eq x y ≡ 
       absent = elim (some_or_none (root_at t.root (key bits p))) [ inl x ↦ absurd (no_capacity (inl (is_some_from _ x.0 x.1))) | inr n ↦ n ]
 
 module _ {V : Type 0} (bits : Bits) where
-  -- a write of the cell that is there changes nothing
+  -- a write of the cell that the voxel already has changes nothing
   pub standing_field : (t : Layout V) (p : Coord) (change : Write V) → written change ((field_of bits t).cell p) ≡ (field_of bits t).cell p → field_of bits t ≡ write p change (field_of bits t)
   standing_field t p change stands = same_field bits t t.background _ refl (λ q inside.
       let at = cell_inside t.background (cell_at bits t) q inside in
@@ -64,12 +64,12 @@ module _ {V : Type 0} (bits : Bits) where
   written_field old mid new p change keeps changes =
       changes_field bits mid new p change changes ∙ ap (write p change) (keeps_field bits old mid keeps)
 
-  -- `Memory` after steps that kept every cell, where the change would be within the limit
+  -- `Memory` after steps that kept every cell, if the change is within the limit
   pub kept_outcome : (eq : V → V → Bool) (old new : Layout V) (changed : Field V) (result : Result (Unit {0}) TreeRefusal) → result ≡ Err Memory → Keeps bits old new
       → roots eq bits changed ≤ old.limit → IsOutcome eq bits old.limit (field_of bits old) changed (field_of bits new) result
   kept_outcome eq old new changed result memory keeps within = rw memory (keeps_field bits old new keeps, within)
 
-  -- `RootLimit` after such steps, where it would exceed it
+  -- `RootLimit` after steps that kept every cell, if the change exceeds the limit
   pub full_outcome : (eq : V → V → Bool) (old new : Layout V) (changed : Field V) (result : Result (Unit {0}) TreeRefusal) → result ≡ Err RootLimit → Keeps bits old new
       → old.limit < roots eq bits changed → IsOutcome eq bits old.limit (field_of bits old) changed (field_of bits new) result
   full_outcome eq old new changed result full keeps exceeds = rw full (keeps_field bits old new keeps, exceeds)
@@ -85,14 +85,14 @@ module _ {V : Type 0} (bits : Bits) where
     | inr n ↦ absurd (tile_no_child (background_cell t) slot (sym (absent_entry bits t p n) ∙ child))
   ]
 
-  -- so has a lower node
+  -- a lower node over p has an entry above it
   pub lower_has_capacity : (t : Layout V) (p : Coord) (slot : ℕ) → upper_entry bits t p ≡ Child slot → HasCapacity t (key bits p)
   lower_has_capacity t p slot child = elim (some_or_none (root_at t.root (key bits p))) [
     | inl x ↦ inl (is_some_from _ x.0 x.1)
     | inr n ↦ absurd (tile_no_child (background_cell t) slot (sym (tile_upper bits t (background_cell t) p (absent_entry bits t p n)) ∙ child))
   ]
 
-  -- a child over p's leaf block has an entry above it
+  -- a child over p's leaf extent has an entry above it
   pub leaf_has_capacity : (t : Layout V) (p : Coord) (slot : ℕ) → lower_entry bits t p ≡ Child slot → HasCapacity t (key bits p)
   leaf_has_capacity t p slot child = elim (some_or_none (root_at t.root (key bits p))) [
     | inl x ↦ inl (is_some_from _ x.0 x.1)

@@ -1,4 +1,4 @@
--- What becomes of a field when a leaf block gets the cells of a leaf.
+-- What becomes of a field when a leaf extent gets the cells of a leaf.
 use Rattle.std.proofs.Common.{◌≡◌, ◌≢◌, ◌<◌, ℕ, true, false, IsTrue, refl, sym, ap, subst, ◌∙◌, inl, inr, length}
 use Rattle.std.proofs.lemmas.List.{get_or_default}
 use Rattle.vdb_coord.specs.Blocks.{block_around, block_number, key, offset, sub_block}
@@ -39,20 +39,20 @@ module _ {V : Type 0} (bits : Bits) (p : Coord) (leaf : LeafOf V) where
   entry_below q = subst (λ k. offset bits Leaf q < k) (entries_is bits Leaf) (offset_below bits Leaf q)
 
   module _ (f : Field V) where
-    -- in p's leaf block the cells are the leaf's
+    -- in p's leaf extent the cells are those of the leaf
     leaf_here : (q : Coord) → IsTrue (is_inside everywhere q) → block_number bits Leaf q ≡ block_number bits Leaf p
         → (with_leaf bits p leaf f).cell q ≡ cell_in (off f.background) leaf (offset bits Leaf q)
     leaf_here q inside e = let same = like_coords (block_number bits Leaf p) (block_number bits Leaf q) (sym e) in rw (inside, same) refl
 
-    -- and elsewhere every cell stays
+    -- outside p's leaf extent every cell stays
     leaf_there : (q : Coord) → IsTrue (is_inside everywhere q) → block_number bits Leaf q ≢ block_number bits Leaf p → (with_leaf bits p leaf f).cell q ≡ f.cell q
     leaf_there q inside d = let other = unlike_coords (block_number bits Leaf p) (block_number bits Leaf q) (λ e. d (sym e)) in rw (inside, other) refl
 
-    -- so the root block around p is changed alone
+    -- only the upper extent around p is changed
     pub leaf_altered : IsAlteredIn bits (key bits p) f (with_leaf bits p leaf f)
     leaf_altered = record { background = refl; elsewhere = λ q inside d. leaf_there q inside (λ e. d (upper_from_lower bits q p (lower_from_leaf bits q p e))) }
 
-    -- a leaf of one cell fills the block with it
+    -- a leaf of one cell fills its extent with that cell
     pub leaf_fills : (cell : Cell V) → IsConstantLeaf leaf (entry_count bits.leaf) cell → with_leaf bits p leaf f ≡ fill (block_around bits Leaf p) cell f
     leaf_fills cell constant = same_cells f.background _ _ (λ q inside. elim (coord_cases (block_number bits Leaf q) (block_number bits Leaf p)) [
       | inl e ↦
@@ -65,7 +65,7 @@ module _ {V : Type 0} (bits : Bits) (p : Coord) (leaf : LeafOf V) where
           rw (other, out) refl
     ])
 
-  -- a leaf whose cells aren't all one makes another field where its block is a tile
+  -- writing a leaf with different cells over a tile changes the field
   pub leaf_differs : AreBits bits → IsTrue (is_inside everywhere p) → (t : Layout V) (tile : Cell V) → lower_entry bits t p ≡ Tile tile
       → length leaf.values ≡ entry_count bits.leaf → ((cell : Cell V) → IsConstantLeaf leaf (entry_count bits.leaf) cell → ⊥)
       → AreSameCells (field_of bits t) (with_leaf bits p leaf (field_of bits t)) → ⊥
@@ -87,7 +87,7 @@ module _ {V : Type 0} (bits : Bits) (t : Layout V) (p : Coord) (slot : ℕ) (chi
   no_tile Lower q inside tile e = tile_no_child tile slot (sym (tile_lower bits t tile q e) ∙ child_at q inside)
   no_tile Upper q inside tile e = tile_no_child tile slot (sym (tile_lower bits t tile q (tile_upper bits t tile q e)) ∙ child_at q inside)
 
-  -- a leaf's block can be painted
+  -- a tree with a leaf over p's extent is split for that extent
   pub leaf_split : (cell : Cell V) → IsSplit bits (block_around bits Leaf p) cell t
   leaf_split cell = record {
     tiles = λ level q inside tile e. absurd (no_tile level q inside tile e);

@@ -12,7 +12,7 @@ use Rattle.vdb_value.specs.declared.Cell.{Cell}
 use Rattle.vdb_tree.specs.Field.{Field, off}
 
 module _ {V : Type 0} (eq : V → V → Bool) where
-  -- whether two cells have one value and one state
+  -- whether two cells have the same value and the same state
   abbrev pub cell_eq : Cell V → Cell V → Bool
   cell_eq a b = eq a.value b.value && beq a.on b.on
 
@@ -28,11 +28,11 @@ module _ {V : Type 0} (eq : V → V → Bool) where
   abbrev pub is_constant : Field V → Box → Bool
   is_constant f box = is_uniform f box (f.cell box.min)
 
-  -- the keys of the root blocks that hold anything but the background, in their order
+  -- the keys of the upper extents that hold anything but the background, in their order
   abbrev pub root_keys : Bits → Field V → List Coord
   root_keys bits f = filter (λ n. not (is_background f (block bits Upper n))) (coordinates (block_numbers bits Upper))
 
-  -- how many root blocks hold anything but the background
+  -- how many upper extents hold anything but the background
   abbrev pub roots : Bits → Field V → ℕ
   roots bits f = length (root_keys bits f)
 

@@ -15,8 +15,8 @@ use Rattle.vdb_pool.specs.Contents.{Contents, node_at}
 use Rattle.vdb_value.specs.declared.Cell.{Cell}
 use Rattle.vdb_tree.specs.Field.{Field, field, off}
 
--- the root table has at most `limit` entries, each under the key of its root block; the slots of the children are those of the
--- upper nodes in the table, of the lower nodes in upper nodes, and of the leaves in lower nodes
+-- the root table has at most `limit` entries, each under the key of its upper extent; the slots of the children are those of
+-- the upper nodes in the table, of the lower nodes in upper nodes, and of the leaves in lower nodes
 pub record Layout (V : Type 0) : Type 0 where
   pub background : V
   pub limit : ℕ
@@ -29,13 +29,13 @@ pub record Layout (V : Type 0) : Type 0 where
 abbrev pub bits_of : ℕ → ℕ → ℕ → Bits
 bits_of U L F = record { upper = U; lower = L; leaf = F }
 
--- what an entry's node has at an index, or what its tile has
+-- what an entry's node has at an index; for a tile, what the tile has
 abbrev pub within : {V N E : Type 0} → (N → ℕ → E) → (Cell V → E) → E → Contents N → Entry V → ℕ → E
 within read tile missing pool (Tile cell) i = tile cell
 within read tile missing pool (Child slot) i = option_map_or (λ node. read node i) (node_at pool slot) missing
 
 module _ {V : Type 0} where
-  -- the background, inactive
+  -- the inactive background
   abbrev pub background_cell : Layout V → Cell V
   background_cell t = off t.background
 
@@ -43,19 +43,19 @@ module _ {V : Type 0} where
   abbrev pub root_at : List (Coord × Entry V) → Coord → Option (Entry V)
   root_at root k = lookup (coord_eq k) root
 
-  -- the entry under a key, or the tile that an absent one stands for
+  -- the entry under a key, or the tile that an absent entry stands for
   abbrev pub entry_of_key : Layout V → Coord → Entry V
   entry_of_key t k = option_map_or (λ entry. entry) (root_at t.root k) (Tile (background_cell t))
 
-  -- what an entry has at an index if its nodes are internal, and if they are leaves
+  -- what an entry has at an index: first for entries whose nodes are internal, then for those whose nodes are leaves
   abbrev pub within_internal : Cell V → Contents (List (Entry V)) → Entry V → ℕ → Entry V
   within_internal d = within (λ node i. slice_index_or node i (Tile d)) Tile (Tile d)
 
   abbrev pub within_leaf : Cell V → Contents (LeafOf V) → Entry V → ℕ → Cell V
   within_leaf d = within (cell_in d) (λ cell. cell) d
 
-  -- the descent to p: its entry in the root table, in an upper node and in a lower node, each being the tile above it where
-  -- the descent ended there
+  -- the descent to p: its entry in the root table, in an upper node and in a lower node; below a tile in which the descent
+  -- ends, each of these is that tile
   module _ (bits : Bits) where
     abbrev pub root_entry : Layout V → Coord → Entry V
     root_entry t p = entry_of_key t (key bits p)
@@ -66,11 +66,11 @@ module _ {V : Type 0} where
     abbrev pub lower_entry : Layout V → Coord → Entry V
     lower_entry t p = within_internal (background_cell t) t.lowers (upper_entry t p) (offset bits Lower p)
 
-    -- the cell where it ends; opaque, since goals have no need of the rest
+    -- the cell in which the descent ends; opaque, because goals do not need its body
     unfoldable pub cell_at : Layout V → Coord → Cell V
     cell_at t p = within_leaf (background_cell t) t.leaves (lower_entry t p) (offset bits Leaf p)
 
-    -- what stands for p's block of the level: a node of the level or a tile
+    -- the entry over p's block of the level: a node of the level or a tile
     abbrev pub entry_over : Level → Layout V → Coord → Entry V
     entry_over Upper = root_entry
     entry_over Lower = upper_entry

@@ -1,4 +1,4 @@
--- Fields, which grids are in the abstract, and the trees that stand for them.
+-- Fields, the abstract form of grids, and the trees that stand for them.
 pub mod Field
 pub mod ConstantBlocks
 pub mod Layout

@@ -1,4 +1,4 @@
--- Which nodes and which entries of the table a call makes, keeps or gives back.
+-- Which nodes and table entries a call makes, keeps or gives back.
 use Rattle.std.specs.Prelude.{◌≡◌, ◌≢◌, ◌⊎◌, ◌<◌, ℕ, Bool, true, List, Some, IsSome, IsTrue}
 use Rattle.vdb_coord.specs.Blocks.{block_number}
 use Rattle.vdb_coord.specs.Space.{Box, is_inside}
@@ -22,7 +22,7 @@ use Rattle.vdb_tree.specs.Smallest.{counts_of}
 abbrev pub MeetsBlock : Bits → Box → Level → Coord → Type 0
 MeetsBlock bits box level p = (q : Coord) × IsTrue (is_inside box q) × (block_number bits level q ≡ block_number bits level p)
 
--- no key came into the table
+-- no key was added to the table
 abbrev pub MakesNoKey : {V : Type 0} → Layout V → Layout V → Type 0
 MakesNoKey old new = (k : Coord) → IsSome (root_at new.root k) → IsSome (root_at old.root k)
 
@@ -34,22 +34,22 @@ module _ {V : Type 0} (bits : Bits) where
       → (m : LeafOf V) × (new ≡ record old { leaves = with_node old.leaves slot m }) × (m.values ≡ n.values)
       × ((i : ℕ) → i < entry_count bits.leaf → is_on m.states i ≡ is_on mask i)
 
-  -- each key has the same entry, each coordinate the same entries over it, and there are as many entries and nodes
+  -- each key has the same entry, each coordinate the same entries over it, and the numbers of entries and nodes are the same
   pub record IsSameTree (old new : Layout V) : Type 0 where
     pub table : (k : Coord) → root_at new.root k ≡ root_at old.root k
     pub entries : (q : Coord) → SameDescent bits old new q
     pub counts : counts_of new ≡ counts_of old
 
-  -- where there is a node and there was a tile, this holds of the level, the coordinate and the tile
+  -- if a tile became a node, this holds of the level, the coordinate and the tile
   abbrev pub MakesOnly : (Level → Coord → Cell V → Type 0) → Layout V → Layout V → Type 0
   MakesOnly Holds old new =
       (level : Level) (p : Coord) (tile : Cell V) → entry_over bits level old p ≡ Tile tile → IsTrue (is_child (entry_over bits level new p)) → Holds level p tile
 
-  -- no node came
+  -- no node was added
   abbrev pub MakesNoNode : Layout V → Layout V → Type 0
   MakesNoNode old new = (level : Level) (p : Coord) → IsTrue (is_child (entry_over bits level new p)) → IsTrue (is_child (entry_over bits level old p))
 
-  -- each key that came is that of a root block that the box meets
+  -- each added key belongs to an upper extent that meets the box
   abbrev pub MakesKeysIn : Box → Layout V → Layout V → Type 0
   MakesKeysIn box old new = (k : Coord) → IsSome (root_at new.root k) → IsSome (root_at old.root k) ⊎ MeetsRootBlock bits box k
 
@@ -57,7 +57,7 @@ module _ {V : Type 0} (bits : Bits) where
   abbrev pub IsActiveIn : Box → Level → Coord → Cell V → Type 0
   IsActiveIn box level p tile = (tile.on ≡ true) × MeetsBlock bits box level p
 
-  -- a tile over a block that the box meets but doesn't cover, and not of this cell
+  -- a tile of another cell, over a block that the box meets but doesn't cover
   abbrev pub IsCut : Box → Cell V → Level → Coord → Cell V → Type 0
   IsCut box cell level p tile = MeetsBlock bits box level p × (IsCovered bits box level p → ⊥) × (tile ≢ cell)
 

@@ -1,4 +1,4 @@
--- Two trees of one configuration, gone through together: the blocks over each of which both have a tile or a leaf.
+-- A walk over two trees of one configuration: over the blocks at which both have a tile or a leaf.
 use Rattle.std.specs.Prelude.{◌≡◌, Bool, false, List, Option, IfSome, IsTrue}
 use Rattle.vdb_coord.specs.Blocks.{block_number}
 use Rattle.vdb_coord.specs.Order.{ComesBefore}
@@ -15,7 +15,7 @@ use Rattle.vdb_tree.specs.Parts.{end_level, is_left}
 use Rattle.vdb_tree.specs.Paths.{Lives}
 use Rattle.vdb_tree.specs.declared.path.PathOf.{PathOf}
 
--- How far a walk over the pairs of two trees has come.
+-- The progress of a walk over the pairs of two trees.
 pub record PairWalkOf (A B C : Type 0) : Type 0 where
   -- the first coordinate, in block order, of what is left
   pub at : Option Coord
@@ -37,16 +37,16 @@ lower_level Lower Upper = Lower
 lower_level Upper m = m
 
 module _ {V : Type 0} (bits : Bits) (t u : Layout V) where
-  -- a walk may pass over q: in both trees its cell is the background, inactive
+  -- a walk may pass over q: in both trees its cell is the inactive background
   abbrev pub IsBackgroundInBoth : Coord → Type 0
   IsBackgroundInBoth q = ((field_of bits t).cell q ≡ off t.background) × ((field_of bits u).cell q ≡ off u.background)
 
-  -- the walk goes on: what was left and isn't any more was passed over, but for what the test names
+  -- the walk goes on: what was left and isn't any more was passed over, except what the test names
   pub record PassesPairs (old new : TreePairWalk V) (but : Coord → Bool) : Type 0 where
     pub later : (q : Coord) → IsTrue (is_left bits new.at q) → IsTrue (is_left bits old.at q)
     pub passed : (q : Coord) → IsTrue (is_inside everywhere q) → IsTrue (is_left bits old.at q) → is_left bits new.at q ≡ false → but q ≡ false → IsBackgroundInBoth q
 
-  -- it yields these coordinates, which were left and aren't any more
+  -- the walk yields these coordinates, which were left and aren't any more
   pub record YieldsPair (old new : TreePairWalk V) (block : Box) : Type 0 where
     pub passes : PassesPairs old new (is_inside block)
     pub inside : (q : Coord) → IsTrue (is_inside block q) → IsTrue (is_inside everywhere q)
@@ -62,7 +62,7 @@ module _ {V : Type 0} (bits : Bits) (t u : Layout V) where
     pub inside : IsTrue (is_inside everywhere p)
     pub first : (q : Coord) → IsTrue (is_inside everywhere q) → ComesBefore bits q p → block_number bits (pair_level p) q ≡ block_number bits (pair_level p) p → ⊥
 
-  -- the walk is at the first coordinate of a pair, if any is left, and its paths live
+  -- the walk is at the first coordinate of a pair, if one is left, and its paths live
   pub record IsPairWalk (w : TreePairWalk V) : Type 0 where
     pub start : IfSome w.at IsPairStart
     pub first : Lives bits t w.first w.near

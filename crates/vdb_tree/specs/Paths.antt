@@ -25,7 +25,7 @@ abbrev pub one_if_child : {V : Type 0} → Entry V → ℕ
 one_if_child (Child slot) = 1
 one_if_child (Tile cell) = 0
 
--- the place is live, and is that of the entry's child
+-- the place is live, and is the place of the entry's child
 pub record IsChildAt {V N : Type 0} (pool : Contents N) (entry : Entry V) (place : Place N) : Type 0 where
   pub live : IsLive pool place
   pub child : entry ≡ Child place.slot
@@ -38,7 +38,7 @@ module _ {A B C : Type 0} where
   depth (ToLower u l) = 2
   depth (ToLeaf u l f) = 3
 
-  -- whether its last node is a leaf
+  -- whether the path's last node is a leaf
   abbrev pub ends_in_leaf : PathOf A B C → Bool
   ends_in_leaf Empty = false
   ends_in_leaf (ToUpper u) = false
@@ -80,7 +80,7 @@ module _ {V : Type 0} (bits : Bits) (t : Layout V) where
   Lives (ToLeaf u l f) p =
       IsChildAt t.uppers (root_entry bits t p) u × IsChildAt t.lowers (upper_entry bits t p) l × IsChildAt t.leaves (lower_entry bits t p) f
 
-  -- and they are all of them
+  -- a live path whose nodes are all that the descent to p meets
   pub record IsWhole (path : TreePath V) (p : Coord) : Type 0 where
     pub lives : Lives path p
     pub whole : depth path ≡ down_count p

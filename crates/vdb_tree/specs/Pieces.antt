@@ -1,4 +1,4 @@
--- The blocks of one cell, as a tree has them.
+-- The blocks of one cell that make up a tree.
 use Rattle.vdb_coord.specs.Blocks.{block_around}
 use Rattle.vdb_coord.specs.Space.{Box}
 use Rattle.vdb_coord.specs.declared.Bits.{Bits}
@@ -8,12 +8,12 @@ use Rattle.vdb_node.specs.declared.Entry.{Entry}
 use Rattle.vdb_node.specs.declared.Entry.TheVariants.{Child, Tile}
 use Rattle.vdb_tree.specs.Layout.{Layout, lower_entry, root_entry, upper_entry}
 
--- the first box where the entry is a tile, the other where it is a child
+-- the first box for a tile, the second for a child
 abbrev pub box_of_entry : {V : Type 0} → Entry V → Box → Box → Box
 box_of_entry (Tile cell) tile child = tile
 box_of_entry (Child slot) tile child = child
 
--- where the descent to p ends: a tile, a voxel, or the root block where the table has no entry
+-- the box in which the descent to p ends: a tile, a voxel, or the upper extent if the table has no entry
 abbrev pub piece_around : {V : Type 0} → Bits → Layout V → Coord → Box
 piece_around bits t p =
     box_of_entry (root_entry bits t p) (block_around bits Upper p)

@@ -1,4 +1,4 @@
--- What holds of every tree.
+-- The invariant of every tree.
 use Rattle.std.specs.Prelude.{◌≡◌, ◌≤◌, ◌*◌, ℕ, IsSome, IsTrue}
 use Rattle.std.specs.List.{IsDistinct}
 use Rattle.std.specs.Map.{keys_of}
@@ -26,14 +26,14 @@ pub record IsConfigured (U L F WU WL WF : ℕ) : Type 0 where
   pub few_lower_words : WL ≤ 512
   pub few_leaf_words : WF ≤ 512
 
--- The entries over one level's blocks and the pool of that level's nodes: each child is held, no two blocks share one, and
--- each node that is held is met by some descent.
+-- The entries over one level's blocks and the pool of that level's nodes: each child is held, no two blocks share one, and some
+-- descent meets each held node.
 pub record IsOwned {V N : Type 0} (bits : Bits) (level : Level) (entry : Coord → Entry V) (pool : Contents N) : Type 0 where
   pub held : (p : Coord) (slot : ℕ) → entry p ≡ Child slot → IsSome (node_at pool slot)
   pub own : (p q : Coord) (slot : ℕ) → entry p ≡ Child slot → entry q ≡ Child slot → block_number bits level p ≡ block_number bits level q
   pub met : (slot : ℕ) → IsSome (node_at pool slot) → (p : Coord) × (entry p ≡ Child slot)
 
--- the table keeps to its limit and its keys are those of root blocks, once each; the nodes of each level have one owner
+-- the table keeps to its limit; its keys are those of upper extents, once each; the nodes of each level have one owner
 pub record IsSound {V : Type 0} (bits : Bits) (t : Layout V) : Type 0 where
   pub limit : length t.root ≤ t.limit
   pub apart : IsDistinct coord_eq (keys_of t.root)

@@ -15,17 +15,17 @@ abbrev pub IsCovered : Bits → Box → Level → Coord → Type 0
 IsCovered bits box level p = IsTrue (is_within (block_around bits level p) box)
 
 module _ {V : Type 0} (bits : Bits) (box : Box) (cell : Cell V) where
-  -- a tile of the level over p lies within the box, or is the cell
+  -- a tile of the level over p lies within the box, or has the cell
   abbrev pub IsSplitAt : Level → Layout V → Coord → Type 0
   IsSplitAt level t p = (tile : Cell V) → entry_over bits level t p ≡ Tile tile → IsCovered bits box level p ⊎ (tile ≡ cell)
 
-  -- No tile crosses the edge of the box unless it is the cell. If the cell isn't the background, each root block that meets the
-  -- box has an entry.
+  -- No tile crosses the edge of the box unless it has the cell. If the cell isn't the background, each upper extent that meets
+  -- the box has an entry.
   pub record IsSplit (t : Layout V) : Type 0 where
     pub tiles : (level : Level) (p : Coord) → IsTrue (is_inside box p) → IsSplitAt level t p
     pub entered : (p : Coord) → IsTrue (is_inside box p) → (cell ≡ background_cell t) ⊎ IsSome (root_at t.root (key bits p))
 
-  -- no tile over p of the level or of one below has to be split
+  -- no tile over p, of the level or of a lower one, has to be split
   abbrev pub IsSplitTo : Level → Layout V → Coord → Type 0
   IsSplitTo Leaf t p = IsSplitAt Leaf t p
   IsSplitTo Lower t p = IsSplitAt Leaf t p × IsSplitAt Lower t p

@@ -7,7 +7,7 @@ use Rattle.vdb_coord.specs.declared.Coord.{Coord}
 use Rattle.vdb_node.specs.declared.Entry.{Entry}
 use Rattle.vdb_tree.specs.Layout.{Layout, root_at}
 
--- a key past another, or any key where there is none to be past
+-- the key comes past `after`; with no `after`, any key does
 abbrev pub IsPast : Option Coord → Coord → Type 0
 IsPast None key = Unit {0}
 IsPast (Some after) key = coord_cmp after key ≡ Less

@@ -1,4 +1,4 @@
--- Words of private functions and of proofs alone: no public contract needs them.
+-- Definitions for private functions and proofs only: no public contract needs them.
 pub mod Holders
 pub mod Jumps
 pub mod Erase

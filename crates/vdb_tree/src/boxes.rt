@@ -1,4 +1,4 @@
-//! A box of one cell: the tree is split along the edge of the box, and then painted.
+//! Fills of a box with one cell: first split the tree along the edge of the box, then paint the box.
 
 pub(crate) mod paint;
 pub(crate) mod paint_voxels;

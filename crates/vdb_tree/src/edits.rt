@@ -1,4 +1,4 @@
-//! Calls that write a voxel, or make nodes in place of tiles.
+//! Calls that write voxels or replace tiles by nodes.
 
 pub(crate) mod leaf;
 pub(crate) mod split;

@@ -24,9 +24,9 @@ impl<
     const WL: usize,
     const WF: usize,
 > TreeOf<V, U, L, F, WU, WL, WF> {
-    /// The least key of the root table past `after`, or the least of all; `None` where there is none. Keys are the
-    /// numbers of root blocks, counted in root blocks along each axis and ordered by x, then y, then z. It visits no node
-    /// and takes no memory (OpenVDB's `RootNode` iterates over its table so).
+    /// Returns the least key of the root table past `after`, or the least of all without `after`; `None` if no key is left.
+    /// Keys are the numbers of upper extents, counted in upper extents along each axis and ordered by x, then y, then z. It
+    /// visits no node and takes no memory (OpenVDB's `RootNode` iterates over its table in this order).
     pub fn next_key(&self, after: Option<Coord>) -> Option<Coord>
         ensures least { IsNextKey self.now.root after result }
         ensures inside { (k : Coord) → IsSome (root_at self.now.root k) → IsTrue (is_inside (block_numbers (bits_of U L F) Upper) k) }
@@ -34,7 +34,7 @@ impl<
         self.root.next_key(after)
     }
 
-    /// The first coordinate of the root block with a key of the table.
+    /// Returns the first coordinate of the upper extent with a key of the table.
     pub(crate) fn key_corner(&self, key: Coord) -> Coord
         requires { IsSome (root_at self.now.root key) }
         ensures number { block_number (bits_of U L F) Upper result ≡ key }
@@ -44,7 +44,7 @@ impl<
         key.numbered_block_in(self.bits(), Level::Upper).min()
     }
 
-    /// A coordinate of the box in the root block of a key, where there is one.
+    /// Returns a coordinate of the box in the upper extent of a key, if the two meet.
     pub(crate) fn within_root(&self, bounds: Bounds, key: Coord) -> Option<Coord>
         requires { IsSome (root_at self.now.root key) }
         ensures inside { IfSome result (λ p. IsTrue (is_inside bounds p)) }
@@ -55,7 +55,7 @@ impl<
         self.first_within_root(bounds, key)
     }
 
-    /// The first coordinate, in block order, of what the box has of the root block of a key, where there is one.
+    /// Returns the first coordinate, in block order, that the box has in the upper extent of a key, if the two meet.
     pub(crate) fn first_within_root(&self, bounds: Bounds, key: Coord) -> Option<Coord>
         requires { IsSome (root_at self.now.root key) }
         ensures inside { IfSome result (λ p. IsTrue (is_inside bounds p)) }
@@ -71,12 +71,13 @@ impl<
         }
     }
 
-    /// The next key of the table past `after` whose root block may meet the box, or the first; `None` where no other does.
+    /// Returns the next key of the table past `after`, or the first without `after`, whose upper extent may meet the box;
+    /// `None` if no other does.
     ///
-    /// It goes from the keys of the table to those of the box and back: past a key of the table that doesn't meet the box it
-    /// looks for the next of the box, and past one of those without an entry for the next of the table. So it takes no more
-    /// turns than the table has keys, and no more than there are root blocks that meet the box: a small box in a large table is
-    /// as cheap as a large box over a small table.
+    /// It alternates between the keys of the table and those of the box. Past a key of the table that doesn't meet the box it
+    /// looks for the next of the box. Past a key of the box without an entry it looks for the next of the table. So it takes no
+    /// more iterations than the table has keys, and no more than the number of upper extents that meet the box: a small box in
+    /// a large table is as cheap as a large box over a small table.
     pub(crate) fn next_key_in(&self, bounds: Bounds, after: Option<Coord>) -> Option<Coord>
         ensures { IsNextMet (bits_of U L F) bounds self.now.root after result }
     {
@@ -86,7 +87,7 @@ impl<
         }
     }
 
-    /// The first key of the table whose root block may meet the box.
+    /// Returns the first key of the table whose upper extent may meet the box.
     fn first_key_in(&self, bounds: Bounds) -> Option<Coord>
         ensures { IsNextMet (bits_of U L F) bounds self.now.root None result }
     {
@@ -97,7 +98,7 @@ impl<
         self.key_met(bounds, first)
     }
 
-    /// The next key of the table past this one whose root block may meet the box.
+    /// Returns the next key of the table past this one whose upper extent may meet the box.
     fn key_met(&self, bounds: Bounds, after: Coord) -> Option<Coord>
         ensures { IsNextMet (bits_of U L F) bounds self.now.root (Some after) result }
     {
@@ -119,7 +120,7 @@ impl<
     }
 }
 
-/// Where the next key of a box of keys may be past this one, which isn't in it; `None` where there is none.
+/// Returns the place past `key`, which isn't in the box of keys, where the next key of the box may be; `None` if none is left.
 fn skip_to(keys: Bounds, key: Coord) -> Option<Coord>
     requires { is_inside keys key ≡ false }
     ensures { SkipsTo keys key result }
@@ -153,7 +154,7 @@ fn skip_to(keys: Bounds, key: Coord) -> Option<Coord>
     skip_slab(keys, key)
 }
 
-/// Where the next key of a box of keys may be past this one, if it has none of the same x past it.
+/// Returns the place past `key` where the next key of a box of keys may be, if the box has no key of the same x past it.
 fn skip_slab(keys: Bounds, key: Coord) -> Option<Coord>
     requires { (k : Coord) → IsTrue (is_inside keys k) → k.x ≡ key.x → coord_cmp key k ≡ Less → ⊥ }
     ensures { SkipsTo keys key result }

@@ -1,16 +1,20 @@
-//! The tree of a sparse grid, and the field that it stands for: a cell at each coordinate.
+//! The tree of a sparse grid. A tree stands for a field, which gives each coordinate a cell.
 //!
-//! Contracts of this crate speak of fields. How a tree is laid out, in a root table, tiles and nodes, shows only where it
-//! matters: for paths of nodes, for the number of visits and for the size of the tree.
+//! Contracts of this crate speak of fields. The layout of a tree (a root table, tiles and nodes) shows only where it matters:
+//! in paths of nodes, in the number of node visits and in the size of the tree.
 //!
-//! The modules, from below:
-//! - `refusal`, `path`, `node_counts`: what calls give back.
+//! A leaf extent, a lower extent and an upper extent are the aligned cubes that a leaf, a lower node and an upper node cover:
+//! 8, 128 and 4,096 voxels along each axis in `Tree`. Identifiers call them leaf block, lower block and root block. The
+//! inactive background is the cell of a voxel that was never written.
+//!
+//! The modules (several call each other, so the list shows subjects, not layers):
+//! - `refusal`, `path`, `node_counts`: errors and results of calls.
 //! - `root`, `tree`, `nodes`, `keys`, `whole_copy`: the root table, the type with its pools of nodes, and whole copies.
-//! - `queries`: descents, leaves, paths, the parts of a tree in turn, the one cell of a block.
-//! - `edits`: nodes in place of tiles, a voxel, a whole leaf, leaves in place of active tiles.
-//! - `boxes`: a tree split along the edge of a box, and the box painted with one cell.
-//! - `pairs`: two trees of one configuration, their states made one in place and their parts gone through together.
-//! - `sweeps`: tiles in place of nodes whose blocks have one cell, and a table without the background's entries.
+//! - `queries`: descents, leaves, paths, walks over the parts of a tree, tests for blocks of one cell.
+//! - `edits`: splits of tiles into nodes, writes of a voxel or a whole leaf, leaves in place of active tiles.
+//! - `boxes`: splits of a tree along the edge of a box, and painting of the box with one cell.
+//! - `pairs`: two trees of one configuration: their states combined in place, and a walk over their parts together.
+//! - `sweeps`: collapses of nodes whose blocks have one cell, and removal of background entries from the root table.
 #![tactic(auto)]
 
 ghost use Rattle.std.specs.Prelude.{◌≡◌};
@@ -40,22 +44,22 @@ pub use refusal::TreeRefusal;
 pub use tree::{Tree, Tree433, TreeOf};
 use vdb_value::Cell;
 
-/// What is written to a voxel: a value and a state, or one of them (OpenVDB's `setValueOn`, `setValueOff`,
-/// `setActiveState` and `setValueOnly`).
+/// What a write gives a voxel: a value and a state, or one of them (OpenVDB's `setValueOn`, `setValueOff`, `setActiveState` and
+/// `setValueOnly`).
 #[derive(Clone, Copy, Debug, PartialEq, Eq)]
 pub enum Write<V> {
-    /// The value, active.
+    /// Sets the value and makes the voxel active.
     On(V),
-    /// The value, inactive.
+    /// Sets the value and makes the voxel inactive.
     Off(V),
-    /// The state alone.
+    /// Sets the state and keeps the value.
     State(bool),
-    /// The value alone.
+    /// Sets the value and keeps the state.
     Value(V),
 }
 
 impl<V: Copy> Write<V> {
-    /// The cell that a write makes of another.
+    /// Returns what the write makes of a cell.
     pub fn applied(self, cell: Cell<V>) -> Cell<V>
         ensures { result ≡ written self cell }
     {

@@ -1,4 +1,4 @@
-//! How large a tree is.
+//! The size of a tree in entries and nodes.
 
 ghost use Rattle.std.specs.Prelude.{◌≡◌};
 ghost use Rattle.vdb_tree.specs.Layout.{bits_of, field_of};
@@ -30,9 +30,9 @@ impl<
     const WL: usize,
     const WF: usize,
 > TreeOf<V, U, L, F, WU, WL, WF> {
-    /// How many entries and nodes there are, without a visit. None of the counts is below the field's census: its root blocks
-    /// that hold anything but the background, and its blocks of each level that aren't constant. After `prune` they are the
-    /// census, so no tree of the field is smaller.
+    /// Returns how many entries and nodes the tree has, without a visit. No count is below the field's census: its upper
+    /// extents with a cell other than the inactive background, and its blocks of each level that aren't constant. After `prune`
+    /// the counts equal the census, so no tree of the field is smaller.
     pub fn node_counts(&self) -> NodeCounts
         ensures counts { result ≡ counts_of self.now }
         ensures sound { IsSound (bits_of U L F) self.now }

@@ -1,4 +1,4 @@
-//! Two trees of one configuration: their states made one in place, and their parts gone through together.
+//! Two trees of one configuration: their states combined in place, and a walk over their parts together.
 
 ghost use Rattle.std.specs.Prelude.{◌≡◌, ◌≢◌, IfErr, None, OnOk};
 ghost use Rattle.vdb_coord.specs.Blocks.{key};
@@ -22,14 +22,15 @@ use crate::{TreeOf, TreeRefusal};
 use vdb_node::Stored;
 use vdb_pool::Steps;
 
-/// How the states of two grids become one (OpenVDB's `topologyUnion`, `topologyDifference` and `topologyIntersection`).
+/// The rule by which the states of two grids combine (OpenVDB's `topologyUnion`, `topologyDifference` and
+/// `topologyIntersection`).
 #[derive(Clone, Copy, Debug, PartialEq, Eq)]
 pub enum StateRule {
-    /// Active where either is.
+    /// Active if either is.
     Unite,
-    /// Active where the first is and the second isn't.
+    /// Active if the first is and the second isn't.
     Subtract,
-    /// Active where both are.
+    /// Active if both are.
     Intersect,
 }
 
@@ -42,11 +43,12 @@ impl<
     const WL: usize,
     const WF: usize,
 > TreeOf<V, U, L, F, WU, WL, WF> {
-    /// Makes the states of this tree and of another one by a rule; the values stay, and so does the other tree. A node comes only
-    /// where the other tree has one.
+    /// Combines the states of this tree with those of `other` by a rule, in place. The values of this tree stay, and so does
+    /// `other`. The contract fixes the cells, not the layout: this implementation splits a tile only where `other` has a node,
+    /// but no clause says so.
     ///
-    /// `RootLimit` says that there would be more root blocks with a cell that isn't the background than the limit, which only
-    /// `Unite` can bring about; `Memory` that a growth was refused. Both leave every cell as it was.
+    /// `RootLimit`: there would be more upper extents with a cell other than the inactive background than the limit; only
+    /// `Unite` can cause it. `Memory`: an allocation failed. Both errors leave every cell as it was.
     pub fn combine_states<X: Stored<WU> + Stored<WL> + Stored<WF>>(
         &mut self,
         other: &TreeOf<X, U, L, F, WU, WL, WF>,
@@ -64,9 +66,9 @@ impl<
         Ok(())
     }
 
-    /// Gives each root block in which the rule may make a voxel active an entry. `RootLimit` says that with the states of the
-    /// rule there would be more root blocks with a cell that isn't the background than the limit, `Memory` that a growth was
-    /// refused where there would not be; both keep every cell.
+    /// Gives an entry to each upper extent in which the rule may activate a voxel. `RootLimit`: the combined states would leave
+    /// more upper extents with a cell other than the inactive background than the limit. `Memory`: an allocation failed, and
+    /// the limit would hold. Both errors keep every cell.
     fn enter_for<X: Stored<WU> + Stored<WL> + Stored<WF>>(
         &mut self,
         other: &TreeOf<X, U, L, F, WU, WL, WF>,

@@ -7,9 +7,8 @@ use std::alloc::AllocError;
 use vdb_node::{Internal, Leaf};
 use vdb_pool::Place;
 
-/// The places of the nodes from the root down to a coordinate, or of the first of them: of an upper node, of a lower node
-/// in it, and of a leaf in that. It can be copied and kept, and owns nothing (the nodes that OpenVDB's `ValueAccessor`
-/// caches).
+/// The places of the nodes from the root down to a coordinate, or of the first of them: an upper node, a lower node in it, and
+/// a leaf in that. A path can be copied and kept, and owns nothing (OpenVDB's `ValueAccessor` caches these nodes).
 pub enum PathOf<Upper, Lower, Leaf> {
     /// No node.
     Empty,
@@ -17,7 +16,7 @@ pub enum PathOf<Upper, Lower, Leaf> {
     ToUpper(Place<Upper>),
     /// An upper node and a lower node in it.
     ToLower(Place<Upper>, Place<Lower>),
-    /// These and a leaf.
+    /// An upper node, a lower node in it and a leaf in that.
     ToLeaf(Place<Upper>, Place<Lower>, Place<Leaf>),
 }
 
@@ -37,7 +36,7 @@ impl<Upper, Lower, Leaf> Clone for PathOf<Upper, Lower, Leaf> {
 impl<Upper, Lower, Leaf> Copy for PathOf<Upper, Lower, Leaf> {}
 
 impl<Upper, Lower, Leaf> PathOf<Upper, Lower, Leaf> {
-    /// The path without places.
+    /// Returns the path without places.
     pub fn empty() -> PathOf<Upper, Lower, Leaf>
         ensures { result ≡ Empty }
     {

@@ -1,4 +1,4 @@
-//! Calls that read a tree: a voxel, a leaf, the parts in turn, a block's one cell.
+//! Calls that read a tree: a voxel, a leaf, the parts one after another, tests for blocks of one cell.
 
 pub(crate) mod active_blocks;
 pub(crate) mod block_count;

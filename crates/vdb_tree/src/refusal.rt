@@ -1,17 +1,17 @@
-//! Why a call on a tree is refused.
+//! The errors of calls on a tree.
 
 ghost use Rattle.std.specs.Prelude.{◌≡◌};
 ghost use Rattle.vdb_tree.specs.declared.refusal.TreeRefusal.TheVariants.{Memory};
 
 use std::alloc::AllocError;
 
-/// Why a call on a tree is refused. No cell changes then.
+/// The error of a call on a tree. The call has changed no cell.
 #[derive(Clone, Copy, Debug, PartialEq, Eq, thiserror::Error)]
 pub enum TreeRefusal {
-    /// More root blocks than the limit would have a cell that isn't the background.
+    /// More upper extents than the limit would have a cell other than the inactive background.
     #[error("too many root blocks")]
     RootLimit,
-    /// The allocator gave no memory, or a pool has no slot left.
+    /// The allocator returned no memory, or a pool has no slot left.
     #[error("out of memory")]
     Memory,
 }

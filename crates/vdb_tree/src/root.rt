@@ -15,7 +15,7 @@ use std::ops::Bound;
 use vdb_coord::Coord;
 use vdb_node::Entry;
 
-/// Entries by the keys of their root blocks, in the order of keys (OpenVDB's `RootNode`).
+/// Entries by the keys of their upper extents, in the order of keys (OpenVDB's `RootNode`).
 #[derive(Drop)]
 pub(crate) struct RootTable<V> {
     entries: BTreeMap<Coord, Entry<V>>,
@@ -32,7 +32,7 @@ impl<V> Model for RootTable<V> {
 }
 
 impl<V: Copy> RootTable<V> {
-    /// The table without entries. It takes no memory.
+    /// Returns the table without entries. It takes no memory.
     pub(crate) fn new(alloc: Global) -> RootTable<V>
         ensures none { (k : Coord) → root_at result k ≡ None }
         ensures empty { length result ≡ 0 }
@@ -43,21 +43,21 @@ impl<V: Copy> RootTable<V> {
         }
     }
 
-    /// The entry under a key.
+    /// Returns the entry under a key.
     pub(crate) fn get(&self, key: Coord) -> Option<Entry<V>>
         ensures { result ≡ root_at self.now key }
     {
         self.entries.get(&key).copied()
     }
 
-    /// How many entries there are.
+    /// Returns how many entries the table has.
     pub(crate) fn len(&self) -> usize
         ensures { result ≡ length self.now }
     {
         self.entries.len()
     }
 
-    /// The least key past `after`, or the least of all.
+    /// Returns the least key past `after`, or the least of all without `after`.
     pub(crate) fn next_key(&self, after: Option<Coord>) -> Option<Coord>
         ensures { IsNextKey self.now after result }
     {
@@ -93,7 +93,7 @@ impl<V: Copy> RootTable<V> {
         }
     }
 
-    /// Puts an entry under a key. The error says that memory was refused; it never comes where the key has an entry.
+    /// Puts an entry under a key. The error is an allocation failure; it never occurs if the key has an entry.
     pub(crate) fn put(&mut self, key: Coord, entry: Entry<V>) -> Result<(), AllocError>
         ensures ok { OnOk result ((k : Coord) → root_at self.new k ≡ (if coord_eq key k then Some entry else root_at self.old k)) }
         ensures size { OnOk result (length self.new ≤ length self.old + 1) }
@@ -104,7 +104,7 @@ impl<V: Copy> RootTable<V> {
         Ok(())
     }
 
-    /// A table of its own with the same entries.
+    /// Returns a separate table with the same entries.
     pub(crate) fn try_copy(&self, alloc: Global) -> Result<RootTable<V>, AllocError>
         ensures entries { IfOk result (λ copy. (k : Coord) → root_at copy k ≡ root_at self.now k) }
         ensures size { IfOk result (λ copy. length copy ≤ length self.now) }
@@ -134,7 +134,7 @@ impl<V: Copy> RootTable<V> {
         };
     }
 
-    /// Takes the entry under a key away, if there is one.
+    /// Removes the entry under a key, if there is one.
     pub(crate) fn remove(&mut self, key: Coord)
         ensures updates { (k : Coord) → root_at self.new k ≡ (if coord_eq key k then None else root_at self.old k) }
         ensures size { length self.new ≤ length self.old }

@@ -1,4 +1,4 @@
-//! Tiles in place of nodes whose blocks have one cell, and a table without entries of background blocks.
+//! Collapses of nodes whose blocks have one cell, and removal of the entries of background upper extents.
 
 pub(crate) mod erase;
 pub(crate) mod prune;

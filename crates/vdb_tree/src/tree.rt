@@ -24,8 +24,8 @@ use vdb_pool::Pool;
 /// A sparse grid: a root table over three pools of nodes, with upper nodes of 2 to the power `U` entries along each axis,
 /// lower ones of 2 to the power `L` and leaves of 2 to the power `F`, whose masks have `WU`, `WL` and `WF` words.
 ///
-/// It stands for a field, `field_of` in contracts: each coordinate has a cell. How it is laid out, in tiles and nodes,
-/// never changes one. OpenVDB's class `Tree`.
+/// It stands for a field, `field_of` in contracts, which gives each coordinate a cell. The layout in tiles and nodes never
+/// changes a cell. OpenVDB's class `Tree`.
 #[derive(Drop)]
 pub struct TreeOf<
     V: Stored<WU> + Stored<WL> + Stored<WF>,
@@ -40,7 +40,7 @@ pub struct TreeOf<
     pub(crate) background: V,
     pub(crate) limit: u32,
     pub(crate) root: RootTable<V>,
-    /// Whether it is known that no entry of the root table is that of a background block.
+    /// Whether it is known that no entry of the root table belongs to a background upper extent.
     pub(crate) swept: bool,
     pub(crate) uppers: Pool<Internal<V, U, WU>>,
     pub(crate) lowers: Pool<Internal<V, L, WL>>,
@@ -104,8 +104,8 @@ impl<
     const WL: usize,
     const WF: usize,
 > TreeOf<V, U, L, F, WU, WL, WF> {
-    /// The tree in which every cell is the background, inactive, and whose root table may get `limit` entries. It takes no
-    /// memory.
+    /// Returns the tree in which every cell is the inactive background, and whose root table may have up to `limit` entries. It
+    /// takes no memory.
     pub fn new(alloc: Global, background: V, limit: u32) -> Self
         requires configured { IsConfigured U L F WU WL WF }
         ensures field { field_of (bits_of U L F) result ≡ new background }
@@ -124,14 +124,15 @@ impl<
         }
     }
 
-    /// The value of what was never written.
+    /// Returns the background: the value of a voxel that was never written.
     pub fn background(&self) -> V
         ensures { result ≡ (field_of (bits_of U L F) self.now).background }
     {
         self.background
     }
 
-    /// How many entries the root table may have. So many root blocks at most have a cell that isn't the background, inactive.
+    /// Returns how many entries the root table may have. At most this number of upper extents have a cell other than the
+    /// inactive background.
     pub fn limit(&self) -> u32
         ensures value { result ≡ self.now.limit }
         ensures kept { roots V.eq (bits_of U L F) (field_of (bits_of U L F) self.now) ≤ result }
@@ -139,12 +140,12 @@ impl<
         self.limit
     }
 
-    /// The allocator of its nodes and its table.
+    /// Returns the allocator of its nodes and its table.
     pub fn alloc(&self) -> Global {
         self.alloc
     }
 
-    /// The bits of its nodes.
+    /// Returns the bits of its nodes.
     pub fn bits(&self) -> Bits
         ensures value { result ≡ bits_of U L F }
         ensures configured { AreBits result }
@@ -157,7 +158,7 @@ impl<
         }
     }
 
-    /// The key of p's root block.
+    /// Returns the key of p's upper extent.
     pub(crate) fn key(&self, p: Coord) -> Coord
         ensures value { result ≡ key (bits_of U L F) p }
         ensures within { IsTrue (is_inside (block_numbers (bits_of U L F) Upper) (key (bits_of U L F) p)) }
@@ -165,7 +166,7 @@ impl<
         p.key_in(self.bits())
     }
 
-    /// The index of p's entry in the level's node around it.
+    /// Returns the index of p's entry in the level's node around it.
     pub(crate) fn offset(&self, p: Coord, level: Level) -> u32
         ensures value { result ≡ offset (bits_of U L F) level p }
         ensures within { result < entry_count (node_bits (bits_of U L F) level) }
@@ -173,14 +174,14 @@ impl<
         u32::from(p.offset_in(self.bits(), level))
     }
 
-    /// Whether the level's block around p lies within the box.
+    /// Returns whether the level's block around p lies within the box.
     pub(crate) fn is_covered(&self, bounds: Bounds, level: Level, p: Coord) -> bool
         ensures { IsTrue result ↔ IsCovered (bits_of U L F) bounds level p }
     {
         bounds.covers(p.block_in(self.bits(), level))
     }
 
-    /// The coordinates of the box in the level's block around p, which is one of them.
+    /// Returns the coordinates that the box has in the level's block around p, which is one of them.
     pub(crate) fn part(&self, bounds: Bounds, level: Level, p: Coord) -> Bounds
         requires { IsTrue (is_inside bounds p) }
         ensures within { (q : Coord) → IsTrue (is_inside result q) → IsTrue (is_inside bounds q) × (block_number (bits_of U L F) level q ≡ block_number (bits_of U L F) level p) }
@@ -192,7 +193,7 @@ impl<
         }
     }
 
-    /// A coordinate of the box in the level's next block that meets it, past the block around p.
+    /// Returns a coordinate of the box in the level's next block that meets it, past the block around p.
     pub(crate) fn next_block(&self, bounds: Bounds, level: Level, p: Coord) -> Option<Coord>
         requires { IsTrue (is_inside bounds p) }
         ensures next { IsNextBlock (bits_of U L F) level bounds p result }

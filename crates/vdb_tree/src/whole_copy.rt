@@ -17,10 +17,9 @@ impl<
     const WL: usize,
     const WF: usize,
 > TreeOf<V, U, L, F, WU, WL, WF> {
-    /// A tree with the same cells, background and limit, and with a root table and nodes of its own, so that a write to one
-    /// leaves the other as it is (OpenVDB's `Grid::deepCopy`, by the copy constructor of `Tree`). It has the same tiles and
-    /// nodes. `Memory` says that a growth was refused; what was copied is dropped then. It passes over each node once, and
-    /// counts no visit.
+    /// Returns a tree with the same cells, background and limit, and with a root table and nodes of its own, so that a write to
+    /// one leaves the other as it is (OpenVDB's `Grid::deepCopy`, by the copy constructor of `Tree`). It has the same tiles and
+    /// nodes. `Memory`: an allocation failed; the partial copy is dropped. It passes over each node once, and counts no visit.
     pub fn try_copy(&self) -> Result<Self, TreeRefusal>
         ensures field { IfOk result (λ copy. field_of (bits_of U L F) copy ≡ field_of (bits_of U L F) self.now) }
         ensures limit { IfOk result (λ copy. copy.limit ≡ self.now.limit) }

@@ -1,4 +1,4 @@
-//! Tests of the tree's public calls. They are in a crate of their own, since a crate with tests is proved twice.
+//! Tests of the tree's public calls, in a crate of their own because a crate with tests is proved twice.
 #![tactic(auto)]
 
 #[cfg(test)]

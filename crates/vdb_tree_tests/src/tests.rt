@@ -1,5 +1,5 @@
-//! Trees of each type of values, with the nodes of both layouts and with the smallest. Expected values are worked out by
-//! hand.
+//! Tests of trees with each type of values, with the nodes of both layouts and with the smallest nodes. Expected values were
+//! worked out by hand.
 mod acts;
 mod boxes;
 mod capacity;
@@ -20,7 +20,7 @@ use vdb_coord::Coord;
 use vdb_tree::{NodeCounts, TreeOf};
 use vdb_value::Cell;
 
-/// A tree whose blocks span 2, 4 and 8 voxels along each axis, so that a few writes fill one.
+/// A tree whose extents span 2, 4 and 8 voxels along each axis, so that a few writes fill one.
 type Tiny<V> = TreeOf<V, 1, 1, 1, 1, 1, 1>;
 
 fn at(x: i32, y: i32, z: i32) -> Coord {

@@ -1,5 +1,5 @@
--- Active voxels of a block, and how a call goes over the entries of a node that may hold some. The calls of this crate alone speak
--- of them.
+-- Active voxels of a block, and how a call passes over the entries of a node that may hold some. Only the calls of this crate
+-- speak of them.
 use Rattle.std.specs.Prelude.{◌≡◌, ◌<◌, ◌≤◌, ℕ, true, false, Option, Some, None}
 use Rattle.vdb_coord.specs.Blocks.{block_number, entries, offset}
 use Rattle.vdb_coord.specs.declared.Bits.{Bits}
@@ -12,13 +12,13 @@ module _ {V : Type 0} (bits : Bits) (f : Field V) (level : Level) (p : Coord) wh
   abbrev pub IsInactiveFrom : ℕ → ℕ → Type 0
   IsInactiveFrom from to = (q : Coord) → block_number bits level q ≡ block_number bits level p → from ≤ offset bits level q → offset bits level q < to → (f.cell q).on ≡ false
 
-  -- none is at the entries from one on and before this
+  -- no voxel is active at the entries from one on and before this one
   pub record IsNextActiveAt (from index : ℕ) : Type 0 where
     pub within : index < entries bits level
     pub from_on : from ≤ index
     pub before : IsInactiveFrom from index
 
-  -- no voxel is active at the entries from one on and before the index that is answered, or up to the end where none is
+  -- no voxel is active at the entries from one on: those before the returned index, or all up to the end if none is returned
   abbrev pub IsNextActive : ℕ → Option ℕ → Type 0
   IsNextActive from (Some index) = IsNextActiveAt from index
   IsNextActive from None = IsInactiveFrom from (entries bits level)
@@ -27,10 +27,10 @@ module _ {V : Type 0} (bits : Bits) (f : Field V) (level : Level) (p : Coord) wh
   abbrev pub HasActive : Type 0
   HasActive = (q : Coord) × (block_number bits level q ≡ block_number bits level p) × ((f.cell q).on ≡ true)
 
-  -- none is
+  -- no voxel of p's block of the level is active
   abbrev pub IsInactive : Type 0
   IsInactive = (q : Coord) → block_number bits level q ≡ block_number bits level p → (f.cell q).on ≡ false
 
-  -- none is at the entry of this index
+  -- no voxel of p's block of the level is active at the entry of this index
   abbrev pub IsInactiveAt : ℕ → Type 0
   IsInactiveAt index = (q : Coord) → block_number bits level q ≡ block_number bits level p → offset bits level q ≡ index → (f.cell q).on ≡ false

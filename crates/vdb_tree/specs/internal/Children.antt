@@ -25,12 +25,12 @@ module _ {V : Type 0} (bits : Bits) (level : Level) (entry : Coord → Entry V) 
   IsNextCorner from (Some next) = IsNextCornerAt from next.0 next.1
   IsNextCorner from None = IsChildless from (entries bits level)
 
-  -- each of its entries is a tile of this cell
+  -- each entry of the level's node around p is a tile of this cell
   abbrev pub IsTiled : Cell V → Type 0
   IsTiled cell = (q : Coord) → block_number bits level q ≡ block_number bits level p → entry q ≡ Tile cell
 
 module _ {V : Type 0} (bits : Bits) (level : Level) (p : Coord) (old new : Coord → Entry V) where
-  -- where no entry before one offset was a child, none is before the offset that is answered, or none at all
+  -- if no entry before one offset was a child, none is before the returned offset, or none at all if none is returned
   abbrev pub ClearsFrom : ℕ → Option ℕ → Type 0
   ClearsFrom from (Some next) = IsChildless bits level old p 0 from → IsChildless bits level new p 0 next
   ClearsFrom from None = IsChildless bits level old p 0 from → IsChildless bits level new p 0 (entries bits level)

@@ -1,4 +1,4 @@
--- The next start in a node, where a walk may pass over entries.
+-- The next start in a node, if a walk may pass over entries.
 use Rattle.std.specs.Prelude.{◌≡◌, ◌⊎◌, ℕ, ◌<◌, Option, Some, None, IsTrue}
 use Rattle.vdb_coord.specs.Blocks.{block_around, block_number, entries, offset, sub_block}
 use Rattle.vdb_coord.specs.Order.{ComesBefore, IsUpToBlock}
@@ -15,25 +15,25 @@ module _ {V : Type 0} (bits : Bits) (t : Layout V) (skip : Skip) where
   pub record ArePassed (outer : Level) (p : Coord) (index : ℕ) : Type 0 where
     pub passed : (q : Coord) → block_number bits outer q ≡ block_number bits outer p → offset bits outer p < offset bits outer q → offset bits outer q < index → IsSkipped bits skip t q
 
-  -- the entry of this index comes past p's, and a walk may pass over those between
+  -- the entry of this index comes past p's, and a walk may pass over the entries between
   pub record IsNextEntryAt (outer : Level) (p : Coord) (index : ℕ) : Type 0 where
     pub within : index < entries bits outer
     pub past : offset bits outer p < index
     pub between : ArePassed outer p index
 
-  -- its block
+  -- the block of the next entry past p's; a walk may pass over the entries between
   pub record IsNextPartAt (outer : Level) (p : Coord) (part : Box) : Type 0 where
     pub index : ℕ
     pub entry : IsNextEntryAt outer p index
     pub block : part ≡ sub_block bits outer (block_around bits outer p) index
 
-  -- that block; none where a walk may pass over all that is left of the node
+  -- the block of that next entry; none if a walk may pass over all that is left of the node
   abbrev pub IsNextPart : Level → Coord → Option Box → Type 0
   IsNextPart outer p None = ArePassed outer p (entries bits outer)
   IsNextPart outer p (Some part) = IsNextPartAt outer p part
 
   module _ (box : Box) where
-    -- a coordinate of the outer block around p, past the inner block around p: the first of the box in its own inner block, where a walk may pass over what lies between
+    -- a coordinate of p's outer block, past p's inner one: the first of the box in its own inner block; a walk may pass over those between
     pub record IsJumpAt (outer level : Level) (p next : Coord) : Type 0 where
       pub inside : IsTrue (is_inside box next)
       pub outer_block : block_number bits outer next ≡ block_number bits outer p

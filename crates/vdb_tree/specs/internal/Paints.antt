@@ -1,4 +1,4 @@
--- What a call paints: the part of a box that lies in one block. The calls of this crate alone speak of it.
+-- What a call paints: the part of a box that lies in one block. Only the calls of this crate speak of it.
 use Rattle.std.specs.Prelude.{◌≡◌, ℕ, IsTrue}
 use Rattle.vdb_coord.specs.Blocks.{block_number, offset}
 use Rattle.vdb_coord.specs.Space.{Box, is_inside}
@@ -17,12 +17,12 @@ use Rattle.vdb_tree.specs.SplitBox.{IsSplitAt, IsTiledTo}
 abbrev pub voxels : Bits
 voxels = record { upper = 0; lower = 0; leaf = 0 }
 
--- at the offset of each coordinate of the part the leaf has this cell, and elsewhere what it had
+-- at the offset of each coordinate of the part the leaf has this cell, and elsewhere what it had before
 pub record PaintsVoxels {V : Type 0} (bits : Bits) (part : Box) (cell : Cell V) (old new : LeafOf V) : Type 0 where
   pub painted : (q : Coord) → IsTrue (is_inside part q) → (d : Cell V) → cell_in d new (offset bits Leaf q) ≡ cell
   pub others : (i : ℕ) → ((q : Coord) → IsTrue (is_inside part q) → offset bits Leaf q ≡ i → ⊥) → (d : Cell V) → cell_in d new i ≡ cell_in d old i
 
--- from p up to `last` in the order of coordinates, p's leaf block has the part's coordinates and no other
+-- from p up to `last` in the order of coordinates, p's leaf extent has the part's coordinates and no other
 pub record IsRun (bits : Bits) (part : Box) (p last : Coord) : Type 0 where
   pub inside : IsTrue (is_inside part last)
   pub same : block_number bits Leaf last ≡ block_number bits Leaf p
@@ -31,7 +31,7 @@ pub record IsRun (bits : Bits) (part : Box) (p last : Coord) : Type 0 where
   pub only : (q : Coord) → block_number bits Leaf q ≡ block_number bits Leaf p → (IsBefore q p → ⊥) → (IsBefore last q → ⊥) → IsTrue (is_inside part q)
 
 module _ {V : Type 0} (bits : Bits) (box : Box) where
-  -- each coordinate that isn't one of the box in the level's block with this number keeps its cell and the entries over it
+  -- each coordinate that the box doesn't have in the level's block with this number keeps its cell and the entries over it
   pub record KeepsOutside (level : Level) (old new : Layout V) (number : Coord) : Type 0 where
     pub head : KeepsHead old new
     pub cells : (q : Coord) → (IsTrue (is_inside box q) → block_number bits level q ≡ number → ⊥) → cell_at bits new q ≡ cell_at bits old q

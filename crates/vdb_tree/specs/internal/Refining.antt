@@ -1,4 +1,4 @@
--- Nodes that come where another tree has nodes and a tile's state is to change.
+-- Nodes that are made where another tree has nodes and a tile's state is to change.
 use Rattle.std.specs.Prelude.{◌≡◌, ◌≢◌, ℕ, Option, Some, None, IsTrue}
 use Rattle.vdb_coord.specs.declared.Bits.{Bits}
 use Rattle.vdb_coord.specs.declared.Coord.{Coord}
@@ -14,14 +14,14 @@ use Rattle.vdb_tree.specs.declared.pairs.StateRule.{StateRule}
 use Rattle.vdb_tree.specs.internal.Pairing.{made}
 
 module _ {V : Type 0} (bits : Bits) (rule : StateRule) where
-  -- A node came at most over p's block of the level, in place of a tile whose state the rule can change. No cell changed.
+  -- A node was made at most over p's block of the level, in place of a tile whose state the rule can change. No cell changed.
   pub record MakesNode (level : Level) (old new : Layout V) (p : Coord) : Type 0 where
     pub keeps : Keeps bits old new
     pub adds : AddsNodes bits old new
     pub but : KeepsAllBut bits level old new p
     pub from : (tile : Cell V) → entry_over bits level old p ≡ Tile tile → IsTrue (is_child (entry_over bits level new p)) → tile.on ≢ made rule
 
-  -- over p's block of the level is the node that is given, or a tile with the state that the rule makes if none is
+  -- over p's block of the level is the returned node, or, if none is returned, a tile with the state that the rule makes
   abbrev pub IsNodeOrMade : Level → Layout V → Coord → Option ℕ → Type 0
   IsNodeOrMade level t p (Some slot) = entry_over bits level t p ≡ Child slot
   IsNodeOrMade level t p None = (tile : Cell V) × (entry_over bits level t p ≡ Tile tile) × (tile.on ≡ made rule)
@@ -31,17 +31,17 @@ module _ {V X : Type 0} (bits : Bits) (rule : StateRule) (u : Layout X) where
   abbrev pub IsRefinable : Level → Coord → Cell V → Type 0
   IsRefinable level p tile = (tile.on ≢ made rule) × IsTrue (is_child (entry_over bits level u p))
 
-  -- nodes came, and only over tiles whose state is to change and where the other tree has nodes; no cell changed
+  -- nodes were made, only over tiles whose state is to change and where the other tree has nodes; no cell changed
   pub record Refines (old new : Layout V) : Type 0 where
     pub keeps : Keeps bits old new
     pub adds : AddsNodes bits old new
     pub made : MakesOnly bits IsRefinable old new
 
-  -- where the other tree has a node of the level over q, a tile has the state that the rule makes
+  -- if the other tree has a node of the level over q, a tile of this tree there has the state that the rule makes
   abbrev pub IsRefinedAt : Level → Layout V → Coord → Type 0
   IsRefinedAt level t q = (tile : Cell V) (slot : ℕ) → entry_over bits level t q ≡ Tile tile → entry_over bits level u q ≡ Child slot → tile.on ≡ made rule
 
-  -- so it is for the level and those below
+  -- at each of the level and the lower levels: if the other tree has a node over q, a tile there has the state that the rule makes
   abbrev pub IsRefinedTo : Level → Layout V → Coord → Type 0
   IsRefinedTo Leaf t q = IsRefinedAt Leaf t q
   IsRefinedTo Lower t q = IsRefinedAt Leaf t q × IsRefinedAt Lower t q

@@ -12,7 +12,7 @@ use Rattle.vdb_tree.specs.Layout.{Layout, cell_at, entry_over, root_at}
 use Rattle.vdb_tree.specs.internal.Pairing.{acts_at, made, state_of}
 use Rattle.vdb_tree.specs.declared.pairs.StateRule.{StateRule}
 
--- a tile of a state at which the rule changes nothing
+-- a tile with a state at which the rule changes nothing
 abbrev pub IsIdleTile : {X : Type 0} → StateRule → Entry X → Type 0
 IsIdleTile {X} rule entry = (tile : Cell X) × (entry ≡ Tile tile) × (tile.on ≢ acts_at rule)
 
@@ -27,13 +27,13 @@ module _ (bits : Bits) (level : Level) (p : Coord) where
     pub from_on : from ≤ offset bits level q
     pub before : offset bits level q < to
 
-  -- this holds at the entries from one on and before this
+  -- this holds at the entries from one on and before this one
   pub record IsNextWithoutAt (Has : Coord → Type 0) (from index : ℕ) : Type 0 where
     pub within : index < entries bits level
     pub from_on : from ≤ index
     pub before : (q : Coord) → IsAmong from index q → Has q
 
-  -- this holds at the entries from one on and before the index that is answered, or up to the end
+  -- this holds at the entries from one on and before the returned index, or up to the end
   abbrev pub IsNextWithout : (Coord → Type 0) → ℕ → Option ℕ → Type 0
   IsNextWithout Has from (Some index) = IsNextWithoutAt Has from index
   IsNextWithout Has from None = (q : Coord) → IsAmong from (entries bits level) q → Has q
@@ -43,8 +43,8 @@ module _ {V X : Type 0} (bits : Bits) (rule : StateRule) (u : Layout X) where
   abbrev pub IsSettled : Layout V → Coord → Type 0
   IsSettled t q = state_of rule (cell_at bits t q).on (cell_at bits u q).on ≡ (cell_at bits t q).on
 
-  -- At these coordinates each value stays and each state becomes that of the rule; each other cell stays. No node comes or goes,
-  -- no key either, and a tile whose state changes has the state that the rule makes.
+  -- At these coordinates each value stays and each state becomes that of the rule; each other cell stays. No node and no key is
+  -- added or removed, and a tile whose state changes has the state that the rule makes.
   pub record SetsWithin (In : Coord → Type 0) (old new : Layout V) : Type 0 where
     pub head : KeepsHead old new
     pub here : (q : Coord) → In q → cell_at bits new q ≡ record { value = (cell_at bits old q).value; on = state_of rule (cell_at bits old q).on (cell_at bits u q).on }
@@ -54,12 +54,12 @@ module _ {V X : Type 0} (bits : Bits) (rule : StateRule) (u : Layout X) where
         → (was : Cell V) × (entry_over bits l old q ≡ Tile was) × ((tile ≡ was) ⊎ (tile.on ≡ made rule))
     pub keys : (k : Coord) → root_at new.root k ≡ None → root_at old.root k ≡ None
 
-  -- so it is at the entries of p's node from one offset on, up to the offset that is answered or up to the end
+  -- the rule sets the states at the entries of p's node from one offset on, up to the returned offset or up to the end
   abbrev pub SetsFrom : Level → Layout V → Layout V → Coord → ℕ → Option ℕ → Type 0
   SetsFrom level old new p from (Some next) = SetsWithin (IsAmong bits level p from next) old new
   SetsFrom level old new p from None = SetsWithin (IsAmong bits level p from (entries bits level)) old new
 
-  -- so it is in the root block of this key, and the table stays under each other key
+  -- the rule sets the states in the upper extent of this key, and the table stays under each other key
   pub record SetsRoot (old new : Layout V) (k : Coord) : Type 0 where
     pub sets : SetsWithin (λ q. key bits q ≡ k) old new
     pub table : (j : Coord) → j ≢ k → root_at new.root j ≡ root_at old.root j

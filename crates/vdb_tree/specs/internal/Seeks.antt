@@ -1,5 +1,5 @@
 -- How the walk finds the next leaf: the first of the leaves of a lower node, of an upper node and of the table, each from some
--- offset or key on. The calls of this crate alone speak of it.
+-- offset or key on. Only the calls of this crate speak of it.
 use Rattle.std.specs.Prelude.{◌≡◌, ℕ, ◌≤◌, false, Option, Some, None, IsTrue}
 use Rattle.std.specs.Ordering.{is_lt}
 use Rattle.vdb_coord.specs.Blocks.{block_cmp, block_number, key, offset}
@@ -29,12 +29,12 @@ module _ (bits : Bits) where
       pub first : offset bits Leaf p ≡ 0
       pub leaf : IsTrue (in_leaf bits t p)
 
-    -- the first of the leaves that begin at these coordinates, if there is one
+    -- the first leaf that begins at one of these coordinates, if there is one
     abbrev pub IsFirstLeaf : (Coord → Type 0) → Option Coord → Type 0
     IsFirstLeaf Here (Some p) = IsLeafCorner p × Here p × ((q : Coord) → IsLeafCorner q → Here q → is_lt (block_cmp bits q p) ≡ false)
     IsFirstLeaf Here None = (q : Coord) → IsLeafCorner q → Here q → ⊥
 
-    -- a coordinate of the first lower node in p's upper block from an index on, if there is one
+    -- a coordinate of the first lower node in p's upper extent from an index on, if there is one
     abbrev pub IsNextLower : Coord → ℕ → Option Coord → Type 0
     IsNextLower p from (Some c) =
         IsTrue (is_inside everywhere c) × IsFrom Upper p from c

@@ -1,4 +1,4 @@
--- How far a pass over the entries of a node has come that sets states by a rule. The calls of this crate alone speak of it.
+-- The progress of a pass over the entries of a node that sets states by a rule. Only the calls of this crate speak of it.
 use Rattle.std.specs.Prelude.{◌≡◌, ◌≢◌, ◌⊎◌, ◌<◌, ◌≤◌, ℕ, Bool, not, List, Option, Some, None}
 use Rattle.vdb_coord.specs.Blocks.{block_number, entries, offset}
 use Rattle.vdb_coord.specs.declared.Bits.{Bits}
@@ -14,7 +14,7 @@ use Rattle.vdb_tree.specs.declared.pairs.StateRule.{StateRule}
 use Rattle.vdb_tree.specs.declared.pairs.StateRule.TheVariants.{Unite, Subtract, Intersect}
 use Rattle.vdb_tree.specs.internal.Pairing.{made, state_of}
 
--- whether a rule changes a state where the other tree has this one
+-- whether a rule changes a state if the other tree has this one
 abbrev pub acts : StateRule → Bool → Bool
 acts Unite t = t
 acts Subtract t = t
@@ -29,19 +29,19 @@ module _ {V X : Type 0} (bits : Bits) (rule : StateRule) (u : Layout X) (level :
   abbrev pub AreSettled : Layout V → Coord → ℕ → ℕ → Type 0
   AreSettled t p from to = (q : Coord) → IsAmong bits level p from to q → state_of rule (cell_at bits t q).on (cell_at bits u q).on ≡ (cell_at bits t q).on
 
-  -- it changes none at the entries from one on and before this
+  -- the rule changes no state at the entries from one on and before this one
   pub record IsNextToSetAt (t : Layout V) (p : Coord) (from index : ℕ) : Type 0 where
     pub within : index < entries bits level
     pub from_on : from ≤ index
     pub before : AreSettled t p from index
 
-  -- it changes none at the entries from one on and before the index that is answered, or up to the end where none is
+  -- the rule changes no state at the entries from one on: those before the returned index, or all up to the end if none is returned
   abbrev pub IsNextToSet : Layout V → Coord → ℕ → Option ℕ → Type 0
   IsNextToSet t p from (Some index) = IsNextToSetAt t p from index
   IsNextToSet t p from None = AreSettled t p from (entries bits level)
 
   -- At the entries of p's node from one offset on and before another each state becomes that of the rule, and each value stays.
-  -- Each other cell stays. Nodes, keys and tiles are as a set block leaves them.
+  -- Each other cell stays. Nodes, keys and tiles are as after a set block.
   pub record SetsRun (old new : Layout V) (p : Coord) (from to : ℕ) : Type 0 where
     pub head : KeepsHead old new
     pub here : (q : Coord) → IsAmong bits level p from to q
@@ -52,23 +52,23 @@ module _ {V X : Type 0} (bits : Bits) (rule : StateRule) (u : Layout X) (level :
         → (was : Cell V) × (entry_over bits l old q ≡ Tile was) × ((tile ≡ was) ⊎ (tile.on ≡ made rule))
     pub keys : (k : Coord) → root_at new.root k ≡ None → root_at old.root k ≡ None
 
-  -- from one offset on, up to the offset that is answered or up to the end
+  -- the run from one offset on, up to the returned offset or up to the end
   abbrev pub SetsFrom : Layout V → Layout V → Coord → ℕ → Option ℕ → Type 0
   SetsFrom old new p from (Some next) = SetsRun old new p from next
   SetsFrom old new p from None = SetsRun old new p from (entries bits level)
 
--- the states of p's leaf block become those of the mask, and the values stay; no other cell changes, and no entry
+-- the states of p's leaf extent become those of the mask, and the values stay; no other cell and no entry changes
 pub record SetsLeaf {V : Type 0} (bits : Bits) (old new : Layout V) (p : Coord) (mask : List Bool) : Type 0 where
   pub here : (q : Coord) → block_number bits Leaf q ≡ block_number bits Leaf p → cell_at bits new q ≡ record { value = (cell_at bits old q).value; on = is_on mask (offset bits Leaf q) }
   pub there : (q : Coord) → block_number bits Leaf q ≢ block_number bits Leaf p → cell_at bits new q ≡ cell_at bits old q
   pub lowers : new.lowers ≡ old.lowers
 
--- the states of p's leaf block become this, and the values stay; no other cell changes, and no entry
+-- the states of p's leaf extent become this one, and the values stay; no other cell and no entry changes
 pub record FillsLeafStates {V : Type 0} (bits : Bits) (old new : Layout V) (p : Coord) (on : Bool) : Type 0 where
   pub here : (q : Coord) → block_number bits Leaf q ≡ block_number bits Leaf p → cell_at bits new q ≡ record { value = (cell_at bits old q).value; on = on }
   pub there : (q : Coord) → block_number bits Leaf q ≢ block_number bits Leaf p → cell_at bits new q ≡ cell_at bits old q
   pub lowers : new.lowers ≡ old.lowers
 
--- these are the states of p's leaf block
+-- these are the states of p's leaf extent
 abbrev pub AreStatesOf : {V : Type 0} → Bits → Layout V → Coord → List Bool → Type 0
 AreStatesOf bits t p mask = (q : Coord) → block_number bits Leaf q ≡ block_number bits Leaf p → is_on mask (offset bits Leaf q) ≡ (cell_at bits t q).on

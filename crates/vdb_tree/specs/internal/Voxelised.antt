@@ -1,4 +1,4 @@
--- How the active tiles of a box become leaves, one coordinate after another in block order. The calls of this crate alone speak of it.
+-- How the active tiles of a box become leaves, coordinate by coordinate in block order. Only the calls of this crate speak of it.
 use Rattle.std.specs.Prelude.{◌≡◌, ◌⊎◌, true, false, Option, IsTrue}
 use Rattle.vdb_coord.specs.Blocks.{block_number}
 use Rattle.vdb_coord.specs.Order.{ComesBefore}

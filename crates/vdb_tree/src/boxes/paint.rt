@@ -1,4 +1,4 @@
-//! One cell all over a box. It takes no memory, since the tree is split for it before.
+//! Painting: gives every voxel of a box one cell. Painting takes no memory, because `split` has made the nodes before.
 
 ghost use Rattle.std.specs.Prelude.{◌≡◌, ◌≢◌, ℕ, false, IfNone, IfSome, IsNone, IsSome, IsTrue};
 ghost use Rattle.vdb_coord.specs.Blocks.{block_number, key};
@@ -32,9 +32,9 @@ impl<
     const WL: usize,
     const WF: usize,
 > TreeOf<V, U, L, F, WU, WL, WF> {
-    /// Gives each coordinate of the box this cell, and every other keeps its own (OpenVDB's `Tree::fill`). It takes no memory:
-    /// after `split` the tree has a node wherever the edge of the box would cross a tile of another cell. Each block that lies
-    /// within the box becomes a tile, and its nodes are given back to their pools.
+    /// Gives each coordinate of the box this cell and keeps every other cell (OpenVDB's `Tree::fill`). It takes no memory:
+    /// after `split` the tree has a node wherever the edge of the box would cross a tile of another cell. Each aligned block
+    /// that lies within the box becomes a tile, and its nodes go back to their pools.
     pub fn paint(&mut self, bounds: Bounds, cell: Cell<V>, steps: &mut Steps)
         requires edges { IsSplit (bits_of U L F) bounds cell self.old }
         ensures field { field_of (bits_of U L F) self.new ≡ fill bounds cell (field_of (bits_of U L F) self.old) }
@@ -49,7 +49,8 @@ impl<
         }
     }
 
-    /// Paints the box in the next root block that `next_key_in` finds past a key, or in the first, and gives that block's key.
+    /// Paints the box in the first upper extent that `next_key_in` finds past the key `after`, or in the first of all without
+    /// `after`. Returns that extent's key.
     fn paint_next_root(
         &mut self,
         bounds: Bounds,
@@ -72,7 +73,7 @@ impl<
         Some(key)
     }
 
-    /// Paints the box in the root block around p, which has an entry.
+    /// Paints the box in the upper extent around p, which has an entry.
     fn paint_root_block(&mut self, bounds: Bounds, p: Coord, cell: Cell<V>, steps: &mut Steps)
         requires inside { IsTrue (is_inside bounds p) }
         requires entered { IsSome (root_at self.old.root (key (bits_of U L F) p)) }
@@ -100,7 +101,7 @@ impl<
         }
     }
 
-    /// Paints the box in each lower block of the upper node around p.
+    /// Paints the box in each lower extent of the upper node around p.
     fn paint_lower_blocks(
         &mut self,
         upper: u32,
@@ -128,7 +129,7 @@ impl<
         }
     }
 
-    /// Paints the box in the lower block around p.
+    /// Paints the box in the lower extent around p.
     fn paint_lower_block(
         &mut self,
         upper: u32,
@@ -162,7 +163,7 @@ impl<
         }
     }
 
-    /// Paints the box in each leaf block of the lower node around p.
+    /// Paints the box in each leaf extent of the lower node around p.
     fn paint_leaf_blocks(
         &mut self,
         lower: u32,
@@ -191,7 +192,7 @@ impl<
         }
     }
 
-    /// Paints the box in the leaf block around p.
+    /// Paints the box in the leaf extent around p.
     fn paint_leaf_block(
         &mut self,
         lower: u32,

@@ -1,4 +1,4 @@
-//! The voxels of a leaf, painted within a box.
+//! Painting of a leaf's voxels within a box.
 
 ghost use Rattle.std.specs.Prelude.{◌≡◌, ◌<◌, ◌≤◌, IfSome, IsTrue};
 ghost use Rattle.vdb_coord.specs.Entries.{AreBits};
@@ -11,7 +11,7 @@ use vdb_coord::{Bits, Bounds, Coord, Level};
 use vdb_node::{Leaf, Stored};
 use vdb_value::Cell;
 
-/// Gives the leaf's voxels at the coordinates of the part this cell, a run of them at a time. The part lies in one leaf block.
+/// Gives the leaf's voxels at the coordinates of `part` this cell, one run at a time. `part` lies in one leaf extent.
 pub(crate) fn paint_voxels<V: Stored<W>, const F: u32, const W: usize>(
     leaf: &mut Leaf<V, F, W>,
     bits: Bits,
@@ -36,8 +36,9 @@ pub(crate) fn paint_voxels<V: Stored<W>, const F: u32, const W: usize>(
     }
 }
 
-/// The last coordinate of the run from p: in its leaf block the part has each coordinate from p up to it. That is the end of p's
-/// row along z; where the part spans the block in z, the end of its plane of x; where it spans it in y too, the end of the part.
+/// Returns the last coordinate of the run from p: within p's leaf extent, `part` has each coordinate from p up to it. The run
+/// ends with p's row along z. If `part` spans the extent in z, the run ends with p's plane of x. If `part` spans y too, it ends
+/// with `part`.
 fn run_end(bits: Bits, part: Bounds, p: Coord) -> Coord
     requires configured { AreBits bits }
     requires inside { IsTrue (is_inside part p) }
@@ -60,14 +61,14 @@ fn run_end(bits: Bits, part: Bounds, p: Coord) -> Coord
     Coord { x, y, z }
 }
 
-/// Whether the numbers from `low` to `high` are those from `first` to `last`.
+/// Returns whether the numbers from `low` to `high` are those from `first` to `last`.
 fn is_range(low: i32, high: i32, first: i32, last: i32) -> bool
     ensures { IsTrue result → (low ≡ first) × (high ≡ last) }
 {
     low == first && high == last
 }
 
-/// The coordinate of the box behind p, by z, then by y, then by x; `None` where p is the last.
+/// Returns the coordinate of the box after p, by z, then by y, then by x, or `None` if p is the last.
 fn next_voxel(part: Bounds, p: Coord) -> Option<Coord>
     requires { IsTrue (is_inside part p) }
     ensures next { IsNextBlock voxels leaf_level part p result }

@@ -1,4 +1,4 @@
-//! Entries for the root blocks that meet a box, within the limit of the root table.
+//! Root table entries for the upper extents that meet a box, within the limit of the table.
 
 ghost use Rattle.std.specs.Prelude.{◌≡◌, ◌≢◌, ◌⊎◌, ◌<◌, ◌≤◌, false, IfErr, IsOk, IsSome, IsTrue, OnOk};
 ghost use Rattle.vdb_coord.specs.Blocks.{key};
@@ -33,13 +33,13 @@ impl<
     const WL: usize,
     const WF: usize,
 > TreeOf<V, U, L, F, WU, WL, WF> {
-    /// Gives each root block that meets the box an entry, where the cell isn't the background, so that the box can be filled
-    /// with it.
+    /// Gives each upper extent that meets the box an entry if the cell isn't the inactive background, so that the box can be
+    /// filled with it.
     ///
-    /// Where the table has no capacity for them, entries of background blocks are taken away first. `RootLimit` says that with
-    /// the box filled there would be more root blocks with a cell that isn't the background than the limit, `Memory` that a
-    /// growth was refused where there would not be; both keep every cell. It passes over as many root blocks of the box as the
-    /// limit at most, however large the box is.
+    /// If the table has no capacity for these entries, this first removes the entries of upper extents that are all inactive
+    /// background. `RootLimit`: the filled tree would have more upper extents with a cell other than the inactive background
+    /// than the limit. `Memory`: an allocation failed, and the limit would hold. Both errors keep every cell. However large the
+    /// box is, this passes over at most as many of its upper extents as the limit.
     pub(crate) fn enter_box(
         &mut self,
         bounds: Bounds,
@@ -68,7 +68,7 @@ impl<
         self.enter_blocks(bounds)
     }
 
-    /// Makes sure that the table has capacity for each root block that meets the box, by taking background entries away.
+    /// Makes sure that the table has capacity for each upper extent that meets the box, by removing background entries.
     fn make_capacity_for(&mut self, bounds: Bounds, steps: &mut Steps) -> Result<(), TreeRefusal>
         ensures adds { AddsBackgroundTiles (bits_of U L F) self.old self.new }
         ensures keys { MakesNoKey self.old self.new }
@@ -93,9 +93,9 @@ impl<
         Err(TreeRefusal::RootLimit)
     }
 
-    /// Does nothing; its contract states a fact of every tree: a box filled with the background cell keeps to the limit, and so
-    /// does one for which the table has capacity; a swept table without capacity for it does not, nor a box of more root blocks
-    /// than the limit.
+    /// Does nothing. Its contract states a fact of every tree. A box filled with the inactive background keeps to the limit,
+    /// and so does a box for which the table has capacity. A box for which a swept table has no capacity exceeds the limit, and
+    /// so does a box of more upper extents than the limit.
     fn keeps_fills_to_limit(&self, bounds: Bounds)
         ensures background_cell { roots V.eq (bits_of U L F) (fill bounds (background_cell self.now) (field_of (bits_of U L F) self.now)) ≤ self.now.limit }
         ensures within { HasCapacityFor (bits_of U L F) self.now bounds → (cell : Cell V)
@@ -109,7 +109,7 @@ impl<
         let _ = &self.root;
     }
 
-    /// Whether the table has capacity for each root block that meets the box.
+    /// Returns whether the table has capacity for each upper extent that meets the box.
     fn has_capacity_for(&self, bounds: Bounds) -> bool
         ensures capacity { IsTrue result → HasCapacityFor (bits_of U L F) self.now bounds }
         ensures full { result ≡ false → LacksCapacityFor (bits_of U L F) self.now bounds }
@@ -130,7 +130,7 @@ impl<
         }
     }
 
-    /// Gives each root block that meets the box an entry.
+    /// Gives each upper extent that meets the box an entry.
     fn enter_blocks(&mut self, bounds: Bounds) -> Result<(), TreeRefusal>
         requires { HasCapacityFor (bits_of U L F) self.old bounds }
         ensures keeps { Keeps (bits_of U L F) self.old self.new }
@@ -150,7 +150,7 @@ impl<
         }
     }
 
-    /// Gives the root block around p, a coordinate of the box, an entry.
+    /// Gives the upper extent around p, a coordinate of the box, an entry.
     fn enter_block(&mut self, bounds: Bounds, p: Coord) -> Result<(), TreeRefusal>
         requires inside { IsTrue (is_inside bounds p) }
         requires capacity { HasCapacityFor (bits_of U L F) self.old bounds }
@@ -166,7 +166,7 @@ impl<
         self.enter_root_block(p)
     }
 
-    /// Gives the root block around p an entry.
+    /// Gives the upper extent around p an entry.
     pub(crate) fn enter_root_block(&mut self, p: Coord) -> Result<(), TreeRefusal>
         requires { HasCapacity self.old (key (bits_of U L F) p) }
         ensures keeps { Keeps (bits_of U L F) self.old self.new }
@@ -188,8 +188,8 @@ impl<
         }
     }
 
-    /// Does nothing; its contract states a fact of every tree: a table with capacity for the box has capacity for each root
-    /// block of the box.
+    /// Does nothing. Its contract states a fact of every tree: a table with capacity for the box has capacity for each upper
+    /// extent of the box.
     fn has_capacity_at(&self, bounds: Bounds, p: Coord)
         requires inside { IsTrue (is_inside bounds p) }
         requires capacity { HasCapacityFor (bits_of U L F) self.now bounds }

@@ -1,4 +1,4 @@
-//! Nodes where a box's edge crosses a tile, so that the box can be painted without memory.
+//! Splits of the tiles that the edge of a box crosses, so that the box can be painted without memory.
 
 ghost use Rattle.std.specs.Prelude.{◌≡◌, ◌≢◌, ◌⊎◌, IfErr, IfOk, IfSome, IsNone, IsSome, IsTrue, OnOk, Some};
 ghost use Rattle.vdb_coord.specs.Blocks.{block_number, key};
@@ -30,15 +30,15 @@ impl<
     const WL: usize,
     const WF: usize,
 > TreeOf<V, U, L, F, WU, WL, WF> {
-    /// Splits the tree for a box that is to be painted with this cell: each tile of another cell that crosses the edge of the
-    /// box gives way to a node with that tile's cell all over; and where the cell isn't the background, each root block that
-    /// meets the box gets an entry. No other node or entry comes, and none goes where the table has capacity for the box. No
-    /// cell changes, and what was split for the background cell stays so.
+    /// Splits the tree for a box that is to be painted with this cell. Each tile of another cell that crosses the edge of the
+    /// box becomes a node with that tile's cell all over. If the cell isn't the inactive background, each upper extent that
+    /// meets the box gets an entry. No other node or entry is added, and none is removed if the table has capacity for the box.
+    /// No cell changes, and what was split for the inactive background stays split.
     ///
-    /// `RootLimit` says that the filled box would leave more root blocks with a cell that isn't the background than the limit,
-    /// `Memory` that a growth was refused; some nodes may have been made then. It visits the nodes that the box's edge crosses,
-    /// and others only where a full root table is swept of background entries first. OpenVDB's `Tree::fill` makes these nodes
-    /// while it writes.
+    /// `RootLimit`: the filled box would leave more upper extents with a cell other than the inactive background than the
+    /// limit. `Memory`: an allocation failed; some nodes may have been made. Both errors keep every cell. It visits the nodes
+    /// that the box's edge crosses, and others only if it first has to sweep a full root table of background entries. OpenVDB's
+    /// `Tree::fill` makes these nodes while it writes.
     pub fn split(
         &mut self,
         bounds: Bounds,
@@ -60,7 +60,7 @@ impl<
         self.split_root_blocks(bounds, cell, steps)
     }
 
-    /// Splits the root blocks that have an entry.
+    /// Splits the upper extents that have an entry.
     fn split_root_blocks(
         &mut self,
         bounds: Bounds,
@@ -84,7 +84,8 @@ impl<
         }
     }
 
-    /// Splits the next root block that `next_key_in` finds past a key, or the first, where it meets the box. It gives the key.
+    /// Splits the first upper extent that `next_key_in` finds past the key `after` (the first of all without `after`), if it
+    /// meets the box. Returns that extent's key.
     fn split_next_root(
         &mut self,
         bounds: Bounds,
@@ -111,7 +112,7 @@ impl<
         Ok(Some(key))
     }
 
-    /// Splits p's root block, which has an entry.
+    /// Splits p's upper extent, which has an entry.
     fn split_upper_block(
         &mut self,
         bounds: Bounds,
@@ -143,7 +144,7 @@ impl<
         self.split_lower_blocks(upper, bounds, p, part, cell, steps)
     }
 
-    /// Splits the lower blocks of the upper node around p where they meet the box.
+    /// Splits the lower extents of the upper node around p that meet the box.
     fn split_lower_blocks(
         &mut self,
         upper: u32,
@@ -172,7 +173,7 @@ impl<
         }
     }
 
-    /// Splits the lower block around p, if the edge of the box crosses it.
+    /// Splits the lower extent around p if the edge of the box crosses it.
     fn split_lower_block(
         &mut self,
         upper: u32,
@@ -204,7 +205,7 @@ impl<
         self.split_leaf_blocks(lower, bounds, p, part, cell, steps)
     }
 
-    /// Splits the leaf blocks of the lower node around p where they meet the box.
+    /// Splits the leaf extents of the lower node around p that meet the box.
     fn split_leaf_blocks(
         &mut self,
         lower: u32,
@@ -233,7 +234,7 @@ impl<
         }
     }
 
-    /// Splits the leaf block around p, if the edge of the box crosses it.
+    /// Splits the leaf extent around p if the edge of the box crosses it.
     fn split_leaf_block(
         &mut self,
         lower: u32,

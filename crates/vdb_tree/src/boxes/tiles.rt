@@ -1,5 +1,5 @@
-//! Tiles in place of nodes, and of other tiles. Each node is given back to its pool once its block has tiles alone, so that the
-//! tree is sound at each step.
+//! Tiles in place of nodes and of other tiles. A node goes back to its pool once its block has only tiles, so the tree is sound
+//! after each step.
 
 ghost use Rattle.std.specs.Prelude.{◌≡◌, ◌<◌, ◌≤◌, ℕ, IfSome, IsSome, Some, if◌then◌else◌};
 ghost use Rattle.vdb_coord.specs.Blocks.{block_number, key};
@@ -28,7 +28,7 @@ impl<
     const WL: usize,
     const WF: usize,
 > TreeOf<V, U, L, F, WU, WL, WF> {
-    /// Makes a tile of the leaf around p.
+    /// Collapses the leaf around p into a tile.
     pub(crate) fn drop_leaf(
         &mut self,
         lower: u32,
@@ -51,7 +51,7 @@ impl<
         self.lowers.at_mut(place, steps).set_tile(offset, cell);
     }
 
-    /// Makes another tile of p's tile in a lower node.
+    /// Replaces p's tile in a lower node by another tile.
     pub(crate) fn set_lower_tile(&mut self, lower: u32, p: Coord, cell: Cell<V>, steps: &mut Steps)
         requires lower { upper_entry (bits_of U L F) self.old p ≡ Child lower }
         requires tiled { (tile : Cell V) × (lower_entry (bits_of U L F) self.old p ≡ Tile tile) }
@@ -65,7 +65,7 @@ impl<
         self.lowers.at_mut(place, steps).set_tile(offset, cell);
     }
 
-    /// Makes another tile of p's tile in an upper node.
+    /// Replaces p's tile in an upper node by another tile.
     pub(crate) fn set_upper_tile(&mut self, upper: u32, p: Coord, cell: Cell<V>, steps: &mut Steps)
         requires upper { root_entry (bits_of U L F) self.old p ≡ Child upper }
         requires tiled { (tile : Cell V) × (upper_entry (bits_of U L F) self.old p ≡ Tile tile) }
@@ -80,7 +80,7 @@ impl<
         self.uppers.at_mut(place, steps).set_tile(offset, cell);
     }
 
-    /// Makes another tile of the tile under p's key.
+    /// Replaces the tile under p's key by another tile.
     pub(crate) fn set_root_tile(&mut self, p: Coord, cell: Cell<V>)
         requires entered { IsSome (root_at self.old.root (key (bits_of U L F) p)) }
         requires tiled { (tile : Cell V) × (root_entry (bits_of U L F) self.old p ≡ Tile tile) }
@@ -94,7 +94,7 @@ impl<
         self.root.set(key, Entry::Tile(cell));
     }
 
-    /// Makes a tile of the lower node around p, which has no leaves.
+    /// Collapses the lower node around p, which has no leaves, into a tile.
     pub(crate) fn drop_lower(
         &mut self,
         upper: u32,
@@ -119,7 +119,7 @@ impl<
         self.uppers.at_mut(place, steps).set_tile(offset, cell);
     }
 
-    /// Makes a tile of the upper node around p, which has no lower nodes.
+    /// Collapses the upper node around p, which has no lower nodes, into a tile.
     pub(crate) fn drop_upper(&mut self, upper: u32, p: Coord, cell: Cell<V>, steps: &mut Steps)
         requires upper { root_entry (bits_of U L F) self.old p ≡ Child upper }
         requires childless { (q : Coord) (slot : ℕ) → block_number (bits_of U L F) Upper q ≡ block_number (bits_of U L F) Upper p → upper_entry (bits_of U L F) self.old q ≡ Child slot → ⊥ }
@@ -135,7 +135,7 @@ impl<
         self.root.set(key, Entry::Tile(cell));
     }
 
-    /// Makes a tile of each leaf of the lower node around p. It goes from leaf to leaf by the node's mask of children.
+    /// Collapses each leaf of the lower node around p into a tile. It goes from leaf to leaf by the node's child mask.
     pub(crate) fn drop_leaves(&mut self, lower: u32, p: Coord, cell: Cell<V>, steps: &mut Steps)
         requires { upper_entry (bits_of U L F) self.old p ≡ Child lower }
         ensures above { KeepsUppers self.old self.new }
@@ -148,7 +148,7 @@ impl<
         }
     }
 
-    /// Makes a tile of the first leaf of the lower node around p from this offset on, and answers the offset behind it.
+    /// Collapses the first leaf of the lower node around p from this offset on into a tile. Returns the offset after it.
     fn drop_next_leaf(
         &mut self,
         lower: u32,
@@ -175,7 +175,7 @@ impl<
         Some(offset + 1)
     }
 
-    /// Makes a tile of each lower node of the upper node around p, and gives the leaves of each back before it.
+    /// Collapses each lower node of the upper node around p into a tile, after it gives the leaves of each back.
     pub(crate) fn drop_lowers(&mut self, upper: u32, p: Coord, cell: Cell<V>, steps: &mut Steps)
         requires { root_entry (bits_of U L F) self.old p ≡ Child upper }
         ensures root { self.new.root ≡ self.old.root }
@@ -188,7 +188,7 @@ impl<
         }
     }
 
-    /// Makes a tile of the first lower node of the upper node around p from this offset on, and answers the offset behind it.
+    /// Collapses the first lower node of the upper node around p from this offset on into a tile. Returns the offset after it.
     fn drop_next_lower(
         &mut self,
         upper: u32,

@@ -1,4 +1,4 @@
-//! A whole leaf written at once.
+//! Writes of a whole leaf at once.
 
 ghost use Rattle.std.specs.Prelude.{◌≡◌, ◌+◌, ◌≤◌, IsOk, IsTrue};
 ghost use Rattle.vdb_coord.specs.Blocks.{block_around};
@@ -28,11 +28,12 @@ impl<
     const WL: usize,
     const WF: usize,
 > TreeOf<V, U, L, F, WU, WL, WF> {
-    /// Gives the leaf block around a coordinate the cells of a leaf (OpenVDB's `Tree::addLeaf`, which takes the leaf itself). Where
-    /// they are all one cell, the block becomes a tile.
+    /// Gives the leaf extent around a coordinate the cells of a leaf (OpenVDB's `Tree::addLeaf`, which takes the leaf itself).
+    /// If these cells are all equal, the extent becomes a tile.
     ///
-    /// `RootLimit` says that there would be more root blocks with a cell that isn't the background than the limit, `Memory` that a
-    /// growth was refused; both leave every cell as it was. Neither comes where the block lies in a leaf.
+    /// `RootLimit`: there would be more upper extents with a cell other than the inactive background than the limit. `Memory`:
+    /// an allocation failed. Both errors leave every cell as it was. Neither error occurs if the leaf extent already has a
+    /// leaf.
     pub fn write_leaf(
         &mut self,
         p: Coord,
@@ -48,14 +49,14 @@ impl<
             return self.fill_leaf_block(p, cell, steps);
         }
         let _ = leaf.states(); // the proof learns from it that the leaf has a value for each entry
-        let _ = self.bits(); // and from this how many bits there are
+        let _ = self.bits(); // the proof learns from it how many bits there are
         self.make_capacity(p, steps)?;
         let slot = self.leaf_around(p, steps)?;
         self.copy_leaf(slot, p, leaf, steps);
         Ok(())
     }
 
-    /// Makes p's leaf block a tile of this cell.
+    /// Makes p's leaf extent a tile of this cell.
     fn fill_leaf_block(
         &mut self,
         p: Coord,
@@ -78,7 +79,7 @@ impl<
         Ok(())
     }
 
-    /// Makes p's leaf block, over which there is a leaf, a tile of this cell.
+    /// Makes p's leaf extent, which has a leaf, a tile of this cell.
     fn paint_whole_leaf(&mut self, slot: u32, p: Coord, cell: Cell<V>, steps: &mut Steps)
         requires { lower_entry (bits_of U L F) self.old p ≡ Child slot }
         ensures field { field_of (bits_of U L F) self.new ≡ fill (block_around (bits_of U L F) leaf_level p) cell (field_of (bits_of U L F) self.old) }
@@ -88,7 +89,7 @@ impl<
         self.paint(bounds, cell, steps);
     }
 
-    /// The box of p's leaf block. It can be painted, since there is a leaf.
+    /// Returns the box of p's leaf extent. The box can be painted, because the extent has a leaf.
     fn leaf_bounds(&self, slot: u32, p: Coord) -> Bounds
         requires { lower_entry (bits_of U L F) self.now p ≡ Child slot }
         ensures block { result ≡ block_around (bits_of U L F) leaf_level p }

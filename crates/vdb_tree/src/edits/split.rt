@@ -1,4 +1,4 @@
-//! Nodes in place of tiles, which keep every cell.
+//! Splits of tiles into nodes that keep every cell.
 
 ghost use Rattle.std.specs.Prelude.{◌≡◌, ◌≢◌, ◌+◌, ◌<◌, ◌≤◌, IfErr, IfOk, IsSome, OnOk, length};
 ghost use Rattle.vdb_coord.specs.Blocks.{key};
@@ -27,7 +27,7 @@ impl<
     const WL: usize,
     const WF: usize,
 > TreeOf<V, U, L, F, WU, WL, WF> {
-    /// Gives p's root block an entry, the tile that it stands for.
+    /// Gives p's upper extent an entry: the tile that its absence stands for.
     pub(crate) fn enter(&mut self, p: Coord, cell: Cell<V>) -> Result<(), AllocError>
         requires tiled { root_entry (bits_of U L F) self.old p ≡ Tile cell }
         requires capacity { length self.old.root < self.old.limit }
@@ -44,7 +44,7 @@ impl<
         Ok(())
     }
 
-    /// Makes an upper node of the tile under p's key, with that tile's cell all over. It gives the node's slot.
+    /// Splits the tile under p's key: makes an upper node with that tile's cell all over. Returns the node's slot.
     pub(crate) fn split_root(&mut self, p: Coord, cell: Cell<V>) -> Result<u32, TreeRefusal>
         requires tiled { root_entry (bits_of U L F) self.old p ≡ Tile cell }
         requires entered { IsSome (root_at self.old.root (key (bits_of U L F) p)) }
@@ -62,7 +62,7 @@ impl<
         Ok(slot)
     }
 
-    /// Makes a lower node of p's tile in an upper node.
+    /// Splits p's tile in an upper node: makes a lower node with the tile's cell all over.
     pub(crate) fn split_upper(
         &mut self,
         upper: u32,
@@ -88,7 +88,7 @@ impl<
         Ok(slot)
     }
 
-    /// Makes a leaf of p's tile in a lower node.
+    /// Splits p's tile in a lower node: makes a leaf with the tile's cell all over.
     pub(crate) fn split_lower(
         &mut self,
         lower: u32,

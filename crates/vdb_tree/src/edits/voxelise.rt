@@ -28,13 +28,13 @@ impl<
     const WL: usize,
     const WF: usize,
 > TreeOf<V, U, L, F, WU, WL, WF> {
-    /// Makes a leaf of each active tile over a leaf block that meets the box, so that every active voxel of the box lies in a
-    /// leaf (OpenVDB's `Tree::voxelizeActiveTiles`, within a box). No cell changes; unless it is refused, no other tile becomes
-    /// a node and no node goes. It goes through the leaves and the tiles that meet the box, an active tile by leaf blocks and
-    /// an inactive one, of any level, or a root block without an entry, at once.
+    /// Makes a leaf of each active tile over a leaf extent that meets the box, so that every active voxel of the box lies in a
+    /// leaf (OpenVDB's `Tree::voxelizeActiveTiles`, within a box). No cell changes. If the call succeeds, no other tile becomes
+    /// a node and no node disappears. It goes through the leaves and the tiles that meet the box. It passes an active tile by
+    /// leaf extents, and an inactive tile of any level, or an upper extent without an entry, at once.
     ///
-    /// `Memory` says that a growth was refused. The tree is pruned then, so that it has no node over a block of one cell: the
-    /// leaves that were made are given back to their pool.
+    /// `Memory`: an allocation failed. The tree is then pruned, so that it has no node over a block of one cell, and the leaves
+    /// that were made go back to their pool.
     pub fn voxelise(&mut self, bounds: Bounds, steps: &mut Steps) -> Result<(), TreeRefusal>
         ensures field { field_of (bits_of U L F) self.new ≡ field_of (bits_of U L F) self.old }
         ensures limit { self.new.limit ≡ self.old.limit }
@@ -54,7 +54,7 @@ impl<
         }
     }
 
-    /// Makes a leaf of each active tile over a leaf block that meets the box, up to the first growth that is refused.
+    /// Makes a leaf of each active tile over a leaf extent that meets the box, up to the first allocation that fails.
     fn make_leaves(&mut self, bounds: Bounds, steps: &mut Steps) -> Result<(), TreeRefusal>
         ensures field { field_of (bits_of U L F) self.new ≡ field_of (bits_of U L F) self.old }
         ensures limit { self.new.limit ≡ self.old.limit }
@@ -71,7 +71,7 @@ impl<
         Ok(())
     }
 
-    /// Makes a leaf of the leaf block around `p` where that is an active tile. It gives the first coordinate of the box past that
+    /// Makes a leaf of the leaf extent around `p` if that is an active tile. Returns the first coordinate of the box past that
     /// leaf, or past the leaf or the inactive tile that was there.
     fn voxelise_from(
         &mut self,
@@ -95,8 +95,8 @@ impl<
         }
     }
 
-    /// The first coordinate of the box past the leaf or the inactive tile around `p`; `None` where there is an active tile, under an
-    /// entry of the table.
+    /// Returns the first coordinate of the box past the leaf or the inactive tile around `p`, or `None` if an active tile,
+    /// under an entry of the table, is there.
     fn inactive_after(&self, bounds: Bounds, p: Coord, steps: &mut Steps) -> Option<Option<Coord>>
         requires inside { IsTrue (is_inside bounds p) }
         ensures done { IfSome result (IsVoxelisedFrom (bits_of U L F) self.now bounds p) }
@@ -112,7 +112,7 @@ impl<
         None
     }
 
-    /// The first coordinate of the box past the leaf or the inactive tile in which the descent to `p` ends.
+    /// Returns the first coordinate of the box past the leaf or the inactive tile in which the descent to `p` ends.
     fn start_past_inactive(&self, bounds: Bounds, p: Coord, end: End<V>) -> Option<Coord>
         requires inside { IsTrue (is_inside bounds p) }
         requires end { IsEnd (bits_of U L F) self.now p end }
@@ -123,7 +123,7 @@ impl<
         bounds.next_coord_in(self.bits(), self.level_of(p, end), p)
     }
 
-    /// The level of the tile or the leaf in which the descent to `p` ends.
+    /// Returns the level of the tile or the leaf in which the descent to `p` ends.
     fn level_of(&self, p: Coord, end: End<V>) -> Level
         requires { IsEnd (bits_of U L F) self.now p end }
         ensures { result ≡ end_level (bits_of U L F) self.now p }
@@ -135,7 +135,7 @@ impl<
         }
     }
 
-    /// Whether the descent to `p` ends in a leaf or an inactive tile.
+    /// Returns whether the descent to `p` ends in a leaf or an inactive tile.
     fn is_inactive(&self, p: Coord, end: End<V>) -> bool
         requires { IsEnd (bits_of U L F) self.now p end }
         ensures inactive { IsTrue result → IsVoxelisedAround (bits_of U L F) self.now (end_level (bits_of U L F) self.now p) p }
@@ -149,7 +149,7 @@ impl<
         }
     }
 
-    /// Makes a leaf around `p`, which lies in a tile, and gives the first coordinate of the box past that leaf.
+    /// Makes a leaf around `p`, which lies in a tile. Returns the first coordinate of the box past that leaf.
     fn voxelise_tile(
         &mut self,
         bounds: Bounds,

@@ -36,11 +36,11 @@ impl<
 > TreeOf<V, U, L, F, WU, WL, WF> {
     /// Writes the voxel at a coordinate (OpenVDB's `setValueOn`, `setValueOff`, `setActiveState` and `setValueOnly` of `Tree`).
     ///
-    /// Where a full root table would need one entry more, background entries are swept out first. `RootLimit` says that even
-    /// then there are more root blocks with a cell that isn't the background than the limit, `Memory` that a growth was
-    /// refused; both leave every cell as it was. Neither comes where the voxel has that cell already or where it lies in a
-    /// leaf, as it does wherever the cells of its leaf block aren't all equal. A write visits at most 5 nodes, and each block
-    /// that doesn't hold the coordinate keeps the entry over it, unless it sweeps.
+    /// If a full root table needs one more entry, this first sweeps out background entries. `RootLimit`: even then there would
+    /// be more upper extents with a cell other than the inactive background than the limit. `Memory`: an allocation failed.
+    /// Both errors leave every cell as it was. Neither error occurs if the voxel has the new cell already or lies in a leaf,
+    /// and it does lie in a leaf if the cells of its leaf extent aren't all equal. A write visits at most 5 nodes. Unless it
+    /// sweeps, each block that doesn't hold the coordinate keeps the entry over it.
     pub fn write(
         &mut self,
         p: Coord,
@@ -74,7 +74,7 @@ impl<
         self.write_tile(holder, cell, p, change, steps)
     }
 
-    /// Writes a voxel whose cell changes and that lies in a tile, from what holds the tile down.
+    /// Writes a voxel whose cell changes and that lies in a tile. It starts from the holder of that tile.
     fn write_tile(
         &mut self,
         holder: Holder,
@@ -145,7 +145,7 @@ impl<
         Ok(())
     }
 
-    /// Writes a voxel whose cell changes and that lies in a tile of the root table or under no entry.
+    /// Writes a voxel whose cell changes and that lies in a tile of the root table or in an upper extent without an entry.
     fn write_root_tile(
         &mut self,
         p: Coord,
@@ -165,9 +165,9 @@ impl<
         Ok(())
     }
 
-    /// Does nothing; its contract states a fact of every tree: within its limit are the root blocks of its field that hold
-    /// anything but the background, and those of a field that differs in p's root block alone, where the table has capacity;
-    /// a swept table without capacity is full of them.
+    /// Does nothing. Its contract states a fact of every tree. The upper extents of its field with a cell other than the
+    /// inactive background keep to the limit. If the table has capacity, so do those of any field that differs in p's upper
+    /// extent alone. A swept table without capacity is full of such extents.
     pub(crate) fn keeps_to_limit(&self, p: Coord)
         ensures kept { roots V.eq (bits_of U L F) (field_of (bits_of U L F) self.now) ≤ self.now.limit }
         ensures within { HasCapacity self.now (key (bits_of U L F) p) → (changed : Field V)
@@ -180,15 +180,15 @@ impl<
         let _ = &self.root;
     }
 
-    /// Does nothing; its contract states a fact of every tree: there is a leaf around p where the cells of its leaf block
-    /// aren't all equal.
+    /// Does nothing. Its contract states a fact of every tree: p's leaf extent has a leaf if its cells aren't all equal.
     fn has_leaf_if_non_constant(&self, p: Coord)
         ensures { is_constant V.eq (field_of (bits_of U L F) self.now) (block_around (bits_of U L F) Leaf p) ≡ false → IsTrue (in_leaf (bits_of U L F) self.now p) }
     {
         let _ = &self.root;
     }
 
-    /// Makes sure that p's root block has an entry or that the table has capacity for one, by sweeping background entries out.
+    /// Makes sure that p's upper extent has an entry or that the table has capacity for one, by sweeping out background
+    /// entries.
     pub(crate) fn make_capacity(&mut self, p: Coord, steps: &mut Steps) -> Result<(), TreeRefusal>
         ensures keeps { Keeps (bits_of U L F) self.old self.new }
         ensures capacity { OnOk result (HasCapacity self.new (key (bits_of U L F) p)) }
@@ -212,14 +212,14 @@ impl<
         Err(TreeRefusal::RootLimit)
     }
 
-    /// Whether p's root block has an entry or the table has capacity for one.
+    /// Returns whether p's upper extent has an entry or the table has capacity for one.
     fn has_capacity(&self, p: Coord) -> bool
         ensures { IsTrue result ↔ HasCapacity self.now (key (bits_of U L F) p) }
     {
         self.root.len() < self.limit as usize || self.root.get(self.key(p)).is_some()
     }
 
-    /// The slot of the leaf around p. Where there is none it is made, with the nodes above it.
+    /// Returns the slot of the leaf around p. If p has no leaf, this makes one, with the nodes above it.
     pub(crate) fn leaf_around(&mut self, p: Coord, steps: &mut Steps) -> Result<u32, TreeRefusal>
         requires capacity { HasCapacity self.old (key (bits_of U L F) p) }
         ensures keeps { Keeps (bits_of U L F) self.old self.new }
@@ -236,7 +236,7 @@ impl<
         self.leaf_in(lower, p, steps)
     }
 
-    /// The slot of the upper node around p, which is made where there is none.
+    /// Returns the slot of the upper node around p. If p has none, this makes one.
     pub(crate) fn upper_around(&mut self, p: Coord) -> Result<u32, TreeRefusal>
         requires capacity { HasCapacity self.old (key (bits_of U L F) p) }
         ensures keeps { Keeps (bits_of U L F) self.old self.new }
@@ -257,7 +257,7 @@ impl<
         self.split_root(p, cell)
     }
 
-    /// The slot of the lower node around p, which is made where there is none.
+    /// Returns the slot of the lower node around p. If p has none, this makes one.
     pub(crate) fn lower_in(
         &mut self,
         upper: u32,
@@ -280,7 +280,7 @@ impl<
         }
     }
 
-    /// The slot of the leaf around p, which is made where there is none.
+    /// Returns the slot of the leaf around p. If p has none, this makes one.
     fn leaf_in(&mut self, lower: u32, p: Coord, steps: &mut Steps) -> Result<u32, TreeRefusal>
         requires { upper_entry (bits_of U L F) self.old p ≡ Child lower }
         ensures keeps { Keeps (bits_of U L F) self.old self.new }

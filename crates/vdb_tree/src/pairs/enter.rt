@@ -1,4 +1,4 @@
-//! Entries of the root table for the active root blocks of another tree.
+//! Entries of the root table for the active upper extents of another tree.
 
 ghost use Rattle.std.specs.Prelude.{◌≡◌, ◌⊎◌, ◌<◌, ◌≤◌, true, false, IfErr, IsSome, IsTrue, None, OnOk};
 ghost use Rattle.vdb_coord.specs.Blocks.{key};
@@ -27,11 +27,11 @@ impl<
     const WL: usize,
     const WF: usize,
 > TreeOf<V, U, L, F, WU, WL, WF> {
-    /// Gives each root block in which the other tree has an active voxel an entry, so that it can be made active there.
+    /// Gives an entry to each upper extent in which the other tree has an active voxel, so that voxels of it can become active.
     ///
-    /// Where the table has no capacity for them, entries of background blocks are taken away first. `RootLimit` says that with
-    /// those voxels active there would be more root blocks with a cell that isn't the background than the limit, `Memory` that
-    /// a growth was refused where there would not be; both keep every cell.
+    /// If the table has no capacity for these entries, this first removes the entries of upper extents that are all inactive
+    /// background. `RootLimit`: with those voxels active there would be more upper extents with a cell other than the inactive
+    /// background than the limit. `Memory`: an allocation failed, and the limit would hold. Both errors keep every cell.
     pub(crate) fn enter_active<X: Stored<WU> + Stored<WL> + Stored<WF>>(
         &mut self,
         other: &TreeOf<X, U, L, F, WU, WL, WF>,
@@ -47,8 +47,8 @@ impl<
         self.enter_active_blocks(other, steps)
     }
 
-    /// Makes sure that the table has capacity for each root block in which the other tree has an active voxel, by taking
-    /// background entries away.
+    /// Makes sure that the table has capacity for each upper extent in which the other tree has an active voxel, by removing
+    /// background entries.
     fn make_capacity_for_active<X: Stored<WU> + Stored<WL> + Stored<WF>>(
         &mut self,
         other: &TreeOf<X, U, L, F, WU, WL, WF>,
@@ -73,8 +73,8 @@ impl<
         Err(TreeRefusal::RootLimit)
     }
 
-    /// Does nothing; its contract states a fact of every two trees: where the table has capacity for the active root blocks of
-    /// the other, the two united keep to the limit, and where a swept table hasn't, they do not.
+    /// Does nothing. Its contract states a fact of every two trees: if the table has capacity for the active upper extents of
+    /// the other tree, the union keeps to the limit, and if a swept table hasn't, the union exceeds it.
     fn keeps_unions_to_limit<X: Stored<WU> + Stored<WL> + Stored<WF>>(
         &self,
         other: &TreeOf<X, U, L, F, WU, WL, WF>,
@@ -88,7 +88,7 @@ impl<
         let _ = &other.root;
     }
 
-    /// Whether the table has capacity for each root block in which the other tree has an active voxel.
+    /// Returns whether the table has capacity for each upper extent in which the other tree has an active voxel.
     fn has_capacity_for_active<X: Stored<WU> + Stored<WL> + Stored<WF>>(
         &self,
         other: &TreeOf<X, U, L, F, WU, WL, WF>,
@@ -111,7 +111,7 @@ impl<
         true
     }
 
-    /// Whether the other tree has an active voxel in the root block around p, and this table has no entry for it.
+    /// Returns whether the other tree has an active voxel in the upper extent around p, and this table has no entry for it.
     fn lacks_entry_for<X: Stored<WU> + Stored<WL> + Stored<WF>>(
         &self,
         other: &TreeOf<X, U, L, F, WU, WL, WF>,
@@ -128,7 +128,7 @@ impl<
         other.is_active_root(p, steps)
     }
 
-    /// Whether the tree has an active voxel in the root block around p.
+    /// Returns whether the tree has an active voxel in the upper extent around p.
     fn is_active_root(&self, p: Coord, steps: &mut Steps) -> bool
         ensures found { IsTrue result → IsActiveKey (bits_of U L F) self.now (key (bits_of U L F) p) }
         ensures none { result ≡ false → (q : Coord) → key (bits_of U L F) q ≡ key (bits_of U L F) p → (cell_at (bits_of U L F) self.now q).on ≡ false }
@@ -137,7 +137,7 @@ impl<
         self.has_active(p, steps)
     }
 
-    /// Gives each root block in which the other tree has an active voxel an entry.
+    /// Gives an entry to each upper extent in which the other tree has an active voxel.
     fn enter_active_blocks<X: Stored<WU> + Stored<WL> + Stored<WF>>(
         &mut self,
         other: &TreeOf<X, U, L, F, WU, WL, WF>,
@@ -157,7 +157,7 @@ impl<
         Ok(())
     }
 
-    /// Gives the root block around p an entry, if the other tree has an active voxel in it.
+    /// Gives the upper extent around p an entry if the other tree has an active voxel in it.
     fn enter_if_active<X: Stored<WU> + Stored<WL> + Stored<WF>>(
         &mut self,
         other: &TreeOf<X, U, L, F, WU, WL, WF>,
@@ -179,8 +179,8 @@ impl<
         self.enter_root_block(p)
     }
 
-    /// Does nothing; its contract states a fact of every two trees: a table with capacity for the active root blocks of the other
-    /// tree has capacity for each of them.
+    /// Does nothing. Its contract states a fact of every two trees: a table with capacity for the active upper extents of the
+    /// other tree has capacity for each of them.
     fn has_capacity_around<X: Stored<WU> + Stored<WL> + Stored<WF>>(
         &self,
         other: &TreeOf<X, U, L, F, WU, WL, WF>,

@@ -1,4 +1,4 @@
-//! The parts of two trees gone through together.
+//! A walk over the parts of two trees together.
 
 ghost use Rattle.std.specs.Prelude.{◌≡◌, ◌⊎◌, ◌<◌, IfNone, IfSome, IsTrue, Some, None, false};
 ghost use Rattle.vdb_coord.specs.Blocks.{block_around, block_number, key};
@@ -25,16 +25,16 @@ use vdb_pool::Steps;
 /// What two trees have over one block: a tile or a leaf each.
 #[derive(Clone, Copy)]
 pub struct Pair<V, L> {
-    /// The block: the smaller of those of the two tiles or leaves.
+    /// The block: the smaller one of the blocks of the two tiles or leaves.
     pub bounds: Bounds,
     /// What the first tree has there.
     pub first: Content<V, L>,
-    /// What the second has there.
+    /// What the second tree has there.
     pub second: Content<V, L>,
 }
 
-/// How far a walk over the pairs of two trees has come: the coordinates that are left, and the paths of nodes to the last pair. It
-/// owns nothing, and serves the two trees as long as neither changes.
+/// The progress of a walk over the pairs of two trees: the coordinates that are left, and the paths of nodes to the last pair.
+/// It owns nothing, and is valid for the two trees as long as neither changes.
 #[derive(Drop)]
 pub struct PairWalk<Upper, Lower, Leaf> {
     at: Option<Coord>,
@@ -52,28 +52,28 @@ impl<Upper, Lower, Leaf> Model for PairWalk<Upper, Lower, Leaf> {
 }
 
 impl<Upper, Lower, Leaf> PairWalk<Upper, Lower, Leaf> {
-    /// The first coordinate, in block order, of what is left.
+    /// Returns the first coordinate, in block order, of what is left.
     fn at(&self) -> Option<Coord>
         ensures { result ≡ self.now.at }
     {
         self.at
     }
 
-    /// The path in the first tree.
+    /// Returns the path in the first tree.
     fn first(&self) -> PathOf<Upper, Lower, Leaf>
         ensures { result ≡ self.now.first }
     {
         self.first
     }
 
-    /// That in the second.
+    /// Returns the path in the second tree.
     fn second(&self) -> PathOf<Upper, Lower, Leaf>
         ensures { result ≡ self.now.second }
     {
         self.second
     }
 
-    /// The coordinate to which both lead.
+    /// Returns the coordinate to which both paths lead.
     fn near(&self) -> Coord
         ensures { result ≡ self.now.near }
     {
@@ -109,8 +109,8 @@ impl<
     const WL: usize,
     const WF: usize,
 > TreeOf<V, U, L, F, WU, WL, WF> {
-    /// A walk over the blocks over each of which this tree and another have a tile or a leaf, in block order, but for those that
-    /// both have as background.
+    /// Starts a walk, in block order, over the blocks at which this tree and another have a tile or a leaf each. It passes over
+    /// blocks that are a tile of the inactive background in both.
     pub fn pairs(
         &self,
         other: &Self,
@@ -129,7 +129,7 @@ impl<
         }
     }
 
-    /// The next pair of a walk; `None` where none is left. It takes no memory.
+    /// Returns the next pair of a walk, or `None` if no pair is left. It takes no memory.
     pub fn next_pair<'a>(
         &'a self,
         other: &'a Self,
@@ -157,7 +157,7 @@ impl<
         None
     }
 
-    /// Goes on from a start: yields the pair around it, unless both trees have the background there.
+    /// Continues the walk from a start: yields the pair around it, unless both trees have the inactive background there.
     fn pair_step<'a>(
         &'a self,
         other: &'a Self,
@@ -186,7 +186,7 @@ impl<
         }
     }
 
-    /// Where the descents to `p` end in the two trees. The paths become those to `p`.
+    /// Returns where the descents to `p` end in the two trees. The paths become those to `p`.
     fn pair_ends(
         &self,
         other: &Self,
@@ -208,7 +208,7 @@ impl<
         (first.end, second.end)
     }
 
-    /// Whether the tile around `p`, where the descent ends so, is one of the background, inactive.
+    /// Returns whether `end`, the end of the descent to `p`, is a tile of the inactive background.
     fn is_background_end(&self, p: Coord, end: End<V>) -> bool
         requires { IsEnd (bits_of U L F) self.now p end }
         ensures { IsTrue result → (q : Coord) → block_number (bits_of U L F) (end_level (bits_of U L F) self.now p) q ≡ block_number (bits_of U L F) (end_level (bits_of U L F) self.now p) p → IsSkipped (bits_of U L F) Background self.now q }
@@ -219,7 +219,7 @@ impl<
         }
     }
 
-    /// The level of the tile or the leaf around `p`, where the descent ends so.
+    /// Returns the level of the tile or the leaf around `p`, given the end of the descent.
     fn level_of_end(&self, p: Coord, end: End<V>) -> Level
         requires { IsEnd (bits_of U L F) self.now p end }
         ensures { result ≡ end_level (bits_of U L F) self.now p }
@@ -241,7 +241,7 @@ impl<
     const WL: usize,
     const WF: usize,
 > TreeOf<V, U, L, F, WU, WL, WF> {
-    /// Goes on past what both trees have as background from `p` on: to the lesser of the two starts after.
+    /// Moves the walk past what both trees have as background from `p` on: to the lesser of the two next starts.
     fn pass_background(
         &self,
         other: &Self,
@@ -269,7 +269,7 @@ impl<
         walk.go_to(next);
     }
 
-    /// The first coordinate past the background around `p`.
+    /// Returns the first coordinate past the background around `p`.
     fn start_past_background(
         &self,
         p: Coord,
@@ -285,7 +285,7 @@ impl<
         self.start_after(Bounds::all(), Skip::Background, p, end, path, steps)
     }
 
-    /// The one of two starts that comes first; none comes last.
+    /// Returns the lesser of two starts in block order; `None` comes last.
     fn lesser_start(&self, a: Option<Coord>, b: Option<Coord>) -> Option<Coord>
         ensures one { (result ≡ a) ⊎ (result ≡ b) }
         ensures least { (q : Coord) → is_left (bits_of U L F) result q ≡ false → (is_left (bits_of U L F) a q ≡ false) × (is_left (bits_of U L F) b q ≡ false) }
@@ -297,7 +297,7 @@ impl<
         }
     }
 
-    /// The one of two coordinates that comes first in block order.
+    /// Returns the lesser of two coordinates in block order.
     fn lesser(&self, p: Coord, q: Coord) -> Coord
         ensures one { (result ≡ p) ⊎ (result ≡ q) }
         ensures least { (r : Coord) → ComesBefore (bits_of U L F) r result → ComesBefore (bits_of U L F) r p × ComesBefore (bits_of U L F) r q }
@@ -309,7 +309,7 @@ impl<
         }
     }
 
-    /// The pair around `p`, where the descents end so. The walk goes on past it.
+    /// Returns the pair around `p`, given the ends of the descents, and moves the walk past it.
     fn take_pair<'a>(
         &'a self,
         other: &'a Self,
@@ -337,7 +337,7 @@ impl<
         self.pair_over(other, bounds, p, first, second, steps)
     }
 
-    /// The level of the pair around `p`, where the descents end so, and its block.
+    /// Returns the level and the block of the pair around `p`, given the ends of the descents.
     fn pair_block(&self, other: &Self, p: Coord, first: End<V>, second: End<V>) -> (Level, Bounds)
         requires first_end { IsEnd (bits_of U L F) self.now p first }
         requires second_end { IsEnd (bits_of U L F) other.now p second }
@@ -352,7 +352,7 @@ impl<
         (level, bounds)
     }
 
-    /// Goes on past the pair around `p`, which has this level and this block.
+    /// Moves the walk past the pair around `p`, which has this level and this block.
     fn go_past_pair(
         &self,
         other: &Self,
@@ -376,7 +376,7 @@ impl<
         walk.go_to(next);
     }
 
-    /// What both trees have over a box in their tiles or leaves around `p`, where the descents end so.
+    /// Returns what both trees have over a box in their tiles or leaves around `p`, given the ends of the descents.
     fn pair_over<'a>(
         &'a self,
         other: &'a Self,
@@ -403,7 +403,7 @@ impl<
         }
     }
 
-    /// The first coordinate, in block order, past the level's block around `p`.
+    /// Returns the first coordinate, in block order, past the level's block around `p`.
     fn start_past_block(&self, level: Level, p: Coord) -> Option<Coord>
         ensures next { IsNextCoord (bits_of U L F) level everywhere p result }
         ensures nearer { IfSome result (λ next. coordinates_past (bits_of U L F) next < coordinates_past (bits_of U L F) p) }
@@ -411,7 +411,7 @@ impl<
         Bounds::all().next_coord_in(self.bits(), level, p)
     }
 
-    /// What the tree has over a box in the tile or the leaf around `p`, where the descent ends so.
+    /// Returns what the tree has over a box in the tile or the leaf around `p`, given the end of the descent.
     fn content_of<'a>(
         &'a self,
         bounds: Bounds,
@@ -431,7 +431,7 @@ impl<
     }
 }
 
-/// The lower of two levels.
+/// Returns the lower of two levels.
 fn lower_of(first: Level, second: Level) -> Level
     ensures { result ≡ lower_level first second }
 {

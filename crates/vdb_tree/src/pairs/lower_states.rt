@@ -1,4 +1,4 @@
-//! States set by a rule in a lower node and its leaves.
+//! States of a lower node and its leaves, set by a rule.
 
 ghost use Rattle.std.specs.Prelude.{◌≡◌, ◌<◌, ◌≤◌, ℕ, IfNone, IfSome};
 ghost use Rattle.vdb_coord.specs.Blocks.{block_around, block_number, entries, sub_block};
@@ -29,8 +29,8 @@ impl<
     const WL: usize,
     const WF: usize,
 > TreeOf<V, U, L, F, WU, WL, WF> {
-    /// Makes the states of the lower node around p and of the other tree's entry there by a rule. The values stay, and no node
-    /// comes or goes.
+    /// Combines the states of the lower node around p with those of the other tree's entry there by a rule. The values stay,
+    /// and no node is added or removed.
     pub(crate) fn set_lower_states<X: Stored<WU> + Stored<WL> + Stored<WF>>(
         &mut self,
         lower: u32,
@@ -52,8 +52,8 @@ impl<
         }
     }
 
-    /// Sets the states of the first entry of the lower node around p, from this offset on, in which one may change. It answers
-    /// the offset behind it.
+    /// Sets the states of the first entry of the lower node around p, from this offset on, in which a state may change. Returns
+    /// the offset after it.
     fn set_next_states<X: Stored<WU> + Stored<WL> + Stored<WF>>(
         &mut self,
         lower: u32,
@@ -81,8 +81,8 @@ impl<
         }
     }
 
-    /// The first entry of the lower node around p, from this offset on, in which a state may change, as its offset and its least
-    /// coordinate; `None` where there is none.
+    /// Returns the first entry of the lower node around p, from this offset on, in which a state may change, as its offset and
+    /// its least coordinate; `None` if no such entry is left.
     fn next_corner_to_set<X: Stored<WU> + Stored<WL> + Stored<WF>>(
         &self,
         lower: u32,
@@ -110,8 +110,8 @@ impl<
         }
     }
 
-    /// The offset, from this one on, of the first entry of the lower node around p in which a state may change; `None` where
-    /// there is none.
+    /// Returns the offset, from this one on, of the first entry of the lower node around p in which a state may change; `None`
+    /// if no such entry is left.
     fn next_to_set<X: Stored<WU> + Stored<WL> + Stored<WF>>(
         &self,
         lower: u32,
@@ -133,7 +133,7 @@ impl<
         }
     }
 
-    /// What `next_to_set` answers where the other tree has a tile over the lower block.
+    /// Answers `next_to_set` if the other tree has a tile over the lower extent.
     fn next_below_tile<X: Stored<WU> + Stored<WL> + Stored<WF>>(
         &self,
         lower: u32,
@@ -162,7 +162,7 @@ impl<
         }
     }
 
-    /// What `next_to_set` answers where the other tree has a lower node there.
+    /// Answers `next_to_set` if the other tree has a lower node over the lower extent.
     fn next_below_node<X: Stored<WU> + Stored<WL> + Stored<WF>>(
         &self,
         lower: u32,
@@ -186,7 +186,7 @@ impl<
         }
     }
 
-    /// This index, unless it is past the last entry of a lower node.
+    /// Returns this index, or `None` if it is past the last entry of a lower node.
     fn next_index(&self, from: u32) -> Option<u32>
         ensures some { IfSome result (λ index. (index ≡ from) × (from < entries (bits_of U L F) Lower)) }
         ensures none { IfNone result (entries (bits_of U L F) Lower ≤ from) }
@@ -195,7 +195,7 @@ impl<
         if from < count { Some(from) } else { None }
     }
 
-    /// What this entry over the lower block around p, a tile or a lower node, has at p.
+    /// Returns what this entry over the lower extent around p, a tile or a lower node, has at p.
     fn entry_within(&self, over: Entry<V>, p: Coord, steps: &mut Steps) -> Entry<V>
         requires { upper_entry (bits_of U L F) self.now p ≡ over }
         ensures { lower_entry (bits_of U L F) self.now p ≡ result }
@@ -206,7 +206,8 @@ impl<
         }
     }
 
-    /// Sets the states of the leaf block around p, an entry of this lower node, by what the other tree has over the lower block.
+    /// Sets the states of the leaf extent around p, an entry of this lower node, by what the other tree has over the lower
+    /// extent.
     fn set_entry_states<X: Stored<WU> + Stored<WL> + Stored<WF>>(
         &mut self,
         lower: u32,
@@ -349,7 +350,7 @@ impl<
         self.set_leaf_states(leaf, p, &states, steps);
     }
 
-    /// The states of the leaf around p.
+    /// Returns the states of the leaf around p.
     fn states_around(&self, leaf: u32, p: Coord, steps: &mut Steps) -> &Mask<WF>
         requires { lower_entry (bits_of U L F) self.now p ≡ Child leaf }
         ensures { AreStatesOf (bits_of U L F) self.now p result.now }
@@ -359,7 +360,7 @@ impl<
     }
 }
 
-/// Whether the rule changes a state where the other tree has this one.
+/// Returns whether the rule changes a state if the other tree has this one.
 fn is_acting(rule: StateRule, on: bool) -> bool
     ensures { result ≡ acts rule on }
 {
@@ -370,7 +371,7 @@ fn is_acting(rule: StateRule, on: bool) -> bool
     }
 }
 
-/// What a state becomes there.
+/// Returns the state that the rule sets if it changes a state.
 fn made_state(rule: StateRule) -> bool
     ensures { result ≡ made rule }
 {
@@ -381,7 +382,7 @@ fn made_state(rule: StateRule) -> bool
     }
 }
 
-/// Makes each state of the mask that of the rule.
+/// Sets each state of the mask to the one that the rule makes.
 fn set_mask<const W: usize>(states: &mut Mask<W>, others: &Mask<W>, rule: StateRule)
     ensures { (i : ℕ) → is_on states.new i ≡ state_of rule (is_on states.old i) (is_on others.now i) }
 {

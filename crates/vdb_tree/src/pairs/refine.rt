@@ -1,4 +1,4 @@
-//! Nodes where another tree has them and a state is to change.
+//! Splits of tiles, where another tree has nodes and a state is to change.
 
 ghost use Rattle.std.specs.Prelude.{◌≡◌, ◌≢◌, ◌<◌, ◌≤◌, false, None, IfErr, IfOk, IfSome, IsSome, IsTrue, OnOk};
 ghost use Rattle.vdb_coord.specs.Blocks.{block_number, key};
@@ -31,8 +31,8 @@ impl<
     const WL: usize,
     const WF: usize,
 > TreeOf<V, U, L, F, WU, WL, WF> {
-    /// Makes nodes where the other tree has nodes and a tile's states are to change by the rule, so that the states can be set
-    /// without memory. No cell changes. `Memory` says that a growth was refused; some nodes may have been made then.
+    /// Splits tiles whose states are to change by the rule wherever the other tree has nodes, so that the states can be set
+    /// without memory. No cell changes. `Memory`: an allocation failed; some nodes may have been made.
     pub(crate) fn refine<X: Stored<WU> + Stored<WL> + Stored<WF>>(
         &mut self,
         other: &TreeOf<X, U, L, F, WU, WL, WF>,
@@ -54,7 +54,7 @@ impl<
         Ok(())
     }
 
-    /// Makes the nodes of p's root block, if it has an entry.
+    /// Makes the nodes of p's upper extent, if it has an entry.
     fn refine_root_block<X: Stored<WU> + Stored<WL> + Stored<WF>>(
         &mut self,
         other: &TreeOf<X, U, L, F, WU, WL, WF>,
@@ -79,7 +79,7 @@ impl<
         }
     }
 
-    /// The slot of the upper node around p, which is made where there is a tile whose state the rule can change.
+    /// Returns the slot of the upper node around p. If p has a tile whose state the rule can change, this makes the node.
     fn upper_to_change(&mut self, rule: StateRule, p: Coord) -> Result<Option<u32>, TreeRefusal>
         requires entered { IsSome (root_at self.old.root (key (bits_of U L F) p)) }
         ensures makes { MakesNode (bits_of U L F) rule Upper self.old self.new p }
@@ -98,7 +98,7 @@ impl<
         }
     }
 
-    /// Makes the nodes of the upper node around p where the other tree's upper node has nodes.
+    /// Makes the nodes of the upper node around p that the other tree's upper node has.
     fn refine_lowers<X: Stored<WU> + Stored<WL> + Stored<WF>>(
         &mut self,
         upper: u32,
@@ -123,8 +123,8 @@ impl<
         Ok(())
     }
 
-    /// The first lower node of the other tree's upper node around p from this offset on, as its offset and its least coordinate,
-    /// which this tree's upper node holds as well.
+    /// Returns the first lower node of the other tree's upper node around p from this offset on, as its offset and its least
+    /// coordinate, which lies in this tree's upper node as well.
     fn next_lower_of<X: Stored<WU> + Stored<WL> + Stored<WF>>(
         &self,
         upper: u32,
@@ -145,7 +145,7 @@ impl<
         other.next_lower_corner(over, p, from, steps)
     }
 
-    /// Makes the nodes of p's lower block where the other tree has a lower node there.
+    /// Makes the nodes of p's lower extent if the other tree has a lower node there.
     fn refine_lower_block<X: Stored<WU> + Stored<WL> + Stored<WF>>(
         &mut self,
         upper: u32,
@@ -171,7 +171,7 @@ impl<
         }
     }
 
-    /// The slot of the lower node around p, which is made where there is a tile whose state the rule can change.
+    /// Returns the slot of the lower node around p. If p has a tile whose state the rule can change, this makes the node.
     fn lower_to_change(
         &mut self,
         upper: u32,
@@ -197,7 +197,7 @@ impl<
         }
     }
 
-    /// Makes the leaves of the lower node around p where the other tree's lower node has leaves.
+    /// Makes the leaves of the lower node around p that the other tree's lower node has.
     fn refine_leaves<X: Stored<WU> + Stored<WL> + Stored<WF>>(
         &mut self,
         lower: u32,
@@ -222,8 +222,8 @@ impl<
         Ok(())
     }
 
-    /// The first leaf of the other tree's lower node around p from this offset on, as its offset and its least coordinate, which
-    /// this tree's lower node holds as well.
+    /// Returns the first leaf of the other tree's lower node around p from this offset on, as its offset and its least
+    /// coordinate, which lies in this tree's lower node as well.
     fn next_leaf_of<X: Stored<WU> + Stored<WL> + Stored<WF>>(
         &self,
         lower: u32,
@@ -243,7 +243,7 @@ impl<
         other.next_leaf_corner(within, p, from, steps)
     }
 
-    /// Makes a leaf of p's leaf block where there is a tile whose state the rule can change.
+    /// Makes a leaf of p's leaf extent if it is a tile whose state the rule can change.
     fn refine_leaf_block(
         &mut self,
         lower: u32,
@@ -270,7 +270,7 @@ impl<
     }
 }
 
-/// Whether the rule can change this state.
+/// Returns whether the rule can change this state.
 fn can_change(rule: StateRule, state: bool) -> bool
     ensures changes { IsTrue result → state ≢ made rule }
     ensures stays { result ≡ false → state ≡ made rule }

@@ -1,4 +1,4 @@
-//! States set by a rule, word by word, where the nodes for them are there.
+//! States set by a rule, word by word, after `refine` has made the nodes for them.
 
 ghost use Rattle.std.specs.Prelude.{◌≡◌, ◌≢◌, IfSome, IsNone, IsSome, Some, if◌then◌else◌};
 ghost use Rattle.vdb_coord.specs.Blocks.{block_number, key};
@@ -30,7 +30,7 @@ impl<
     const WL: usize,
     const WF: usize,
 > TreeOf<V, U, L, F, WU, WL, WF> {
-    /// Makes the states of this tree and of another one by a rule. The values stay, and no node comes or goes.
+    /// Combines the states of this tree with those of another by a rule. The values stay, and no node is added or removed.
     pub(crate) fn set_refined_states<X: Stored<WU> + Stored<WL> + Stored<WF>>(
         &mut self,
         other: &TreeOf<X, U, L, F, WU, WL, WF>,
@@ -47,7 +47,8 @@ impl<
         }
     }
 
-    /// Makes the states of the first root block past a key of the table, or of the first of all, by a rule. It gives the key.
+    /// Combines the states of the first upper extent past a key of the table, or of the first of all, by a rule. Returns its
+    /// key.
     fn set_next_root<X: Stored<WU> + Stored<WL> + Stored<WF>>(
         &mut self,
         after: Option<Coord>,
@@ -67,7 +68,7 @@ impl<
         Some(key)
     }
 
-    /// Makes the states of p's root block, which has an entry, and of the other tree's entry there by a rule.
+    /// Combines the states of p's upper extent, which has an entry, with those of the other tree's entry there by a rule.
     fn set_root_block<X: Stored<WU> + Stored<WL> + Stored<WF>>(
         &mut self,
         other: &TreeOf<X, U, L, F, WU, WL, WF>,
@@ -95,7 +96,7 @@ impl<
         }
     }
 
-    /// Makes another tile of `was`, the one under p's key. A caller with two kinds of values names the tile, since it
+    /// Replaces `was`, the tile under p's key, by another tile. A caller with two types of values names the tile, because it
     /// would be costly for its proof to find it.
     fn exchange_root_tile(&mut self, p: Coord, was: Cell<V>, cell: Cell<V>)
         requires entered { IsSome (root_at self.old.root (key (bits_of U L F) p)) }

@@ -1,4 +1,4 @@
-//! States set by a rule in an upper node and what is below it.
+//! States of an upper node and of what is below it, set by a rule.
 
 ghost use Rattle.std.specs.Prelude.{◌≡◌, ◌<◌, ◌≤◌, IfSome, IsTrue, false};
 ghost use Rattle.vdb_coord.specs.Blocks.{block_number};
@@ -28,8 +28,8 @@ impl<
     const WL: usize,
     const WF: usize,
 > TreeOf<V, U, L, F, WU, WL, WF> {
-    /// Makes the states of the upper node around p and of the other tree's entry there by a rule. The values stay, and no node
-    /// comes or goes.
+    /// Combines the states of the upper node around p with those of the other tree's entry there by a rule. The values stay,
+    /// and no node is added or removed.
     pub(crate) fn set_upper_states<X: Stored<WU> + Stored<WL> + Stored<WF>>(
         &mut self,
         upper: u32,
@@ -51,8 +51,8 @@ impl<
         }
     }
 
-    /// Makes the states of the first entry of the upper node around p, from this offset on, that the rule may change, and
-    /// answers the offset behind it.
+    /// Combines the states of the first entry of the upper node around p, from this offset on, that the rule may change.
+    /// Returns the offset after it.
     fn set_next_lower<X: Stored<WU> + Stored<WL> + Stored<WF>>(
         &mut self,
         upper: u32,
@@ -81,7 +81,7 @@ impl<
         Some(index + 1)
     }
 
-    /// Makes the states of p's entry of an upper node and of the other tree's entry there by a rule.
+    /// Combines the states of p's entry of an upper node with those of the other tree's entry there by a rule.
     fn set_lower_block<X: Stored<WU> + Stored<WL> + Stored<WF>>(
         &mut self,
         upper: u32,
@@ -110,7 +110,7 @@ impl<
         }
     }
 
-    /// Makes another tile of `was`, p's in an upper node. A caller with two kinds of values names the tile, since it
+    /// Replaces `was`, p's tile in an upper node, by another tile. A caller with two types of values names the tile, because it
     /// would be costly for its proof to find it.
     fn exchange_upper_tile(
         &mut self,
@@ -131,8 +131,8 @@ impl<
         self.set_upper_tile(upper, p, cell, steps);
     }
 
-    /// The index, from this one on, of the first entry of the upper node around p whose states the rule may change; `None`
-    /// where there is none. It goes by the masks of the node whose active states decide.
+    /// Returns the index, from this one on, of the first entry of the upper node around p whose states the rule may change;
+    /// `None` if no such entry is left. It goes by the masks of the node whose active states decide.
     fn next_unsettled<X: Stored<WU> + Stored<WL> + Stored<WF>>(
         &self,
         upper: u32,
@@ -155,8 +155,8 @@ impl<
         }
     }
 
-    /// The index, from this one on, of the first entry below p's root entry that may be active; `None` where there is none. Below
-    /// a tile each may be.
+    /// Returns the index, from this one on, of the first entry below p's root entry that may be active; `None` if no such entry
+    /// is left. Below a tile each entry may be active.
     fn next_active_below(
         &self,
         over: Entry<V>,
@@ -175,8 +175,8 @@ impl<
         }
     }
 
-    /// The index, from this one on, of the first entry of the upper node around p that is a child or an active tile; `None`
-    /// where there is none.
+    /// Returns the index, from this one on, of the first entry of the upper node around p that is a child or an active tile;
+    /// `None` if no such entry is left.
     fn next_active_index(&self, upper: u32, p: Coord, from: u32, steps: &mut Steps) -> Option<u32>
         requires node { root_entry (bits_of U L F) self.now p ≡ Child upper }
         requires within { from ≤ entry_count U }
@@ -186,7 +186,7 @@ impl<
         self.uppers.at(place, steps).next_active(from)
     }
 
-    /// The entry of the upper node that holds p, below this entry of the root table, or the tile that this is.
+    /// Returns the entry of the upper node that holds p, below this entry of the root table; if this is a tile, the tile.
     fn entry_below_root(&self, over: Entry<V>, p: Coord, steps: &mut Steps) -> Entry<V>
         requires { root_entry (bits_of U L F) self.now p ≡ over }
         ensures { upper_entry (bits_of U L F) self.now p ≡ result }
@@ -198,7 +198,7 @@ impl<
     }
 }
 
-/// Whether the other tree's entry is a tile of a state at which the rule changes nothing.
+/// Returns whether the other tree's entry is a tile with a state at which the rule changes nothing.
 pub(crate) fn is_idle_tile<X: Copy>(entry: Entry<X>, rule: StateRule) -> bool
     ensures idle { IsTrue result → IsIdleTile rule entry }
     ensures acts { result ≡ false → (tile : Cell X) → entry ≡ Tile tile → tile.on ≡ acts_at rule }
@@ -209,7 +209,7 @@ pub(crate) fn is_idle_tile<X: Copy>(entry: Entry<X>, rule: StateRule) -> bool
     }
 }
 
-/// The tile with the state that the rule makes.
+/// Returns the tile with the state that the rule makes.
 pub(crate) fn tile_made<V: Copy>(tile: Cell<V>, rule: StateRule) -> Cell<V>
     ensures { result ≡ made_tile rule tile }
 {
@@ -219,7 +219,7 @@ pub(crate) fn tile_made<V: Copy>(tile: Cell<V>, rule: StateRule) -> Cell<V>
     }
 }
 
-/// The state of the other tree at which the rule changes a state.
+/// Returns the state of the other tree at which the rule changes a state.
 fn acting_state(rule: StateRule) -> bool
     ensures { result ≡ acts_at rule }
 {
@@ -230,7 +230,7 @@ fn acting_state(rule: StateRule) -> bool
     }
 }
 
-/// What the state becomes there.
+/// Returns the state that the rule sets if it changes a state.
 fn made_state(rule: StateRule) -> bool
     ensures { result ≡ made rule }
 {

@@ -1,4 +1,4 @@
-//! Whether a root block has an active voxel.
+//! Tests whether an upper extent has an active voxel.
 
 ghost use Rattle.std.specs.Prelude.{◌≡◌, ◌<◌, false, IsTrue};
 ghost use Rattle.vdb_coord.specs.Blocks.{entries};
@@ -23,8 +23,8 @@ impl<
     const WL: usize,
     const WF: usize,
 > TreeOf<V, U, L, F, WU, WL, WF> {
-    /// Whether a voxel of the root block around a coordinate is active. It takes no memory, and ends at the first active tile or
-    /// leaf with an active voxel that it comes to.
+    /// Returns whether a voxel of the upper extent around a coordinate is active. It takes no memory, and ends at the first
+    /// active tile or leaf with an active voxel.
     pub(crate) fn has_active(&self, p: Coord, steps: &mut Steps) -> bool
         ensures found { IsTrue result → HasActive (bits_of U L F) (field_of (bits_of U L F) self.now) Upper p }
         ensures none { result ≡ false → IsInactive (bits_of U L F) (field_of (bits_of U L F) self.now) Upper p }
@@ -35,7 +35,7 @@ impl<
         }
     }
 
-    /// Whether a voxel of the level's block around p is active, for which this tile stands.
+    /// Returns whether a voxel of the level's block around p, which is part of this tile, is active.
     fn has_active_tile(&self, level: Level, p: Coord, cell: Cell<V>) -> bool
         requires { entry_over (bits_of U L F) level self.now p ≡ Tile cell }
         ensures found { IsTrue result → HasActive (bits_of U L F) (field_of (bits_of U L F) self.now) level p }
@@ -47,7 +47,7 @@ impl<
         cell.on
     }
 
-    /// Whether a voxel of the upper node around p is active.
+    /// Returns whether a voxel of the upper node around p is active.
     fn has_active_in_upper(&self, upper: u32, p: Coord, steps: &mut Steps) -> bool
         requires { root_entry (bits_of U L F) self.now p ≡ Child upper }
         ensures found { IsTrue result → HasActive (bits_of U L F) (field_of (bits_of U L F) self.now) Upper p }
@@ -64,7 +64,7 @@ impl<
         false
     }
 
-    /// Whether a voxel of this entry of the upper node around p is active.
+    /// Returns whether a voxel of this entry of the upper node around p is active.
     fn has_active_lower_at(&self, upper: u32, p: Coord, index: u32, steps: &mut Steps) -> bool
         requires child { root_entry (bits_of U L F) self.now p ≡ Child upper }
         requires within { index < entries (bits_of U L F) Upper }
@@ -76,7 +76,7 @@ impl<
         self.has_active_lower(entry, corner, steps)
     }
 
-    /// Whether a voxel of the lower block around p is active, which has this entry.
+    /// Returns whether a voxel of the lower extent around p, which has this entry, is active.
     fn has_active_lower(&self, entry: Entry<V>, p: Coord, steps: &mut Steps) -> bool
         requires { upper_entry (bits_of U L F) self.now p ≡ entry }
         ensures found { IsTrue result → HasActive (bits_of U L F) (field_of (bits_of U L F) self.now) Lower p }
@@ -88,7 +88,7 @@ impl<
         }
     }
 
-    /// Whether a voxel of the lower node around p is active.
+    /// Returns whether a voxel of the lower node around p is active.
     fn has_active_in_lower(&self, lower: u32, p: Coord, steps: &mut Steps) -> bool
         requires { upper_entry (bits_of U L F) self.now p ≡ Child lower }
         ensures found { IsTrue result → HasActive (bits_of U L F) (field_of (bits_of U L F) self.now) Lower p }
@@ -105,7 +105,7 @@ impl<
         false
     }
 
-    /// Whether a voxel of this entry of the lower node around p is active.
+    /// Returns whether a voxel of this entry of the lower node around p is active.
     fn has_active_leaf_at(&self, lower: u32, p: Coord, index: u32, steps: &mut Steps) -> bool
         requires child { upper_entry (bits_of U L F) self.now p ≡ Child lower }
         requires within { index < entries (bits_of U L F) Lower }
@@ -117,7 +117,7 @@ impl<
         self.has_active_leaf(entry, corner, steps)
     }
 
-    /// Whether a voxel of the leaf block around p is active, which has this entry.
+    /// Returns whether a voxel of the leaf extent around p, which has this entry, is active.
     fn has_active_leaf(&self, entry: Entry<V>, p: Coord, steps: &mut Steps) -> bool
         requires { lower_entry (bits_of U L F) self.now p ≡ entry }
         ensures found { IsTrue result → HasActive (bits_of U L F) (field_of (bits_of U L F) self.now) leaf_level p }
@@ -129,7 +129,7 @@ impl<
         }
     }
 
-    /// Whether a voxel of the leaf around p is active.
+    /// Returns whether a voxel of the leaf around p is active.
     fn has_active_in_leaf(&self, leaf: u32, p: Coord, steps: &mut Steps) -> bool
         requires { lower_entry (bits_of U L F) self.now p ≡ Child leaf }
         ensures found { IsTrue result → HasActive (bits_of U L F) (field_of (bits_of U L F) self.now) leaf_level p }

@@ -1,4 +1,4 @@
-//! The active voxels of a block, counted along the nodes over it.
+//! Counts of the active voxels of a block, along the nodes over it.
 
 ghost use Rattle.std.specs.Prelude.{◌≡◌, ◌<◌, ◌≤◌, ◌^◌};
 ghost use Rattle.vdb_coord.specs.Blocks.{block_around, entries, sub_block};
@@ -24,9 +24,9 @@ impl<
     const WL: usize,
     const WF: usize,
 > TreeOf<V, U, L, F, WU, WL, WF> {
-    /// How many voxels of the level's block around a coordinate are active (OpenVDB's `onVoxelCount` of a node). An active tile
-    /// counts at once, a leaf by the words of its states, and the masks of an internal node lead from one entry that may hold
-    /// active voxels to the next. It takes no memory.
+    /// Returns how many voxels of the level's block around a coordinate are active (OpenVDB's `onVoxelCount` of a node). It
+    /// counts an active tile at once, and a leaf by the words of its states. In an internal node the masks lead from one entry
+    /// that may hold active voxels to the next. It takes no memory.
     pub fn active_in_block(&self, level: Level, p: Coord, steps: &mut Steps) -> u128
         ensures value { result ≡ active_count (field_of (bits_of U L F) self.now) (block_around (bits_of U L F) level p) }
         ensures bound { result ≤ 2 ^ 96 }
@@ -38,7 +38,7 @@ impl<
         }
     }
 
-    /// The entry of the upper node around p that holds p, or the tile above it.
+    /// Returns the entry of the upper node around p that holds p, or the tile above it.
     fn lower_block_entry(&self, p: Coord, steps: &mut Steps) -> Entry<V>
         ensures { upper_entry (bits_of U L F) self.now p ≡ result }
     {
@@ -48,7 +48,7 @@ impl<
         }
     }
 
-    /// How many voxels of the level's block around p are active, where this tile stands for it.
+    /// Returns how many voxels of the level's block around p, which is part of this tile, are active.
     fn active_in_tile(&self, level: Level, p: Coord, cell: Cell<V>) -> u128
         requires { entry_over (bits_of U L F) level self.now p ≡ Tile cell }
         ensures value { result ≡ active_count (field_of (bits_of U L F) self.now) (block_around (bits_of U L F) level p) }
@@ -62,7 +62,7 @@ impl<
         }
     }
 
-    /// How many voxels of the leaf block around p are active, which has this entry.
+    /// Returns how many voxels of the leaf extent around p, which has this entry, are active.
     fn active_in_leaf(&self, entry: Entry<V>, p: Coord, steps: &mut Steps) -> u128
         requires { lower_entry (bits_of U L F) self.now p ≡ entry }
         ensures value { result ≡ active_count (field_of (bits_of U L F) self.now) (block_around (bits_of U L F) leaf_level p) }
@@ -74,7 +74,7 @@ impl<
         }
     }
 
-    /// How many voxels of the lower block around p are active, which has this entry.
+    /// Returns how many voxels of the lower extent around p, which has this entry, are active.
     fn active_in_lower(&self, entry: Entry<V>, p: Coord, steps: &mut Steps) -> u128
         requires { upper_entry (bits_of U L F) self.now p ≡ entry }
         ensures value { result ≡ active_count (field_of (bits_of U L F) self.now) (block_around (bits_of U L F) Lower p) }
@@ -86,7 +86,7 @@ impl<
         }
     }
 
-    /// How many voxels of the root block around p are active, which has this entry.
+    /// Returns how many voxels of the upper extent around p, which has this entry, are active.
     fn active_in_upper(&self, entry: Entry<V>, p: Coord, steps: &mut Steps) -> u128
         requires { root_entry (bits_of U L F) self.now p ≡ entry }
         ensures value { result ≡ active_count (field_of (bits_of U L F) self.now) (block_around (bits_of U L F) Upper p) }
@@ -98,7 +98,7 @@ impl<
         }
     }
 
-    /// How many voxels of the lower node around p are active.
+    /// Returns how many voxels of the lower node around p are active.
     fn active_in_lower_node(&self, lower: u32, p: Coord, steps: &mut Steps) -> u128
         requires { upper_entry (bits_of U L F) self.now p ≡ Child lower }
         ensures value { result ≡ active_count (field_of (bits_of U L F) self.now) (block_around (bits_of U L F) Lower p) }
@@ -114,8 +114,8 @@ impl<
         total
     }
 
-    /// The index, from this one on, of the first entry of the lower node around p that is a child or an active tile; `None`
-    /// where there is none.
+    /// Returns the index, from this one on, of the first entry of the lower node around p that is a child or an active tile;
+    /// `None` if no such entry is left.
     pub(crate) fn next_active_leaf(
         &self,
         lower: u32,
@@ -131,7 +131,7 @@ impl<
         self.lowers.at(place, steps).next_active(from)
     }
 
-    /// How many voxels of this entry of the lower node around p are active.
+    /// Returns how many voxels of this entry of the lower node around p are active.
     fn active_in_leaf_at(&self, lower: u32, p: Coord, index: u32, steps: &mut Steps) -> u128
         requires child { upper_entry (bits_of U L F) self.now p ≡ Child lower }
         requires within { index < entries (bits_of U L F) Lower }
@@ -142,7 +142,7 @@ impl<
         self.active_in_leaf(entry, corner, steps)
     }
 
-    /// How many voxels of the upper node around p are active.
+    /// Returns how many voxels of the upper node around p are active.
     fn active_in_upper_node(&self, upper: u32, p: Coord, steps: &mut Steps) -> u128
         requires { root_entry (bits_of U L F) self.now p ≡ Child upper }
         ensures value { result ≡ active_count (field_of (bits_of U L F) self.now) (block_around (bits_of U L F) Upper p) }
@@ -158,8 +158,8 @@ impl<
         total
     }
 
-    /// The index, from this one on, of the first entry of the upper node around p that is a child or an active tile; `None`
-    /// where there is none.
+    /// Returns the index, from this one on, of the first entry of the upper node around p that is a child or an active tile;
+    /// `None` if no such entry is left.
     pub(crate) fn next_active_lower(
         &self,
         upper: u32,
@@ -175,7 +175,7 @@ impl<
         self.uppers.at(place, steps).next_active(from)
     }
 
-    /// How many voxels of this entry of the upper node around p are active.
+    /// Returns how many voxels of this entry of the upper node around p are active.
     fn active_in_lower_at(&self, upper: u32, p: Coord, index: u32, steps: &mut Steps) -> u128
         requires child { root_entry (bits_of U L F) self.now p ≡ Child upper }
         requires within { index < entries (bits_of U L F) Upper }

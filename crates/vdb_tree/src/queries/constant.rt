@@ -1,4 +1,4 @@
-//! Blocks of one cell.
+//! Tests for blocks of one cell.
 
 ghost use Rattle.std.specs.Prelude.{◌≡◌, ◌↔◌, is_some, IsTrue, Some};
 ghost use Rattle.vdb_coord.specs.Blocks.{block_around};
@@ -23,10 +23,10 @@ impl<
     const WL: usize,
     const WF: usize,
 > TreeOf<V, U, L, F, WU, WL, WF> {
-    /// The one cell of the level's block around a coordinate, or `None` where two of its cells differ in value or state
+    /// Returns the one cell of the level's block around a coordinate, or `None` if two of its cells differ in value or state
     /// (OpenVDB's `InternalNode::isConstant` and `LeafNode::isConstant`, of all that is below a node and without a tolerance).
-    /// It takes no memory, visits the nodes of the block in order, reads the masks of each before its values, and ends at the
-    /// first difference.
+    /// It takes no memory. It visits the nodes of the block in order, reads the masks of each before its values, and ends at
+    /// the first difference.
     pub fn constant(&self, level: Level, p: Coord, steps: &mut Steps) -> Option<Cell<V>>
         ensures cell { (cell : Cell V) → (result ≡ Some cell) ↔ IsOneCell (bits_of U L F) level (field_of (bits_of U L F) self.now) p cell }
         ensures test { is_some result ≡ is_constant V.eq (field_of (bits_of U L F) self.now) (block_around (bits_of U L F) level p) }
@@ -40,8 +40,8 @@ impl<
         }
     }
 
-    /// Whether each voxel of the level's block around a coordinate has this cell (OpenVDB's `InternalNode::isConstant` and
-    /// `LeafNode::isConstant`, where the cell is known). It takes no memory, and ends at the first voxel that differs.
+    /// Returns whether each voxel of the level's block around a coordinate has this cell (OpenVDB's `InternalNode::isConstant`
+    /// and `LeafNode::isConstant`, for a known cell). It takes no memory, and ends at the first voxel that differs.
     pub fn is_block_of(&self, level: Level, p: Coord, cell: Cell<V>, steps: &mut Steps) -> bool
         ensures { result ≡ is_uniform V.eq (field_of (bits_of U L F) self.now) (block_around (bits_of U L F) level p) cell }
     {
@@ -49,7 +49,7 @@ impl<
         self.block_is(level, p, cell, steps)
     }
 
-    /// Whether each voxel of the level's block around p is this cell.
+    /// Returns whether each voxel of the level's block around p is this cell.
     fn block_is(&self, level: Level, p: Coord, cell: Cell<V>, steps: &mut Steps) -> bool
         ensures { IsTrue result ↔ IsConstantBlock (bits_of U L F) level self.now p cell }
     {
@@ -60,7 +60,7 @@ impl<
         }
     }
 
-    /// Whether each voxel of the lower block around p, wherever it lies, is this cell.
+    /// Returns whether each voxel of the lower extent around p is this cell. p may lie in a node or in a tile.
     fn block_of_lower_is(&self, p: Coord, cell: Cell<V>, steps: &mut Steps) -> bool
         ensures { IsTrue result ↔ IsConstantBlock (bits_of U L F) Lower self.now p cell }
     {
@@ -70,7 +70,7 @@ impl<
         }
     }
 
-    /// Whether each voxel of the leaf block around p, wherever it lies, is this cell.
+    /// Returns whether each voxel of the leaf extent around p is this cell. p may lie in a node or in a tile.
     fn block_of_leaf_is(&self, p: Coord, cell: Cell<V>, steps: &mut Steps) -> bool
         ensures { IsTrue result ↔ IsConstantBlock (bits_of U L F) Leaf self.now p cell }
     {

@@ -1,4 +1,4 @@
-//! Cells by the descent from the root.
+//! Reads of cells by the descent from the root.
 
 ghost use Rattle.std.specs.Prelude.{◌≡◌, ◌+◌, ◌≤◌};
 ghost use Rattle.vdb_node.specs.declared.Entry.TheVariants.{Child};
@@ -21,7 +21,7 @@ impl<
     const WL: usize,
     const WF: usize,
 > TreeOf<V, U, L, F, WU, WL, WF> {
-    /// The cell at a coordinate, by at most three visits (OpenVDB's `Tree::getValue` and `isValueOn`).
+    /// Returns the cell at a coordinate, by at most three node visits (OpenVDB's `Tree::getValue` and `isValueOn`).
     pub fn get(&self, p: Coord, steps: &mut Steps) -> Cell<V>
         ensures cell { result ≡ (field_of (bits_of U L F) self.now).cell p }
         ensures steps { steps.new ≤ steps.old + 3 }
@@ -29,7 +29,7 @@ impl<
         self.cell(p, steps)
     }
 
-    /// The cell at a coordinate, as `get` answers it; the contract here speaks of the layout.
+    /// Returns the cell at a coordinate, like `get`, with a contract about the layout.
     #[tactic(auto, unfolding(crate::specs::Layout::cell_at))]
     pub(crate) fn cell(&self, p: Coord, steps: &mut Steps) -> Cell<V>
         ensures cell { cell_at (bits_of U L F) self.now p ≡ result }
@@ -50,7 +50,7 @@ impl<
         self.voxel(leaf, p, steps)
     }
 
-    /// The entry of p's root block in the table, or the tile that an absent one stands for.
+    /// Returns the entry of p's upper extent in the table, or the tile that an absent entry stands for.
     pub(crate) fn root_entry(&self, p: Coord) -> Entry<V>
         ensures { root_entry (bits_of U L F) self.now p ≡ result }
     {
@@ -63,7 +63,7 @@ impl<
         }
     }
 
-    /// The entry of the upper node around p, in this slot, that holds p.
+    /// Returns the entry of the upper node around p, in this slot, that holds p.
     pub(crate) fn upper_entry(&self, upper: u32, p: Coord, steps: &mut Steps) -> Entry<V>
         requires { root_entry (bits_of U L F) self.now p ≡ Child upper }
         ensures value { upper_entry (bits_of U L F) self.now p ≡ result }
@@ -74,7 +74,7 @@ impl<
         self.uppers.at(place, steps).entry(offset)
     }
 
-    /// The entry of the upper node around p, at its place, that holds p.
+    /// Returns the entry of the upper node around p, at its place, that holds p.
     #[inline(always)]
     pub(crate) fn upper_entry_at(
         &self,
@@ -90,7 +90,7 @@ impl<
         self.uppers.at(upper, steps).entry(offset)
     }
 
-    /// The entry of the lower node around p, in this slot, that holds p.
+    /// Returns the entry of the lower node around p, in this slot, that holds p.
     pub(crate) fn lower_entry(&self, lower: u32, p: Coord, steps: &mut Steps) -> Entry<V>
         requires { upper_entry (bits_of U L F) self.now p ≡ Child lower }
         ensures value { lower_entry (bits_of U L F) self.now p ≡ result }
@@ -101,7 +101,7 @@ impl<
         self.lowers.at(place, steps).entry(offset)
     }
 
-    /// The entry of the lower node around p, at its place, that holds p.
+    /// Returns the entry of the lower node around p, at its place, that holds p.
     #[inline(always)]
     pub(crate) fn lower_entry_at(
         &self,
@@ -117,7 +117,7 @@ impl<
         self.lowers.at(lower, steps).entry(offset)
     }
 
-    /// The voxel p of the leaf around it, in this slot.
+    /// Returns the voxel p of the leaf around it, in this slot.
     #[tactic(auto, unfolding(crate::specs::Layout::cell_at))]
     pub(crate) fn voxel(&self, leaf: u32, p: Coord, steps: &mut Steps) -> Cell<V>
         requires { lower_entry (bits_of U L F) self.now p ≡ Child leaf }
@@ -129,7 +129,7 @@ impl<
         self.leaves.at(place, steps).entry(offset)
     }
 
-    /// The voxel p of the leaf around it, at its place.
+    /// Returns the voxel p of the leaf around it, at its place.
     #[inline(always)]
     #[tactic(auto, unfolding(crate::specs::Layout::cell_at))]
     pub(crate) fn voxel_at(
@@ -146,7 +146,7 @@ impl<
         self.leaves.at(leaf, steps).entry(offset)
     }
 
-    /// The place of the upper node around p in this slot.
+    /// Returns the place of the upper node around p in this slot.
     pub(crate) fn upper_place(&self, slot: u32, p: Coord) -> Place<Internal<V, U, WU>>
         requires { root_entry (bits_of U L F) self.now p ≡ Child slot }
         ensures { IsChildAt self.now.uppers (root_entry (bits_of U L F) self.now p) result }
@@ -154,7 +154,7 @@ impl<
         held_place(&self.uppers, slot)
     }
 
-    /// The place of the lower node around p in this slot.
+    /// Returns the place of the lower node around p in this slot.
     pub(crate) fn lower_place(&self, slot: u32, p: Coord) -> Place<Internal<V, L, WL>>
         requires { upper_entry (bits_of U L F) self.now p ≡ Child slot }
         ensures { IsChildAt self.now.lowers (upper_entry (bits_of U L F) self.now p) result }
@@ -162,7 +162,7 @@ impl<
         held_place(&self.lowers, slot)
     }
 
-    /// The place of the leaf around p in this slot.
+    /// Returns the place of the leaf around p in this slot.
     pub(crate) fn leaf_place(&self, slot: u32, p: Coord) -> Place<Leaf<V, F, WF>>
         requires { lower_entry (bits_of U L F) self.now p ≡ Child slot }
         ensures { IsChildAt self.now.leaves (lower_entry (bits_of U L F) self.now p) result }

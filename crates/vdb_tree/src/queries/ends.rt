@@ -1,4 +1,4 @@
-//! Where descents end: in a tile of some level, or in a leaf; and what holds the entry that they end in.
+//! Ends of descents: a tile of some level or a leaf, and the holder of that entry.
 
 ghost use Rattle.std.specs.Prelude.{◌≡◌, ◌+◌, ◌≤◌};
 ghost use Rattle.vdb_node.specs.declared.Entry.TheVariants.{Child};
@@ -13,7 +13,7 @@ use vdb_node::{Entry, Internal, Leaf, Stored};
 use vdb_pool::{Place, Steps};
 use vdb_value::Cell;
 
-/// The tile of this level, or the leaf in this slot.
+/// The end of a descent: the tile of this level, or the leaf in this slot.
 #[derive(Clone, Copy)]
 pub(crate) enum End<V> {
     Tile(Level, Cell<V>),
@@ -27,7 +27,7 @@ pub(crate) struct Reached<Upper, Lower, Leaf, V> {
     pub(crate) end: End<V>,
 }
 
-/// What holds the entry that a descent ends in: the root table, or the internal node in this slot.
+/// The holder of the entry in which a descent ends: the root table, or the internal node in this slot.
 #[derive(Clone, Copy)]
 pub(crate) enum Holder {
     Root,
@@ -35,7 +35,7 @@ pub(crate) enum Holder {
     Lower(u32),
 }
 
-/// The entry that a descent ends in, with what holds it.
+/// The entry in which a descent ends, with its holder.
 #[derive(Clone, Copy)]
 pub(crate) struct HeldEntry<V> {
     pub(crate) holder: Holder,
@@ -51,8 +51,8 @@ impl<
     const WL: usize,
     const WF: usize,
 > TreeOf<V, U, L, F, WU, WL, WF> {
-    /// Where the descent to `p` ends, from the lowest internal node of the path to `q` that contains `p`, with the nodes
-    /// on its way. A leaf isn't visited.
+    /// Returns where the descent to `p` ends, with the nodes on its way. It starts from the lowest internal node of the path to
+    /// `q` that contains `p`. It doesn't visit a leaf.
     pub(crate) fn reached(
         &self,
         path: PathOf<Internal<V, U, WU>, Internal<V, L, WL>, Leaf<V, F, WF>>,
@@ -72,7 +72,8 @@ impl<
         }
     }
 
-    /// The entry that the descent to `p` ends in, a tile or a leaf, with what holds it. It visits the nodes down to that.
+    /// Returns the entry in which the descent to `p` ends, a tile or a leaf, with its holder. It visits the nodes down to the
+    /// holder.
     pub(crate) fn held_entry(&self, p: Coord, steps: &mut Steps) -> HeldEntry<V>
         ensures value { lower_entry (bits_of U L F) self.now p ≡ result.entry }
         ensures held { IsHeldIn (bits_of U L F) self.now p result.holder result.entry }
@@ -103,7 +104,7 @@ impl<
         }
     }
 
-    /// Where the descent to `p` ends, by at most two visits.
+    /// Returns where the descent to `p` ends, by at most two node visits.
     pub(crate) fn end_of(&self, p: Coord, steps: &mut Steps) -> End<V>
         ensures end { IsEnd (bits_of U L F) self.now p result }
         ensures steps { steps.new ≤ steps.old + 2 }
@@ -113,7 +114,7 @@ impl<
         reached.end
     }
 
-    /// Where the descent to `p` ends, with the internal nodes on its way, by at most two visits.
+    /// Returns where the descent to `p` ends, with the internal nodes on its way, by at most two node visits.
     fn reached_from_root(
         &self,
         p: Coord,

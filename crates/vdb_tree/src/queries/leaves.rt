@@ -1,4 +1,4 @@
-//! Calls that work on a whole leaf, or on a voxel of one.
+//! Calls on a whole leaf, or on a voxel of one.
 
 ghost use Rattle.std.specs.Prelude.{◌≡◌, ◌+◌, ◌≤◌, false, is_some, IfSome, IsNone, IsTrue};
 ghost use Rattle.vdb_coord.specs.Blocks.{block_around, block_number};
@@ -32,8 +32,8 @@ impl<
     const WL: usize,
     const WF: usize,
 > TreeOf<V, U, L, F, WU, WL, WF> {
-    /// The leaf around a coordinate, where there is one, by at most three visits (OpenVDB's `Tree::probeConstLeaf`). Where there
-    /// is none, all cells of the coordinate's leaf block are equal.
+    /// Returns the leaf around a coordinate, if there is one, by at most three node visits (OpenVDB's `Tree::probeConstLeaf`).
+    /// If there is none, all cells of the coordinate's leaf extent are equal.
     pub fn leaf(&self, p: Coord, steps: &mut Steps) -> Option<&Leaf<V, F, WF>>
         ensures leaf { IfSome result (λ leaf. IsLeafAround (bits_of U L F) (field_of (bits_of U L F) self.now) p leaf.now) }
         ensures tile { IsNone result → (q : Coord) → IsTrue (is_inside everywhere q)
@@ -48,8 +48,8 @@ impl<
         }
     }
 
-    /// How many voxels of the leaf around a coordinate are active, where there is a leaf, by at most three visits (OpenVDB's
-    /// `LeafNode::onVoxelCount`). It counts by the words of the leaf's states.
+    /// Returns how many voxels of the leaf around a coordinate are active, if there is a leaf, by at most three node visits
+    /// (OpenVDB's `LeafNode::onVoxelCount`). It counts by the words of the leaf's states.
     pub fn leaf_count(&self, p: Coord, steps: &mut Steps) -> Option<u32>
         ensures active { IfSome result (λ active. active ≡ active_count (field_of (bits_of U L F) self.now) (block_around (bits_of U L F) leaf_level p)) }
         ensures there { is_some result ≡ in_leaf (bits_of U L F) self.now p }
@@ -61,9 +61,9 @@ impl<
         }
     }
 
-    /// Gives the voxels of the leaf around a coordinate the states of the mask, and keeps their values, by at most three
-    /// visits. It takes no memory, and no other node or entry changes. The answer says whether there is such a leaf; where
-    /// there is none, nothing changes (OpenVDB's `LeafNode::setValueMask`).
+    /// Gives the voxels of the leaf around a coordinate the states of the mask, and keeps their values, by at most three node
+    /// visits. It takes no memory, and no other node or entry changes. Returns whether the leaf exists; if not, nothing changes
+    /// (OpenVDB's `LeafNode::setValueMask`).
     pub fn set_states(&mut self, p: Coord, states: &Mask<WF>, steps: &mut Steps) -> bool
         ensures answer { result ≡ in_leaf (bits_of U L F) self.old p }
         ensures field { IsTrue result → field_of (bits_of U L F) self.new ≡ with_states_of (bits_of U L F) p states.now (field_of (bits_of U L F) self.old) }
@@ -83,7 +83,7 @@ impl<
         }
     }
 
-    /// The entry of the lower node around p that holds p, or the tile above it.
+    /// Returns the entry of the lower node around p that holds p, or the tile above it.
     pub(crate) fn leaf_entry(&self, p: Coord, steps: &mut Steps) -> Entry<V>
         ensures value { lower_entry (bits_of U L F) self.now p ≡ result }
         ensures steps { steps.new ≤ steps.old + 2 }
@@ -99,7 +99,7 @@ impl<
         self.lower_entry(lower, p, steps)
     }
 
-    /// The leaf around p.
+    /// Returns the leaf around p.
     pub(crate) fn held_leaf(&self, slot: u32, p: Coord, steps: &mut Steps) -> &Leaf<V, F, WF>
         requires { lower_entry (bits_of U L F) self.now p ≡ Child slot }
         ensures leaf { IsLeafAround (bits_of U L F) (field_of (bits_of U L F) self.now) p result.now }
@@ -109,7 +109,7 @@ impl<
         self.placed_leaf(leaf, p, steps)
     }
 
-    /// The leaf around p, at its place.
+    /// Returns the leaf around p, at its place.
     pub(crate) fn placed_leaf(
         &self,
         leaf: Place<Leaf<V, F, WF>>,
@@ -123,7 +123,7 @@ impl<
         self.leaves.at(leaf, steps)
     }
 
-    /// How many voxels of the leaf around p are active.
+    /// Returns how many voxels of the leaf around p are active.
     pub(crate) fn held_count(&self, slot: u32, p: Coord, steps: &mut Steps) -> u32
         requires { lower_entry (bits_of U L F) self.now p ≡ Child slot }
         ensures active { result ≡ active_count (field_of (bits_of U L F) self.now) (block_around (bits_of U L F) leaf_level p) }

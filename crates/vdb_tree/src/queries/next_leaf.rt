@@ -1,4 +1,4 @@
-//! The leaves in block order.
+//! The next leaf in block order.
 
 ghost use Rattle.std.specs.Prelude.{◌≡◌, ◌≤◌, IsTrue};
 ghost use Rattle.vdb_coord.specs.Space.{everywhere, is_inside};
@@ -24,9 +24,9 @@ impl<
     const WL: usize,
     const WF: usize,
 > TreeOf<V, U, L, F, WU, WL, WF> {
-    /// The first coordinate of the first leaf in block order that begins past `after`, or of the first leaf of all; `None`
-    /// where there is none. It takes no memory, and visits the nodes on its way: those around `after`, and each that it
-    /// finds without a leaf (OpenVDB's `Tree::LeafCIter`).
+    /// Returns the first coordinate of the first leaf in block order that begins past `after`, or of the first leaf of all
+    /// without `after`; `None` if no leaf is left. It takes no memory. It visits the nodes around `after`, and each node that
+    /// it finds without a leaf (OpenVDB's `Tree::LeafCIter`).
     pub fn next_leaf(&self, after: Option<Coord>, steps: &mut Steps) -> Option<Coord>
         ensures { IsNextLeaf (bits_of U L F) self.now after result }
     {
@@ -36,7 +36,8 @@ impl<
         }
     }
 
-    /// The first leaf past a coordinate: of the lower node around it, of the upper node around it, or of a later key.
+    /// Returns the first leaf past a coordinate: in the lower node around it, in the upper node around it, or under a later
+    /// key.
     fn next_leaf_past(&self, last: Coord, steps: &mut Steps) -> Option<Coord>
         ensures { IsNextLeaf (bits_of U L F) self.now (Some last) result }
     {
@@ -54,7 +55,7 @@ impl<
         self.next_leaf_of_keys(Some(last.key_in(self.bits())), steps)
     }
 
-    /// The first leaf of the lower node around p from an entry on.
+    /// Returns the first leaf of the lower node around p from an entry on.
     pub(crate) fn next_leaf_of_lower(&self, p: Coord, from: u32, steps: &mut Steps) -> Option<Coord>
         requires { from ≤ entry_count L }
         ensures { IsFirstLeaf (bits_of U L F) self.now (IsFrom (bits_of U L F) Lower p from) result }
@@ -75,7 +76,7 @@ impl<
         )
     }
 
-    /// The first leaf of the upper node around p from an entry on.
+    /// Returns the first leaf of the upper node around p from an entry on.
     pub(crate) fn next_leaf_of_upper(&self, p: Coord, from: u32, steps: &mut Steps) -> Option<Coord>
         requires { from ≤ entry_count U }
         ensures { IsFirstLeaf (bits_of U L F) self.now (IsFrom (bits_of U L F) Upper p from) result }
@@ -96,7 +97,7 @@ impl<
         None
     }
 
-    /// The first coordinate of the first lower node in the upper node around p from an entry on.
+    /// Returns the first coordinate of the first lower node in the upper node around p from an entry on.
     fn next_lower(&self, upper: u32, p: Coord, from: u32, steps: &mut Steps) -> Option<Coord>
         requires child { root_entry (bits_of U L F) self.now p ≡ Child upper }
         requires from { from ≤ entry_count U }
@@ -110,7 +111,7 @@ impl<
         )
     }
 
-    /// The first leaf of the root blocks past a key.
+    /// Returns the first leaf of the upper extents past a key.
     fn next_leaf_of_keys(&self, after: Option<Coord>, steps: &mut Steps) -> Option<Coord>
         ensures { IsFirstLeaf (bits_of U L F) self.now (IsKeyPast (bits_of U L F) after) result }
     {

@@ -24,11 +24,11 @@ use vdb_value::Cell;
 /// What a walk over parts passes over.
 #[derive(Clone, Copy, Debug, PartialEq, Eq)]
 pub enum Skip {
-    /// Root blocks without an entry in the table, and nothing else.
+    /// Upper extents without an entry in the table, and nothing else.
     Absent,
-    /// These, and tiles of the background, inactive.
+    /// Upper extents without an entry, and tiles of the inactive background.
     Background,
-    /// These, and every inactive tile.
+    /// Upper extents without an entry, and every inactive tile.
     Inactive,
 }
 
@@ -37,21 +37,21 @@ pub enum Skip {
 pub enum Content<V, L> {
     /// One cell all over the part.
     Tile(Cell<V>),
-    /// A leaf, which has the cells of the leaf block around the part.
+    /// A leaf, with the cells of the leaf extent around the part.
     Leaf(L),
 }
 
 /// A tile or a leaf, cut to a box.
 #[derive(Clone, Copy)]
 pub struct Part<V, L> {
-    /// The coordinates of the box in the block of the tile or the leaf.
+    /// The coordinates that the box has in the block of the tile or the leaf.
     pub bounds: Bounds,
     /// The tile or the leaf.
     pub content: Content<V, L>,
 }
 
-/// How far a walk over the parts of a tree has come: the coordinates that are left of a box, and the path of nodes to the last
-/// part. It owns nothing, and serves the tree that made it, as long as that doesn't change.
+/// The progress of a walk over the parts of a tree: the coordinates that are left of a box, and the path of nodes to the last
+/// part. It owns nothing, and is valid for the tree that made it as long as that tree doesn't change.
 #[derive(Drop)]
 pub struct Walk<Upper, Lower, Leaf> {
     bounds: Bounds,
@@ -70,21 +70,21 @@ impl<Upper, Lower, Leaf> Model for Walk<Upper, Lower, Leaf> {
 }
 
 impl<Upper, Lower, Leaf> Walk<Upper, Lower, Leaf> {
-    /// The box to which the parts are cut.
+    /// Returns the box to which the parts are cut.
     pub fn bounds(&self) -> Bounds
         ensures { result ≡ self.now.box }
     {
         self.bounds
     }
 
-    /// What is passed over.
+    /// Returns what the walk passes over.
     pub fn skip(&self) -> Skip
         ensures { result ≡ self.now.skip }
     {
         self.skip
     }
 
-    /// The first coordinate, in block order, of what is left of the box.
+    /// Returns the first coordinate, in block order, of what is left of the box.
     fn at(&self) -> Option<Coord>
         ensures { result ≡ self.now.at }
     {
@@ -97,7 +97,7 @@ impl<Upper, Lower, Leaf> Walk<Upper, Lower, Leaf> {
         self.path
     }
 
-    /// The coordinate to which the path leads.
+    /// Returns the coordinate to which the path leads.
     fn near(&self) -> Coord
         ensures { result ≡ self.now.near }
     {
@@ -127,8 +127,8 @@ impl<
     const WL: usize,
     const WF: usize,
 > TreeOf<V, U, L, F, WU, WL, WF> {
-    /// A walk over the parts of the tree that meet the box, in block order: its leaves and its tiles, but for what it passes
-    /// over (what OpenVDB's node and value iterators of a tree go over).
+    /// Starts a walk, in block order, over the parts of the tree that meet the box: its leaves and its tiles, except what
+    /// `skip` passes over (OpenVDB's node and value iterators of a tree go over these).
     pub fn parts(
         &self,
         bounds: Bounds,
@@ -148,7 +148,7 @@ impl<
         }
     }
 
-    /// The walk of `parts`, from the part around `start` on; from the first on where the box doesn't have `start`.
+    /// Starts the walk of `parts` at the part around `start`, or at the first part if the box doesn't have `start`.
     pub fn parts_from(
         &self,
         bounds: Bounds,
@@ -170,7 +170,7 @@ impl<
         walk
     }
 
-    /// The first coordinate, in block order, of what the box has of the tile or the leaf around `p`.
+    /// Returns the first coordinate, in block order, that the box has in the tile or the leaf around `p`.
     fn start_around(&self, bounds: Bounds, p: Coord, end: End<V>) -> Coord
         requires inside { IsTrue (is_inside bounds p) }
         requires end { IsEnd (bits_of U L F) self.now p end }
@@ -183,8 +183,8 @@ impl<
         }
     }
 
-    /// Does nothing; its contract states a fact of every tree: the mask of a leaf is long enough for its voxels, in 512 words
-    /// at most.
+    /// Does nothing. Its contract states a fact of every tree: the mask of a leaf is long enough for its voxels, and has at
+    /// most 512 words.
     pub fn has_leaf_words(&self)
         ensures few { WF ≤ 512 }
         ensures capacity { entries (bits_of U L F) leaf_level ≤ 64 * WF }
@@ -192,7 +192,7 @@ impl<
         let _ = &self.root;
     }
 
-    /// How many words the masks of its nodes have: of an upper node, of a lower node and of a leaf.
+    /// Returns how many words the masks of an upper node, of a lower node and of a leaf have.
     pub fn mask_words(&self) -> (usize, usize, usize)
         ensures words { result ≡ (WU, WL, WF) }
         ensures configured { IsConfigured U L F WU WL WF }
@@ -204,8 +204,8 @@ impl<
         (WU, WL, WF)
     }
 
-    /// The next part of a walk; `None` where none is left. It takes no memory, and visits the internal nodes below the lowest
-    /// one that the part shares with the last, and those around what it passes over.
+    /// Returns the next part of a walk, or `None` if no part is left. It takes no memory. It visits the internal nodes below
+    /// the lowest one that the part shares with the last, and those around what it passes over.
     pub fn next_part(
         &self,
         walk: &mut Walk<Internal<V, U, WU>, Internal<V, L, WL>, Leaf<V, F, WF>>,
@@ -229,8 +229,8 @@ impl<
         None
     }
 
-    /// What `leaf` answers, the leaf around a coordinate, by one visit where the walk's path ends in that leaf, as it does once a
-    /// part of the leaf was yielded (OpenVDB's `ValueAccessor::probeConstLeaf`).
+    /// Returns what `leaf` returns, the leaf around a coordinate. If the walk's path ends in that leaf, as after the walk has
+    /// yielded a part of the leaf, this takes one node visit (OpenVDB's `ValueAccessor::probeConstLeaf`).
     pub fn leaf_of(
         &self,
         walk: &Walk<Internal<V, U, WU>, Internal<V, L, WL>, Leaf<V, F, WF>>,
@@ -251,7 +251,7 @@ impl<
         }
     }
 
-    /// Goes on from a start: yields the part around it, unless that is passed over.
+    /// Continues the walk from a start: yields the part around it, unless the walk passes over that.
     fn step(
         &self,
         walk: &mut Walk<Internal<V, U, WU>, Internal<V, L, WL>, Leaf<V, F, WF>>,
@@ -275,7 +275,7 @@ impl<
         part
     }
 
-    /// Where the descent to `p` ends. The path becomes that to `p`.
+    /// Returns where the descent to `p` ends. The path becomes that to `p`.
     fn end_at(
         &self,
         walk: &mut Walk<Internal<V, U, WU>, Internal<V, L, WL>, Leaf<V, F, WF>>,
@@ -305,7 +305,7 @@ impl<
     const WL: usize,
     const WF: usize,
 > TreeOf<V, U, L, F, WU, WL, WF> {
-    /// The part around `p`, where the descent ends so; `None` where it is passed over.
+    /// Returns the part around `p`, given the end of the descent; `None` if the walk passes over it.
     fn part_around(
         &self,
         bounds: Bounds,
@@ -344,7 +344,7 @@ impl<
         }
     }
 
-    /// Whether a walk passes over the tile around p, or the root block without an entry.
+    /// Returns whether a walk passes over the tile around p, or the upper extent without an entry.
     fn is_skipped(&self, skip: Skip, level: Level, p: Coord, cell: Cell<V>) -> bool
         requires { entry_over (bits_of U L F) level self.now p ≡ Tile cell }
         ensures { IsTrue result → (q : Coord) → block_number (bits_of U L F) level q ≡ block_number (bits_of U L F) level p → IsSkipped (bits_of U L F) skip self.now q }
@@ -356,14 +356,14 @@ impl<
         }
     }
 
-    /// Whether this is the cell of what was never written.
+    /// Returns whether this is the cell of a voxel that was never written: the inactive background.
     pub(crate) fn is_background(&self, cell: Cell<V>) -> bool
         ensures { IsTrue result → cell ≡ background_cell self.now }
     {
         cell == self.background_cell()
     }
 
-    /// The cell of what was never written: the background, inactive.
+    /// Returns the cell of a voxel that was never written: the inactive background.
     pub(crate) fn background_cell(&self) -> Cell<V>
         ensures { result ≡ background_cell self.now }
     {

@@ -1,4 +1,4 @@
-//! The blocks of one cell that a tree consists of.
+//! The blocks of one cell that make up a tree.
 
 ghost use Rattle.std.specs.Prelude.{◌≡◌, ◌+◌, ◌≤◌, IsTrue};
 ghost use Rattle.vdb_coord.specs.Blocks.{block_around};
@@ -15,13 +15,13 @@ use vdb_node::{Entry, Stored};
 use vdb_pool::Steps;
 use vdb_value::Cell;
 
-/// A box of coordinates that all have one cell: a tile's block, or one voxel (what OpenVDB's value iterators point at, whose
-/// box `getBoundingBox` gives).
+/// A box of coordinates that all have one cell: a tile's block, or one voxel (OpenVDB's value iterators point at these, and
+/// their `getBoundingBox` gives the box).
 #[derive(Clone, Copy, Debug, PartialEq, Eq)]
 pub struct Piece<V> {
-    /// The coordinates.
+    /// The coordinates of the box.
     pub bounds: Bounds,
-    /// The cell that each of them has.
+    /// The cell of each coordinate.
     pub cell: Cell<V>,
 }
 
@@ -34,9 +34,9 @@ impl<
     const WL: usize,
     const WF: usize,
 > TreeOf<V, U, L, F, WU, WL, WF> {
-    /// The piece where the descent to a coordinate ends, by at most three visits: a tile's block, the voxel itself in a leaf,
-    /// or the root block where the root table has no entry. It holds the coordinate, and may be smaller than the greatest box
-    /// with that cell.
+    /// Returns the piece where the descent to a coordinate ends, by at most three node visits: a tile's block, the voxel itself
+    /// in a leaf, or the upper extent if the root table has no entry. It holds the coordinate, and may be smaller than the
+    /// largest box with that cell.
     pub fn piece(&self, p: Coord, steps: &mut Steps) -> Piece<V>
         ensures bounds { result.bounds ≡ piece_around (bits_of U L F) self.now p }
         ensures holds { IsTrue (is_inside result.bounds p) }
@@ -58,8 +58,8 @@ impl<
         self.voxel_piece(leaf, p, steps)
     }
 
-    /// Whether there is a leaf over a coordinate, by at most two visits, since the leaf itself isn't visited (whether OpenVDB's
-    /// `Tree::probeConstLeaf` finds one).
+    /// Returns whether there is a leaf over a coordinate, by at most two node visits, because this doesn't visit the leaf
+    /// itself (whether OpenVDB's `Tree::probeConstLeaf` finds one).
     pub fn leaf_at(&self, p: Coord, steps: &mut Steps) -> bool
         ensures answer { result ≡ in_leaf (bits_of U L F) self.now p }
         ensures steps { steps.new ≤ steps.old + 2 }
@@ -70,7 +70,7 @@ impl<
         }
     }
 
-    /// The block of the level around p, which is a tile's.
+    /// Returns the block of the level around p, which is a tile's block.
     fn tile_piece(&self, p: Coord, level: Level, cell: Cell<V>) -> Piece<V>
         requires { entry_over (bits_of U L F) level self.now p ≡ Tile cell }
         ensures bounds { result.bounds ≡ block_around (bits_of U L F) level p }
@@ -82,7 +82,7 @@ impl<
         Piece { bounds, cell }
     }
 
-    /// The voxel p of the leaf around it.
+    /// Returns the voxel p of the leaf around it.
     fn voxel_piece(&self, leaf: u32, p: Coord, steps: &mut Steps) -> Piece<V>
         requires { lower_entry (bits_of U L F) self.now p ≡ Child leaf }
         ensures bounds { result.bounds ≡ record { min = p; max = p } }
@@ -96,7 +96,7 @@ impl<
     }
 }
 
-/// The box of one coordinate.
+/// Returns the box of one coordinate.
 fn single(p: Coord) -> Bounds
     ensures { result ≡ record { min = p; max = p } }
 {

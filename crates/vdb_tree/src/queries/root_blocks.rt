@@ -1,4 +1,4 @@
-//! How many root blocks hold something.
+//! A count of the upper extents that hold something.
 
 ghost use Rattle.std.specs.Prelude.{◌≡◌, ◌<◌, ◌≤◌, ◌↔◌, IsTrue};
 ghost use Rattle.vdb_coord.specs.Blocks.{block_number, entries, offset};
@@ -26,8 +26,9 @@ impl<
     const WL: usize,
     const WF: usize,
 > TreeOf<V, U, L, F, WU, WL, WF> {
-    /// How many root blocks have a cell that isn't the background, inactive: what a tree needs of its limit, however many
-    /// entries its table has. It visits the nodes below each entry up to the first such cell, and takes no memory.
+    /// Returns how many upper extents have a cell other than the inactive background. The tree needs a limit of at least this
+    /// number, however many entries its table has. It visits the nodes below each entry up to the first such cell, and takes no
+    /// memory.
     pub fn root_blocks(&self, steps: &mut Steps) -> u64
         ensures { result ≡ roots V.eq (bits_of U L F) (field_of (bits_of U L F) self.now) }
     {
@@ -35,7 +36,7 @@ impl<
             value: self.background,
             on: false,
         };
-        let _limit = self.limit; // the count keeps to it
+        let _limit = self.limit; // the count keeps to the limit
         let mut count: u64 = 0;
         let mut passed = None;
         while let Some(key) = self.next_key(passed) {
@@ -48,7 +49,7 @@ impl<
         count
     }
 
-    /// Whether each voxel of the root block around p is this cell.
+    /// Returns whether each voxel of the upper extent around p is this cell.
     pub(crate) fn root_block_is(&self, p: Coord, cell: Cell<V>, steps: &mut Steps) -> bool
         ensures { IsTrue result ↔ IsConstantBlock (bits_of U L F) Upper self.now p cell }
     {
@@ -58,7 +59,7 @@ impl<
         }
     }
 
-    /// Whether each voxel of the upper node around p is this cell.
+    /// Returns whether each voxel of the upper node around p is this cell.
     fn upper_is(&self, upper: u32, p: Coord, cell: Cell<V>, steps: &mut Steps) -> bool
         requires { root_entry (bits_of U L F) self.now p ≡ Child upper }
         ensures { IsTrue result ↔ IsConstantBlock (bits_of U L F) Upper self.now p cell }
@@ -74,8 +75,8 @@ impl<
         true
     }
 
-    /// The index, from this one on, of the first entry of the upper node around p that isn't a tile of this cell; `None` where
-    /// there is none.
+    /// Returns the index, from this one on, of the first entry of the upper node around p that isn't a tile of this cell;
+    /// `None` if no such entry is left.
     pub(crate) fn next_unlike_lower(
         &self,
         upper: u32,
@@ -92,7 +93,7 @@ impl<
         self.uppers.at(place, steps).next_unlike(cell, from)
     }
 
-    /// The first coordinate of an entry of the upper node around p.
+    /// Returns the first coordinate of an entry of the upper node around p.
     pub(crate) fn lower_corner(&self, upper: u32, p: Coord, index: u32) -> Coord
         requires child { root_entry (bits_of U L F) self.now p ≡ Child upper }
         requires within { index < entries (bits_of U L F) Upper }
@@ -103,7 +104,7 @@ impl<
         entry_corner(p, self.bits(), Level::Upper, index)
     }
 
-    /// Whether each voxel of this entry of the upper node around p is this cell.
+    /// Returns whether each voxel of this entry of the upper node around p is this cell.
     fn lower_entry_is(
         &self,
         upper: u32,
@@ -120,7 +121,7 @@ impl<
         self.lower_block_is(upper, corner, cell, steps)
     }
 
-    /// Whether each voxel of the lower block around p, in an upper node, is this cell.
+    /// Returns whether each voxel of the lower extent around p, in an upper node, is this cell.
     pub(crate) fn lower_block_is(
         &self,
         upper: u32,
@@ -137,7 +138,7 @@ impl<
         }
     }
 
-    /// Whether each voxel of the lower node around p is this cell.
+    /// Returns whether each voxel of the lower node around p is this cell.
     fn lower_is(&self, lower: u32, p: Coord, cell: Cell<V>, steps: &mut Steps) -> bool
         requires { upper_entry (bits_of U L F) self.now p ≡ Child lower }
         ensures { IsTrue result ↔ IsConstantBlock (bits_of U L F) Lower self.now p cell }
@@ -153,8 +154,8 @@ impl<
         true
     }
 
-    /// The index, from this one on, of the first entry of the lower node around p that isn't a tile of this cell; `None` where
-    /// there is none.
+    /// Returns the index, from this one on, of the first entry of the lower node around p that isn't a tile of this cell;
+    /// `None` if no such entry is left.
     pub(crate) fn next_unlike_leaf(
         &self,
         lower: u32,
@@ -171,7 +172,7 @@ impl<
         self.lowers.at(place, steps).next_unlike(cell, from)
     }
 
-    /// The first coordinate of an entry of the lower node around p.
+    /// Returns the first coordinate of an entry of the lower node around p.
     pub(crate) fn leaf_corner(&self, lower: u32, p: Coord, index: u32) -> Coord
         requires child { upper_entry (bits_of U L F) self.now p ≡ Child lower }
         requires within { index < entries (bits_of U L F) Lower }
@@ -182,7 +183,7 @@ impl<
         entry_corner(p, self.bits(), Level::Lower, index)
     }
 
-    /// Whether each voxel of this entry of the lower node around p is this cell.
+    /// Returns whether each voxel of this entry of the lower node around p is this cell.
     fn leaf_entry_is(
         &self,
         lower: u32,
@@ -199,7 +200,7 @@ impl<
         self.leaf_block_is(lower, corner, cell, steps)
     }
 
-    /// Whether each voxel of the leaf block around p, in a lower node, is this cell.
+    /// Returns whether each voxel of the leaf extent around p, in a lower node, is this cell.
     fn leaf_block_is(&self, lower: u32, p: Coord, cell: Cell<V>, steps: &mut Steps) -> bool
         requires { upper_entry (bits_of U L F) self.now p ≡ Child lower }
         ensures { IsTrue result ↔ IsConstantBlock (bits_of U L F) Leaf self.now p cell }
@@ -210,7 +211,7 @@ impl<
         }
     }
 
-    /// Whether each voxel of the leaf around p is this cell.
+    /// Returns whether each voxel of the leaf around p is this cell.
     pub(crate) fn leaf_is(&self, leaf: u32, p: Coord, cell: Cell<V>, steps: &mut Steps) -> bool
         requires { lower_entry (bits_of U L F) self.now p ≡ Child leaf }
         ensures { IsTrue result ↔ IsConstantBlock (bits_of U L F) Leaf self.now p cell }

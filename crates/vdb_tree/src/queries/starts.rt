@@ -27,8 +27,8 @@ impl<
     const WL: usize,
     const WF: usize,
 > TreeOf<V, U, L, F, WU, WL, WF> {
-    /// The first coordinate of the box past the part around `p`, where the descent ends so. The nodes of a path to `p` tell which
-    /// of their entries are passed over, for one visit each.
+    /// Returns the first coordinate of the box past the part around `p`, given the end of the descent. The nodes of a path to
+    /// `p` show which of their entries the walk passes over, for one visit each.
     pub(crate) fn start_after(
         &self,
         bounds: Bounds,
@@ -72,7 +72,7 @@ impl<
         }
     }
 
-    /// The first coordinate past the leaf block around `p`, over which there is a lower node.
+    /// Returns the first coordinate past the leaf extent around `p`, which lies in a lower node.
     fn start_after_leaf(
         &self,
         bounds: Bounds,
@@ -92,7 +92,7 @@ impl<
         }
     }
 
-    /// The first coordinate past the lower block around `p`, over which there is an upper node.
+    /// Returns the first coordinate past the lower extent around `p`, which lies in an upper node.
     fn start_after_lower(
         &self,
         bounds: Bounds,
@@ -112,7 +112,7 @@ impl<
         }
     }
 
-    /// The first coordinate past the leaf block around `p` in the lower block around it.
+    /// Returns the first coordinate past the leaf extent around `p` in the lower extent around it.
     fn start_in_lower(
         &self,
         bounds: Bounds,
@@ -132,7 +132,7 @@ impl<
         }
     }
 
-    /// The first coordinate past the lower block around `p` in the upper block around it.
+    /// Returns the first coordinate past the lower extent around `p` in the upper extent around it.
     fn start_in_upper(
         &self,
         bounds: Bounds,
@@ -153,7 +153,7 @@ impl<
         }
     }
 
-    /// The first coordinate past the leaf block around `p` in this lower node around it.
+    /// Returns the first coordinate past the leaf extent around `p` in this lower node around it.
     fn start_in_lower_node(
         &self,
         bounds: Bounds,
@@ -193,7 +193,7 @@ impl<
         }
     }
 
-    /// The first coordinate past the lower block around `p` in this upper node around it.
+    /// Returns the first coordinate past the lower extent around `p` in this upper node around it.
     fn start_in_upper_node(
         &self,
         bounds: Bounds,
@@ -233,7 +233,8 @@ impl<
         }
     }
 
-    /// The block of the first entry of this lower node around `p`, past that of `p`, that isn't a tile of the background, inactive.
+    /// Returns the block of the first entry of this lower node around `p`, past that of `p`, that isn't a tile of the inactive
+    /// background.
     fn next_unlike_in_lower(
         &self,
         p: Coord,
@@ -255,7 +256,7 @@ impl<
         }
     }
 
-    /// The block of the first entry of this lower node around `p`, past that of `p`, that isn't an inactive tile.
+    /// Returns the block of the first entry of this lower node around `p`, past that of `p`, that isn't an inactive tile.
     fn next_active_in_lower(
         &self,
         p: Coord,
@@ -273,7 +274,8 @@ impl<
         }
     }
 
-    /// The block of the first entry of this upper node around `p`, past that of `p`, that isn't a tile of the background, inactive.
+    /// Returns the block of the first entry of this upper node around `p`, past that of `p`, that isn't a tile of the inactive
+    /// background.
     fn next_unlike_in_upper(
         &self,
         p: Coord,
@@ -295,7 +297,7 @@ impl<
         }
     }
 
-    /// The block of the first entry of this upper node around `p`, past that of `p`, that isn't an inactive tile.
+    /// Returns the block of the first entry of this upper node around `p`, past that of `p`, that isn't an inactive tile.
     fn next_active_in_upper(
         &self,
         p: Coord,
@@ -313,8 +315,8 @@ impl<
         }
     }
 
-    /// The first coordinate of the box in an entry of the outer level's node around `p`, or a coordinate before it where the box has
-    /// nothing of that entry.
+    /// Returns the first coordinate that the box has in an entry of the outer level's node around `p`, or a coordinate before
+    /// it if the box has nothing of that entry.
     fn start_of_entry(
         &self,
         bounds: Bounds,
@@ -334,7 +336,7 @@ impl<
         }
     }
 
-    /// The first coordinate of the box past the level's block around `p` that lies in the outer block around `p`.
+    /// Returns the first coordinate of the box past the level's block around `p` that lies in the outer block around `p`.
     fn start_within(
         &self,
         bounds: Bounds,
@@ -352,7 +354,7 @@ impl<
             .next_coord_in(self.bits(), level, p)
     }
 
-    /// The first coordinate under the keys past that of `p`.
+    /// Returns the first coordinate under the keys past that of `p`.
     fn start_after_key(&self, bounds: Bounds, skip: Skip, p: Coord) -> Option<Coord>
         requires { IsTrue (is_inside bounds p) }
         ensures { IsStartAfter (bits_of U L F) self.now bounds skip Upper p result }

@@ -1,4 +1,4 @@
-//! Paths of nodes, and cells by the paths that earlier calls left.
+//! Paths of nodes, and reads and writes of cells by the paths that earlier calls returned.
 
 ghost use Rattle.std.specs.Option.{is_some};
 ghost use Rattle.std.specs.Prelude.{◌≡◌, ◌+◌, ◌-◌, ◌≤◌, false, if◌then◌else◌, IfSome, IsTrue};
@@ -25,7 +25,7 @@ impl<
     const WL: usize,
     const WF: usize,
 > TreeOf<V, U, L, F, WU, WL, WF> {
-    /// The path from the root down to a coordinate, as far as there are nodes, by at most three visits.
+    /// Returns the path from the root down to a coordinate, as far as there are nodes, by at most three node visits.
     pub fn trace(
         &self,
         p: Coord,
@@ -39,8 +39,9 @@ impl<
         path
     }
 
-    /// The cell at `p`, by the descent from the lowest node of the path to `q` that contains `p`, which is visited, too. It
-    /// leaves the path to `p` (OpenVDB's `ValueAccessor::getValue`, which does this with the nodes that it caches).
+    /// Returns the cell at `p`, by the descent from the lowest node of the path to `q` that contains `p`; this visits that
+    /// node, too. It sets `path` to the path to `p` (OpenVDB's `ValueAccessor::getValue` does this with the nodes that it
+    /// caches).
     #[inline(always)]
     pub fn descend(
         &self,
@@ -58,8 +59,8 @@ impl<
         self.descend_from(common, path, p, steps)
     }
 
-    /// Writes the voxel at `p` where the path to `q` ends in a leaf that contains `p`, by one visit and without memory. The
-    /// answer says whether it does; where it doesn't, nothing changes and no node is visited. Every path stays whole (OpenVDB's
+    /// Writes the voxel at `p`, by one node visit and without memory, if the path to `q` ends in a leaf that contains `p`.
+    /// Returns whether it does; if not, nothing changes and this visits no node. Every path stays whole (OpenVDB's
     /// `ValueAccessor::setValue` in its cached leaf).
     #[inline(always)]
     pub fn write_near(
@@ -88,8 +89,8 @@ impl<
         }
     }
 
-    /// The cell at `p` where the path to `q` ends in a leaf that contains `p`, by one visit. Elsewhere it is `None`, and no node
-    /// is visited (OpenVDB's `ValueAccessor::getValue` in its cached leaf).
+    /// Returns the cell at `p`, by one node visit, if the path to `q` ends in a leaf that contains `p`. Otherwise returns
+    /// `None` and visits no node (OpenVDB's `ValueAccessor::getValue` in its cached leaf).
     #[inline(always)]
     pub fn cell_near(
         &self,
@@ -107,7 +108,7 @@ impl<
         Some(self.voxel_at(leaf, p, steps))
     }
 
-    /// The leaf that the path to `q` ends in, where it contains `p`.
+    /// Returns the leaf in which the path to `q` ends, if it contains `p`.
     #[inline(always)]
     fn near_leaf(
         &self,
@@ -133,7 +134,7 @@ impl<
         }
     }
 
-    /// The nodes of the path to `q` that contain `p`.
+    /// Returns the nodes of the path to `q` that contain `p`.
     #[inline(always)]
     pub(crate) fn shared(
         &self,
@@ -148,7 +149,7 @@ impl<
         self.common(path, q, p)
     }
 
-    /// The nodes of the path to `q` that contain `p`, also where some of them don't live.
+    /// Returns the nodes of the path to `q` that contain `p`, even if some of them don't live.
     #[inline(always)]
     fn common(
         &self,
@@ -172,7 +173,7 @@ impl<
         }
     }
 
-    /// Those of these two nodes around `q` that contain `p`.
+    /// Returns those of these two nodes around `q` that contain `p`.
     #[inline(always)]
     fn common_lower(
         &self,
@@ -190,7 +191,7 @@ impl<
         }
     }
 
-    /// This upper node around `q`, where it contains `p`.
+    /// Returns this upper node around `q`, if it contains `p`.
     #[inline(always)]
     fn common_upper(
         &self,
@@ -207,7 +208,7 @@ impl<
         }
     }
 
-    /// Whether one block of the level holds both.
+    /// Returns whether one block of the level holds both coordinates.
     #[inline(always)]
     fn is_same_block(&self, q: Coord, p: Coord, level: Level) -> bool
         ensures { result ≡ coord_eq (block_number (bits_of U L F) level q) (block_number (bits_of U L F) level p) }
@@ -218,8 +219,8 @@ impl<
         (a.x == b.x) & (a.y == b.y) & (a.z == b.z) // one branch for the three
     }
 
-    /// The cell at `p`, by the descent from the last of some nodes around `p`, or from the root where there is none. It leaves
-    /// the path to `p`.
+    /// Returns the cell at `p`, by the descent from the last of some nodes around `p`, or from the root if there is none. It
+    /// sets `path` to the path to `p`.
     #[inline(always)]
     fn descend_from(
         &self,
@@ -243,7 +244,8 @@ impl<
         }
     }
 
-    /// The cell at `p`, by the descent from the root. It leaves the path to `p`, as those below do.
+    /// Returns the cell at `p`, by the descent from the root. It sets `path` to the path to `p`, as do the descents from an
+    /// upper node, a lower node and a leaf.
     #[tactic(auto, unfolding(crate::specs::Layout::cell_at))]
     fn descend_from_root(
         &self,

@@ -1,4 +1,4 @@
-//! The entries of a block past those of one cell.
+//! The next entry of a block that may have another cell.
 
 ghost use Rattle.std.specs.Prelude.{◌≡◌, ◌≤◌};
 ghost use Rattle.vdb_coord.specs.Blocks.{entries};
@@ -21,10 +21,10 @@ impl<
     const WL: usize,
     const WF: usize,
 > TreeOf<V, U, L, F, WU, WL, WF> {
-    /// An entry, from this one on, of the level's block around a coordinate, such that each voxel of those passed over has this
-    /// cell; `None` where none is left. It takes no memory and visits at most two nodes. Passed over are tiles of the cell, found
-    /// by words of the node's masks and by its values (OpenVDB's `InternalNode` iterators over children and tiles). In a leaf, and
-    /// in a tile of another cell, the entry is the first one.
+    /// Returns an entry, from this one on, of the level's block around a coordinate, such that each voxel of the entries passed
+    /// over has this cell; `None` if no entry is left. It takes no memory and visits at most two nodes. It passes over tiles of
+    /// the cell, which it finds by words of the node's masks and by its values (OpenVDB's `InternalNode` iterators over
+    /// children and tiles). In a leaf, and in a tile of another cell, it returns the first entry.
     pub fn next_unlike(
         &self,
         level: Level,
@@ -53,7 +53,7 @@ impl<
         }
     }
 
-    /// The entry of a block that has this cell all over.
+    /// Returns an entry of a block that has this cell all over.
     fn next_unlike_in_tile(
         &self,
         level: Level,
@@ -73,7 +73,7 @@ impl<
         self.next_entry(level, p, cell, from)
     }
 
-    /// The first entry, from this one on, of any block.
+    /// Returns the first entry, from this one on, of any block.
     fn next_entry(&self, level: Level, p: Coord, cell: Cell<V>, from: u32) -> Option<u32>
         requires { from ≤ entries (bits_of U L F) level }
         ensures { IsNextUnlike (bits_of U L F) (field_of (bits_of U L F) self.now).cell level p cell from result }

@@ -1,4 +1,4 @@
-//! Background root blocks: their entries are taken away.
+//! Removal of the entries of background upper extents.
 
 ghost use Rattle.std.specs.Prelude.{◌≡◌, IfSome, IsNone};
 ghost use Rattle.vdb_tree.specs.Changes.{IsSwept, Keeps};
@@ -22,8 +22,8 @@ impl<
     const WL: usize,
     const WF: usize,
 > TreeOf<V, U, L, F, WU, WL, WF> {
-    /// Takes the entry of each root block away whose cells are all the background, inactive, with the nodes below it. Other
-    /// nodes and tiles stay (OpenVDB's `RootNode::eraseBackgroundTiles`, where such blocks were pruned before).
+    /// Removes the entry of each upper extent whose cells are all the inactive background, with the nodes below it. Other nodes
+    /// and tiles stay (OpenVDB's `RootNode::eraseBackgroundTiles`, if such extents were pruned before).
     pub(crate) fn erase_background(&mut self, steps: &mut Steps)
         ensures keeps { Keeps (bits_of U L F) self.old self.new }
         ensures adds { AddsBackgroundTiles (bits_of U L F) self.old self.new }
@@ -40,8 +40,8 @@ impl<
         self.swept = true;
     }
 
-    /// Takes the entry of the first root block past a key, or of the first of all, away if the block is all background. It
-    /// gives the key.
+    /// Removes the entry of the first upper extent past a key, or of the first of all, if the extent is all background. Returns
+    /// its key.
     fn erase_next_background(&mut self, after: Option<Coord>, steps: &mut Steps) -> Option<Coord>
         ensures next { IsNextKey self.old.root after result }
         ensures none { IsNone result → self.new ≡ self.old }

@@ -1,4 +1,4 @@
-//! Pruning: tiles in place of the nodes whose blocks are constant.
+//! Pruning: collapses the nodes whose blocks are constant into tiles.
 
 ghost use Rattle.std.specs.Prelude.{◌≡◌, ◌≢◌, ◌<◌, ◌≤◌, ◌↔◌, ℕ, IfSome, IsNone, Some};
 ghost use Rattle.vdb_coord.specs.Blocks.{block_around, block_number, entries, key, sub_block};
@@ -29,7 +29,7 @@ impl<
     const WL: usize,
     const WF: usize,
 > TreeOf<V, U, L, F, WU, WL, WF> {
-    /// The one cell of all voxels of the leaf around p, where there is one.
+    /// Returns the one cell of all voxels of the leaf around p, or `None` if two differ.
     pub(crate) fn leaf_constant(&self, leaf: u32, p: Coord, steps: &mut Steps) -> Option<Cell<V>>
         requires { lower_entry (bits_of U L F) self.now p ≡ Child leaf }
         ensures { (cell : Cell V) → (result ≡ Some cell) ↔ IsConstantBlock (bits_of U L F) Leaf self.now p cell }
@@ -41,7 +41,7 @@ impl<
         node.constant()
     }
 
-    /// The one tile of all entries of the lower node around p, where there is one.
+    /// Returns the one tile of all entries of the lower node around p, or `None` if the entries aren't one tile.
     fn lower_constant(&self, lower: u32, p: Coord, steps: &mut Steps) -> Option<Cell<V>>
         requires { upper_entry (bits_of U L F) self.now p ≡ Child lower }
         ensures constant { (cell : Cell V) → (result ≡ Some cell) ↔ IsTiled (bits_of U L F) Lower (lower_entry (bits_of U L F) self.now) p cell }
@@ -54,7 +54,7 @@ impl<
         node.constant()
     }
 
-    /// The one tile of all entries of the upper node around p, where there is one.
+    /// Returns the one tile of all entries of the upper node around p, or `None` if the entries aren't one tile.
     fn upper_constant(&self, upper: u32, p: Coord, steps: &mut Steps) -> Option<Cell<V>>
         requires { root_entry (bits_of U L F) self.now p ≡ Child upper }
         ensures constant { (cell : Cell V) → (result ≡ Some cell) ↔ IsTiled (bits_of U L F) Upper (upper_entry (bits_of U L F) self.now) p cell }
@@ -67,7 +67,7 @@ impl<
         node.constant()
     }
 
-    /// The first leaf of the lower node around p from this offset on, as its offset and its least coordinate.
+    /// Returns the first leaf of the lower node around p from this offset on, as its offset and its least coordinate.
     pub(crate) fn next_leaf_corner(
         &self,
         lower: u32,
@@ -89,7 +89,7 @@ impl<
         }
     }
 
-    /// The first lower node of the upper node around p from this offset on, as its offset and its least coordinate.
+    /// Returns the first lower node of the upper node around p from this offset on, as its offset and its least coordinate.
     pub(crate) fn next_lower_corner(
         &self,
         upper: u32,
@@ -111,7 +111,7 @@ impl<
         }
     }
 
-    /// Makes a tile of the leaf around p, if there is one, where its voxels are all one cell.
+    /// Collapses the leaf around p, if there is one, into a tile if its voxels are all one cell.
     fn prune_leaf(&mut self, lower: u32, p: Coord, steps: &mut Steps)
         requires { upper_entry (bits_of U L F) self.old p ≡ Child lower }
         ensures keeps { Keeps (bits_of U L F) self.old self.new }
@@ -128,7 +128,7 @@ impl<
         }
     }
 
-    /// Prunes the first leaf of the lower node around p from this offset on, and answers the offset behind it.
+    /// Prunes the first leaf of the lower node around p from this offset on. Returns the offset after it.
     fn prune_next_leaf(&mut self, lower: u32, p: Coord, from: u32, steps: &mut Steps) -> Option<u32>
         requires lower { upper_entry (bits_of U L F) self.old p ≡ Child lower }
         requires within { from ≤ entry_count L }
@@ -159,7 +159,7 @@ impl<
         }
     }
 
-    /// Makes a tile of the lower node around p, if there is one, where its cells are all one after its leaves were pruned.
+    /// Collapses the lower node around p, if there is one, into a tile if its cells are all one after its leaves were pruned.
     fn prune_lower(&mut self, upper: u32, p: Coord, steps: &mut Steps)
         requires { root_entry (bits_of U L F) self.old p ≡ Child upper }
         ensures keeps { Keeps (bits_of U L F) self.old self.new }
@@ -177,7 +177,7 @@ impl<
         }
     }
 
-    /// Prunes the first lower node of the upper node around p from this offset on, and answers the offset behind it.
+    /// Prunes the first lower node of the upper node around p from this offset on. Returns the offset after it.
     fn prune_next_lower(
         &mut self,
         upper: u32,
@@ -213,7 +213,7 @@ impl<
         }
     }
 
-    /// Makes a tile of the upper node around p, if there is one, where its cells are all one after its lower nodes were
+    /// Collapses the upper node around p, if there is one, into a tile if its cells are all one after its lower nodes were
     /// pruned.
     pub(crate) fn prune_upper(&mut self, p: Coord, steps: &mut Steps)
         ensures keeps { Keeps (bits_of U L F) self.old self.new }
@@ -231,7 +231,7 @@ impl<
         }
     }
 
-    /// Takes the entry of p's root block away if it is a tile of the background, inactive.
+    /// Removes the entry of p's upper extent if it is a tile of the inactive background.
     pub(crate) fn drop_background(&mut self, p: Coord)
         ensures keeps { Keeps (bits_of U L F) self.old self.new }
         ensures same { (q : Coord) → SameDescent (bits_of U L F) self.old self.new q }
@@ -248,8 +248,8 @@ impl<
         }
     }
 
-    /// Prunes the first root block past a key, or the first of all, and takes its entry away if it is all background. It gives
-    /// the key.
+    /// Prunes the first upper extent past a key, or the first of all, and removes its entry if it is all background. Returns
+    /// its key.
     fn prune_next_root(&mut self, after: Option<Coord>, steps: &mut Steps) -> Option<Coord>
         ensures next { IsNextKey self.old.root after result }
         ensures none { IsNone result → self.new ≡ self.old }
@@ -262,7 +262,7 @@ impl<
         Some(key)
     }
 
-    /// Prunes each root block, in the order of keys, and takes the entries of background blocks away.
+    /// Prunes each upper extent, in the order of keys, and removes the entries of background upper extents.
     fn sweep(&mut self, steps: &mut Steps)
         ensures keeps { Keeps (bits_of U L F) self.old self.new }
         ensures needed { (p : Coord) → IsNeededTo (bits_of U L F) Upper self.new p }
@@ -274,9 +274,9 @@ impl<
         }
     }
 
-    /// Makes the tree as small as its field lets it be: a tile is in place of each node whose block has one cell, and the table
-    /// has no entry of a background block. It passes over each node once, from below, and takes no memory (OpenVDB's
-    /// `tools::prune` without a tolerance, with `RootNode::eraseBackgroundTiles`).
+    /// Makes the tree as small as its field allows: collapses each node whose block has one cell into a tile, and removes the
+    /// entries of background upper extents from the table. It passes over each node once, from below, and takes no memory
+    /// (OpenVDB's `tools::prune` without a tolerance, with `RootNode::eraseBackgroundTiles`).
     pub fn prune(&mut self, steps: &mut Steps)
         ensures field { field_of (bits_of U L F) self.new ≡ field_of (bits_of U L F) self.old }
         ensures limit { self.new.limit ≡ self.old.limit }
@@ -287,7 +287,7 @@ impl<
     }
 }
 
-/// The least coordinate of the entry at this offset in the level's node around p.
+/// Returns the least coordinate of the entry at this offset in the level's node around p.
 pub(crate) fn entry_corner(p: Coord, bits: Bits, level: Level, offset: u32) -> Coord
     requires configured { AreBits bits }
     requires within { offset < entries bits level }

@@ -1,5 +1,5 @@
-//! Tests as lists of acts: what is done to a tree, and what is then expected of it. A list costs the proof next to nothing,
-//! where as many calls in a row cost much. `play` has the lists carried out.
+//! Tests as lists of acts: what to do to a tree, and what to expect of it then. A list costs the proof next to nothing; the
+//! same number of calls in a row costs much. `play` runs the lists.
 
 use super::{at, nodes, off};
 use std::process::Abort;
@@ -9,47 +9,47 @@ use vdb_pool::Steps;
 use vdb_tree::{NodeCounts, TreeOf, TreeRefusal, Write};
 use vdb_value::Cell;
 
-/// One thing done to a tree, or expected of it. A box is given by its first voxel and its last one, and a cube by its first
-/// voxel and how many it has along each axis.
+/// One thing to do to a tree, or to expect of it. A box is given by its first and its last voxel, and a cube by its first voxel
+/// and its number of voxels along each axis.
 #[derive(Drop)]
 pub(super) enum Act<V> {
     Write(Coord, Write<V>),
-    /// A write that the root limit refuses.
+    /// A write that fails with `RootLimit`.
     Refused(Coord, Write<V>),
     /// A write of each voxel of a cube.
     Fill(Coord, i32, Write<V>),
     Prune,
     Split(Coord, Coord, Cell<V>),
-    /// A split that the root limit refuses.
+    /// A split that fails with `RootLimit`.
     RefusedSplit(Coord, Coord, Cell<V>),
-    /// A box split, and then painted.
+    /// A split of a box, and then its painting.
     Paint(Coord, Coord, Cell<V>),
     Voxelise(Coord, Coord),
-    /// The tree gives way to a copy of it.
+    /// Replaces the tree by a copy of it.
     Copy,
     Background(V),
-    /// The entries of the root table and the upper, lower and leaf nodes.
+    /// How many entries the root table has, and how many upper, lower and leaf nodes the tree has.
     Counts([u64; 4]),
-    /// The entries of the root table alone.
+    /// How many entries the root table has.
     Entries(u64),
     RootBlocks(u64),
     Limit(u32),
     Cell(Coord, Cell<V>),
     /// How many voxels of a cube have a cell.
     Cells(Coord, i32, Cell<V>, u32),
-    /// How many nodes were visited by the act before.
+    /// How many nodes the act before visited.
     Visits(u64),
-    /// Whether a leaf is there.
+    /// Whether the tree has a leaf over a coordinate.
     Leaf(Coord, bool),
     /// How many voxels of a leaf are active.
     Active(Coord, Option<u32>),
-    /// The leaf block past a coordinate, or the first of all.
+    /// The first leaf past a coordinate, or the first of all.
     NextLeaf(Option<Coord>, Option<Coord>),
-    /// The root block past one, or the first of all.
+    /// The key past another, or the first of all.
     NextKey(Option<Coord>, Option<Coord>),
-    /// The one cell of a block, or that it has several.
+    /// The one cell of a block; `None` if it has several.
     Constant(Level, Coord, Option<Cell<V>>),
-    /// The same of the blocks of all three levels.
+    /// The one cell of each of the blocks of all three levels; `None` if each has several.
     Constants(Coord, Option<Cell<V>>),
     /// The first and the last voxel of the piece around a coordinate, and its cell.
     Piece(Coord, Coord, Coord, Cell<V>),
@@ -64,7 +64,7 @@ fn counts_of(counts: [u64; 4]) -> NodeCounts {
     nodes(entries, upper, lower, leaf)
 }
 
-// A voxel of the cube that begins at a corner.
+// Returns a voxel of the cube that begins at a corner.
 fn beyond(corner: Coord, x: i32, y: i32, z: i32) -> Coord {
     at(
         corner.x.wrapping_add(x),
@@ -117,7 +117,7 @@ fn paint<
     Ok(())
 }
 
-// What an act that changes the tree gives; one that doesn't succeeds.
+// Does an act that changes the tree and returns its result. Any other act succeeds.
 fn change<
     V: Stored<WU> + Stored<WL> + Stored<WF>,
     const U: u32,
@@ -152,7 +152,7 @@ fn change<
     }
 }
 
-// What `change` is to give.
+// Returns the result that `change` is to return.
 fn outcome<V>(act: &Act<V>) -> Result<(), TreeRefusal> {
     match act {
         Act::Refused(..) | Act::RefusedSplit(..) => Err(TreeRefusal::RootLimit),
@@ -188,7 +188,7 @@ fn count_cells<
     count
 }
 
-// Whether the block around p of each of these levels has the one cell that is wanted, or several where none is.
+// Returns whether the block around p of each of these levels has the wanted cell, or several cells if none is wanted.
 fn are_constant<
     V: Stored<WU> + Stored<WL> + Stored<WF>,
     const U: u32,
@@ -212,7 +212,7 @@ fn are_constant<
     true
 }
 
-// Whether what an act expects of leaves, blocks and pieces holds.
+// Returns whether what an act expects of leaves, blocks and pieces holds.
 fn is_met_by_blocks<
     V: Stored<WU> + Stored<WL> + Stored<WF>,
     const U: u32,
@@ -237,7 +237,7 @@ fn is_met_by_blocks<
     }
 }
 
-// Whether what an act expects holds; one that changes the tree expects nothing. The act before it took so many visits.
+// Returns whether what an act expects holds; an act that changes the tree expects nothing. `visits` is the count of the act before.
 fn is_met<
     V: Stored<WU> + Stored<WL> + Stored<WF>,
     const U: u32,
@@ -274,7 +274,7 @@ fn expect(
     assert!(rt; is_met, "act {number}");
 }
 
-/// Each act in turn. They are numbered from 0 in the texts of what fails.
+/// Runs each act in turn. Texts of failures number the acts from 0.
 pub(super) fn run<
     V: Stored<WU> + Stored<WL> + Stored<WF>,
     const U: u32,
@@ -294,7 +294,7 @@ pub(super) fn run<
     }
 }
 
-/// Each act in turn, of a tree that is given up then.
+/// Runs each act in turn on a tree, and drops the tree.
 pub(super) fn try_acts<
     V: Stored<WU> + Stored<WL> + Stored<WF>,
     const U: u32,
@@ -307,7 +307,7 @@ pub(super) fn try_acts<
     run(rt, &mut tree, acts, steps);
 }
 
-/// Puts an act at the end of a list.
+/// Adds an act to the end of a list.
 pub(super) fn add<V>(rt: &impl Abort, acts: &mut Vec<Act<V>>, act: Act<V>) {
     acts.push(act).expect(rt, "memory for an act");
 }

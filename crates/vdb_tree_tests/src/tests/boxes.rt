@@ -1,4 +1,4 @@
-//! Boxes split and painted.
+//! Tests of splitting and painting boxes.
 
 use super::acts::Act;
 use super::{all, at, off, on, play};
@@ -8,8 +8,8 @@ use vdb_pool::Steps;
 use vdb_tree::{Tree, Write};
 use vdb_value::Cell;
 
-// The box takes in one leaf block and a voxel's breadth of the seven behind it. All of the 2,197 voxels near it have the
-// background before it is painted, and those beside it also after that.
+// The box holds one leaf extent and a layer of one voxel of the seven extents behind it. All of the 2,197 voxels near it have
+// the background before the painting, and those beside it also after it.
 #[test]
 fn a_split_keeps_every_cell(rt: HostRuntime) {
     let mut steps = Steps::new(&rt);
@@ -57,7 +57,7 @@ fn a_part_of_a_leaf(rt: HostRuntime) {
     play::numbers(&rt, 0, 4096, &acts, &mut steps);
 }
 
-// Of each level's nodes, those that the box covers.
+// Painting gives back the nodes that the box covers, at each level.
 #[test]
 fn covered_nodes_are_given_back(rt: HostRuntime) {
     let mut steps = Steps::new(&rt);
@@ -67,7 +67,7 @@ fn covered_nodes_are_given_back(rt: HostRuntime) {
         Act::Write(at(7, 0, 3), Write::On(false)),
         Act::Write(all(-1), Write::On(false)),
         Act::Counts([2, 2, 4, 4]),
-        // One leaf, one lower node and one root block in turn.
+        // One leaf, one lower node and one upper extent, one after another.
         Act::Paint(all(4), all(5), off(true)),
         Act::Counts([2, 2, 4, 3]),
         Act::Paint(all(4), all(7), off(true)),
@@ -129,7 +129,7 @@ fn expect_cells(
     }
 }
 
-// A box split, and painted once these cells are seen.
+// Splits a box, and paints it after a check of these cells.
 fn paint_after(
     rt: &impl Abort,
     tree: &mut Tree<i32>,
@@ -143,7 +143,7 @@ fn paint_after(
     tree.paint(bounds, cell, steps);
 }
 
-// Boxes apart that are split for the background cell stay so while others are split and painted.
+// Boxes that are apart and split for the background cell stay split while others are split and painted.
 #[test]
 fn two_boxes_split_before_either_is_painted(rt: HostRuntime) {
     let mut steps = Steps::new(&rt);

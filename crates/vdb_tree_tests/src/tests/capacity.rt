@@ -1,11 +1,11 @@
-//! Entries for the root blocks that meet a box, which `split` makes before it makes nodes.
+//! Tests of the entries for the upper extents that meet a box, which `split` makes before it makes nodes.
 
 use super::acts::Act;
 use super::{all, at, off, on, play};
 use vdb_pool::Steps;
 use vdb_tree::Write;
 
-// The blocks at 0 and 4,096 are in use, so of a limit of 3 one entry is left.
+// The upper extents at 0 and 4,096 are in use, so a limit of 3 leaves one entry.
 #[test]
 fn as_many_root_blocks_as_the_limit(rt: HostRuntime) {
     let mut steps = Steps::new(&rt);
@@ -29,7 +29,7 @@ fn as_many_root_blocks_as_the_limit(rt: HostRuntime) {
     play::numbers(&rt, 0, 3, &acts, &mut steps);
 }
 
-// An entry whose block is all background gives way to those of a box.
+// An entry whose upper extent is all background gives way to the entries of a box.
 #[test]
 fn a_background_entry_gives_way(rt: HostRuntime) {
     let mut steps = Steps::new(&rt);
@@ -50,7 +50,7 @@ fn a_background_entry_gives_way(rt: HostRuntime) {
     play::large_numbers_433(&rt, 7, 2, &acts, &mut steps);
 }
 
-// Nodes whose cells are all one stay where that cell isn't the background.
+// Nodes whose cells are all one stay if that cell isn't the background.
 #[test]
 fn other_nodes_stay(rt: HostRuntime) {
     let mut steps = Steps::new(&rt);
@@ -73,7 +73,7 @@ fn other_nodes_stay(rt: HostRuntime) {
     play::numbers_tiny(&rt, 0, 2, &acts, &mut steps);
 }
 
-// A background cell needs no entry, and more root blocks than any limit are refused without a look at one of them.
+// A background cell needs no entry. A box of more upper extents than any limit fails without a visit to one of them.
 #[test]
 fn the_whole_space(rt: HostRuntime) {
     let mut steps = Steps::new(&rt);

@@ -1,4 +1,4 @@
-//! The one cell of a block, of each level.
+//! Tests of the one cell of a block, at each level.
 
 use super::acts::{Act, add};
 use super::{all, at, off, on, play};
@@ -18,7 +18,7 @@ fn blocks_of_tiles(rt: HostRuntime) {
         Act::Constant(Level::Leaf, all(4087), Some(off(3))),
         Act::Constant(Level::Lower, all(3967), Some(off(3))),
         Act::Constant(Level::Upper, all(0), None),
-        // Written back, the nodes are still there, but every cell is the background again.
+        // After the voxel is written back, the nodes still exist, but every cell is the background again.
         Act::Write(all(4095), Write::Off(3)),
         Act::Constants(all(4095), Some(off(3))),
     ];
@@ -41,7 +41,7 @@ fn values_and_states(rt: HostRuntime) {
     play::numbers_433(&rt, 0, 4096, &acts, &mut steps);
 }
 
-// Gives each voxel of the root block at 0 this cell. Until the last, its cells aren't all equal.
+// Gives each voxel of the upper extent at 0 this cell. Until the last write, its cells aren't all equal.
 fn fill_root_block(rt: &impl Abort, acts: &mut Vec<Act<i32>>, value: i32) {
     for number in 0..512 {
         let p = at(number >> 6, number >> 3 & 7, number & 7);
@@ -51,7 +51,7 @@ fn fill_root_block(rt: &impl Abort, acts: &mut Vec<Act<i32>>, value: i32) {
     }
 }
 
-// Nodes and tiles of one cell side by side make a block of one cell.
+// Nodes and tiles of one cell, side by side, form a block of one cell.
 #[test]
 fn nodes_beside_tiles(rt: HostRuntime) {
     let mut steps = Steps::new(&rt);

@@ -1,4 +1,4 @@
-//! Copies of trees, and what a write to one leaves of the other.
+//! Tests of copies: a write to a tree or to its copy leaves the other one as it is.
 
 use super::acts::{Act, run};
 use super::{Tiny, all, at, off, on, play};
@@ -19,8 +19,8 @@ fn copied(rt: &impl Abort, tree: &Tiny<i32>) -> Tiny<i32> {
     tree.try_copy().expect(rt, "a copy")
 }
 
-// Acts on a copy of a tree, on the tree, and on the copy again. The tree has two lower nodes in a root block, one with a leaf
-// and one with a tile in place of a leaf, whose slot is vacant; and a leaf in each of two other root blocks.
+// Acts on a copy of a tree, on the tree, and on the copy again. The tree has two lower nodes in an upper extent, one with a
+// leaf and one with a tile in place of a leaf, whose slot is vacant. It also has a leaf in each of two other upper extents.
 fn run_by_turns(
     rt: &(impl Abort + AllocGlobal),
     limit: u32,
@@ -76,7 +76,7 @@ fn a_copy_has_each_level(rt: HostRuntime) {
 #[test]
 fn a_write_to_one_leaves_the_other(rt: HostRuntime) {
     let mut steps = Steps::new(&rt);
-    // In a leaf, in a tile, and in a root block without an entry.
+    // In a leaf, in a tile, and in an upper extent without an entry.
     let of_copy = [
         Act::Write(all(0), Write::Off(6)),
         Act::Write(at(2, 4, 6), Write::Off(8)),
@@ -120,7 +120,7 @@ fn a_copy_of_an_empty_tree(rt: HostRuntime) {
     play::truths(&rt, true, 0, &acts, &mut steps);
 }
 
-// A copy of a copy has what the first tree has, once that is gone; a background entry and its nodes are copied with the others.
+// A copy of a copy has what the first tree had, after that tree is dropped. A background entry and its nodes are copied, too.
 #[test]
 fn a_copy_of_a_copy(rt: HostRuntime) {
     let mut steps = Steps::new(&rt);

@@ -1,4 +1,4 @@
-//! Leaves by their blocks, and in block order.
+//! Tests of leaves, by coordinates and in block order.
 
 use super::acts::{Act, add, run};
 use super::{all, at, off, on, play};
@@ -9,7 +9,7 @@ use vdb_pool::Steps;
 use vdb_tree::{Tree, Tree433, TreeOf, TreeRefusal, Write};
 use vdb_value::Cell;
 
-// A leaf's cell at 83, which is the voxel `at(1, 2, 3)` of its block, and its first cell.
+// Checks a leaf's cell at 83, which is the voxel `at(1, 2, 3)` of its extent, and its first cell.
 fn expect_entries(rt: &impl Abort, leaf: &Leaf<i32, 3, 8>, wanted: [Cell<i32>; 2]) {
     let [late, first] = wanted;
     for (number, cell) in [(83, late), (0, first)] {
@@ -17,7 +17,7 @@ fn expect_entries(rt: &impl Abort, leaf: &Leaf<i32, 3, 8>, wanted: [Cell<i32>; 2
     }
 }
 
-// Two cells of a leaf, how many of its voxels are active, and the second word of their states. Three nodes are visited for it.
+// Checks two cells of a leaf, how many of its voxels are active, and the second word of their states. It takes three node visits.
 fn expect_leaf(
     rt: &impl Abort,
     tree: &Tree<i32>,
@@ -39,12 +39,12 @@ fn expect_leaf(
     assert_eq!(rt; steps.count().wrapping_sub(before), 3, "at {p:?}");
 }
 
-// Whether there is a leaf to be read.
+// Checks whether a leaf can be read.
 fn expect_some_leaf(rt: &impl Abort, tree: &Tree<i32>, p: Coord, there: bool, steps: &mut Steps) {
     assert_eq!(rt; tree.leaf(p, steps).is_some(), there, "at {p:?}");
 }
 
-// Of the leaf around `at(1, 2, 3)` that voxel alone is active, and of the one around `all(-8)` none.
+// In the leaf around `at(1, 2, 3)` that voxel alone is active, and in the one around `all(-8)` none.
 #[test]
 fn leaves_by_their_blocks(rt: HostRuntime) {
     let mut steps = Steps::new(&rt);
@@ -103,7 +103,7 @@ fn active_voxels_of_a_leaf(rt: HostRuntime) {
     play::numbers_433(&rt, 0, 4096, &acts, &mut steps);
 }
 
-// Makes one word of the states of the leaf at 0 equal 101 from its lowest bit on. Where no leaf is, states are refused.
+// Sets the first word of the states of the leaf at 0 to the bits 101. At a coordinate without a leaf, the call returns false.
 fn set_states<
     V: Stored<WU> + Stored<WL> + Stored<8>,
     const U: u32,
@@ -147,7 +147,7 @@ fn after_states<V: Copy + Drop>(zero: V, one: V) -> [Act<V>; 9] {
     ]
 }
 
-// States change; the values stay.
+// Checks that states change and values stay.
 fn try_states<
     V: Stored<WU> + Stored<WL> + Stored<8>,
     const U: u32,
@@ -190,7 +190,7 @@ fn states_of_a_leaf_of_large_numbers(rt: HostRuntime) {
     try_states(&rt, &mut tree, &before_states(i64::MIN), &after, &mut steps);
 }
 
-// Five leaves in four root blocks, which are told in block order: `order`, and from each coordinate of `seeks` on.
+// Five leaves in four upper extents, read in block order: `order`, and the next leaf from each coordinate of `seeks` on.
 fn leaves_in_order(
     rt: &(impl Abort + AllocGlobal),
     order: [Coord; 5],
@@ -220,7 +220,7 @@ fn leaves_in_order(
     acts
 }
 
-// The layouts differ in which comes first, 63 along x or 64 along z: in one lower node, or in two.
+// The layouts differ in which comes first, 63 along x or 64 along z: the two are in one lower node, or in two.
 #[test]
 fn leaves_in_block_order(rt: HostRuntime) {
     let mut steps = Steps::new(&rt);
@@ -277,14 +277,14 @@ fn write_leaf(
     tree.write_leaf(p, leaf, steps)
 }
 
-// A leaf of one cell, but for one voxel.
+// Returns a leaf of one cell, except for one voxel.
 fn leaf_of(rt: &(impl Abort + AllocGlobal), cell: Cell<i32>, at_83: Cell<i32>) -> Leaf<i32, 3, 8> {
     let mut leaf = Leaf::new_constant(rt.alloc(), cell).expect(rt, "a leaf");
     leaf.set(83, at_83);
     leaf
 }
 
-// A leaf written where there is none, refused in a second root block, and over that leaf as one cell.
+// A leaf written where there is none; one that fails in a second upper extent; and one of one cell over the first leaf.
 #[test]
 fn leaves_written_at_once(rt: HostRuntime) {
     let mut steps = Steps::new(&rt);

@@ -1,4 +1,4 @@
-//! Trees whose root table may get few entries.
+//! Tests of trees whose root table may have few entries.
 
 use super::acts::{Act, add};
 use super::{all, at, off, on, play};
@@ -49,7 +49,7 @@ fn no_root_block_at_all(rt: HostRuntime) {
     play::truths_433(&rt, true, 0, &acts, &mut steps);
 }
 
-// Entries whose blocks hold the background alone give way to a write elsewhere.
+// Entries whose upper extents hold the background alone give way to a write elsewhere.
 #[test]
 fn background_entries_are_swept_out(rt: HostRuntime) {
     let mut steps = Steps::new(&rt);
@@ -71,7 +71,7 @@ fn background_entries_are_swept_out(rt: HostRuntime) {
     play::large_numbers(&rt, 7, 1, &acts, &mut steps);
 }
 
-// Of two entries one becomes all background, and gives way to a third.
+// One of two entries becomes all background, and gives way to a third.
 fn give_up(rt: &(impl Abort + AllocGlobal), kept: Coord, given_up: Coord, steps: &mut Steps) {
     let third = at(-1, 0, 0);
     let fourth = at(0, 0, -1);

@@ -1,4 +1,4 @@
-//! Paths of nodes, and what a descent from one costs.
+//! Tests of paths of nodes, and of how many nodes a descent from one visits.
 
 use super::acts::Act;
 use super::{all, at, off, on, play};
@@ -8,16 +8,16 @@ use vdb_pool::Steps;
 use vdb_tree::{PathOf, Skip, Tree, Write};
 use vdb_value::Cell;
 
-/// What is tried at a coordinate of the tree, and the answer.
+/// What to try at a coordinate of the tree, and the answer.
 #[derive(Drop)]
 enum Trial {
     /// The cell at the end of a descent from another coordinate's path.
     Descent(Coord, Cell<i32>),
     /// How many nodes a path has.
     Length(u32),
-    /// Whether a write of the value 9 is done near another coordinate's path, and the voxel's cell then.
+    /// Whether a write of the value 9 succeeds near another coordinate's path, and the voxel's cell after it.
     Near(Coord, bool, Cell<i32>),
-    /// The value in the leaf around it, after a walk has yielded the first leaf, and how many nodes are visited for it.
+    /// The value in the leaf around it, after a walk has yielded the first leaf, and how many nodes this visits.
     NearFirst(Option<i32>, u64),
 }
 
@@ -72,8 +72,8 @@ fn expect_trial(rt: &impl Abort, tree: &mut Tree<i32>, p: Coord, trial: &Trial, 
     }
 }
 
-// Trials in turn, and how many nodes each visits, if that is told. The tree has one root block, with leaves around 0 and 9 of
-// one lower node, and around 200 of another.
+// Runs trials in turn, and checks how many nodes each visits if a number is given. The tree has one upper extent. One of its
+// lower nodes has leaves around 0 and 9, and another has one around 200.
 fn try_paths(
     rt: &(impl Abort + AllocGlobal),
     trials: &[(Coord, Trial, Option<u64>)],
@@ -94,7 +94,7 @@ fn try_paths(
     }
 }
 
-// As many visits as the first path has nodes, and then as there are on the way down from the lowest that both have.
+// As many visits as the first path has nodes, and then as many as nodes on the way down from the lowest that both paths share.
 #[test]
 fn descents_from_what_is_shared(rt: HostRuntime) {
     let mut steps = Steps::new(&rt);
@@ -152,7 +152,7 @@ fn writes_in_the_leaf_of_a_path(rt: HostRuntime) {
     try_paths(&rt, &trials, &mut steps);
 }
 
-// The leaf that a walk has yielded is had by one visit, and another by the descent to it.
+// A leaf that the walk has yielded takes one visit, and any other takes the descent to it.
 #[test]
 fn leaves_near_a_walk(rt: HostRuntime) {
     let mut steps = Steps::new(&rt);

@@ -1,4 +1,4 @@
-//! The blocks of one cell where descents end. What follows a piece is how many nodes are visited to tell it.
+//! Tests of the blocks of one cell where descents end. After each piece comes the number of nodes visited to find it.
 
 use super::acts::Act;
 use super::{all, at, off, on, play};
@@ -59,7 +59,7 @@ fn pieces_of_narrow_nodes(rt: HostRuntime) {
     play::numbers_433(&rt, -1, 4096, &acts, &mut steps);
 }
 
-// A leaf whose eight voxels are made alike is still a leaf, until it is pruned.
+// A leaf whose eight voxels become equal is still a leaf until it is pruned.
 #[test]
 fn a_pruned_leaf_is_one_piece(rt: HostRuntime) {
     let mut steps = Steps::new(&rt);

@@ -1,5 +1,5 @@
-//! Lists of acts carried out, by one function for each type of tree: a call of a generic function costs the proof much at each
-//! place where it stands. A function makes a tree of that type, has it go through the acts, and gives it up.
+//! Runs of lists of acts, with one function for each type of tree, because each place that calls a generic function costs the
+//! proof much. A function makes a tree of its type, runs the acts on it, and drops it.
 
 use super::Tiny;
 use super::acts::{Act, run, try_acts};
@@ -8,7 +8,7 @@ use std::process::Abort;
 use vdb_pool::Steps;
 use vdb_tree::{Tree, Tree433};
 
-/// Acts of a tree of 32-bit numbers, of the standard layout.
+/// Runs acts on a tree of 32-bit numbers, in the standard layout.
 pub(super) fn numbers(
     rt: &(impl Abort + AllocGlobal),
     background: i32,
@@ -19,7 +19,7 @@ pub(super) fn numbers(
     try_acts(rt, Tree::new(rt.alloc(), background, limit), acts, steps);
 }
 
-/// Acts of a tree of 32-bit numbers, of the layout of 4, 3 and 3 bits.
+/// Runs acts on a tree of 32-bit numbers, in the layout of 4, 3 and 3 bits.
 pub(super) fn numbers_433(
     rt: &(impl Abort + AllocGlobal),
     background: i32,
@@ -30,7 +30,7 @@ pub(super) fn numbers_433(
     try_acts(rt, Tree433::new(rt.alloc(), background, limit), acts, steps);
 }
 
-/// Acts of a tree of 32-bit numbers, of the smallest nodes.
+/// Runs acts on a tree of 32-bit numbers, with the smallest nodes.
 pub(super) fn numbers_tiny(
     rt: &(impl Abort + AllocGlobal),
     background: i32,
@@ -41,7 +41,7 @@ pub(super) fn numbers_tiny(
     try_acts(rt, Tiny::new(rt.alloc(), background, limit), acts, steps);
 }
 
-/// Acts of a tree of 64-bit numbers, of the standard layout.
+/// Runs acts on a tree of 64-bit numbers, in the standard layout.
 pub(super) fn large_numbers(
     rt: &(impl Abort + AllocGlobal),
     background: i64,
@@ -52,7 +52,7 @@ pub(super) fn large_numbers(
     try_acts(rt, Tree::new(rt.alloc(), background, limit), acts, steps);
 }
 
-/// Acts of a tree of 64-bit numbers, of the layout of 4, 3 and 3 bits.
+/// Runs acts on a tree of 64-bit numbers, in the layout of 4, 3 and 3 bits.
 pub(super) fn large_numbers_433(
     rt: &(impl Abort + AllocGlobal),
     background: i64,
@@ -63,7 +63,7 @@ pub(super) fn large_numbers_433(
     try_acts(rt, Tree433::new(rt.alloc(), background, limit), acts, steps);
 }
 
-/// Acts of a tree of truth values, of the standard layout.
+/// Runs acts on a tree of booleans, in the standard layout.
 pub(super) fn truths(
     rt: &(impl Abort + AllocGlobal),
     background: bool,
@@ -74,7 +74,7 @@ pub(super) fn truths(
     try_acts(rt, Tree::new(rt.alloc(), background, limit), acts, steps);
 }
 
-/// Acts of a tree of truth values, of the layout of 4, 3 and 3 bits.
+/// Runs acts on a tree of booleans, in the layout of 4, 3 and 3 bits.
 pub(super) fn truths_433(
     rt: &(impl Abort + AllocGlobal),
     background: bool,
@@ -85,7 +85,7 @@ pub(super) fn truths_433(
     try_acts(rt, Tree433::new(rt.alloc(), background, limit), acts, steps);
 }
 
-/// Acts of a tree of truth values, of the smallest nodes.
+/// Runs acts on a tree of booleans, with the smallest nodes.
 pub(super) fn truths_tiny(
     rt: &(impl Abort + AllocGlobal),
     background: bool,
@@ -96,12 +96,12 @@ pub(super) fn truths_tiny(
     try_acts(rt, Tiny::new(rt.alloc(), background, limit), acts, steps);
 }
 
-/// A tree of 32-bit numbers, of the standard layout, for a test that needs more than acts.
+/// Returns a tree of 32-bit numbers, in the standard layout, for a test that needs more than acts.
 pub(super) fn new_numbers(alloc: Global, background: i32, limit: u32) -> Tree<i32> {
     Tree::new(alloc, background, limit)
 }
 
-/// Acts of such a tree.
+/// Runs acts on a tree from `new_numbers`.
 pub(super) fn run_numbers(
     rt: &impl Abort,
     tree: &mut Tree<i32>,

@@ -1,4 +1,4 @@
-//! Many changes, drawn by a linear congruential generator, beside a map of cells.
+//! Many changes, drawn by a linear congruential generator, and checked against a map of cells.
 
 ghost use Rattle.std.specs.Prelude.{◌<◌};
 
@@ -12,7 +12,7 @@ use vdb_pool::Steps;
 use vdb_tree::Write;
 use vdb_value::Cell;
 
-/// Knuth's generator of 64 bits, and the components that coordinates are drawn from.
+/// Knuth's generator of 64 bits, and the components from which it draws coordinates.
 #[derive(Drop)]
 struct Draws {
     state: u64,
@@ -20,7 +20,7 @@ struct Draws {
 }
 
 impl Draws {
-    // A number below `bound`, by the upper bits.
+    // Returns a number below `bound`, drawn by the upper bits.
     fn below(&mut self, bound: u64) -> u64
         requires { 0 < bound }
         ensures { result < bound }
@@ -44,7 +44,7 @@ impl Draws {
         at(x, y, z)
     }
 
-    // Often the background, so that blocks are all background again.
+    // Returns a change that often is to the background, so that blocks become all background again.
     fn change(&mut self) -> Write<i32> {
         let value = self.below(2) as i32;
         match self.below(6) {
@@ -57,7 +57,7 @@ impl Draws {
     }
 }
 
-/// What a tree with background 0 is to hold, and how many bits of a component lie below a root block's number.
+/// What a tree with background 0 is to hold, and how many bits of a component lie below an upper extent's number.
 #[derive(Drop)]
 struct Wanted {
     alloc: Global,
@@ -78,7 +78,7 @@ impl Wanted {
         put.expect(rt, "memory for a map");
     }
 
-    // How many root blocks hold something.
+    // Returns how many upper extents hold something.
     fn root_blocks(&self, rt: &impl Abort) -> u64 {
         let mut keys = BTreeMap::new(self.alloc);
         for (p, cell) in &self.cells {
@@ -94,7 +94,7 @@ impl Wanted {
     }
 }
 
-// A change, and the voxel's cell then. The root limit refuses it where there would be a root block too many.
+// Adds a change and a check of the voxel's cell. The change fails with `RootLimit` if there would be one upper extent too many.
 fn change_one(
     rt: &impl Abort,
     wanted: &mut Wanted,
@@ -116,7 +116,7 @@ fn change_one(
     }
 }
 
-// The aligned cube of eight voxels around p.
+// Changes the aligned cube of eight voxels around p.
 fn change_eight(
     rt: &impl Abort,
     wanted: &mut Wanted,
@@ -135,7 +135,7 @@ fn change_eight(
     }
 }
 
-// A change of a single voxel or of an aligned cube of eight, with a prune now and then.
+// Changes a single voxel or an aligned cube of eight, and prunes now and then.
 fn change_some(
     rt: &impl Abort,
     wanted: &mut Wanted,
@@ -172,8 +172,8 @@ fn expect_wanted(
     add(rt, acts, Act::RootBlocks(wanted.root_blocks(rt)));
 }
 
-// Changes of an empty tree whose root blocks span 2 to the power of `block_bits` voxels along each axis, and what is expected
-// of it then.
+// Returns changes of an empty tree whose upper extents span 2 to the power of `block_bits` voxels along each axis, and what to
+// expect of it then.
 fn drawn_acts(
     rt: &(impl Abort + AllocGlobal),
     block_bits: u32,

@@ -1,4 +1,4 @@
-//! How many nodes a tree has, and which it gives back.
+//! Tests of how many nodes a tree has, and which it gives back.
 
 use super::acts::Act;
 use super::{all, at, off, on, play};
@@ -31,7 +31,7 @@ fn a_tree_of_one_voxel(rt: HostRuntime) {
     play::numbers(&rt, 0, 4096, &acts, &mut steps);
 }
 
-// Three voxels in two root blocks. The last two share a block of 128 along each axis, but none of 64.
+// Three voxels in two upper extents. The last two share a cube of 128 voxels along each axis, but none of 64.
 fn three_voxels(counts: [u64; 4]) -> [Act<i32>; 14] {
     [
         Act::Write(all(-1), Write::On(7)),
@@ -58,7 +58,7 @@ fn counts_by_layout(rt: HostRuntime) {
     play::numbers_433(&rt, 0, 4096, &three_voxels([2, 2, 3, 3]), &mut steps);
 }
 
-// The slot of the leaf around a coordinate.
+// Returns the slot of the leaf around a coordinate.
 fn leaf_slot(tree: &Tree<i32>, p: Coord, steps: &mut Steps) -> Option<u32> {
     match tree.trace(p, steps) {
         PathOf::ToLeaf(_, _, leaf) => Some(leaf.slot()),
@@ -66,7 +66,7 @@ fn leaf_slot(tree: &Tree<i32>, p: Coord, steps: &mut Steps) -> Option<u32> {
     }
 }
 
-// The slot of the leaf around a coordinate, after some acts.
+// Checks the slot of the leaf around a coordinate after some acts.
 fn expect_slot(
     rt: &impl Abort,
     tree: &mut Tree<i32>,
@@ -79,7 +79,7 @@ fn expect_slot(
     assert_eq!(rt; leaf_slot(tree, p, steps), slot, "at {p:?}");
 }
 
-// The block of 8 voxels around `at(8, 16, 24)` has one cell, and the blocks beside it the background.
+// Checks that the leaf extent around `at(8, 16, 24)` has one cell, and the extents beside it the background.
 fn expect_one_block(rt: &impl Abort, tree: &mut Tree<i32>, steps: &mut Steps) {
     let acts = [
         Act::Cell(at(8, 16, 24), on(5)),
@@ -92,7 +92,7 @@ fn expect_one_block(rt: &impl Abort, tree: &mut Tree<i32>, steps: &mut Steps) {
     play::run_numbers(rt, tree, &acts, steps);
 }
 
-// That block filled, and its leaf pruned.
+// Fills the leaf extent around `at(8, 16, 24)`, and prunes its leaf.
 fn prune_one_block(rt: &impl Abort, tree: &mut Tree<i32>, steps: &mut Steps) {
     let p = at(8, 16, 24);
     let acts = [Act::Fill(p, 8, Write::On(5)), Act::Counts([1, 1, 1, 1])];
@@ -101,7 +101,7 @@ fn prune_one_block(rt: &impl Abort, tree: &mut Tree<i32>, steps: &mut Steps) {
     expect_slot(rt, tree, &acts, p, None, steps);
 }
 
-// Of the block's nodes only the leaf goes: the blocks around it hold the background, too. The next leaf gets its slot.
+// Pruning collapses only the leaf: the extents around it hold the background, too. The next leaf gets its slot.
 #[test]
 fn a_leaf_of_one_cell_becomes_a_tile(rt: HostRuntime) {
     let mut steps = Steps::new(&rt);
@@ -114,7 +114,7 @@ fn a_leaf_of_one_cell_becomes_a_tile(rt: HostRuntime) {
     expect_one_block(&rt, &mut tree, &mut steps);
 }
 
-// A write in the block of a tile makes a leaf of the tile's cells.
+// A write in a tile makes a leaf of the tile's cells.
 #[test]
 fn a_voxel_of_a_tile_is_written(rt: HostRuntime) {
     let mut steps = Steps::new(&rt);
@@ -129,7 +129,7 @@ fn a_voxel_of_a_tile_is_written(rt: HostRuntime) {
     play::run_numbers(&rt, &mut tree, &acts, &mut steps);
 }
 
-// One cell over a block of `span` along each axis, and a voxel of it changed. The states count, too.
+// Gives a block of `span` voxels along each axis one cell, and then changes a voxel of it. States count, too.
 fn try_block(
     rt: &(impl Abort + AllocGlobal),
     span: i32,
@@ -163,7 +163,7 @@ fn try_block(
     play::numbers_tiny(rt, 0, 1, &acts, steps);
 }
 
-// A leaf's block, a lower node's and a whole root block in turn.
+// A leaf extent, a lower extent and an upper extent, one after another.
 #[test]
 fn blocks_of_one_cell_at_each_level(rt: HostRuntime) {
     let mut steps = Steps::new(&rt);
@@ -177,7 +177,7 @@ fn blocks_of_one_cell_at_each_level(rt: HostRuntime) {
     }
 }
 
-// A full table of background entries in place of one that was filled and pruned.
+// The tile of a filled and pruned upper extent keeps the table full, until the extent is all background.
 #[test]
 fn a_tile_of_the_root_table_is_kept(rt: HostRuntime) {
     let mut steps = Steps::new(&rt);

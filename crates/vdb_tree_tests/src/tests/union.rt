@@ -1,4 +1,4 @@
-//! A caller of the calls on leaves: the union of the states of two leaves, for any type of values.
+//! A caller of the calls on leaves: unites the states of two leaves, for any type of values.
 
 ghost use Rattle.std.specs.Prelude.{◌≡◌, ◌≢◌, ◌||◌, false, IsTrue};
 ghost use Rattle.vdb_coord.specs.Blocks.{block_number, vdb};
@@ -12,8 +12,8 @@ use vdb_node::Stored;
 use vdb_pool::Steps;
 use vdb_tree::Tree;
 
-/// Makes active what is active in the other tree, in the leaf block around p. False, and nothing done, where one of the trees
-/// has no leaf there.
+/// Activates, in the leaf extent around p, each voxel that is active in the other tree. Returns false and changes nothing if
+/// one of the trees has no leaf there.
 pub fn unite_leaf<V: Stored<512> + Stored<64> + Stored<8>>(
     tree: &mut Tree<V>,
     other: &Tree<V>,

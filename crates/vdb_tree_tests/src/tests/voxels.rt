@@ -1,4 +1,4 @@
-//! Leaves in place of active tiles.
+//! Tests of leaves in place of active tiles.
 
 use super::acts::Act;
 use super::{all, off, on, play};

@@ -1,4 +1,4 @@
-//! What each write makes of a cell.
+//! Tests of what each write makes of a cell.
 
 use super::acts::{Act, add};
 use super::{all, at, off, on, play};
@@ -9,7 +9,7 @@ use vdb_pool::Steps;
 use vdb_tree::{Tree, TreeRefusal, Write};
 use vdb_value::Cell;
 
-// A write, and again when the voxel has that cell already. A voxel beside keeps the background.
+// Adds a write, and the same write again when the voxel has that cell already. A voxel beside it keeps the background.
 fn add_write<V: Copy>(
     rt: &impl Abort,
     acts: &mut Vec<Act<V>>,
@@ -25,13 +25,13 @@ fn add_write<V: Copy>(
     }
 }
 
-// A write that visits no node.
+// Adds a write that visits no node.
 fn add_still_write<V: Copy>(rt: &impl Abort, acts: &mut Vec<Act<V>>, change: Write<V>) {
     add(rt, acts, Act::Write(at(-9, 4100, 64), change));
     add(rt, acts, Act::Visits(0));
 }
 
-// Writes of the background to a fresh tree, which needs nothing for them.
+// Adds writes of the background to a fresh tree, which needs nothing for them.
 fn add_background_writes<V: Copy>(rt: &impl Abort, acts: &mut Vec<Act<V>>, zero: V) {
     add(rt, acts, Act::Background(zero));
     add_still_write(rt, acts, Write::State(false));
@@ -40,7 +40,7 @@ fn add_background_writes<V: Copy>(rt: &impl Abort, acts: &mut Vec<Act<V>>, zero:
     add(rt, acts, Act::Counts([0, 0, 0, 0]));
 }
 
-// Writes to a fresh tree with the background `zero`.
+// Returns writes to a fresh tree with the background `zero`.
 fn writes<V: Copy + Drop>(rt: &(impl Abort + AllocGlobal), zero: V, one: V) -> Vec<Act<V>> {
     let mut acts = Vec::new(rt.alloc());
     add_background_writes(rt, &mut acts, zero);
@@ -82,7 +82,7 @@ fn writes_of_large_numbers(rt: HostRuntime) {
     play::large_numbers_433(&rt, -1, 1, &acts, &mut steps);
 }
 
-// Writes, and then reads, the first and the last coordinate along each axis: eight root blocks.
+// Adds writes, and then reads, of the first and the last coordinate along each axis: eight upper extents.
 fn add_corners(rt: &impl Abort, acts: &mut Vec<Act<i32>>) {
     let corners = [
         all(i32::MIN),
@@ -133,12 +133,12 @@ fn cells_at_both_ends(rt: HostRuntime) {
     play::numbers(&rt, 0, 8, &acts, &mut steps);
 }
 
-// Whether a voxel could be written.
+// Returns whether a voxel could be written.
 fn is_written(tree: &mut Tree<i32>, p: Coord, steps: &mut Steps) -> bool {
     tree.write(p, Write::On(5), steps).is_ok()
 }
 
-// Refused for lack of memory at a run with refused allocations.
+// A write fails with `Memory` in a run with injected allocation failures.
 #[test]
 fn a_refused_write_keeps_every_cell(rt: HostRuntime) {
     let mut steps = Steps::new(&rt);

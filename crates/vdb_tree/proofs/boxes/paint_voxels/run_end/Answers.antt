@@ -6,7 +6,7 @@ use Rattle.vdb_coord.specs.declared.Coord.{Coord}
 use Rattle.vdb_tree.proofs.VoxelRuns.{plane_to, row_to, whole_to}
 use Rattle.vdb_tree.proofs.boxes.paint_voxels.run_end.Goals as goal
 
--- the lesser of two numbers, and two that are one, of what is known as others
+-- the lesser of two numbers, and the equality of two, in terms of other numbers that equal them
 least : (a b r : ℤ) → SFits w32 a → SFits w32 b → r ≡ int_min (to_z w32 (of_z w32 a)) (to_z w32 (of_z w32 b)) → (x y : ℤ) → a ≡ x → b ≡ y → r ≡ int_min x y
 least a b r f g e x y h k = (rw (to_z-of_z w32 a f, to_z-of_z w32 b g) at e) ∙ ap (λ (t : ℤ). int_min t b) h ∙ ap (λ (t : ℤ). int_min x t) k
 

@@ -13,7 +13,7 @@ use Rattle.vdb_tree.specs.Layout.{bits_of, root_at}
 use Rattle.vdb_tree.proofs.Blocks.{never}
 use Rattle.vdb_tree.proofs.tree.TreeOf.first_within_root.Goals as goal
 
--- the least corner of what the box and the block have in common lies in both
+-- the least corner of the intersection of box and block lies in both
 corner : (bits : Bits) (box part : Box) (n : Coord) → ((p : Coord) → is_inside part p ≡ (is_inside box p && is_inside (block_around bits Upper n) p)) → is_box part ≡ true
     → (is_inside box part.min ≡ true) × (block_number bits Upper part.min ≡ block_number bits Upper n)
 corner bits box part n value is =
