@@ -1,13 +1,26 @@
 #!/usr/bin/env python3
-"""Compares documents with what they tell of: the example in the README with `main` of example_first, which the gate compiles, and the table of
-definitions in docs/PROOFS.md with the files that it names. Ends with status 1 where one is out of date, and says which."""
+"""Checks the documents: documents.py
+
+It reports and exits with status 1 if
+
+- a relative link of a Markdown file names no file or no heading,
+- a sentence outside tables and code has more than 40 words,
+- the example in README.md differs from `main` of example_first, which CI compiles,
+- README.md has more than 120 lines,
+- the table of definitions in docs/PROOFS.md gives a wrong number of lines or a wrong sum.
+"""
 import os
 import re
+import subprocess
 import sys
 
 TOP = os.path.dirname(os.path.dirname(os.path.abspath(__file__)))
+WORDS, README_LINES = 40, 120
 ROW = re.compile(r"^\| \[[^\]]*\]\(\.\./([^)]*)\) \|.*\| ([\d,]+) \| ([\d,]+) \|$", re.M)
 SUMS = re.compile(r"^\| All \| \| ([\d,]+) \| ([\d,]+) \|$", re.M)
+LINK = re.compile(r"\]\(([^)\s]+)\)")
+ITEM = re.compile(r"^\s*(?:[-*]|\d+\.)\s")
+END = re.compile(r"(?<=[.!?])[\"')*_`]*\s+")
 
 
 def text(name):
@@ -15,18 +28,70 @@ def text(name):
         return file.read()
 
 
+def documents():
+    """The Markdown files of the repository that git knows or that are new."""
+    found = subprocess.run(
+        ["git", "ls-files", "--cached", "--others", "--exclude-standard", "*.md"], cwd=TOP, check=True, stdout=subprocess.PIPE, text=True
+    ).stdout.split()
+    return sorted(name for name in found if os.path.exists(f"{TOP}/{name}"))
+
+
+def prose(document):
+    """The document without code, in which a link could be anything."""
+    fenced = re.sub(r"(?ms)^```.*?^```$", "", document)
+    return "\n".join("" if line.startswith("    ") and not ITEM.match(line) else line for line in fenced.split("\n"))
+
+
+def anchors(name):
+    """The anchors of a document's headings, as code forges make them."""
+    made = set()
+    for title in re.findall(r"(?m)^#+ (.*)$", prose(text(name))):
+        plain = re.sub(r"\[([^\]]*)\]\([^)]*\)", r"\1", title).replace("`", "").lower()
+        made.add(re.sub(r"[^\w\- ]", "", plain).replace(" ", "-"))
+    return made
+
+
+def broken_links(name):
+    """Yields the relative links of a document that lead nowhere."""
+    for target in LINK.findall(re.sub(r"`[^`\n]*`", "", prose(text(name)))):
+        if re.match(r"[a-z]+:", target):
+            continue
+        path, _, anchor = target.partition("#")
+        there = os.path.normpath(os.path.join(os.path.dirname(name), path)) if path else name
+        if not os.path.exists(f"{TOP}/{there}"):
+            yield f"{name}: the link {target} names no file"
+        elif anchor and anchor not in anchors(there):
+            yield f"{name}: the link {target} names no heading"
+
+
+def long_sentences(name):
+    """Yields the sentences of a document with too many words."""
+    part = []
+    for line in [*prose(text(name)).split("\n"), ""]:
+        starts = not line.strip() or ITEM.match(line) or line.startswith(("|", "#"))
+        if starts and part:
+            for sentence in END.split(" ".join(part)):
+                count = len(sentence.split())
+                if count > WORDS:
+                    yield f"{name}: a sentence of {count} words: {' '.join(sentence.split()[:10])} .."
+            part = []
+        if line.strip() and not line.startswith(("|", "#")):
+            part.append(ITEM.sub("", line))
+
+
 def number(digits):
     return int(digits.replace(",", ""))
 
 
-def stale():
-    """Yields what is out of date."""
-    program = text("crates/example_first/src/main.rt")
+def stale_numbers():
+    """Yields the numbers and copies that are out of date."""
+    program, readme = text("crates/example_first/src/main.rt"), text("README.md")
     example = "".join(f"    {line}" if line.strip() else line for line in program[program.index("fn main") :].splitlines(True))
-    if example not in text("README.md"):
+    if example not in readme:
         yield "README.md: another main than that of example_first"
-    proofs = text("docs/PROOFS.md")
-    sums = [0, 0]
+    if readme.count("\n") > README_LINES:
+        yield f"README.md: {readme.count(chr(10))} lines"
+    proofs, sums = text("docs/PROOFS.md"), [0, 0]
     for name, lines, reached in ROW.findall(proofs):
         has = text(name).count("\n")
         if number(lines) != has:
@@ -36,6 +101,13 @@ def stale():
         yield f"docs/PROOFS.md: the sums are {sums[0]:,} and {sums[1]:,}"
 
 
-found = [*stale()]
-print("\n".join(found), end="\n" * bool(found))
-sys.exit(bool(found))
+def main():
+    found = [*stale_numbers()]
+    for name in documents():
+        found += [*broken_links(name), *long_sentences(name)]
+    print("\n".join(found), end="\n" * bool(found))
+    sys.exit(bool(found))
+
+
+if __name__ == "__main__":
+    main()
