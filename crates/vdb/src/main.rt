@@ -7,6 +7,7 @@
 ghost use Rattle.std.specs.Prelude.{◌≡◌, IfOk, false};
 ghost use Rattle.vdb_shell.specs.Files.{any_failed};
 
+use std::alloc::{AllocError, Global};
 use std::fs::File;
 use std::process::ExitCode;
 use std::{env, fs, io};
@@ -19,11 +20,22 @@ use vdb_shell::{Fault, Played, Words, finish, play, start, status, words};
 /// The exit status of a faulty command line.
 const USAGE: u8 = 2;
 
+/// The number of bytes of the largest block that changes how much freed memory the C library keeps: just under 32 MiB.
+const KEEPING: usize = 33_488_896;
+
 fn main(rt: HostRuntime) -> ExitCode {
+    keep_freed_memory(rt.alloc());
     match collected(&rt) {
         Ok(given) => run(&rt, given.as_slice()),
         Err(_) => out_of_memory(&rt),
     }
+}
+
+/// Lets the C library keep up to 64 MiB of freed memory for later allocations; else each freed node row goes back to the system.
+/// glibc sets its thresholds by the size of the largest block that was freed. An allocation failure here changes no answer.
+fn keep_freed_memory(alloc: Global) {
+    let block: Result<Vec<u8>, AllocError> = Vec::with_capacity(alloc, KEEPING);
+    let _ = block;
 }
 
 /// Returns the words of the command line, the program's name first.
