@@ -1,8 +1,8 @@
-"""The crates of crates.txt."""
+"""Reads crates.txt."""
 
 
 def crates_of(root):
-    """The names in crates.txt, lowest first, and for each those that it stands on."""
+    """The names in crates.txt, lowest first, and for each the crates that it names."""
     below = {}
     for line in open(f"{root}/crates.txt", encoding="utf-8"):
         name, _, deps = line.partition("#")[0].partition(":")

@@ -1,7 +1,7 @@
-"""Tasks shared out among the processors, for the gate and for the build of the program.
+"""Runs tasks side by side on the processors, for CI and for the build of the program.
 
-A task is what it waits for, how long it is (any unit), the memory that one job of it takes in bytes, and a call that gets what the tasks
-gave and how many jobs it may use. Its key is a crate's name and what is done with it, as in ("vdb_tree", "proof").
+A task has the keys of the tasks that it waits for, its length (in any unit), the memory of one job in bytes, and a call. The call gets the
+results of the tasks so far and the number of jobs that it may use. A key is a crate's name and an action, as in ("vdb_tree", "proof").
 """
 import os
 import queue
@@ -9,7 +9,7 @@ import threading
 
 
 def chains(tasks):
-    """How long the longest chain of tasks is that begins with each."""
+    """For each task the length of the longest chain of tasks that begins with it."""
     behind = {key: 0 for key in tasks}
     for key in reversed([*tasks]):
         behind[key] += tasks[key][1]
@@ -19,16 +19,16 @@ def chains(tasks):
 
 
 def taken(needs, jobs):
-    """The memory that so many jobs of a task take."""
+    """The memory of a task with this number of jobs."""
     return needs * (1 + 0.6 * (jobs - 1))
 
 
 def in_turn(tasks, processors, memory):
-    """Runs tasks, each once those that it waits for have ended, and returns what each gave.
+    """Runs each task after those that it waits for, and returns the result of each.
 
-    A proof by four jobs doesn't keep four processors busy to its end, since what is left of it then is one chain. So where there are four,
-    two proofs may run side by side; seeds and edits, tests and whatever else is no proof fill the gaps, give way to proofs, and leave the
-    memory that the next proof takes. Tasks with the longest chain of others behind them come first. A task of no length doesn't count.
+    Four jobs of one proof don't keep four processors busy to its end, because the rest of it is one chain. So with four processors two proofs
+    may run side by side. Seeds, edits, tests and other tasks fill the gaps, have a lower priority, and leave the memory of the next proof
+    free. Tasks with the longest chain behind them start first. A task of length 0 doesn't count.
     """
     behind, ended, most = chains(tasks), queue.Queue(), 2 if processors >= 4 else 1
     left, running, given = sorted(tasks, key=lambda key: -behind[key]), {}, {}
@@ -36,14 +36,14 @@ def in_turn(tasks, processors, memory):
 
     def run(key, jobs):
         if not is_proof(key):
-            os.setpriority(os.PRIO_PROCESS, threading.get_native_id(), 10)  # of this thread and of what it starts
+            os.setpriority(os.PRIO_PROCESS, threading.get_native_id(), 10)  # of this thread and of its processes
         try:
             ended.put((key, tasks[key][3](given, jobs), None))
-        except BaseException as error:  # told to whoever waits
+        except BaseException as error:  # raised by the loop below
             ended.put((key, None, error))
 
     def jobs_for(key, waiting):
-        """How many jobs a task may start with now, where so many of its kind wait behind it, or 0."""
+        """The number of jobs with which a task may start now, if `waiting` tasks of its sort wait behind it; or 0."""
         length, needs = tasks[key][1:3]
         if not length:
             return 1

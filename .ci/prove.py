@@ -1,10 +1,10 @@
 #!/usr/bin/env python3
-"""rt ci, which shares out the processors in another way.
+"""Runs rt ci with another order of its tasks: prove.py [CRATE..]
 
-rt ci tries edits and proves tests as soon as it may, as many tasks side by side as there are processors, so that they take turns with the
-proofs that all other crates wait for. Here they give way to proofs, and each says how long it took (lanes.py). What is read, proved, run
-and tried, and what fails, is rt's own: only the function that says when a task runs gives way. In a kit whose rt has no such function, this is
-rt ci. With names of crates it does so for these and those below them alone, on a copy, where the kit's rt ci takes names.
+rt ci runs as many tasks side by side as there are processors. So must-fail edits and proofs of tests compete with the proofs that all other
+crates wait for. Here they give way to those proofs, and each task reports how long it took (lanes.py). Everything else is rt's own: what is
+proved, run and tried, and what fails. If the kit's rt lacks the functions that this script replaces, it runs rt ci unchanged. With names of
+crates it checks these and the crates below them, on a copy of their files.
 """
 import contextlib
 import importlib.machinery
@@ -18,11 +18,11 @@ from lanes import in_turn
 
 BEGUN = time.time()
 
-# the most memory that one job of a proof takes, in bytes, as measured for the largest crate, and that one of tests or of an edit does; rt's
-# own estimate is three times that
+# the most memory of one job, in bytes, as measured for the largest crate: of a proof, and of tests or an edit; rt's own estimate is three
+# times that
 PROOF, OTHER = 3_800_000_000, 2_800_000_000
 
-# how many lines are proved in the time of an edit
+# the number of lines that are proved in the time of one edit
 EDIT = 300
 
 
@@ -35,8 +35,8 @@ def load():
 
 
 def lengths(tasks):
-    """How long each task is, in lines: a crate's for a proof or a seed, from which its edits begin, and an eighth for what begins with a seed.
-    Without seeds the edits of a crate are one task: its proof and then each edit."""
+    """The length of each task in lines: those of its crate for a proof or a seed, from which its edits begin, and an eighth for a task that
+    begins with a seed. Without seeds the edits of a crate are one task: its proof and then each edit."""
     lines = {key[0]: task[1] for key, task in tasks.items() if key[1] == "proof"}
     if any(key[1] == "seed" for key in tasks):
         parts = {"seed": 1, "edits": 8, "sound": 8, "again": 8}
@@ -45,13 +45,13 @@ def lengths(tasks):
 
 
 def count_edits(name):
-    """How many must-fail edits a crate has."""
+    """The number of must-fail edits of a crate."""
     folder = f"crates/{name}/must-fail"
     return len(os.listdir(folder)) if os.path.isdir(folder) else 0
 
 
 def told(key, call):
-    """The task's call, which also prints when it ended and how long it took, where that is a second or more."""
+    """The task's call, which also prints when it ended and how long it took, if that is a second or more."""
 
     def timed(given, jobs):
         start = time.time()
@@ -67,7 +67,7 @@ def told(key, call):
 def in_lanes(tasks):
     """Runs rt's tasks as in_turn does."""
     long = lengths(tasks)
-    with getattr(rt, "ending", contextlib.nullcontext)():  # where rt has it, it ends what tasks have started
+    with getattr(rt, "ending", contextlib.nullcontext)():  # if rt has it, it ends the processes of tasks
         return in_turn(
             {key: (waits, long[key], min(needs, PROOF if key[1] == "proof" else OTHER), told(key, call)) for key, (waits, _, needs, call) in tasks.items()},
             rt.processors(),
@@ -79,5 +79,5 @@ rt = load()
 if all(hasattr(rt, name) for name in ("in_lanes", "processors", "free")):
     rt.in_lanes = in_lanes
 else:
-    print("the processors are shared out by rt itself, whose functions have other names than those known here", flush=True)
+    print("rt itself orders the tasks: its functions have other names than this script knows", flush=True)
 sys.exit(rt.main(["ci", *sys.argv[1:]]))
