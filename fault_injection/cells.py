@@ -80,7 +80,7 @@ class Cells:
         self.grids = {}
 
     def answer(self, line):
-        """Returns the answer to a `get` of an existing grid; None for every other line."""
+        """Returns the answer to a `get`, or None for a line that this model cannot answer."""
         words = line.split()
         if not words or words[0] != "get" or words[1] not in self.grids or words[2] not in "-01234567":
             return None
