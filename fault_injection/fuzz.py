@@ -91,16 +91,16 @@ class Fuzz:
         all_answers = answers_of([line for line, _ in made], run.answers)
         self.by_voxels(what, [line for line, _ in made], all_answers)
         kept = [answer for answer, (_, added) in zip(all_answers, made) if not added] + all_answers[len(made) :]
-        self.tally.check(kept == answers, f"{what}: other answers with prunes, voxelises and look-ups added")
-        self.tally.check(run.saved == saved, f"{what}: another file with prunes, voxelises and look-ups added")
+        self.tally.check(kept == answers, f"{what}: other answers with lines added, {run.errors!r}")
+        self.tally.check(run.saved == saved, f"{what}: another file with lines added, {run.errors!r}")
 
     def in_two(self, what, maker, lines, answers, saved):
         at = maker.chance.randint(0, len(lines))
         first = self.run(lines[:at])
         second = self.run(lines[at:], load=first.saved)
         both = answers_of(lines[:at], first.answers) + answers_of(lines[at:], second.answers)
-        self.tally.check(both == answers, f"{what}: other answers in two sessions, split after line {at}")
-        self.tally.check(second.saved == saved, f"{what}: another file in two sessions, split after line {at}")
+        self.tally.check(both == answers, f"{what}: other answers in two sessions, split after line {at}, {second.errors!r}")
+        self.tally.check(second.saved == saved, f"{what}: another file in two sessions, split after line {at}, {second.errors!r}")
 
     def memory(self, count):
         for number in range(self.seed, self.seed + count):
