@@ -1,57 +1,57 @@
 #!/usr/bin/env python3
-"""Refuses each growth of each row in turn: allocations.py [ROW..]. A row is a script with its answers, in rows/.
+"""Makes each allocation of each row fail in turn: allocations.py [ROW..]. A row is a script with its answers, in rows/.
 
-A growth is a call of malloc or realloc (or of another that gets memory) from the first read on. In each run one growth is
-refused, the first, then the second, until a run meets none; where a row has more than 120 growths the first 60 are refused
-in turn, and then as many again at even distances, with the last three. TURNS names another number than 60. Each of these
-runs is checked:
+The shim counts calls of malloc, realloc and the other allocating functions, from the first read on. One allocation fails in
+each run: the first, then the second, until no allocation is left to fail. A row with more than 120 allocations has runs for
+the first 60, for as many at even distances and for the last three. ALLOCATIONS gives another number than 60. Each run
+must show:
 
-- The command during which the growth was refused answers `error memory`, and nothing else does. A command that the row has refused
-  for something else is refused for that; `memory` may stand in its place for the root limit of a dilation alone.
-- The scene that stands then saves the same bytes as the scene before that command.
-- Each accessor with a last coordinate gives the same answer there as before.
-- The command given again, and all that follow, have the row's answers.
-- Commands that take no memory, lines marked as such in the row, reading, parsing, printing and saving never meet a refusal.
+- The command whose allocation failed answers `error memory`, and no other command does. If the row has another error for
+  that command, it answers this one. Only in a dilation may `memory` replace `root-limit`.
+- The scene then saves the same bytes as the scene before that command.
+- Each accessor with a last coordinate answers the same there as before.
+- The command and all that follow, given again, have the row's answers.
+- No allocation fails outside a command, or in a command that allocates nothing: the row marks those lines.
 
-In further runs one growth and all after it are refused. The lines that don't answer `error memory` must then answer, and the
+In further runs one allocation and all after it fail. The lines that don't answer `error memory` must then answer, and the
 scene must save, as if the others weren't in the script."""
 import os
 import sys
 from planted import planted
 from program import HERE, Run, Tally, Workplace
 
-FOR_GOOD = 20
-IN_TURN = int(os.environ.get("TURNS", "60"))
-NO_MEMORY = {"get", "drop", "prune", "count", "bounds", "list", "slice", "census", "unmeta", "metas"}
+ALL_AFTER_RUNS = 20
+EACH_OF_FIRST = int(os.environ.get("ALLOCATIONS", "60"))
+ALLOCATES_NOTHING = {"get", "drop", "prune", "count", "bounds", "list", "slice", "census", "unmeta", "metas"}
 BY_ACCESSOR = {"get", "set", "unset", "only", "state"}
 LONG = (b"list ", b"slice ", b"metas ")
-NONE = "        takes no memory"
+MARK = "        allocates nothing"
 MEMORY = b"error memory\n"
 
 
 def read_row(path):
-    """A row's lines, each with the text that answers it, and the places of those marked as taking no memory. In the file an
+    """Returns a row's lines, each with its answer, and the indexes of the lines marked as allocating nothing. In the file an
     answer is indented by four spaces, the mark by eight."""
-    row, without = [], set()
+    row, marked = [], set()
     for line in path.read_text().splitlines():
-        if line == NONE:
-            without.add(len(row) - 1)
+        if line == MARK:
+            marked.add(len(row) - 1)
         elif line.startswith("    "):
             row[-1][1] += line[4:] + "\n"
         else:
             row.append([line, ""])
-    return [(line.encode(), answer.encode()) for line, answer in row], without
+    return [(line.encode(), answer.encode()) for line, answer in row], marked
 
 
-def shared_out(lines, answers):
-    """The answer to each line of a script in which no line is blank or a comment."""
-    given, rest = [], answers.splitlines(keepends=True)[::-1]
+def answer_of_each(lines, answers):
+    """Returns the answer to each line of a script without blank lines and comments."""
+    found, rest = [], answers.splitlines(keepends=True)[::-1]
     for line in lines:
         answer = rest.pop() if rest else b""
         while line.startswith(LONG) and rest and not answer.splitlines()[-1].startswith((b"end ", b"more ", b"error ")):
             answer += rest.pop()
-        given.append(answer)
-    return given
+        found.append(answer)
+    return found
 
 
 def script_of(lines):
@@ -59,7 +59,7 @@ def script_of(lines):
 
 
 def probes(lines, answers):
-    """A `get` for each accessor with a last coordinate, after these lines with these answers."""
+    """Returns a `get` for each accessor that has a last coordinate after these lines with these answers."""
     last = {}
     for line, answer in zip(lines, answers):
         words = line.decode().split()
@@ -71,17 +71,17 @@ def probes(lines, answers):
     return [" ".join(["get", *key, *at]).encode() for key, at in last.items()]
 
 
-def is_either(line, refusal):
-    """Whether `memory` may stand in place of this refusal: only for the root limit of a dilation, which is found as it is made."""
-    return line.startswith(b"dilate ") and refusal == b"error root-limit\n"
+def memory_may_replace(line, error):
+    """Returns whether `memory` may replace this error: only `root-limit` of a dilation, which finds it while it allocates."""
+    return line.startswith(b"dilate ") and error == b"error root-limit\n"
 
 
-def turns(growths):
-    """The growths to refuse of so many, and one more, which no run meets."""
-    if growths <= 2 * IN_TURN:
-        return [*range(1, growths + 2)]
-    stride = -(-(growths - IN_TURN) // IN_TURN)
-    return sorted({*range(1, IN_TURN + 1), *range(IN_TURN, growths, stride), *range(growths - 2, growths + 2)})
+def numbers_to_fail(allocations):
+    """Returns the numbers of the allocations to fail, and one more, which no run reaches."""
+    if allocations <= 2 * EACH_OF_FIRST:
+        return [*range(1, allocations + 2)]
+    first, stride = EACH_OF_FIRST, -(-(allocations - EACH_OF_FIRST) // EACH_OF_FIRST)
+    return sorted({*range(1, first + 1), *range(first, allocations, stride), *range(allocations - 2, allocations + 2)})
 
 
 class Row:
@@ -89,7 +89,7 @@ class Row:
 
     def __init__(self, name, place, tally):
         self.name, self.place, self.tally = name, place, tally
-        row, self.without = read_row(HERE / "rows" / f"{name}.txt")
+        row, self.marked = read_row(HERE / "rows" / f"{name}.txt")
         self.lines = [line for line, _ in row]
         self.answers = [answer for _, answer in row]
         self.before = {}
@@ -97,82 +97,82 @@ class Row:
     def check(self, holds, what):
         self.tally.check(holds, f"{self.name}: {what}")
 
-    def run(self, lines, **wrong) -> Run:
-        return planted("allocations", self.place.run(script_of(lines), **wrong), wrong)
+    def run(self, lines, **injected) -> Run:
+        return planted("allocations", self.place.run(script_of(lines), **injected), injected)
 
     def all(self):
-        """Every growth of the row, in turn."""
+        """Checks all runs of the row."""
         whole = self.run(self.lines)
         self.check(whole.answers == b"".join(self.answers), "the answers are not the row's")
         self.check(whole.saved is not None and "allocations" in whole.counts, "the run didn't end by itself")
-        growths = whole.counts.get("allocations", 0)
-        self.check(growths > 0, "no growth was met")
-        for turn in turns(growths):
-            self.one(turn, turn > growths)
-        for turn in range(1, growths + 1, -(-growths // FOR_GOOD)):
-            self.for_good(turn)
+        allocations = whole.counts.get("allocations", 0)
+        self.check(allocations > 0, "the shim counted no allocation")
+        for number in numbers_to_fail(allocations):
+            self.one(number, number > allocations)
+        for number in range(1, allocations + 1, -(-allocations // ALL_AFTER_RUNS) or 1):
+            self.all_after(number)
 
-    def one(self, turn, beyond):
-        """The run in which this growth is refused."""
-        run = self.run(self.lines, fail_allocation=turn)
-        if "refused-after" not in run.counts:
-            self.check(beyond, f"growth {turn} was never met")
-            self.check(MEMORY not in run.answers, "lack of memory is answered where no growth was refused")
+    def one(self, number, beyond):
+        """Checks the run in which this allocation alone fails."""
+        run = self.run(self.lines, fail_allocation=number)
+        if "failed-after" not in run.counts:
+            self.check(beyond, f"allocation {number} was never reached")
+            self.check(MEMORY not in run.answers, "a command answers memory, but no allocation failed")
             self.check(run.answers == b"".join(self.answers), "the answers are not the row's")
             return
-        line = self.refused_line(run.counts["refused-after"])
-        self.check(line is not None, f"growth {turn} was refused outside any command")
-        if line is not None:
-            self.refused(turn, line)
+        index = self.line_after(run.counts["failed-after"])
+        self.check(index is not None, f"allocation {number} failed outside any command")
+        if index is not None:
+            self.failed_line(number, index)
 
-    def for_good(self, turn):
-        """The run in which this growth and all after it are refused."""
-        run = self.run(self.lines, fail_allocation=turn, fail_all_after=1)
-        answers = shared_out(self.lines, run.answers)
+    def all_after(self, number):
+        """Checks the run in which this allocation and all after it fail."""
+        run = self.run(self.lines, fail_allocation=number, fail_all_after=1)
+        answers = answer_of_each(self.lines, run.answers)
         kept = [(line, answer) for line, answer in zip(self.lines, answers) if answer != MEMORY]
-        short = self.run([line for line, _ in kept])
-        what = f"all growths from {turn} on refused"
-        # where every command that is short of memory is refused in any case, none need say so
-        is_told = len(kept) < len(self.lines) or any(answer.startswith(b"error ") for answer in self.answers)
-        self.check(len(answers) == len(self.lines) and is_told, f"{what}: {run.status}, {len(kept)} lines")
-        self.check(short.answers == b"".join(answer for _, answer in kept), f"{what}: the other lines answer otherwise")
-        self.check(short.saved == run.saved, f"{what}: the scene is another")
+        other = self.run([line for line, _ in kept])
+        what = f"all allocations from {number} on fail"
+        # if every command whose allocation failed has another error anyway, none need answer memory
+        is_reported = len(kept) < len(self.lines) or any(answer.startswith(b"error ") for answer in self.answers)
+        self.check(len(answers) == len(self.lines) and is_reported, f"{what}: {run.status}, {len(kept)} lines")
+        self.check(other.answers == b"".join(answer for _, answer in kept), f"{what}: the other lines have other answers")
+        self.check(other.saved == run.saved, f"{what}: the scene is another")
 
-    def refused_line(self, written):
-        """The place of the line that was carried out once so many bytes of answers had been written."""
-        for place, answer in enumerate(self.answers):
+    def line_after(self, written):
+        """Returns the index of the line that ran when this many bytes of answers were written, or None."""
+        for index, answer in enumerate(self.answers):
             if written == 0:
-                return place
+                return index
             written -= len(answer)
         return None
 
-    def refused(self, turn, place):
-        """The growth falls into the line at this place: the scene and the accessors then, and the line given again."""
-        what = f"growth {turn}, line {place + 1}"
-        line = self.lines[place]
-        takes_none = line.split()[0].decode() in NO_MEMORY or place in self.without
-        self.check(not takes_none, f"{what}: {line.decode()} takes memory")
-        asked = probes(self.lines[: place + 1], [*self.answers[:place], MEMORY])
-        saved, given = self.stood_before(place, asked)
-        lines = [*self.lines[: place + 1], *asked]
-        then = self.run(lines, fail_allocation=turn)
-        before = b"".join(self.answers[:place])
-        refusal = self.answers[place] if self.answers[place].startswith(b"error ") else MEMORY
-        if is_either(line, refusal) and then.answers.startswith(before + MEMORY):
-            refusal = MEMORY
-        wanted = before + refusal + given
-        self.check(then.answers == wanted, f"{what}: the refused command and the probes after it answer otherwise")
+    def failed_line(self, number, index):
+        """Checks the line in which this allocation fails: the scene and the accessors then, and the line given again."""
+        what = f"allocation {number}, line {index + 1}"
+        line = self.lines[index]
+        allocates_nothing = line.split()[0].decode() in ALLOCATES_NOTHING or index in self.marked
+        self.check(not allocates_nothing, f"{what}: {line.decode()} allocates")
+        gets = probes(self.lines[: index + 1], [*self.answers[:index], MEMORY])
+        saved, probed = self.before_line(index, gets)
+        lines = [*self.lines[: index + 1], *gets]
+        then = self.run(lines, fail_allocation=number)
+        before = b"".join(self.answers[:index])
+        error = self.answers[index] if self.answers[index].startswith(b"error ") else MEMORY
+        if memory_may_replace(line, error) and then.answers.startswith(before + MEMORY):
+            error = MEMORY
+        wanted = before + error + probed
+        self.check(then.answers == wanted, f"{what}: the failed command and the probes after it have other answers")
         self.check(then.saved == saved, f"{what}: the scene is not the one before")
-        again = self.run([*lines, *self.lines[place:]], fail_allocation=turn)
-        self.check(again.answers == wanted + b"".join(self.answers[place:]), f"{what}: given again, it answers otherwise")
+        again = self.run([*lines, *self.lines[index:]], fail_allocation=number)
+        self.check(again.answers == wanted + b"".join(self.answers[index:]), f"{what}: given again, it answers otherwise")
         self.check(again.status == 1 and again.errors == b"", f"{what}: the status is {again.status}")
 
-    def stood_before(self, place, asked):
-        """What the scene before a line saves, and what it answers to these probes, when no growth is refused."""
-        if place not in self.before:
-            run = self.run([*self.lines[:place], *asked])
-            self.before[place] = run.saved, run.answers[len(b"".join(self.answers[:place])) :]
-        return self.before[place]
+    def before_line(self, index, gets):
+        """Returns what the scene before a line saves, and its answers to these probes, if no allocation fails."""
+        if index not in self.before:
+            run = self.run([*self.lines[:index], *gets])
+            self.before[index] = run.saved, run.answers[len(b"".join(self.answers[:index])) :]
+        return self.before[index]
 
 
 def main():

@@ -1,5 +1,5 @@
-"""A model of the scene apart from the program: each grid is the list of the changes that were accepted, and a cell is found by
-going through them backwards. It answers `get` alone, and leaves it to the program which changes are refused for a limit."""
+"""A model of the scene, independent of the program. A grid is the list of the changes that succeeded, and the model finds a
+cell by going backwards through them. It answers `get` alone; which commands fail, it learns from the program."""
 
 WRITES = ("set", "unset", "only", "state")
 LOW, HIGH = -(2**31), 2**31 - 1
@@ -17,10 +17,10 @@ def neighbours(at):
 
 
 class Grid:
-    """The kind of a grid, the value outside everything, and the changes: each a function of the field before it and a place."""
+    """The type of a grid, and for each change the function from coordinates to cells that it left, and the background."""
 
-    def __init__(self, kind, background):
-        self.kind = kind
+    def __init__(self, value_type, background):
+        self.value_type = value_type
         self.fields = [(lambda at: (background, False), background)]
 
     def cell(self, at):
@@ -30,7 +30,7 @@ class Grid:
         return self.fields[-1][1]
 
     def change(self, make, background=None):
-        """Makes `make(the field before)` the field, keeping the cells that were found."""
+        """Appends the field `make(last field)`, which remembers the cells that it found."""
         found, inner = {}, make(self.fields[-1][0])
 
         def field(at):
@@ -41,7 +41,7 @@ class Grid:
         self.fields.append((field, self.background() if background is None else background))
 
     def copy(self):
-        other = Grid(self.kind, 0)
+        other = Grid(self.value_type, 0)
         other.fields = list(self.fields)
         return other
 
@@ -51,7 +51,7 @@ def inside(box, at):
 
 
 def written(word, last):
-    """What one of the four writes makes of a cell."""
+    """Returns what one of the four writes does to a cell."""
     if word == "set":
         return lambda cell: (value_of(last), True)
     if word == "unset":
@@ -80,7 +80,7 @@ class Cells:
         self.grids = {}
 
     def answer(self, line):
-        """The answer to a `get` of a grid that is there; None where this model doesn't say."""
+        """Returns the answer to a `get`, or None for a line that this model cannot answer."""
         words = line.split()
         if not words or words[0] != "get" or words[1] not in self.grids or words[2] not in "-01234567":
             return None
@@ -89,11 +89,11 @@ class Cells:
             return "error value-range"
         grid = self.grids[words[1]]
         value, on = grid.cell(at)
-        text = ("true" if value else "false") if grid.kind == "bool" else str(value)
+        text = ("true" if value else "false") if grid.value_type == "bool" else str(value)
         return f"value {text} {'on' if on else 'off'}"
 
     def carry_out(self, line):
-        """A line that was answered `ok`."""
+        """Carries out a line that the program answered with `ok`."""
         words = line.split()
         word, names = words[0], words[1:]
         if word == "grid":
@@ -110,7 +110,7 @@ class Cells:
             self.box(self.grids[names[0]], word, list(map(int, names[1:7])), names[7:])
         elif word in ("dilate", "erode"):
             for _ in range(int(names[1])):
-                self.turn(self.grids[names[0]], word)
+                self.iterate(self.grids[names[0]], word)
 
     def write(self, grid, word, place, last):
         make = written(word, last)
@@ -124,7 +124,9 @@ class Cells:
             outside = grid.background(), False
             grid.change(lambda old: lambda at: old(at) if inside(box, at) else outside)
 
-    def turn(self, grid, word):
+    def iterate(self, grid, word):
+        """Carries out one iteration of a dilation or an erosion."""
+
         def make(old):
             def field(at):
                 value, on = old(at)

@@ -1,8 +1,8 @@
-"""The scene file, read and written as docs/FORMAT.md says, apart from the program: what `load` must answer for given bytes,
-and the one spelling of a scene.
+"""Reads and writes scene files by docs/FORMAT.md, independent of the program: what `load` must report for given bytes, and
+the one encoding of a scene.
 
-A scene is a list of grids by rising names. A block is a pair (tag, value) with tag 1 (inactive) or 2 (active), where it is
-constant, else a list of pairs of an index and a block. A root block is a pair of a key and a block."""
+A scene is a list of grids by rising names. A body is a pair (tag, value) if all its cells are equal, with tag 1 (inactive)
+or 2 (active); otherwise it is a list of pairs (entry's number, body). A root block is a pair (key, body)."""
 from dataclasses import dataclass, field
 
 SIZES = {0: 1, 1: 4, 2: 8}
@@ -13,7 +13,7 @@ LATER = FIRST + b"0123456789_"
 
 
 class Fault(Exception):
-    """A load fault, by its word."""
+    """A fault of a file, by its word."""
 
 
 @dataclass
@@ -27,12 +27,12 @@ class Grid:
 
 
 class Reader:
-    """Takes fields from a file's bytes, one behind another."""
+    """Reads fields from a file's bytes, one after another."""
 
     def __init__(self, text):
         self.text, self.at = text, 0
 
-    def take(self, size):
+    def read(self, size):
         if self.at + size > LIMIT:
             raise Fault("too-long")
         if self.at + size > len(self.text):
@@ -41,10 +41,11 @@ class Reader:
         return self.text[self.at - size : self.at]
 
     def number(self, size, signed=False):
-        return int.from_bytes(self.take(size), "big", signed=signed)
+        return int.from_bytes(self.read(size), "big", signed=signed)
 
 
 def need(holds, word):
+    """Raises this fault unless the condition holds."""
     if not holds:
         raise Fault(word)
 
@@ -61,8 +62,8 @@ def read_value(reader, kind):
     return reader.number(SIZES[kind], signed=True)
 
 
-def read_block(reader, kind, background, depth):
-    """The block of a root entry (depth 0) down to that of a voxel (depth 3)."""
+def read_body(reader, kind, background, depth):
+    """Reads the body of a root block (depth 0), a lower extent, a leaf extent or a voxel (depth 3)."""
     tag = reader.number(1)
     need(1 <= tag <= (3 if depth < 3 else 2), "tag")
     if tag == 3:
@@ -79,10 +80,10 @@ def read_entries(reader, kind, background, depth):
     for _ in range(count):
         index = reader.number(2)
         need(before < index < ENTRIES[depth], "index")
-        entries.append((index, read_block(reader, kind, background, depth + 1)))
+        entries.append((index, read_body(reader, kind, background, depth + 1)))
         before = index
     first = entries[0][1]
-    constant = count == ENTRIES[depth] and isinstance(first, tuple) and all(block == first for _, block in entries)
+    constant = count == ENTRIES[depth] and isinstance(first, tuple) and all(body == first for _, body in entries)
     need(not constant, "constant-node")
     return entries
 
@@ -90,7 +91,7 @@ def read_entries(reader, kind, background, depth):
 def read_name(reader, before, fault):
     length = reader.number(1)
     need(1 <= length <= 16, fault)
-    name = reader.take(length)
+    name = reader.read(length)
     need(is_name(name) and (before is None or before < name), fault)
     return name
 
@@ -103,14 +104,14 @@ def read_pairs(reader):
         key = read_name(reader, pairs[-1][0] if pairs else None, "meta")
         length = reader.number(1)
         need(1 <= length <= 64, "meta")
-        text = reader.take(length)
+        text = reader.read(length)
         need(all(0x21 <= byte <= 0x7E for byte in text), "meta")
         pairs.append((key, text))
     return pairs
 
 
 def read_key(reader, before):
-    text = reader.take(12)
+    text = reader.read(12)
     key = tuple(int.from_bytes(text[at : at + 4], "big", signed=True) for at in (0, 4, 8))
     need(all(-524_288 <= part <= 524_287 for part in key) and (before is None or before < key), "key")
     return key
@@ -129,14 +130,14 @@ def read_grid(reader, version, before):
     need(roots <= grid.limit, "root-limit")
     for _ in range(roots):
         key = read_key(reader, grid.roots[-1][0] if grid.roots else None)
-        grid.roots.append((key, read_block(reader, kind, grid.background, 0)))
+        grid.roots.append((key, read_body(reader, kind, grid.background, 0)))
     return grid
 
 
 def load(text):
-    """The scene that these bytes spell, in either version. Raises the first fault."""
+    """Returns the scene that these bytes encode, in either version. Raises the first fault."""
     reader = Reader(text)
-    need(reader.take(4) == b"VDBS", "magic")
+    need(reader.read(4) == b"VDBS", "magic")
     version = reader.number(2)
     need(version in (1, 2), "version")
     count = reader.number(2)
@@ -152,11 +153,11 @@ def value_bytes(kind, value):
     return value.to_bytes(SIZES[kind], "big", signed=kind > 0)
 
 
-def block_bytes(kind, block):
-    if isinstance(block, tuple):
-        return bytes([block[0]]) + value_bytes(kind, block[1])
-    inner = b"".join(index.to_bytes(2, "big") + block_bytes(kind, entry) for index, entry in block)
-    return b"\x03" + len(block).to_bytes(2, "big") + inner
+def body_bytes(kind, body):
+    if isinstance(body, tuple):
+        return bytes([body[0]]) + value_bytes(kind, body[1])
+    inner = b"".join(index.to_bytes(2, "big") + body_bytes(kind, entry) for index, entry in body)
+    return b"\x03" + len(body).to_bytes(2, "big") + inner
 
 
 def grid_bytes(grid, version):
@@ -165,20 +166,20 @@ def grid_bytes(grid, version):
         parts += [grid.limit.to_bytes(4, "big"), bytes([len(grid.pairs)])]
         parts += [bytes([len(part)]) + part for pair in grid.pairs for part in pair]
     parts.append(len(grid.roots).to_bytes(4, "big"))
-    for key, block in grid.roots:
+    for key, body in grid.roots:
         parts += [part.to_bytes(4, "big", signed=True) for part in key]
-        parts.append(block_bytes(grid.kind, block))
+        parts.append(body_bytes(grid.kind, body))
     return b"".join(parts)
 
 
 def save(grids, version=2):
-    """The spelling of a scene."""
+    """Returns the encoding of a scene."""
     head = b"VDBS" + version.to_bytes(2, "big") + len(grids).to_bytes(2, "big")
     return head + b"".join(grid_bytes(grid, version) for grid in grids)
 
 
 def verdict(text):
-    """What loading these bytes and saving what stands then must give: the word of a fault, or the bytes saved."""
+    """Returns what loading these bytes and saving the scene must give: the word of a fault, or the saved bytes."""
     try:
         return save(load(text))
     except Fault as fault:

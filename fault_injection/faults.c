@@ -1,5 +1,5 @@
-// Preloaded into the program, makes one of its calls of the C library go wrong: a growth is refused, or a read or a write
-// fails, moves no byte or moves few. README.md lists the environment variables that say which.
+// Injects faults into calls of the C library. It is preloaded into the program (LD_PRELOAD) and makes an allocation fail,
+// or a read or write fail, move no byte or move few. README.md lists the environment variables that select the call.
 #define _GNU_SOURCE
 #include <dlfcn.h>
 #include <errno.h>
@@ -12,22 +12,23 @@
 
 enum kind { FAIL, NOTHING };
 
-// Which calls of reads or writes go wrong: of standard input or output (0 or 1), or of an opened file (a number above 2).
+// The reads or the writes with a fault: those of standard input or output, or those of an opened file.
 struct fault {
-    int file;        // whether it is about an opened file
-    long at;         // the call that goes wrong, counted from 1; 0: none
-    enum kind kind;  // whether it fails or moves no byte
-    long most;       // the most bytes that a call moves; 0: any number
-    long after;      // once so many bytes have been moved every call fails; below 0: never
+    int file;        // whether the fault concerns opened files
+    long at;         // the number of the call with the fault, from 1; 0: none
+    enum kind kind;  // whether that call fails or moves no byte
+    long most;       // the most bytes that a call moves; 0: no limit
+    long after;      // after this many bytes every call fails; below 0: never
 };
 
-// What the calls of one side have done so far.
+// The calls of one side so far: their number, the bytes moved, the end of the furthest byte asked for, and the calls after
+// the end of the file.
 struct traffic {
     long calls, bytes, furthest, ended, after_end;
 };
 
-static long refuse_at, growths, refused;
-static int refuse_on, counting;
+static long fail_at, allocations, failed;
+static int fail_all_after, counting;
 static struct fault reading, writing;
 static struct traffic script, answers, loaded, saved;
 static const char *report;
@@ -46,8 +47,8 @@ static enum kind kind_of(const char *name)
 
 __attribute__((constructor)) static void begin(void)
 {
-    refuse_at = number("FAIL_ALLOCATION", 0);
-    refuse_on = number("FAIL_ALL_AFTER", 0) != 0;
+    fail_at = number("FAIL_ALLOCATION", 0);
+    fail_all_after = number("FAIL_ALL_AFTER", 0) != 0;
     counting = number("COUNT_FROM_START", 0) != 0;
     report = getenv("REPORT");
     reading = (struct fault){number("READ_OF_FILE", 0), number("READ_AT", 0), kind_of("READ_KIND"), number("READ_MOST", 0),
@@ -56,7 +57,7 @@ __attribute__((constructor)) static void begin(void)
                              number("WRITE_AFTER", -1)};
 }
 
-static int put_number(char *text, long value)
+static int write_number(char *text, long value)
 {
     char digits[24];
     int count = 0, length = 0;
@@ -69,8 +70,8 @@ static int put_number(char *text, long value)
     return length;
 }
 
-// Adds the line 'WORD NUMBER' to the report, without taking memory.
-static void tell(const char *word, long value)
+// Appends the line 'WORD NUMBER' to the report. Allocates nothing.
+static void append(const char *word, long value)
 {
     char text[64];
     int length = strlen(word);
@@ -78,7 +79,7 @@ static void tell(const char *word, long value)
         return;
     memcpy(text, word, length);
     text[length++] = ' ';
-    length += put_number(text + length, value);
+    length += write_number(text + length, value);
     text[length++] = '\n';
     int file = syscall(SYS_openat, AT_FDCWD, report, O_WRONLY | O_CREAT | O_APPEND, 0600);
     if (file < 0)
@@ -89,27 +90,28 @@ static void tell(const char *word, long value)
 
 __attribute__((destructor)) static void end(void)
 {
-    tell("allocations", growths);
-    tell("script-reads", script.calls);
-    tell("script-furthest", script.furthest);
-    tell("script-read-after-end", script.after_end);
-    tell("answer-writes", answers.calls);
-    tell("load-reads", loaded.calls);
-    tell("load-furthest", loaded.furthest);
-    tell("load-read-after-end", loaded.after_end);
-    tell("save-writes", saved.calls);
+    append("allocations", allocations);
+    append("script-reads", script.calls);
+    append("script-furthest", script.furthest);
+    append("script-read-after-end", script.after_end);
+    append("answer-writes", answers.calls);
+    append("load-reads", loaded.calls);
+    append("load-furthest", loaded.furthest);
+    append("load-read-after-end", loaded.after_end);
+    append("save-writes", saved.calls);
 }
 
-// Whether this growth is refused. It is told at once, with the bytes of answers that have been written before it.
-static int refuses(void)
+// Counts an allocation and returns whether it fails. The first failure reports at once how many bytes of answers were
+// written before it.
+static int fails(void)
 {
     if (!counting)
         return 0;
-    growths++;
-    if (refuse_at == 0 || growths < refuse_at || (growths > refuse_at && !refuse_on))
+    allocations++;
+    if (fail_at == 0 || allocations < fail_at || (allocations > fail_at && !fail_all_after))
         return 0;
-    if (refused++ == 0)
-        tell("refused-after", answers.bytes);
+    if (failed++ == 0)
+        append("failed-after", answers.bytes);
     errno = ENOMEM;
     return 1;
 }
@@ -119,7 +121,7 @@ void *malloc(size_t size)
     static void *(*real)(size_t);
     if (!real)
         real = dlsym(RTLD_NEXT, "malloc");
-    return refuses() ? NULL : real(size);
+    return fails() ? NULL : real(size);
 }
 
 void *realloc(void *old, size_t size)
@@ -127,7 +129,7 @@ void *realloc(void *old, size_t size)
     static void *(*real)(void *, size_t);
     if (!real)
         real = dlsym(RTLD_NEXT, "realloc");
-    return refuses() ? NULL : real(old, size);
+    return fails() ? NULL : real(old, size);
 }
 
 void *aligned_alloc(size_t alignment, size_t size)
@@ -135,7 +137,7 @@ void *aligned_alloc(size_t alignment, size_t size)
     static void *(*real)(size_t, size_t);
     if (!real)
         real = dlsym(RTLD_NEXT, "aligned_alloc");
-    return refuses() ? NULL : real(alignment, size);
+    return fails() ? NULL : real(alignment, size);
 }
 
 int posix_memalign(void **place, size_t alignment, size_t size)
@@ -143,7 +145,7 @@ int posix_memalign(void **place, size_t alignment, size_t size)
     static int (*real)(void **, size_t, size_t);
     if (!real)
         real = dlsym(RTLD_NEXT, "posix_memalign");
-    return refuses() ? ENOMEM : real(place, alignment, size);
+    return fails() ? ENOMEM : real(place, alignment, size);
 }
 
 void *mmap(void *place, size_t size, int allowed, int flags, int file, off_t offset)
@@ -151,15 +153,16 @@ void *mmap(void *place, size_t size, int allowed, int flags, int file, off_t off
     static void *(*real)(void *, size_t, int, int, int, off_t);
     if (!real)
         real = dlsym(RTLD_NEXT, "mmap");
-    return refuses() ? MAP_FAILED : real(place, size, allowed, flags, file, offset);
+    return fails() ? MAP_FAILED : real(place, size, allowed, flags, file, offset);
 }
 
+// Returns whether the fault concerns this file descriptor.
 static int concerns(const struct fault *fault, int file)
 {
     return fault->file ? file > 2 : file < 2;
 }
 
-// How many of `size` bytes this call may move; -1 where it fails.
+// Returns how many of `size` bytes this call may move, or -1 if it fails.
 static ssize_t allowed(const struct fault *fault, const struct traffic *traffic, size_t size)
 {
     if (traffic->calls == fault->at)

@@ -1,11 +1,11 @@
-"""Pipes that are filled while the program reads them."""
+"""Pipes that a thread fills while the program reads them."""
 import os
 import threading
 from contextlib import contextmanager
 
 
 def fill(path, chunks):
-    """Writes these chunks into a pipe until its reader is gone."""
+    """Writes these chunks into a pipe until its reader closes it."""
     try:
         with open(path, "wb", buffering=0) as pipe:
             for chunk in chunks:
@@ -16,8 +16,8 @@ def fill(path, chunks):
 
 @contextmanager
 def feeding(path, chunks):
-    """A pipe at this path, into which these chunks are written. In the end it is opened and shut once more, for a program that
-    never opened it."""
+    """Makes a pipe at this path and writes these chunks into it. At the end it opens and closes the pipe until the writer has
+    ended, since the program may never have opened it."""
     os.mkfifo(path)
     feeder = threading.Thread(target=fill, args=(path, chunks))
     feeder.start()

@@ -1,39 +1,41 @@
 #!/usr/bin/env python3
-"""Refuses each growth of the program `library_memory` in turn, which takes memory by the calls of the library that reserve places in a
-pool, make nodes, and copy nodes and trees, and by calls on a grid with accessors: library.py.
+"""Makes each allocation of the program `library_memory` fail in turn: library.py. That program makes the library's calls that
+allocate: they reserve places in a pool, make nodes, copy nodes and trees, and change a grid with accessors.
 
-In each run one growth is refused, the first, then the second, until a run meets none. The call that met the refusal must tell that
-it was refused and that all is as it was before, and no other call may tell so. Made once more it must do what it does without a
-refusal, and so must all calls after it. Each call of the program must have been refused in some run."""
+One allocation fails in each run: the first, then the second, until no allocation is left to fail. The call whose allocation
+failed must report that, and that everything is as before; no other call may. The program then repeats the call, which must
+do its work, and so must all calls after it. Each call of the program must have failed in some run. The program's word for a
+failed call is 'refused'."""
 import os
 from planted import planted
 from program import HERE, Tally, Workplace
 
 PROGRAM = os.environ.get("LIBRARY", str(HERE.parent / "crates" / "library_memory" / "out" / "library_memory"))
 ANSWERS = HERE.parent / "crates" / "library_memory" / "stdout"
-DONE, REFUSED = b": done\n", b": refused, all as before\n"
+DONE, FAILED = b": done\n", b": refused, all as before\n"
 
 
 def main():
-    """Refuses the growths, and checks what each run prints."""
+    """Makes the allocations fail, and checks what each run prints."""
     place, tally = Workplace(PROGRAM, "LIBRARY"), Tally("library")
     done = ANSWERS.read_bytes()
-    calls, refused, nth = done.splitlines(keepends=True), set(), 0
+    calls, reports, number = done.splitlines(keepends=True), set(), 0
     while True:
-        nth += 1
-        wrong = {"count_from_start": 1, "fail_allocation": nth}
-        run = planted("library", place.played([], "/dev/null", **wrong), wrong)
-        met = run.counts.get("refused-after")
-        tally.check(run.status == 0 and run.errors == b"", f"growth {nth}: status {run.status}, {run.errors!r}")
-        if met is None:
-            tally.check(run.answers == done, f"without a refusal: {run.answers!r}")
+        number += 1
+        injected = {"count_from_start": 1, "fail_allocation": number}
+        run = planted("library", place.execute([], "/dev/null", **injected), injected)
+        at = run.counts.get("failed-after")
+        tally.check(run.status == 0 and run.errors == b"", f"allocation {number}: status {run.status}, {run.errors!r}")
+        if at is None:
+            tally.check(run.answers == done, f"no allocation failed: {run.answers!r}")
             break
-        at = done[:met].count(b"\n")
-        told = calls[min(at, len(calls) - 1)].replace(DONE, REFUSED)
-        refused.add(told)
-        tally.check(run.answers == done[:met] + told + done[met:], f"growth {nth}, refused after {met} bytes: {run.answers!r}")
+        index = done[:at].count(b"\n")
+        report = calls[min(index, len(calls) - 1)].replace(DONE, FAILED)
+        reports.add(report)
+        wanted = done[:at] + report + done[at:]
+        tally.check(run.answers == wanted, f"allocation {number}, failed after {at} bytes: {run.answers!r}")
     for call in {*calls}:
-        tally.check(call.replace(DONE, REFUSED) in refused, f"{call!r} was never refused")
+        tally.check(call.replace(DONE, FAILED) in reports, f"{call!r} never failed")
     tally.end()
 
 

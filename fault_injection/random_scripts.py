@@ -1,4 +1,4 @@
-"""Random scripts for fuzz.py: small grids and boxes about the edges of blocks, with some lines that are refused."""
+"""Random scripts for fuzz.py: small grids, with boxes near the edges of extents, and some lines that fail."""
 EDGES = [-4097, -4096, -129, -128, -9, -8, -1, 0, 1, 7, 8, 9, 127, 128, 129, 4095, 4096]
 FAR = [-2147483648, -2147483647, 2147483646, 2147483647, 2147483648, -5000000]
 VALUES = {
@@ -13,18 +13,18 @@ WRONG = ["", "# a comment", "nothing a", "set a 9 0 0 0 1", "get a - 0 0 2147483
 
 
 class Script:
-    """Makes lines one behind another. It knows the kind of each grid, as far as its lines are accepted. Whole blocks of more than
-    8 voxels along an axis are filled in some scripts alone. There little is dilated or eroded, since that makes many leaves."""
+    """Makes one line after another. It knows the type of each grid, as far as its lines succeed. Only some scripts fill whole
+    lower or upper extents. In these it dilates and erodes little, since that makes many leaves."""
 
     def __init__(self, chance):
-        self.chance, self.kinds, self.last = chance, {}, [0, 0, 0]
+        self.chance, self.types, self.last = chance, {}, [0, 0, 0]
         self.span = chance.choice([8, 8, 8, 128, 128, 4096])
 
     def part(self):
         return self.chance.choice(FAR if self.chance.random() < 0.02 else EDGES)
 
     def point(self):
-        """A place, often one near the last."""
+        """Returns a coordinate, often one near the last."""
         if self.chance.random() < 0.5:
             self.last = [at + self.chance.randint(-3, 3) for at in self.last]
         else:
@@ -32,7 +32,7 @@ class Script:
         return " ".join(str(at) for at in self.last)
 
     def box(self, most):
-        """A box of a few voxels in two directions, or one of whole blocks, of at most `most` along an axis."""
+        """Returns a box, at most a few voxels wide in two directions, or a box of whole extents, at most `most` along an axis."""
         if self.chance.random() < 0.3:
             span = self.chance.choice([8, self.span])
             low = [self.chance.randint(-2, 2) * span for _ in range(3)]
@@ -47,12 +47,12 @@ class Script:
         return " ".join(str(at) for at in low + high)
 
     def name(self):
-        """A name, mostly one of a grid that is there."""
-        return self.chance.choice(sorted(self.kinds) if self.kinds and self.chance.random() < 0.95 else NAMES)
+        """Returns a name, mostly that of an existing grid."""
+        return self.chance.choice(sorted(self.types) if self.types and self.chance.random() < 0.95 else NAMES)
 
     def value(self, name):
-        kind = self.kinds.get(name, "i32")
-        return self.chance.choice(VALUES[kind if self.chance.random() < 0.97 else "bool"])
+        value_type = self.types.get(name, "i32")
+        return self.chance.choice(VALUES[value_type if self.chance.random() < 0.97 else "bool"])
 
     def state(self):
         return self.chance.choice(["on", "off"])
@@ -61,10 +61,10 @@ class Script:
         return self.chance.choice(["-", "-", "0", "1", "7"])
 
     def grid(self):
-        name, kind = self.chance.choice(NAMES), self.chance.choice(["bool", "i32", "i32", "i64"])
-        self.kinds.setdefault(name, kind)
+        name, value_type = self.chance.choice(NAMES), self.chance.choice(["bool", "i32", "i32", "i64"])
+        self.types.setdefault(name, value_type)
         limit = self.chance.choice(["", "", "", " 1", " 2", " 4", " 8", " 65536", " 0"])
-        return f"grid {name} {kind} {self.chance.choice(VALUES[kind])}{limit}"
+        return f"grid {name} {value_type} {self.chance.choice(VALUES[value_type])}{limit}"
 
     def write(self):
         name, word = self.name(), self.chance.choice(["set", "unset", "only", "state"])
@@ -78,21 +78,21 @@ class Script:
     def two(self):
         return f"{self.chance.choice(PAIRS)} {self.name()} {self.name()}"
 
-    def turns(self):
-        turns = self.chance.choice({8: [1, 1, 2, 3, 0], 128: [1, 17, 17, 17], 4096: [17]}[self.span])
-        return f"{self.chance.choice(['dilate', 'erode'])} {self.name()} {turns}"
+    def iterate(self):
+        iterations = self.chance.choice({8: [1, 1, 2, 3, 0], 128: [1, 17, 17, 17], 4096: [17]}[self.span])
+        return f"{self.chance.choice(['dilate', 'erode'])} {self.name()} {iterations}"
 
     def whole(self):
         word = self.chance.choice(["clip", "clip", "copy", "copy", "drop", "prune", "voxelise"])
         if word in ("drop", "prune"):
             name = self.name()
             if word == "drop":
-                self.kinds.pop(name, None)
+                self.types.pop(name, None)
             return f"{word} {name}"
         if word == "copy":
             source, made = self.name(), self.chance.choice(NAMES)
-            if source in self.kinds:
-                self.kinds.setdefault(made, self.kinds[source])
+            if source in self.types:
+                self.types.setdefault(made, self.types[source])
             return f"copy {source} {made}"
         return f"clip {self.name()} {self.box(2)}" if word == "clip" else self.voxelise()
 
@@ -132,14 +132,14 @@ class Script:
 
     def line(self):
         makers = [self.write] * 8 + [self.fill] * 4 + [self.report] * 6 + [self.two] * 3
-        makers += [self.grid, self.turns, self.whole, self.whole, self.meta, self.get, self.wrong]
+        makers += [self.grid, self.iterate, self.whole, self.whole, self.meta, self.get, self.wrong]
         return self.chance.choice(makers)()
 
     def lines(self, count):
         return [self.grid(), self.grid(), self.grid(), *(self.line() for _ in range(count))]
 
     def decorated(self, lines):
-        """The lines with others put in that change no cell, and with other accessors. Each with whether it was put in."""
+        """Returns the lines with other accessors and with lines added that change no cell, each with whether it was added."""
         made = []
         for line in lines:
             while self.chance.random() < 0.4:

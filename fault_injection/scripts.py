@@ -1,37 +1,37 @@
 #!/usr/bin/env python3
-"""Scripts that come in pieces, never end or are read and answered by calls that fail: scripts.py [PART..]"""
+"""Scripts: short, endless and too long ones, reads and writes that fail, and wrong command lines. scripts.py [PART..]"""
 import sys
 from feeding import feeding
-from growths import read_row, script_of
+from allocations import read_row, script_of
 from planted import planted
-from program import HERE, PATIENCE, SCRIPT_LIMIT, Tally, Workplace, some
+from program import HERE, TIMEOUT, SCRIPT_LIMIT, Tally, Workplace, some
 
 TALLY, PLACE = Tally("scripts"), Workplace()
 GRID = b"grid a i32 0\n"
 MOST_CHUNKS = 2000
 
 
-def run(script, **given):
-    return planted("scripts", PLACE.run(script, **given), given)
+def run(script, **injected):
+    return planted("scripts", PLACE.run(script, **injected), injected)
 
 
 def through(chunks):
-    """A run whose script comes through a pipe, made as it is read."""
+    """Returns a run that reads its script through a pipe, which is filled while the program reads."""
     with feeding(PLACE.folder / "pipe", chunks) as path:
-        return run(path, seconds=max(PATIENCE, 280))
+        return run(path, seconds=max(TIMEOUT, 280))
 
 
 def row(name):
-    """A row's script and its answers, whole and line by line."""
+    """Returns a row's script and answers, whole and line by line."""
     pairs, _ = read_row(HERE / "rows" / f"{name}.txt")
     return script_of([line for line, _ in pairs]), b"".join(answer for _, answer in pairs), pairs
 
 
 def ended(done, status, errors, answers, what):
-    """How a run ended; after a fault nothing is saved."""
+    """Checks how a run ended. After a fault nothing is saved."""
     TALLY.check(done.status == status and done.errors == errors, f"{what}: status {done.status}, {done.errors!r}")
     TALLY.check(done.answers == answers, f"{what}: other answers")
-    TALLY.check((done.saved is None) == (status == 4), f"{what}: {'nothing' if done.saved is None else 'something'} is saved")
+    TALLY.check((done.saved is None) == (status == 4), f"{what}: {'no' if done.saved is None else 'a'} file is saved")
 
 
 MIXED = (
@@ -47,21 +47,21 @@ MIXED_ANSWERS = (
 
 
 def pieces():
-    """Pieces of 1 to 300 bytes, and answers taken in pieces, change nothing."""
+    """Reads of 1 to 300 bytes, and short writes of the answers, change nothing."""
     script, answers, _ = row("two-grids")
     saved = run(script).saved
     for most in some(range(1, 301)):
         done = run(script, read_most=most)
-        ended(done, 1, b"", answers, f"pieces of {most} bytes")
-        TALLY.check(done.saved == saved, f"pieces of {most} bytes: saved otherwise")
-        ended(run(MIXED, read_most=most), 1, b"", MIXED_ANSWERS, f"long and blank lines in pieces of {most} bytes")
+        ended(done, 1, b"", answers, f"reads of {most} bytes")
+        TALLY.check(done.saved == saved, f"reads of {most} bytes: the saved file is another")
+        ended(run(MIXED, read_most=most), 1, b"", MIXED_ANSWERS, f"long and blank lines, reads of {most} bytes")
     for most in (1, 2, 3, 5):
-        ended(run(script, write_most=most), 1, b"", answers, f"answers by {most} bytes")
-        ended(run(MIXED, write_most=most), 1, b"", MIXED_ANSWERS, f"longer answers by {most} bytes")
+        ended(run(script, write_most=most), 1, b"", answers, f"writes of {most} bytes")
+        ended(run(MIXED, write_most=most), 1, b"", MIXED_ANSWERS, f"longer answers, writes of {most} bytes")
 
 
 def last_lines():
-    """The last line may lack its newline, and the reader isn't asked again once it has ended."""
+    """The last line may lack its newline, and the program doesn't read again after the end."""
     for script, answers in [
         (b"", b""),
         (b"\n", b""),
@@ -77,50 +77,50 @@ def last_lines():
 
 
 def readers():
-    """A reader that fails at each of its calls, or ends there."""
+    """A read that fails, at each call, and a script that ends at each call."""
     script, _, pairs = row("two-grids")
     for call in some(range(1, len(script) // 7 + 3)):
-        given = script[: 7 * (call - 1)]
-        complete = given.count(b"\n")
+        read = script[: 7 * (call - 1)]
+        complete = read.count(b"\n")
         answers = b"".join(answer for _, answer in pairs[:complete])
-        wrong = {"read_most": 7, "read_at": call}
-        failed = run(script, **wrong)
-        ended(failed, 4, b"vdb: script: read\n", answers, f"a reader that fails at call {call}")
-        TALLY.check(failed.counts.get("script-reads") == call, f"a reader that fails at call {call} is asked again")
-        plain = run(given)
-        done = run(script, **wrong, read_kind="nothing")
-        ended(done, plain.status, plain.errors, plain.answers, f"a reader that ends at call {call}")
-        TALLY.check(done.saved == plain.saved, f"a reader that ends at call {call}: saved otherwise")
+        injected = {"read_most": 7, "read_at": call}
+        failed = run(script, **injected)
+        ended(failed, 4, b"vdb: script: read\n", answers, f"call {call} fails")
+        TALLY.check(failed.counts.get("script-reads") == call, f"call {call} fails: the program reads again")
+        plain = run(read)
+        done = run(script, **injected, read_kind="nothing")
+        ended(done, plain.status, plain.errors, plain.answers, f"the script ends at call {call}")
+        TALLY.check(done.saved == plain.saved, f"the script ends at call {call}: the saved file is another")
 
 
 def by_name():
-    """A script that is a file named by a word: in pieces, failing at a call, missing."""
+    """A script that the command line names: short reads, a read that fails, a missing file."""
     script, answers, pairs = row("two-grids")
     for most in (1, 7, 300):
-        ended(run(script, named=True, read_of_file=1, read_most=most), 1, b"", answers, f"a file in pieces of {most} bytes")
+        ended(run(script, named=True, read_of_file=1, read_most=most), 1, b"", answers, f"a named script, reads of {most} bytes")
     for call in some(range(1, len(script) // 7 + 3)):
         complete = script[: 7 * (call - 1)].count(b"\n")
         failed = run(script, named=True, read_of_file=1, read_most=7, read_at=call)
-        told = b"".join(answer for _, answer in pairs[:complete])
-        ended(failed, 4, b"vdb: script: read\n", told, f"a file that fails at call {call}")
+        before = b"".join(answer for _, answer in pairs[:complete])
+        ended(failed, 4, b"vdb: script: read\n", before, f"a named script, call {call} fails")
     missing = run(PLACE.folder / "missing", named=True)
-    ended(missing, 4, b"vdb: script: read\n", b"", "a script that isn't there")
+    ended(missing, 4, b"vdb: script: read\n", b"", "a missing script")
 
 
 def words():
-    """Wrong command lines have the status 2, help and the version 0; neither reads a script, answers or saves."""
+    """Wrong command lines exit with status 2, help and version with 0. None of them reads a script, answers or saves."""
     for more in (["--lod"], ["-l", "f"], ["--load"], ["--load", "f", "--load", "g"], ["--save=f"], ["f", "g"]):
-        wrong = run(GRID, more=more)
-        quiet = wrong.answers == b"" and wrong.saved is None and wrong.counts.get("script-reads") == 0
-        TALLY.check(wrong.status == 2 and wrong.errors != b"" and quiet, f"{more}: status {wrong.status}")
+        done = run(GRID, more=more)
+        quiet = done.answers == b"" and done.saved is None and done.counts.get("script-reads") == 0
+        TALLY.check(done.status == 2 and done.errors != b"" and quiet, f"{more}: status {done.status}")
     for more in (["--help"], ["-h"], ["--version"], ["-V"]):
-        asked = run(GRID, more=more)
-        quiet = asked.errors == b"" and asked.saved is None and asked.counts.get("script-reads") == 0
-        TALLY.check(asked.status == 0 and asked.answers != b"" and quiet, f"{more}: status {asked.status}")
+        done = run(GRID, more=more)
+        quiet = done.errors == b"" and done.saved is None and done.counts.get("script-reads") == 0
+        TALLY.check(done.status == 0 and done.answers != b"" and quiet, f"{more}: status {done.status}")
 
 
 def writers():
-    """A writer that fails or takes nothing at each of its calls, and one that fails after some bytes."""
+    """A write that fails or writes nothing, at each call, and writes that fail after some bytes."""
     for script, answers in [row("two-grids")[:2], (MIXED, MIXED_ANSWERS)]:
         calls = run(script).counts["answer-writes"]
         for call in some(range(1, calls + 1)):
@@ -128,43 +128,43 @@ def writers():
                 broken(script, answers, {"write_at": call, "write_kind": kind}, call, None)
         for size in some(range(0, len(answers), 3)):
             broken(script, answers, {"write_after": size}, None, size)
-    taken = run(GRID + b"get a - 5 5 5\n", write_after=3)
-    ended(taken, 4, b"vdb: answers: write\n", b"ok\n", "a writer that fails after three bytes")
+    done = run(GRID + b"get a - 5 5 5\n", write_after=3)
+    ended(done, 4, b"vdb: answers: write\n", b"ok\n", "writes fail after three bytes")
 
 
-def broken(script, answers, wrong, call, size):
-    """A run whose writer breaks: what went out is a prefix, no call follows, and nothing is saved."""
-    done = run(script, **wrong)
-    TALLY.check(answers.startswith(done.answers), f"{wrong}: what went out is no prefix")
-    ended(done, 4, b"vdb: answers: write\n", done.answers, f"{wrong}")
+def broken(script, answers, injected, call, size):
+    """Checks a run whose writes fail: the output is a prefix of the answers, and the program doesn't write again."""
+    done = run(script, **injected)
+    TALLY.check(answers.startswith(done.answers), f"{injected}: the output is no prefix of the answers")
+    ended(done, 4, b"vdb: answers: write\n", done.answers, f"{injected}")
     if call is not None:
-        TALLY.check(done.counts.get("answer-writes") == call, f"{wrong}: {done.counts.get('answer-writes')} calls")
+        TALLY.check(done.counts.get("answer-writes") == call, f"{injected}: {done.counts.get('answer-writes')} calls")
     if size is not None:
-        TALLY.check(len(done.answers) == size, f"{wrong}: {len(done.answers)} bytes went out")
+        TALLY.check(len(done.answers) == size, f"{injected}: {len(done.answers)} bytes written")
 
 
 def longest():
-    """As many newlines as a script may have, and one more."""
+    """Scripts of the greatest size, and of one byte more."""
     path = PLACE.folder / "newlines"
     path.write_bytes(b"\n" * SCRIPT_LIMIT)
-    ended(run(path), 0, b"", b"", "newlines to the limit")
+    ended(run(path), 0, b"", b"", "newlines up to the limit")
     path.write_bytes(b"\n" * (SCRIPT_LIMIT + 1))
     longer = run(path)
-    ended(longer, 4, b"vdb: script: too-long\n", b"", "a newline more")
-    within(longer, "a newline more")
+    ended(longer, 4, b"vdb: script: too-long\n", b"", "one newline more")
+    within(longer, "one newline more")
     path.write_bytes(b"\n" * (SCRIPT_LIMIT - len(GRID)) + GRID)
     ended(run(path), 0, b"", b"ok\n", "a command that ends at the limit")
     path.write_bytes(b"\n" * (SCRIPT_LIMIT - len(GRID)) + GRID + b"#")
-    ended(run(path), 4, b"vdb: script: too-long\n", b"ok\n", "a command that ends at the limit, and a byte more")
+    ended(run(path), 4, b"vdb: script: too-long\n", b"ok\n", "a command that ends at the limit, and one byte more")
     path.write_bytes(b"\n" * (SCRIPT_LIMIT - len(GRID) + 1) + GRID)
-    ended(run(path), 4, b"vdb: script: too-long\n", b"", "a command that ends a byte past the limit")
+    ended(run(path), 4, b"vdb: script: too-long\n", b"", "a command that ends one byte past the limit")
     path.write_bytes(b"\n" * (SCRIPT_LIMIT - len(GRID) + 1) + GRID[:-1])
     ended(run(path), 0, b"", b"ok\n", "a last line without newline that ends at the limit")
     path.unlink()
 
 
 def endless():
-    """Scripts without an end: they are given up one byte past the limit."""
+    """Endless scripts: the program ends one byte past the limit."""
     for first, chunk, answers in [(b"", b"#", b""), (GRID, b"\n", b"ok\n"), (GRID, b"\n \t\r#x\n", b"ok\n")]:
         done = through([first, *[chunk * (65_536 // len(chunk))] * MOST_CHUNKS])
         ended(done, 4, b"vdb: script: too-long\n", answers, f"{chunk!r} for ever")
@@ -172,7 +172,7 @@ def endless():
 
 
 def within(done, what):
-    """No more than a byte past the limit was asked for."""
+    """Checks that the program asked for one byte past the limit, and no more."""
     asked = done.counts.get("script-furthest", 0)
     TALLY.check(SCRIPT_LIMIT < asked <= SCRIPT_LIMIT + 1, f"{what}: byte {asked} was asked for")
 
