@@ -225,7 +225,7 @@ class Saves(Runs):
     def test_saves(self) -> None:
         """The status, the option and the old file decide what is saved."""
         good, refused = b"grid a i32 0\n", b"grid a i32 0\nfoo\n"
-        hint = "not saved, status 1: lines refused: 1"
+        hint = "not saved, status 1: commands failed: 1"
         table = [
             ("status 0", good, (), True, ""),
             ("status 1", refused, (), False, hint + " (--force saves all the same)"),
@@ -340,7 +340,7 @@ class Faults(Runs):
     def test_help_and_program(self) -> None:
         shown = subprocess.run([str(RUN), "--help"], capture_output=True, text=True, timeout=WAIT)
         self.assertEqual(shown.returncode, 0)
-        for wanted in ("vdb-run --load labels.vdbs --save labels.vdbs clean.txt", "Status: 0; 1 if", "Ctrl-C twice"):
+        for wanted in ("vdb-run --load labels.vdbs --save labels.vdbs clean.txt", "Exit status: 0 success", "Ctrl-C twice"):
             self.assertIn(wanted, shown.stdout)
         named = subprocess.run([str(RUN)], input=b"foo\n", capture_output=True, env={**os.environ, "VDB": VDB}, timeout=WAIT)
         self.assertEqual((named.returncode, named.stdout), (1, b"error syntax\n"))
@@ -450,7 +450,7 @@ class Terminals(Runs):
             run, master = self.start("--vdb", slow, *words, str(script), out=subprocess.DEVNULL)
             text = self.read(master, b"\xff")
             self.assertEqual(run.wait(WAIT), 0)
-            self.assertEqual(b"100% 1 lines" in text and b"2 lines in " in text, barred, text)
+            self.assertEqual(b"100%" in text and b"2 lines in " in text, barred, text)
             self.assertEqual(text == b"", not barred)
 
 
