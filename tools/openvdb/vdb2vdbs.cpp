@@ -86,7 +86,11 @@ void write_tree(const Grid& grid, scene::Header header, const std::string& name,
     header.kind = Cells<Tree>::kind;
     header.background = background.value;
     const uint32_t limit = header.limit;
-    writer.write(header, tree, raise);
+    try {
+        writer.write(header, tree, raise);
+    } catch (const Error& error) {
+        throw Error("grid " + in_quotes(name) + ": " + error.what());
+    }
     if (header.limit > limit)
         notices.note("grid " + in_quotes(name) + " has the root limit " + std::to_string(header.limit) + ", more than " + std::to_string(limit));
     notices.progress(name, tree.activeVoxelCount(), tree.leafCount());
@@ -101,11 +105,7 @@ void write_grid(const GridBase& grid, const Chosen& chosen, const CommandLine& l
     header.limit = line.limit.value_or(limit_of(grid).value_or(scene::usual_limit));
     header.pairs = pairs_of(grid, name, notices);
     using Types = openvdb::TypeList<openvdb::BoolGrid, openvdb::Int32Grid, openvdb::Int64Grid, openvdb::MaskGrid>;
-    try {
-        grid.apply<Types>([&](const auto& typed) { write_tree(typed, header, name, !line.limit, writer, notices); });
-    } catch (const Error& error) {
-        throw Error("grid " + in_quotes(name) + ": " + error.what());
-    }
+    grid.apply<Types>([&](const auto& typed) { write_tree(typed, header, name, !line.limit, writer, notices); });
 }
 
 void convert(const CommandLine& line, const Notices& notices) {
