@@ -13,7 +13,7 @@ constexpr const char* limit_key = "vdb_root_limit";
 // goes before the key of a pair that OpenVDB would take for its own
 const std::string prefix = "vdbs:";
 
-/// Metadata that OpenVDB makes again when it writes a file, and the name and class, which are told apart from the rest.
+/// Metadata that OpenVDB makes again when it writes a file, and the name and class, which the programs read by themselves.
 bool is_made_again(const std::string& key) {
     static const std::array<const char*, 8> keys{
         GridBase::META_GRID_NAME,        GridBase::META_GRID_CLASS,     GridBase::META_FILE_BBOX_MIN,    GridBase::META_FILE_BBOX_MAX,
@@ -52,7 +52,7 @@ scene::Pairs pairs_of(const GridBase& grid, const std::string& name, const Notic
         if (is_made_again(key) || (key == limit_key && limit_of(grid))) continue;
         const std::string reason = reason_against(key, *entry->second, pairs.size());
         if (reason.empty()) pairs[key_of(key)] = static_cast<const openvdb::StringMetadata&>(*entry->second).value();
-        else notices.tell("grid " + in_quotes(name) + ": metadata " + in_quotes(key) + " is left out: " + reason);
+        else notices.report("grid " + in_quotes(name) + ": metadata " + in_quotes(key) + " is left out: " + reason);
     }
     return pairs;
 }
@@ -63,22 +63,22 @@ std::optional<uint32_t> limit_of(const MetaMap& metadata) {
     return uint32_t(limit->value());
 }
 
-void tell_file_metadata(const MetaMap& metadata, const Notices& notices) {
+void report_file_metadata(const MetaMap& metadata, const Notices& notices) {
     for (auto entry = metadata.beginMeta(); entry != metadata.endMeta(); ++entry)
-        notices.tell("metadata " + in_quotes(entry->first) + " of the file is left out: a scene has none");
+        notices.report("metadata " + in_quotes(entry->first) + " of the file is left out: a scene has none");
 }
 
-void tell_class(const GridBase& grid, const std::string& name, const Notices& notices) {
+void report_class(const GridBase& grid, const std::string& name, const Notices& notices) {
     const auto entry = grid[GridBase::META_GRID_CLASS];
     if (!entry || entry->str() == GridBase::gridClassToString(openvdb::GRID_UNKNOWN)) return;
-    notices.tell("grid " + in_quotes(name) + ": its class " + in_quotes(entry->str()) + " is left out: a scene's grid has none");
+    notices.report("grid " + in_quotes(name) + ": its class " + in_quotes(entry->str()) + " is left out: a scene's grid has none");
 }
 
-void tell_transform(const GridBase& grid, const std::string& name, const Notices& notices) {
+void report_transform(const GridBase& grid, const std::string& name, const Notices& notices) {
     if (grid.transform().isIdentity()) return;
     std::ostringstream text;
     text << grid.transform().mapType() << ", voxel size " << grid.transform().voxelSize();
-    notices.tell("grid " + in_quotes(name) + ": its transform (" + text.str() + ") is left out: a scene's grid has none");
+    notices.report("grid " + in_quotes(name) + ": its transform (" + text.str() + ") is left out: a scene's grid has none");
 }
 
 void store_metadata(MetaMap& metadata, const scene::Header& header) {

@@ -35,7 +35,7 @@ public:
 
     CommandLine read() {
         while (next < words.size()) read_word(words[next++]);
-        if (files != 2) throw WrongWords(files < 2 ? "two files are needed, IN and OUT" : "there is a third file");
+        if (files != 2) throw WrongWords(files < 2 ? "IN and OUT are needed" : "a third file is too many");
         return line;
     }
 
@@ -59,7 +59,7 @@ private:
         else if (option == "--strict" && !given) line.strict = true;
         else if (option == "--limit" && program.has_limit) line.limit = read_limit(value(option, given));
         else if (option == "--compress" && program.has_compress) line.compression = read_compression(value(option, given));
-        else throw WrongWords("there is no option " + in_quotes(word));
+        else throw WrongWords("unknown option " + in_quotes(word));
     }
 
     void read_file(const std::string& word) {
@@ -92,7 +92,7 @@ std::string first_line(const std::string& text) { return text.substr(0, text.fin
 
 }  // namespace
 
-void Notices::tell(const std::string& what) const {
+void Notices::report(const std::string& what) const {
     if (strict) throw Error(what);
     note(what);
 }
@@ -134,7 +134,7 @@ int run(const Program& program, int count, char** words) {
     } catch (const FileError& error) {
         std::cerr << name + ": " + error.what() + "\n";
     } catch (const std::bad_alloc&) {
-        std::cerr << name + ": " + input + ": there is too little memory\n";
+        std::cerr << name + ": " + input + ": not enough memory\n";
     } catch (const std::exception& error) {
         std::cerr << name + ": " + input + ": " + first_line(error.what()) + "\n";
     }

@@ -27,15 +27,15 @@ struct CommandLine {
     std::string compression = "zip";
 };
 
-/// Tells, a line each on standard error, what of a file doesn't cross. With `--strict` the first of it is an error.
+/// Reports, a line each on standard error, what of a file doesn't cross. With `--strict` the first of it is an error.
 class Notices {
 public:
     Notices(std::string program, std::string input, bool strict)
         : begin(std::move(program) + ": " + std::move(input) + ": "), strict(strict) {}
 
-    void tell(const std::string& what) const;
+    void report(const std::string& what) const;
 
-    /// Tells what the output has beside the input. It is never an error.
+    /// Prints a line that is never an error.
     void note(const std::string& what) const;
 
     /// Prints a grid's size, if it is large and standard error is a terminal.

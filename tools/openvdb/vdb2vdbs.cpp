@@ -18,11 +18,12 @@ constexpr const char* help =
     vdb2vdbs IN.vdb OUT.vdbs [--grid NAME..] [--strict] [--limit N]
 
 --grid NAME..   converts these grids alone; --grid=NAME is one of them
---strict        what a scene file can't hold is an error, and not only told
+--strict        anything that a scene file can't hold is an error
 --limit N       the root limit of each grid, 1 to 65536; without it that is 4096, or as much more as the grid needs
 --help          prints this
 
-It converts bool, int32, int64 and mask grids. What a scene file can't hold is told on standard error, a line each.
+It converts bool, int32, int64 and mask grids. It reports what a scene file can't hold on
+standard error, a line each.
 The exit status is 0, 1 if the file can't be converted, or 2 for a wrong command line.
 
 Example: converts the grids labels and organs of scan.vdb, and counts the active voxels of one:
@@ -47,7 +48,7 @@ bool is_asked(const GridDescriptor& descriptor, const std::vector<std::string>& 
 void check_asked(const VdbReader& reader, const std::vector<std::string>& asked) {
     for (const std::string& name : asked) {
         const auto has_name = [&](const GridDescriptor& descriptor) { return is_asked(descriptor, {name}); };
-        if (std::none_of(reader.grids().begin(), reader.grids().end(), has_name)) throw Error("there is no grid " + in_quotes(name));
+        if (std::none_of(reader.grids().begin(), reader.grids().end(), has_name)) throw Error("no grid " + in_quotes(name));
     }
 }
 
@@ -57,21 +58,21 @@ bool has_scene_type(const GridDescriptor& descriptor) {
            type == openvdb::MaskGrid::gridType();
 }
 
-/// The grids to convert, by rising names in the scene. Those left out and those renamed are told.
+/// The grids to convert, by rising names in the scene. Reports those that it leaves out or renames.
 std::vector<Chosen> choose(const VdbReader& reader, const CommandLine& line, const Notices& notices) {
     std::vector<Chosen> chosen;
     std::vector<std::string> names;
     for (const GridDescriptor& descriptor : reader.grids()) {
         if (!is_asked(descriptor, line.grids)) continue;
         const std::string grid = "grid " + in_quotes(shown(descriptor));
-        if (!has_scene_type(descriptor)) notices.tell(grid + " is left out: its type is " + descriptor.gridType());
-        else if (chosen.size() == scene::most_grids) notices.tell(grid + " is left out: a scene has at most 64 grids");
+        if (!has_scene_type(descriptor)) notices.report(grid + " is left out: its type is " + descriptor.gridType());
+        else if (chosen.size() == scene::most_grids) notices.report(grid + " is left out: a scene has at most 64 grids");
         else chosen.push_back({&descriptor, ""}), names.push_back(descriptor.gridName());
     }
     const std::vector<std::string> made = names_in_scene(names);
     for (size_t grid = 0; grid < chosen.size(); ++grid) {
         chosen[grid].name = made[grid];
-        if (made[grid] != names[grid]) notices.tell("grid " + in_quotes(shown(*chosen[grid].descriptor)) + " is called " + made[grid]);
+        if (made[grid] != names[grid]) notices.report("grid " + in_quotes(shown(*chosen[grid].descriptor)) + " is called " + made[grid]);
     }
     std::sort(chosen.begin(), chosen.end(), [](const Chosen& one, const Chosen& other) { return one.name < other.name; });
     return chosen;
@@ -82,7 +83,7 @@ void write_tree(const Grid& grid, scene::Header header, const std::string& name,
     using Tree = typename Grid::TreeType;
     const Tree& tree = grid.tree();
     const auto background = Cells<Tree>::background(tree);
-    if (background.value != tree.background()) notices.tell("grid " + in_quotes(name) + ": its background true is false in the scene");
+    if (background.value != tree.background()) notices.report("grid " + in_quotes(name) + ": its background true is false in the scene");
     header.kind = Cells<Tree>::kind;
     header.background = background.value;
     const uint32_t limit = header.limit;
@@ -98,8 +99,8 @@ void write_tree(const Grid& grid, scene::Header header, const std::string& name,
 
 void write_grid(const GridBase& grid, const Chosen& chosen, const CommandLine& line, SceneWriter& writer, const Notices& notices) {
     const std::string name = shown(*chosen.descriptor);
-    tell_class(grid, name, notices);
-    tell_transform(grid, name, notices);
+    report_class(grid, name, notices);
+    report_transform(grid, name, notices);
     scene::Header header;
     header.name = chosen.name;
     header.limit = line.limit.value_or(limit_of(grid).value_or(scene::usual_limit));
@@ -112,7 +113,7 @@ void convert(const CommandLine& line, const Notices& notices) {
     openvdb::initialize();
     VdbReader reader(line.input);
     check_asked(reader, line.grids);
-    tell_file_metadata(reader.metadata(), notices);
+    report_file_metadata(reader.metadata(), notices);
     const std::vector<Chosen> chosen = choose(reader, line, notices);
     OutputFile file(line.output);
     SceneWriter writer(file, uint16_t(chosen.size()));

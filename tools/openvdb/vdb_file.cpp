@@ -25,6 +25,20 @@ uint32_t compression_flags(const std::string& compression) {
     return openvdb::io::COMPRESS_BLOSC | openvdb::io::COMPRESS_ACTIVE_MASK;
 }
 
+/// Reads an offset in the order of bytes of the machine, as OpenVDB does.
+int64_t read_offset(std::istream& stream) {
+    int64_t offset = 0;
+    stream.read(reinterpret_cast<char*>(&offset), sizeof offset);
+    return offset;
+}
+
+/// Reads the offsets of a grid, which OpenVDB leaves unread if it doesn't know the type.
+void read_offsets(std::istream& stream, GridDescriptor& descriptor) {
+    descriptor.setGridPos(read_offset(stream));
+    descriptor.setBlockPos(read_offset(stream));
+    descriptor.setEndPos(read_offset(stream));
+}
+
 }  // namespace
 
 VdbReader::VdbReader(const std::string& path) : stream(path, std::ios::binary) {
@@ -65,7 +79,7 @@ void VdbReader::read_descriptor() {
         try {
             descriptor.read(stream);
         } catch (const openvdb::LookupError&) {
-            throw Error("grid " + in_quotes(descriptor.gridName()) + " has a type that OpenVDB doesn't know: " + descriptor.gridType());
+            read_offsets(stream, descriptor);
         }
         if (descriptor.getEndPos() < 0 || uint64_t(descriptor.getEndPos()) > size)
             throw Error("the file is cut short: grid " + in_quotes(descriptor.gridName()) + " ends past it");

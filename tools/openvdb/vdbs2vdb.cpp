@@ -16,7 +16,7 @@ constexpr const char* help =
 
 --grid NAME..   converts these grids alone; --grid=NAME is one of them
 --compress HOW  zip (without the option), blosc or none
---strict        what a file of OpenVDB can't hold is an error; it holds all of a scene
+--strict        anything that a file of OpenVDB can't hold is an error; it holds all of a scene
 --help          prints this
 
 The exit status is 0, 1 if the file can't be converted, or 2 for a wrong command line.
@@ -62,7 +62,7 @@ openvdb::GridCPtrVec read_scene(const CommandLine& line, const Notices& notices)
         missing.erase(std::remove(missing.begin(), missing.end(), header.name), missing.end());
     }
     reader.need_end();
-    if (!missing.empty()) throw Error("there is no grid " + in_quotes(missing.front()));
+    if (!missing.empty()) throw Error("no grid " + in_quotes(missing.front()));
     return grids;
 }
 

@@ -1,4 +1,4 @@
-"""Bad scene files: vdbs2vdb tells the fault and the byte that encoding.py finds; a good one comes back as its canonical bytes."""
+"""Bad scene files: vdbs2vdb reports the fault and the byte that encoding.py finds; a good one comes back as its canonical bytes."""
 import random
 
 import encoding

@@ -1,8 +1,8 @@
-"""What a scene file can't hold: each is told in one line, and is an error with --strict."""
+"""What a scene file can't hold: one line reports each of it, which is an error with --strict."""
 
 FLOAT = "Tree_float_5_4_3"
 
-# lines of the probe, each with what vdb2vdbs tells and with the script that makes the same scene
+# lines of the probe, each with what vdb2vdbs reports and with the script that makes the same scene
 TOLD = [
     (
         "a grid of another type",

@@ -67,7 +67,7 @@ def check_chosen(place):
     place.is_converted("vdb2vdbs", "whole.vdb", "chosen.vdbs", "--grid", "c", "a")
     place.equal(place.read("chosen.vdbs"), wanted, "vdb2vdbs --grid c a")
     for program, given in (("vdbs2vdb", "scene.vdbs"), ("vdb2vdbs", "whole.vdb")):
-        told = [f'{program}: {given}: there is no grid "d"']
+        told = [f'{program}: {given}: no grid "d"']
         place.equal(place.convert(program, given, "none", "--grid", "d"), (1, "", told), f"{program} --grid d")
 
 

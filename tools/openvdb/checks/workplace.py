@@ -15,7 +15,7 @@ class Workplace:
     def __init__(self, here):
         self.vdb = os.path.abspath(os.environ.get("VDB", here.parents[1] / "crates" / "vdb" / "out" / "vdb"))
         if not os.access(self.vdb, os.X_OK):
-            sys.exit(f"test: there is no program {self.vdb}: build it by 'rt run < stdin' in crates/vdb, or name one in VDB")
+            sys.exit(f"test: no program {self.vdb}: build it by 'rt run < stdin' in crates/vdb, or name one in VDB")
         self.probe = here / "probe"
         self.holder = tempfile.TemporaryDirectory(prefix="openvdb-")
         self.folder = Path(self.holder.name)
@@ -63,7 +63,7 @@ class Workplace:
         return done.returncode, done.stdout.decode(), done.stderr.decode(errors="replace").splitlines()
 
     def is_converted(self, program, *words, told=(), what=""):
-        """Checks that a converter converts, and tells these lines."""
+        """Checks that a converter converts, and reports these lines."""
         self.equal(self.convert(program, *words), (0, "", list(told)), what or f"{program} {' '.join(words)}")
 
     def played(self, lines, *options):
