@@ -44,7 +44,7 @@ mode_t permissions(const struct stat* old) {
 
 }  // namespace
 
-OutputFile::OutputFile(const std::string& path) : target(without_links(path)) {
+OutputFile::OutputFile(const std::string& path) : given(path), target(without_links(path)) {
     struct stat old {};
     const bool exists = stat(target.c_str(), &old) == 0;
     if (exists && !S_ISREG(old.st_mode)) fail("it is no regular file");

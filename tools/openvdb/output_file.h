@@ -29,11 +29,11 @@ public:
     /// Makes the file durable and gives it the target's name.
     void commit();
 
-    /// Throws an error that names the target.
-    [[noreturn]] void fail(const std::string& what) const { throw FileError(target, what); }
+    /// Throws an error that names the file as it was given.
+    [[noreturn]] void fail(const std::string& what) const { throw FileError(given, what); }
 
 private:
-    std::string target, temporary;
+    std::string given, target, temporary;
     int descriptor = -1;
     uint64_t written = 0;
 };
