@@ -1,0 +1,9 @@
+// Names of OpenVDB's grids made into names of a scene.
+#pragma once
+
+#include <string>
+#include <vector>
+
+/// The scene's name for each of these names: itself, if it can be one and none before it is the same. Another is in small letters, has
+/// `_` for any other byte, is cut to 16 bytes, and ends in a number if it would be there twice.
+std::vector<std::string> names_in_scene(const std::vector<std::string>& names);

@@ -1,0 +1,39 @@
+// A file that is written under a temporary name, and takes its own name only when it is whole.
+#pragma once
+
+#include "program.h"
+
+#include <string>
+#include <string_view>
+
+/// A temporary file in the folder of its target. It replaces the target in `commit`, else it is removed.
+class OutputFile {
+public:
+    explicit OutputFile(const std::string& path);
+    ~OutputFile();
+    OutputFile(const OutputFile&) = delete;
+    OutputFile& operator=(const OutputFile&) = delete;
+
+    /// Appends bytes.
+    void write(std::string_view bytes);
+
+    /// Replaces bytes that were written.
+    void patch(uint64_t offset, std::string_view bytes);
+
+    /// How many bytes were appended.
+    uint64_t size() const { return written; }
+
+    /// The temporary file's path, for a library that opens it by itself.
+    const std::string& path() const { return temporary; }
+
+    /// Makes the file durable and gives it the target's name.
+    void commit();
+
+    /// Throws an error that names the file as it was given.
+    [[noreturn]] void fail(const std::string& what) const { throw FileError(given, what); }
+
+private:
+    std::string given, target, temporary;
+    int descriptor = -1;
+    uint64_t written = 0;
+};
