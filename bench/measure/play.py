@@ -1,0 +1,41 @@
+"""Runs of a program: its time, its peak memory, its exit status and what it writes."""
+import os
+import time
+from dataclasses import dataclass
+
+from .places import Failed
+
+
+@dataclass
+class Run:
+    """One run: wall-clock seconds, peak memory in bytes, and the exit status."""
+
+    seconds: float
+    peak: int
+    status: int
+
+
+def play(command, stdin=os.devnull, stdout=os.devnull, stderr=None):
+    """Runs a command once on files, and returns the run."""
+    begun = time.perf_counter()
+    child = os.fork()
+    if child == 0:
+        try:
+            os.dup2(os.open(stdin, os.O_RDONLY), 0)
+            os.dup2(os.open(stdout, os.O_WRONLY | os.O_CREAT | os.O_TRUNC, 0o644), 1)
+            if stderr:
+                os.dup2(os.open(stderr, os.O_WRONLY | os.O_CREAT | os.O_TRUNC, 0o644), 2)
+            os.execvp(command[0], command)
+        finally:
+            os._exit(127)
+    _, status, usage = os.wait4(child, 0)
+    # ru_maxrss counts units of 1,024 bytes
+    return Run(time.perf_counter() - begun, usage.ru_maxrss * 1024, os.waitstatus_to_exitcode(status))
+
+
+def play_well(command, *files, **more):
+    """Runs a command as `play` does, and fails unless it ends with status 0, or 1 after an error that the script asked for."""
+    run = play(command, *files, **more)
+    if run.status not in (0, 1):
+        raise Failed(f"{' '.join(command)} ended with status {run.status}")
+    return run
