@@ -12,7 +12,7 @@ SCENES = {
     "save-scene": "three grids of 434,000 scattered voxels",
     "reports": "a thick shell and a box",
     "lists": "60,000 scattered voxels",
-    "truths": "two masks of 300 boxes",
+    "booleans": "two masks of 300 boxes",
 }
 HEADINGS = {"vdb": "vdb", "none": "OpenVDB, uncompressed", "zip": "OpenVDB, ZIP", "blosc": "OpenVDB, Blosc"}
 
@@ -42,10 +42,10 @@ def measure(runs, quick):
     kinds = ("i32",) if quick else ("i32", "i64")
     with room() as folder:
         for kind in kinds:
-            write_scripts(f"{folder}/{kind}", "7", kind)
-        scenes = [(script, kind) for script in SCENES for kind in (kinds if script != "truths" else kinds[:1])]
+            write_scripts(f"{folder}/{kind}", "7", kind, *SCENES)
+        scenes = [(script, kind) for script in SCENES for kind in (kinds if script != "booleans" else kinds[:1])]
         for number, (script, kind) in enumerate(scenes, 1):
-            name = f"{SCENES[script]}, {kind if script != 'truths' else 'bool'}"
+            name = f"{SCENES[script]}, {kind if script != 'booleans' else 'bool'}"
             tell(f"files, {name}", number, len(scenes))
             rows += measure_scene(name, f"{folder}/{kind}/{script}.script", commands, folder, runs)
     note = "A MB is 1,000,000 bytes. The files lie in memory, so no disk is measured. ZIP and Blosc leave out inactive values, as OpenVDB's default does."

@@ -47,9 +47,17 @@ def sources_of(name):
     return {"main": main, **{module: text_of(module) for module in re.findall(r"^mod (\w+);$", main, re.M)}}
 
 
+USES = re.compile(r"// uses: (.*)\n")
+
+
+def is_benchmark(name):
+    """Returns whether a text of bench/library is a benchmark, and no module of several."""
+    return bool(USES.match(text_of(name)))
+
+
 def libraries_of(name):
     """Returns the folders of the libraries that a benchmark's first line names, and fails if one isn't built."""
-    names = re.match(r"// uses: (.*)\n", text_of(name))[1].split()
+    names = USES.match(text_of(name))[1].split()
     found = {it: f"{TOP}/crates/{it}/out/rlib/{it}.rlib" for it in names}
     lacking = [it for it, folder in found.items() if not os.path.isfile(f"{folder}/format")]
     if lacking:

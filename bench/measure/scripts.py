@@ -23,9 +23,9 @@ def options(command, script, folder):
     return []
 
 
-def write_scripts(folder, seed, kind):
-    """Writes the scripts of a seed and a type, and returns their names in the order of scripts.py."""
-    ran = subprocess.run(python([f"{OPENVDB}/scripts.py", folder, seed, kind]), capture_output=True, text=True)
+def write_scripts(folder, seed, kind, *wanted):
+    """Writes all scripts of a seed and a type, or those wanted, and returns their names in the order of scripts.py."""
+    ran = subprocess.run(python([f"{OPENVDB}/scripts.py", folder, seed, kind, *wanted]), capture_output=True, text=True)
     if ran.returncode:
         raise Failed(f"bench/openvdb/scripts.py failed: {ran.stderr.strip()}")
     return sorted(os.listdir(folder), key=lambda name: os.stat(f"{folder}/{name}").st_mtime_ns)
