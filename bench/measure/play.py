@@ -1,5 +1,6 @@
 """Runs of a program: its time, its peak memory, its exit status and what it writes."""
 import os
+import signal
 import time
 from dataclasses import dataclass
 
@@ -28,7 +29,12 @@ def play(command, stdin=os.devnull, stdout=os.devnull, stderr=None):
             os.execvp(command[0], command)
         finally:
             os._exit(127)
-    _, status, usage = os.wait4(child, 0)
+    try:
+        _, status, usage = os.wait4(child, 0)
+    except BaseException:  # a program doesn't outlive the command that runs it
+        os.kill(child, signal.SIGKILL)
+        os.waitpid(child, 0)
+        raise
     # ru_maxrss counts units of 1,024 bytes
     return Run(time.perf_counter() - begun, usage.ru_maxrss * 1024, os.waitstatus_to_exitcode(status))
 
