@@ -45,17 +45,18 @@ def run(command):
 
 
 def measure_benchmark(name, program, runs):
-    """Runs a benchmark on both libraries in turn, and returns its rows."""
+    """Runs a benchmark on both libraries in turn, and returns its rows, and what differed if anything did."""
     loops = f"{programs.OPENVDB}/loops"
     commands = {"vdb": [program], "one": [loops, name, "1"], "all": [loops, name, "all"]}
     found = in_turn({key: lambda _, command=command: run(command) for key, command in commands.items()}, runs)
-    sums = {sums for series in found.values() for _, sums in series}
+    sums = {key: {sums for _, sums in series} for key, series in found.items()}
     rows = []
     for title, (_, unit) in found["vdb"][0][0].items():
-        series = {key: [each[0][title][0] for each in runs_of] for key, runs_of in found.items() if title in runs_of[0][0]}
+        series = {key: [each[0][title][0] for each in series] for key, series in found.items() if title in series[0][0]}
         call = next((f"`{text}`" for start, text in CALLS.items() if title.startswith(start)), "")
-        rows.append(row(title, f"ns a {unit}", series, **{"OpenVDB's call": call, "Results": "same" if len(sums) == 1 else "DIFFER"}))
-    return rows
+        rows.append(row(title, f"ns a {unit}", series, **{"OpenVDB's call": call}))
+    all_same = len(set.union(*sums.values())) == 1
+    return rows, [] if all_same else [f"{name}: the results differ: {'; '.join(f'{key} {sorted(it)}' for key, it in sums.items())}"]
 
 
 def measure(runs, quick):
@@ -68,10 +69,10 @@ def measure(runs, quick):
         try:
             if isinstance(built[name], Failed):
                 raise built[name]
-            rows += measure_benchmark(name, built[name], runs)
+            more, differing = measure_benchmark(name, built[name], runs)
+            rows, failed = rows + more, failed + differing
         except Failed as failure:
             failed.append(str(failure))
-            programs.say(f"FAILED: {failure}")
     if not rows:
         raise Failed("; ".join(failed))
     note = "One call, or one voxel or leaf of it, in nanoseconds. vdb uses one thread. Trees have 4,096 full leaves of `i32` unless the row says otherwise."

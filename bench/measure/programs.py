@@ -94,9 +94,9 @@ def link(sources, libraries, folder, program, what):
             words += ["--extern", f"{name}={library}", "-L", f"dependency={os.path.dirname(library)}"]
         words += ["-L", f"dependency={folder}/rlibs", "--antt-project", f"{folder}/rattle/logic/antt-project.json"]
         words += ["--logic-built", f"{folder}/logic_built", "--toolchain", f"{folder}/toolchain", "--jobs", "1", "-o", "bench.o"]
-        called(words, room, f"the build of the benchmark {what}")
+        called(words, room, f"{what}: the build over the crates' libraries (if they don't fit one another, remove crates/*/out/rlib and run .ci/build)")
         words = [f"{folder}/bin/rattle-link", "--target", "x86_64-unknown-linux-gnu", "--toolchain", f"{folder}/toolchain", "-o", "bench", "bench.o"]
-        called([*words, f"{folder}/c/libos_c.a", f"{folder}/c/liblibc_c.a"], room, f"the link of the benchmark {what}")
+        called([*words, f"{folder}/c/libos_c.a", f"{folder}/c/liblibc_c.a"], room, f"{what}: the link")
         os.makedirs(OUT, exist_ok=True)
         shutil.copy(f"{room}/bench", f"{program}.new")
         os.replace(f"{program}.new", program)

@@ -45,7 +45,11 @@ def summary(table):
         return "No row has a peer."
     ahead = [it for _, it in found]
     mean = geometric_mean([by for by, _ in found])
-    return f"vdb is ahead in {ahead.count('vdb')} rows, OpenVDB in {ahead.count('OpenVDB')}, and {ahead.count('tie')} are ties. The geometric mean of the ratios is {mean:.2f}."
+    counts = {name: ahead.count(name) for name in ("vdb", "OpenVDB", "tie")}
+    return (
+        f"Of {len(found)} rows with a peer vdb is ahead in {counts['vdb']}, OpenVDB in {counts['OpenVDB']}, and {counts['tie']} are ties."
+        f" The geometric mean of the ratios is {mean:.2f}."
+    )
 
 
 def markdown(table):
@@ -72,7 +76,8 @@ def markdown(table):
 def measured(part, head):
     """Returns when and how a part was measured, with the facts in which it differs from the head."""
     load = part["load"]
-    text = f"{part['facts']['Date']}, {part['runs']} runs, in {part['seconds'] / 60:.1f} minutes, load average {load[0]} before."
+    runs = "1 run" if part["runs"] == 1 else f"{part['runs']} runs"
+    text = f"{part['facts']['Date']}, {runs}, in {part['seconds'] / 60:.1f} minutes, load average {load[0]} before."
     if not machine.is_idle(load):
         text += " **The machine wasn't idle, so these figures are worth little.**"
     if part["quick"]:

@@ -173,7 +173,7 @@ void pairs() {
     report("union, half of the leaves the same", "leaf", LEAVES, [&] { tree.topologyUnion(half); });
     report("union with an empty tree", "leaf", all, [&] { repeat([&] { tree.topologyUnion(nothing); }); });
     composite("sum with an empty tree", tree, nothing, [](Tree& a, Tree& b) { tools::compSum(a, b); });
-    std::printf("sums %u\n", tree.leafCount());
+    std::printf("sums %lld\n", Sum(tools::countActiveVoxels(tree, is_threaded)));
 }
 
 // Boxes and values drawn by Knuth's linear congruential generator of 64 bits.
@@ -198,7 +198,8 @@ private:
     std::uint64_t state = 88172645463325252u;
 };
 
-// Fills boxes with sides of at most `side` voxels, or of any power of two up to 512 if it is 0, and clips what they left. Prints the counts.
+// Fills boxes with sides of at most `side` voxels, or of any power of two up to 512 if it is 0, and clips what they left. Counts the active
+// voxels before and after the clip.
 void fill_and_clip(const char* filling, const char* clipping, std::uint32_t side, Sum& filled, Sum& clipped) {
     Tree tree(0);
     report(filling, "box", BOXES, [&] {
