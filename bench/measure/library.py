@@ -5,6 +5,7 @@ import subprocess
 from . import programs
 from .parts import in_turn, row, table, tell
 from .places import Failed
+from .play import LIMIT
 
 BENCHMARKS = ("accessors", "tree", "walks", "boxes", "pairs")
 
@@ -34,7 +35,10 @@ CALLS = {
 
 def run(command):
     """Runs a benchmark, and returns its rows with nanoseconds and unit, and the line of its sums."""
-    ran = subprocess.run(command, stdin=subprocess.DEVNULL, capture_output=True, text=True, errors="replace")
+    try:
+        ran = subprocess.run(command, stdin=subprocess.DEVNULL, capture_output=True, text=True, errors="replace", timeout=LIMIT)
+    except subprocess.TimeoutExpired:
+        raise Failed(f"{' '.join(command)} hadn't ended after {LIMIT} seconds") from None
     if ran.returncode:
         raise Failed(f"{' '.join(command)} ended with status {ran.returncode}: {ran.stderr.strip()[:300]}")
     rows = {name: (int(picos) / 1000, unit) for name, picos, unit in re.findall(r"(?m)^(.+): (\d+) ps a (\w+)$", ran.stdout)}
@@ -74,6 +78,6 @@ def measure(runs, quick):
         except Failed as failure:
             failed.append(str(failure))
     if not rows:
-        raise Failed("; ".join(failed))
+        raise Failed("; ".join(dict.fromkeys(failed)))
     note = "One call, or one voxel or leaf of it, in nanoseconds. vdb uses one thread. Trees have 4,096 full leaves of `i32` unless the row says otherwise."
     return [{**table("Library", note, rows), "failed": failed}]

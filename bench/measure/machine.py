@@ -74,7 +74,7 @@ def describe():
         "Kit": first_line(["rt", "version"]),
         "OpenVDB": openvdb(),
         "Repository": first_line(["git", "describe", "--always", "--dirty"], cwd=TOP),
-        "Program": os.path.relpath(os.environ["VDB"], TOP) if os.environ.get("VDB") else "crates/vdb/out/vdb",
+        "Program": f"{os.path.basename(os.environ['VDB'])}, named by VDB" if os.environ.get("VDB") else "crates/vdb/out/vdb",
         "Python": platform.python_version(),
         "Date": time.strftime("%Y-%m-%d %H:%M UTC", time.gmtime()),
     }

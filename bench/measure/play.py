@@ -16,6 +16,28 @@ class Run:
     status: int
 
 
+# seconds after which a run is ended
+LIMIT = 600
+
+
+def wait(command, child):
+    """Waits for a child, and returns its status and usage. It doesn't outlive an exception, and has LIMIT seconds."""
+
+    def late(*_):
+        raise Failed(f"{' '.join(command)} hadn't ended after {LIMIT} seconds")
+
+    signal.signal(signal.SIGALRM, late)
+    signal.alarm(LIMIT)
+    try:
+        return os.wait4(child, 0)[1:]
+    except BaseException:
+        os.kill(child, signal.SIGKILL)
+        os.waitpid(child, 0)
+        raise
+    finally:
+        signal.alarm(0)
+
+
 def play(command, stdin=os.devnull, stdout=os.devnull, stderr=None):
     """Runs a command once on files, and returns the run."""
     begun = time.perf_counter()
@@ -29,12 +51,7 @@ def play(command, stdin=os.devnull, stdout=os.devnull, stderr=None):
             os.execvp(command[0], command)
         finally:
             os._exit(127)
-    try:
-        _, status, usage = os.wait4(child, 0)
-    except BaseException:  # a program doesn't outlive the command that runs it
-        os.kill(child, signal.SIGKILL)
-        os.waitpid(child, 0)
-        raise
+    status, usage = wait(command, child)
     # ru_maxrss counts units of 1,024 bytes
     return Run(time.perf_counter() - begun, usage.ru_maxrss * 1024, os.waitstatus_to_exitcode(status))
 

@@ -61,7 +61,7 @@ def libraries_of(name):
     found = {it: f"{TOP}/crates/{it}/out/rlib/{it}.rlib" for it in names}
     lacking = [it for it, folder in found.items() if not os.path.isfile(f"{folder}/format")]
     if lacking:
-        raise Failed(f"{name}: crates/{lacking[0]}/out has no library: run .ci/build first, or .ci/run")
+        raise Failed(f"crates/{lacking[0]}/out has no library: run .ci/build first, or .ci/run")
     return found
 
 

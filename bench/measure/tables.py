@@ -102,7 +102,7 @@ def page(parts):
     for name, part in parts.items():
         lines += [f"## {name.capitalize()}", "", measured(part, head), ""]
         for failed in part["failed"]:
-            lines += [f"**Not measured:** {failed}", ""]
+            lines += [f"**Failed in the last run:** {failed}", ""]
         for table in part["tables"]:
             lines += markdown(table)
     return "\n".join(lines).rstrip() + "\n"
