@@ -16,7 +16,7 @@ from concurrent.futures import ThreadPoolExecutor
 from .places import BENCH, OPENVDB, OUT, TOP, Failed
 
 # the most memory that the build of one benchmark takes, in bytes
-JOB = 3_000_000_000
+JOB = 4_000_000_000
 
 
 def say(text):
