@@ -39,7 +39,7 @@ def verdict(data):
 
 def play(script, *words):
     """Plays a script by the program. Returns its answers. Raises CalledProcessError if the run has a fault (status above 1)."""
-    run = subprocess.run([PROGRAM, *words], input=script, stdout=subprocess.PIPE, stderr=subprocess.PIPE, timeout=60)
+    run = subprocess.run([PROGRAM, *words], input=script, stdout=subprocess.PIPE, stderr=subprocess.PIPE, timeout=300)
     if run.returncode > 1:
         raise subprocess.CalledProcessError(run.returncode, run.args, run.stdout, run.stderr)
     return run.stdout.decode()
