@@ -38,9 +38,9 @@ def verdict(data):
 
 
 def play(script, *words):
-    """Plays a script by the program. Returns its answers. Raises CalledProcessError if the run has a fault (status above 1)."""
+    """Plays a script by the program. Returns its answers. Raises CalledProcessError if the run has a fault (a status but 0 and 1)."""
     run = subprocess.run([PROGRAM, *words], input=script, stdout=subprocess.PIPE, stderr=subprocess.PIPE, timeout=300)
-    if run.returncode > 1:
+    if run.returncode not in (0, 1):
         raise subprocess.CalledProcessError(run.returncode, run.args, run.stdout, run.stderr)
     return run.stdout.decode()
 

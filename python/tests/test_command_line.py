@@ -9,6 +9,7 @@ import tempfile
 import unittest
 import zlib
 from pathlib import Path
+from unittest import mock
 
 from .support import TOP, np, vdbs
 
@@ -141,6 +142,17 @@ class CommandLine(unittest.TestCase):
         run = self.piped("info", "none.vdbs", cwd=self.folder)
         self.assertEqual((run.returncode, run.stdout), (1, b""))
         self.assertEqual(run.stderr, b"vdbs: none.vdbs: No such file or directory\n")
+
+    def test_progress(self):
+        """Large files show progress on a terminal, and only there."""
+        self.made()
+        for terminal, told in ((True, "reading a.vdbs: "), (False, "")):
+            errors = io.StringIO()
+            errors.isatty = lambda: terminal
+            with mock.patch("vdbs.__main__.LARGE", 1), contextlib.redirect_stderr(errors), contextlib.redirect_stdout(io.StringIO()):
+                self.assertEqual(main(["labels", "a.vdbs", "lab"]), 0)
+            self.assertEqual(errors.getvalue().strip("\r").rstrip("0123456789% \n"), told.rstrip())
+            self.assertEqual(errors.getvalue().endswith(" %\n"), terminal)
 
     def test_merge(self):
         self.made()

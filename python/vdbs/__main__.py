@@ -2,10 +2,11 @@
 from __future__ import annotations
 
 import argparse
+import contextlib
 import json
 import os
 import sys
-from typing import BinaryIO, Callable, ContextManager, Optional, Sequence
+from typing import BinaryIO, Callable, ContextManager, Iterator, Optional, Sequence
 
 import numpy as np
 
@@ -13,6 +14,7 @@ from . import Grid, Scene, VdbsError, __version__, load, picture
 from .files import replacing
 from .forms import DEFAULT_LIMIT, check_limit, check_name
 from .grid import MAX_BYTES
+from .reader import Progress
 
 #: Reading or writing a file of at least so many bytes shows its progress on a terminal.
 LARGE = 8 << 20
@@ -23,31 +25,33 @@ class Problem(Exception):
     """What the command can't do, in a line."""
 
 
-def progress(verb: str, path: str) -> "Optional[Callable[[int, int], None]]":
-    """Returns a call that shows how far a file is read or written, if standard error is a terminal."""
-    if not sys.stderr.isatty():
-        return None
+@contextlib.contextmanager
+def progress(verb: str, path: str) -> "Iterator[Optional[Progress]]":
+    """Yields a call that shows how far a large file is read or written, or None if standard error is no terminal."""
+    shown = False
 
     def show(done: int, total: int) -> None:
+        nonlocal shown
         if total >= LARGE:
-            end = "\n" if done >= total else ""
-            print(f"\r{verb} {path}: {100 * done // total} %", end=end, file=sys.stderr, flush=True)
+            shown = True
+            print(f"\r{verb} {path}: {100 * done // total} %", end="", file=sys.stderr, flush=True)
 
-    return show
+    try:
+        yield show if sys.stderr.isatty() else None
+    finally:
+        if shown:
+            print(file=sys.stderr)
 
 
 def loaded(path: str) -> Scene:
-    scene = load(path, progress("reading", path))
-    show = progress("reading", path)
-    if show:
-        size = os.path.getsize(path)
-        show(size, size)
-    return scene
+    with progress("reading", path) as show:
+        return load(path, show)
 
 
 def saved(scene: Scene, path: str) -> None:
     try:
-        scene.save(path, progress("writing", path))
+        with progress("writing", path) as show:
+            scene.save(path, show)
     except VdbsError as error:
         raise Problem(f"{path}: {error}") from error
 

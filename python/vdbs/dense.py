@@ -68,7 +68,9 @@ class Source:
             block_values = blocks_of(values, found)
             block_listed = block_values != self.background
             block_active = block_listed if states is None else blocks_of(states, found)
-            self.leaf_extents(codes, block_values, block_active, block_listed | block_active)
+            if states is not None:
+                block_listed |= block_active
+            self.leaf_extents(codes, block_values, block_active, block_listed)
 
     def cut(self, array: np.ndarray, low, past, dtype: np.dtype, fill) -> np.ndarray:
         """Returns the part of an array in a box of whole leaf extents, filled outside the array, contiguous along z."""
@@ -90,12 +92,13 @@ class Source:
         if constant.any():
             self.tile_parts.append((codes[constant], values[constant, 0], active[constant, 0]))
         if not constant.all():
-            mixed = ~constant
-            places = np.flatnonzero(listed[mixed])
-            counts = np.count_nonzero(listed[mixed], axis=1)
-            self.leaf_parts.append((codes[mixed], counts))
-            voxels = values[mixed].ravel()[places], active[mixed].ravel()[places]
-            self.voxel_parts.append(((places & 511).astype(np.uint16), *voxels))
+            every = active is listed
+            listed[constant] = False
+            places = np.flatnonzero(listed)
+            counts = np.diff(np.searchsorted(places, np.arange(len(codes) + 1) * 512))
+            self.leaf_parts.append((codes[~constant], counts[~constant]))
+            states = np.ones(len(places), np.bool_) if every else active.ravel()[places]
+            self.voxel_parts.append(((places & 511).astype(np.uint16), values.ravel()[places], states))
 
     def tree(self, roots: "list[tuple[int, int, int]]") -> Tree:
         none = empty_tree(self.kind, self.background)

@@ -301,7 +301,7 @@ class Walk:
         packed = b"".join([view[at : at + count * size] for at, count in zip(places, counts)])
         record = np.frombuffer(packed, self.kind.voxel)
         index[:] = record["index"]
-        tag = record["tag"]
+        tag = np.ascontiguousarray(record["tag"])
         np.equal(tag, 2, out=active)
         value = record["value"]
         if self.kind.word == "bool":
