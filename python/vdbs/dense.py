@@ -8,7 +8,8 @@ import numpy as np
 from .forms import SIDES, Kind
 from .tree import CODE_BITS, Leaves, Tiles, Tree, collapse, empty_tree
 
-Box = "tuple[tuple[int, int, int], tuple[int, int, int]]"
+#: How many voxels along x are handled at once.
+SLAB = 16
 
 
 def tree_of(kind: Kind, values: np.ndarray, active: "np.ndarray | None", origin: "tuple[int, int, int]", background) -> Tree:
@@ -52,9 +53,14 @@ class Source:
             self.lower_extent((x, y, z), place << 15 | (x & 31) << 10 | (y & 31) << 5 | z & 31)
 
     def lower_extent(self, number: "tuple[int, int, int]", code: int) -> None:
-        """Reads the part of the array in a lower extent: its leaves and tiles of leaf extents."""
+        """Reads the part of the array in a lower extent, a slab of SLAB voxels along x at a time: block order goes by x first."""
         low = [max(at, part * SIDES[1]) // 8 * 8 for at, part in zip(self.origin, number)]
         past = [-(-min(at, (part + 1) * SIDES[1]) // 8) * 8 for at, part in zip(self.past, number)]
+        for x in range(low[0], past[0], SLAB):
+            self.slab([x, *low[1:]], [min(x + SLAB, past[0]), *past[1:]], code)
+
+    def slab(self, low: "list[int]", past: "list[int]", code: int) -> None:
+        """Reads the leaf extents in a box of whole ones. `code` is that of the lower extent."""
         values = self.cut(self.values, low, past, self.kind.dtype, self.background)
         listed = np.not_equal(values, self.background, out=np.empty(values.shape, np.bool_))
         states = None if self.active is None else self.cut(self.active, low, past, np.dtype(np.bool_), False)
@@ -65,12 +71,8 @@ class Source:
         if found.any():
             x, y, z = (part + (at // 8 & 15) for part, at in zip(np.nonzero(found), low))
             codes = code << 12 | x << 8 | y << 4 | z
-            block_values = blocks_of(values, found)
-            block_listed = block_values != self.background
-            block_active = block_listed if states is None else blocks_of(states, found)
-            if states is not None:
-                block_listed |= block_active
-            self.leaf_extents(codes, block_values, block_active, block_listed)
+            block_values, block_listed = blocks_of(values, found), blocks_of(listed, found)
+            self.leaf_extents(codes, block_values, block_listed if states is None else blocks_of(states, found), block_listed)
 
     def cut(self, array: np.ndarray, low, past, dtype: np.dtype, fill) -> np.ndarray:
         """Returns the part of an array in a box of whole leaf extents, filled outside the array, contiguous along z."""
@@ -163,6 +165,7 @@ class Target:
                 self.active[x0:x1, y0:y1, z0:z1] = True
 
     def put_leaves(self) -> None:
+        """Writes the voxels of leaves."""
         leaves = self.tree.leaves
         offset = np.arange(512)
         within = offset >> 6, offset >> 3 & 7, offset & 7
@@ -171,27 +174,35 @@ class Target:
         values, active = self.values.ravel(), self.active.ravel()
         for first, last in leaves.chunks():
             lows = self.tree.origins(leaves.codes[first:last]) - self.low
-            whole = ((lows >= 0) & (lows + 8 <= self.values.shape)).all()
-            counts = np.diff(leaves.starts[first : last + 1])
+            past = lows + 8
+            if (past <= 0).any(axis=1).all() or (lows >= self.values.shape).any(axis=1).all():
+                continue
+            starts = leaves.starts[first : last + 1] - leaves.starts[first]
             part = slice(leaves.starts[first], leaves.starts[last])
             index, state, value = leaves.index[part], leaves.active[part], leaves.values[part]
-            places = np.repeat((lows[:, 0] * rows + lows[:, 1]) * columns + lows[:, 2], counts) + flat[index]
-            keep = None if not self.only_active or state.all() else state
-            if not whole:
-                inside = self.inside(lows, counts, index, within)
+            places = spread((lows[:, 0] * rows + lows[:, 1]) * columns + lows[:, 2], starts)
+            places += flat.take(index)
+            every = state.all()
+            keep = None if every or not self.only_active else state
+            if (lows < 0).any() or (past > self.values.shape).any():
+                inside = self.inside(lows, starts, index, within)
                 keep = inside if keep is None else keep & inside
             if keep is not None:
                 places, state, value = places[keep], state[keep], value[keep]
             values[places] = value
-            if state.all():
-                active[places] = True
-            else:
-                active[places[state]] = True
+            active[places if every else places[state]] = True
 
-    def inside(self, lows: np.ndarray, counts: np.ndarray, index: np.ndarray, within) -> np.ndarray:
+    def inside(self, lows: np.ndarray, starts: np.ndarray, index: np.ndarray, within) -> np.ndarray:
         """Returns which voxels of leaves lie in the box."""
         found = np.ones(len(index), np.bool_)
         for axis in range(3):
-            at = np.repeat(lows[:, axis], counts) + within[axis][index]
+            at = spread(lows[:, axis], starts) + within[axis][index]
             found &= (at >= 0) & (at < self.values.shape[axis])
         return found
+
+
+def spread(numbers: np.ndarray, starts: np.ndarray) -> np.ndarray:
+    """Returns each number as often as its leaf lists voxels, at least once. It is np.repeat, which takes longer."""
+    made = np.zeros(starts[-1], np.int64)
+    made[starts[:-1]] = np.diff(numbers, prepend=0)
+    return np.cumsum(made, out=made)

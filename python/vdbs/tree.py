@@ -14,8 +14,8 @@ from .forms import ENTRIES, KEY_SPAN, SIDES, Kind
 
 #: How many bits a code has below its root block's place, for leaf extents, lower extents and upper extents.
 CODE_BITS = (27, 15, 0)
-#: How many voxels are handled at once: their arrays stay in the processor's cache.
-CHUNK = 1 << 18
+#: How many listed voxels are handled at once: their arrays stay in the processor's cache and are soon allocated.
+CHUNK = 1 << 15
 
 
 @dataclass(frozen=True)
