@@ -137,6 +137,12 @@ class CommandLine(unittest.TestCase):
         environment = {**os.environ, "PYTHONPATH": str(TOP / "python")}
         return subprocess.run([sys.executable, "-m", "vdbs", *words], env=environment, capture_output=True, timeout=60, **given)
 
+    def test_array_to_pipe(self):
+        self.made()
+        run = self.piped("to-npy", "a.vdbs", "lab", "-", cwd=self.folder)
+        self.assertEqual(run.returncode, 0, run.stderr)
+        np.testing.assert_array_equal(np.load(io.BytesIO(run.stdout)), self.values[2:8, 2:8, 1:])
+
     def test_process(self):
         """The status of the process, and its one line on standard error."""
         run = self.piped("info", "none.vdbs", cwd=self.folder)

@@ -12,10 +12,10 @@ DOCUMENT = (TOP / "docs" / "FORMAT.md").read_text(encoding="utf-8")
 HEX = r"[0-9a-f]{2}(?: [0-9a-f]{2})*"
 
 
-def table_after(mark):
-    """The rows, as lists of cells, of the first table of the document after a text."""
-    lines = DOCUMENT[DOCUMENT.index(mark) :].splitlines()
-    first = next(at for at, line in enumerate(lines) if line.startswith("|"))
+def table(header, number=0):
+    """The rows, as lists of cells, of a table of the document that has this header; the first such table, or the one of that number."""
+    lines = DOCUMENT.splitlines()
+    first = [at for at, line in enumerate(lines) if line == header][number]
     rows = []
     for line in lines[first + 2 :]:
         if not line.startswith("|"):
@@ -28,12 +28,12 @@ def bytes_of(rows):
     return b"".join(bytes.fromhex(cells[1].strip("`")) for cells in rows)
 
 
-FILE = bytes_of(table_after("## A file byte by byte"))
+FILE = bytes_of(table("| Where | Bytes | Field |"))
 
 
 def changes():
     """The changes of that file that the document tells by a place and bytes, each with its fault."""
-    for change, fault in table_after("the fault of each"):
+    for change, fault in table("| Change | Fault |"):
         if fault == "constant-node":
             continue
         at = None
@@ -73,7 +73,7 @@ class Document(unittest.TestCase):
         self.assertEqual((grid[1, 2, 3], grid[1, 2, 4], grid.count), ((5, True), (0, False), 1))
 
     def test_constant_lower_block(self):
-        data = FILE[:19] + b"\0" + FILE[28:44] + bytes_of(table_after("make a scene whose file has 46 bytes"))
+        data = FILE[:19] + b"\0" + FILE[28:44] + bytes_of(table("| Where | Bytes | Field |", 1))
         self.assertEqual(len(data), 46)
         grid = vdbs.loads(data)["a"]
         self.assertEqual((grid.count, grid.bounds, grid.leaf_count), (128**3, ((0, 0, 0), (127, 127, 127)), 0))
@@ -81,7 +81,7 @@ class Document(unittest.TestCase):
         self.assertEqual(vdbs.Scene({"a": vdbs.Grid.from_array(values)}).to_bytes(), data)
 
     def test_words(self):
-        words = {row[0] for row in table_after("| Word | When |")}
+        words = {row[0] for row in table("| Word | When |")}
         self.assertEqual(words, set(vdbs.FAULTS) | {"memory", "read"})
 
     def test_changes(self):

@@ -6,6 +6,7 @@ import contextlib
 import json
 import os
 import sys
+from types import SimpleNamespace
 from typing import BinaryIO, Callable, ContextManager, Iterator, Optional, Sequence
 
 import numpy as np
@@ -160,7 +161,8 @@ def to_npy(words: argparse.Namespace) -> None:
     for path, array in ((words.out, values), (words.active, active)):
         if path:
             with output(path) as file:
-                np.save(file, array)
+                # NumPy asks a file for its position, which a pipe has not; of another object it only writes
+                np.save(file if file.seekable() else SimpleNamespace(write=file.write), array)
     low = box_of(words.bounds) or grid.bounds or ((0, 0, 0),)
     print(f"origin {numbers_of(low[:1])}, shape {' '.join(map(str, values.shape))}", file=sys.stderr)
 
