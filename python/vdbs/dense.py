@@ -88,7 +88,9 @@ class Source:
 
     def leaf_extents(self, codes: np.ndarray, values: np.ndarray, active: np.ndarray, listed: np.ndarray) -> None:
         """Notes leaf extents, rows of 512 voxels of which some are listed, as tiles or leaves."""
-        constant = (values == values[:, :1]).all(axis=1)
+        constant = (values[:, 0] == values[:, 511]) & (values[:, 0] == values[:, 200])
+        likely = np.flatnonzero(constant)  # most rows that differ are passed over
+        constant[likely] = (values[likely] == values[likely, :1]).all(axis=1)
         if active is not listed:
             constant &= (active == active[:, :1]).all(axis=1)
         if constant.any():

@@ -96,7 +96,7 @@ class Body:
         for first, last in leaves.chunks():
             cuts = [done, *ends[first:last].tolist()]
             starts = ((leaves.starts[first : last + 1] - leaves.starts[first]) * size).tolist()
-            voxels = memoryview(packed(self.tree.kind, leaves, slice(leaves.starts[first], leaves.starts[last])))
+            voxels = packed(self.tree.kind, leaves, slice(leaves.starts[first], leaves.starts[last]))
             parts: "list[memoryview]" = [view] * (2 * (last - first))
             parts[0::2] = [view[a:b] for a, b in zip(cuts, cuts[1:])]
             parts[1::2] = [voxels[a:b] for a, b in zip(starts, starts[1:])]
@@ -105,13 +105,13 @@ class Body:
         yield skeleton[done:]
 
 
-def packed(kind: Kind, leaves: Leaves, part: slice) -> bytes:
+def packed(kind: Kind, leaves: Leaves, part: slice) -> memoryview:
     """Returns the fields of listed voxels."""
     record = np.empty(part.stop - part.start, kind.voxel)
     record["index"] = leaves.index[part]
     np.add(leaves.active[part], 1, out=record["tag"], dtype=np.uint8, casting="unsafe")
     record["value"] = leaves.values[part]
-    return record.tobytes()
+    return memoryview(record.view(np.uint8))
 
 
 def put_numbers(made: np.ndarray, places: np.ndarray, numbers: np.ndarray, dtype: str) -> None:
