@@ -114,7 +114,7 @@ class Vectors(unittest.TestCase):
             same(self, data, name)
 
     def test_refused(self):
-        for what, word, data in vectors.REFUSED:
+        for what, word, data in vectors.REJECTED:
             with self.assertRaises(vdbs.FAULTS[word], msg=what) as caught:
                 vdbs.loads(data)
             self.assertEqual((caught.exception.fault, caught.exception.path), (word, None), what)

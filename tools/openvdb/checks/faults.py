@@ -68,7 +68,7 @@ def check_vectors(place):
         place.equal(place.read("back.vdbs"), new, f"{name} of version 1")
     for name, text in vectors.LARGER.items():
         check_text(place, name, text)
-    for what, word, text in vectors.REFUSED:
+    for what, word, text in vectors.REJECTED:
         place.equal(wanted_of(text)[0], word, f"the fault of {what}")
         check_text(place, what, text)
     check_text(place, "a byte more", vectors.ACTIVE + b"x")
