@@ -1,13 +1,13 @@
-// Plays the script language of vdb on the grids of OpenVDB, so that both can be measured on the same scripts. What it can't do, and
-// where its answers differ, is in README.md beside this file. It uses one thread, and writes each answer before it reads the next line.
+// Plays the script language of vdb on the grids of OpenVDB, so that both can be measured on the same scripts. README.md beside this file
+// says what it can't do and where its answers differ. It writes each answer before it reads the next line.
 
 #include "grids.h"
+#include "threads.h"
 
 #include <openvdb/tools/Composite.h>
 #include <openvdb/tools/Count.h>
 #include <openvdb/tools/Morphology.h>
 #include <openvdb/tools/Prune.h>
-#include <tbb/global_control.h>
 
 #include <fcntl.h>
 #include <unistd.h>
@@ -15,6 +15,9 @@
 #include <cstdio>
 
 namespace tools = openvdb::tools;
+
+/// Whether operations may use several threads. With one, OpenVDB's forms without threads are the faster ones.
+bool is_threaded = false;
 
 // ---- commands on grids; `t` has the tokens behind the command's word
 
@@ -102,7 +105,7 @@ void clip(Session& session, const Token* t) {
 }
 
 template <class Tree>
-void prune_tree(Tree& tree) { tools::prune(tree, openvdb::zeroVal<typename Tree::ValueType>(), /*threaded=*/false); }
+void prune_tree(Tree& tree) { tools::prune(tree, openvdb::zeroVal<typename Tree::ValueType>(), is_threaded); }
 
 void prune(Session& session, const Token* t) {
     session.with(t[0], [](auto& held) { prune_tree(held.tree()); });
@@ -130,7 +133,7 @@ void voxelise(Session& session, const Token* t) {
 
 void dilate(Session& session, const Token* t) {
     session.with(t[0], [&](auto& held) {
-        tools::dilateActiveValues(held.tree(), int(number_in(t[1], 1, 16)), tools::NN_FACE, tools::EXPAND_TILES, /*threaded=*/false);
+        tools::dilateActiveValues(held.tree(), int(number_in(t[1], 1, 16)), tools::NN_FACE, tools::EXPAND_TILES, is_threaded);
         held.tree().clearAllAccessors();
     });
     session.done();
@@ -138,7 +141,7 @@ void dilate(Session& session, const Token* t) {
 
 void erode(Session& session, const Token* t) {
     session.with(t[0], [&](auto& held) {
-        tools::erodeActiveValues(held.tree(), int(number_in(t[1], 1, 16)), tools::NN_FACE, tools::EXPAND_TILES, /*threaded=*/false);
+        tools::erodeActiveValues(held.tree(), int(number_in(t[1], 1, 16)), tools::NN_FACE, tools::EXPAND_TILES, is_threaded);
         held.tree().clearAllAccessors();
     });
     session.done();
@@ -208,7 +211,7 @@ void replace(Session& session, const Token* t) {
 
 void count(Session& session, const Token* t) {
     session.with(t[0], [&](auto& held) {
-        session.add(string_view("count "), int64_t(tools::countActiveVoxels(held.tree(), box(t + 1), /*threaded=*/false)), line_end);
+        session.add(string_view("count "), int64_t(tools::countActiveVoxels(held.tree(), box(t + 1), is_threaded)), line_end);
     });
 }
 
@@ -430,39 +433,78 @@ void load(Session& session, const std::string& name) {
         insert_loaded<BoolGrid>(session, loaded) || insert_loaded<Int32Grid>(session, loaded) || insert_loaded<Int64Grid>(session, loaded);
 }
 
-void save(Session& session, const std::string& name) {
+/// The compression that a word of the command line names. ZIP and Blosc leave out inactive values, as OpenVDB's own default does.
+uint32_t compression(string_view word) {
+    using namespace openvdb::io;
+    if (word == "none") return COMPRESS_NONE;
+    if (word == "zip") return COMPRESS_ZIP | COMPRESS_ACTIVE_MASK;
+    if (word == "blosc") return COMPRESS_BLOSC | COMPRESS_ACTIVE_MASK;
+    throw Refused{"--compression takes none, zip or blosc"};
+}
+
+void save(Session& session, const std::string& name, uint32_t flags) {
     openvdb::GridPtrVec grids;
     for (auto& [grid_name, any] : session.grids)
         std::visit([&, &named = grid_name](auto& held) { held.grid->setName(named), grids.push_back(held.grid); }, any);
     openvdb::io::File file(name);
-    file.setCompression(openvdb::io::COMPRESS_NONE);
+    file.setCompression(flags);
     file.write(grids);
 }
 
-int main(int count, char** words) {
-    tbb::global_control one_thread(tbb::global_control::max_allowed_parallelism, 1);
+/// Prints to standard error how many bytes each grid says that it uses.
+void print_memory(Session& session) {
+    for (auto& [name, any] : session.grids)
+        std::visit([&, &named = name](auto& held) { fprintf(stderr, "%s %llu\n", named.c_str(), (unsigned long long)held.grid->memUsage()); }, any);
+}
+
+/// What the command line asks for.
+struct Options {
+    std::string loaded, saved, script, threads = "1", compression = "none";
+    bool prints_memory = false;
+
+    Options(int count, char** words) {
+        for (int at = 1; at < count; ++at) {
+            string_view word = words[at];
+            std::string* option = word == "--load" ? &loaded : word == "--save" ? &saved : word == "--threads" ? &threads
+                                : word == "--compression" ? &compression : nullptr;
+            if (option && at + 1 < count) *option = words[++at];
+            else if (word == "--memory") prints_memory = true;
+            else if (!option && word[0] != '-' && script.empty()) script = word;
+            else throw Refused{"usage: openvdb [--load FILE] [--save FILE] [--compression none|zip|blosc] [--threads N|all] [--memory] [SCRIPT]"};
+        }
+    }
+};
+
+int run(const Options& options) {
+    const size_t threads = threads_of(options.threads);
+    tbb::global_control limit(tbb::global_control::max_allowed_parallelism, threads);
+    is_threaded = threads > 1;
+    const uint32_t flags = compression(options.compression);
     openvdb::initialize();
     Session session;
-    std::string loaded, saved, script;
-    for (int at = 1; at < count; ++at) {
-        string_view word = words[at];
-        bool is_option = word == "--load" || word == "--save";
-        if (is_option && at + 1 < count) (word == "--load" ? loaded : saved) = words[++at];
-        else if (!is_option && script.empty()) script = word;
-        else return fault(2, "usage: openvdb [--load FILE] [--save FILE] [SCRIPT]");
-    }
     try {
-        if (!loaded.empty()) load(session, loaded);
+        if (!options.loaded.empty()) load(session, options.loaded);
     } catch (const openvdb::Exception& error) {
         return fault(3, error.what());
     }
-    int file = script.empty() ? STDIN_FILENO : open(script.c_str(), O_RDONLY);
+    int file = options.script.empty() ? STDIN_FILENO : open(options.script.c_str(), O_RDONLY);
     if (file < 0) return fault(4, "script: read");
     int status = play(session, file);
     try {
-        if (!saved.empty() && status <= 1) save(session, saved);
+        if (!options.saved.empty() && status <= 1) save(session, options.saved, flags);
     } catch (const openvdb::Exception& error) {
         return fault(4, error.what());
     }
+    if (options.prints_memory) print_memory(session);
     return status;
+}
+
+int main(int count, char** words) {
+    try {
+        return run(Options(count, words));
+    } catch (const Refused& refused) {
+        return fault(2, refused.word);
+    } catch (const std::invalid_argument& error) {
+        return fault(2, error.what());
+    }
 }

@@ -1,8 +1,13 @@
 #!/usr/bin/env python3
-"""Writes scripts to measure programs by into a folder: scripts.py FOLDER [SEED [KIND]]. docs/BENCHMARKS.md has their names.
+"""Writes the scripts by which programs are measured into a folder.
 
-SEED is a number, 7 where it is left out: with the same one the random numbers are the same each time. KIND is that of the grids of numbers,
-i32 or i64, i32 where it is left out. Each script has at most the 16,777,216 bytes that a script may have.
+    scripts.py FOLDER [SEED [TYPE [NAME..]]]
+
+    scripts.py scripts 11 i64 random-plain
+
+SEED is a number, 7 if it is left out: the same seed gives the same scripts. TYPE is that of the grids of numbers, i32 or i64, and i32 if it
+is left out. With names it writes these scripts alone; without, all of them, some 117 MB. Each has at most the 16,777,216 bytes that a
+script may have.
 """
 import math
 import os
@@ -19,15 +24,16 @@ def numbers(*parts):
 
 
 def random_voxels(accessor, seed):
-    """Sets of random voxels of a cube, then gets of the same from the last one back."""
+    """Sets of random voxels of a cube, then gets of the same voxels in reverse order."""
     draw = random.Random(seed + 4)
     voxels = [(draw.randrange(256), draw.randrange(256), draw.randrange(256)) for _ in range(350000)]
     sets = [f"set a {accessor} {numbers(voxel)} 7" for voxel in voxels]
     return GRID + sets + [f"get a {accessor} {numbers(voxel)}" for voxel in reversed(voxels)]
 
 
-def walk(accessor, draw):
-    """Gets and sets in turn along a random walk, of which each step goes to a face neighbour."""
+def walk(accessor, seed):
+    """Gets and sets in turn along a random walk, each step of which goes to a face neighbour."""
+    draw = random.Random(seed)
     at, lines = [128, 128, 128], list(GRID)
     for turn in range(700000):
         axis = draw.randrange(3)
@@ -37,13 +43,14 @@ def walk(accessor, draw):
 
 
 def sequential(kind, background, accessor, value, count):
-    """Sets of voxels one behind another, along z first."""
+    """Sets of successive voxels, along z first."""
     voxels = (numbers(i // 7921, i // 89 % 89, i % 89) for i in range(count))
     return [f"grid a {kind} {background}"] + [f"set a {accessor} {voxel} {value}" for voxel in voxels]
 
 
-def fill_mixed(draw):
+def fill_mixed(seed):
     """Boxes of all sizes filled over one another."""
+    draw = random.Random(seed + 24)
     lines = list(GRID)
     for _ in range(4000):
         size = [draw.choice([1, 4, 8, 20, 60, 120]) for _ in range(3)]
@@ -63,7 +70,7 @@ def fill_clip():
 
 
 def prune_dense():
-    """A box voxelised and pruned, a voxel of it made another, and pruned again."""
+    """A box voxelised and pruned; then one voxel changed, and pruned again, twice."""
     eighths = [(x, y, z) for x in (0, 128) for y in (0, 128) for z in (0, 128)]
     lines = []
     for _ in range(5):
@@ -111,7 +118,7 @@ def save_scene(seed):
 
 
 def scattered(seed):
-    """Reports on voxels each of which is in a root block of its own."""
+    """Reports on voxels that each lie in an upper extent of their own."""
     draw = random.Random(seed + 20)
     voxels = [[draw.randrange(-2**31, 2**31) for _ in range(3)] for _ in range(300)]
     wide, half = ([-2**31] * 3, [2**31 - 1, 2**31 - 1, 2**31 - 2]), ([-10**9] * 3, [10**9] * 3)
@@ -120,7 +127,7 @@ def scattered(seed):
 
 
 def small_boxes(seed):
-    """Small fills and counts in a grid of many root blocks."""
+    """Small fills and counts in a grid of many upper extents."""
     draw = random.Random(seed + 21)
     lines = GRID + ["fill a 0 0 0 65535 65535 4095 1 on"]
     for turn in range(20000):
@@ -139,8 +146,8 @@ def lists(seed):
     return lines
 
 
-def truths(seed):
-    """Boxes of truth values, and operations on their states."""
+def booleans(seed):
+    """Boxes in boolean grids, and operations on their states."""
     draw = random.Random(seed + 23)
     lines = ["grid m bool false", "grid n bool false"]
     for name in "mn":
@@ -154,38 +161,45 @@ def truths(seed):
 
 
 def all_scripts(seed):
-    """Each script's name with its lines. `load-scene` begins with the file that `save-scene` saves: see run.py."""
-    draw = random.Random(seed)
-    yield "random-accessor", random_voxels("0", seed)
-    yield "random-plain", random_voxels("-", seed)
-    path = walk("0", draw)
-    yield "walk-accessor", path
-    yield "walk-plain", [line.replace("a 0 ", "a - ", 1) for line in path]
-    yield "sequential-accessor", sequential("i32", 0, "0", 7, 700000)
-    yield "sequential-plain", sequential("i32", 0, "-", 7, 700000)
-    yield "sequential-bool", sequential("bool", "false", "0", "true", 600000)
-    yield "fill-mixed", fill_mixed(draw)
-    yield "fill-clip", fill_clip()
-    yield "prune-dense", prune_dense()
-    yield "shell-sets", shell("a", 3, (0, 0, 0)) + ["count a all"]
-    yield "shell-dilate-erode", shell("a", 3, (0, 0, 0)) + ["dilate a 5", "count a all", "erode a 5", "count a all"] * 2
-    yield "shell-two-grids", two_grids()
-    yield "reports", reports()
-    yield "save-scene", save_scene(seed)
-    yield "load-scene", ["count a all", "count b all", "count c all", "get c - 1 2 3"]
-    yield "scattered", scattered(seed)
-    yield "small-boxes", small_boxes(seed)
-    yield "lists", lists(seed)
-    yield "truths", truths(seed)
+    """Returns for each script's name the call that makes its lines. `load-scene` begins with the scene that `save-scene` saves: see run.py."""
+    return {
+        "random-accessor": lambda: random_voxels("0", seed),
+        "random-plain": lambda: random_voxels("-", seed),
+        "walk-accessor": lambda: walk("0", seed),
+        "walk-plain": lambda: walk("-", seed),
+        "sequential-accessor": lambda: sequential("i32", 0, "0", 7, 700000),
+        "sequential-plain": lambda: sequential("i32", 0, "-", 7, 700000),
+        "sequential-bool": lambda: sequential("bool", "false", "0", "true", 600000),
+        "fill-mixed": lambda: fill_mixed(seed),
+        "fill-clip": fill_clip,
+        "prune-dense": prune_dense,
+        "shell-sets": lambda: shell("a", 3, (0, 0, 0)) + ["count a all"],
+        "shell-dilate-erode": lambda: shell("a", 3, (0, 0, 0)) + ["dilate a 5", "count a all", "erode a 5", "count a all"] * 2,
+        "shell-two-grids": two_grids,
+        "reports": reports,
+        "save-scene": lambda: save_scene(seed),
+        "load-scene": lambda: ["count a all", "count b all", "count c all", "get c - 1 2 3"],
+        "scattered": lambda: scattered(seed),
+        "small-boxes": lambda: small_boxes(seed),
+        "lists": lambda: lists(seed),
+        "booleans": lambda: booleans(seed),
+    }
 
 
 def main(words):
-    folder, seed, kind = [*words, *["7", "i32"][len(words) - 1 :]] if 1 <= len(words) <= 3 else ["", "", ""]
-    if not seed.isdigit() or kind not in ("i32", "i64"):
-        sys.exit(__doc__)
+    if any(it in ("-h", "--help") for it in words):
+        print(__doc__.strip())
+        return
+    folder, seed, kind, *wanted = [*words, *["7", "i32"][len(words) - 1 :]] if words else ["", "", ""]
+    if not folder or folder.startswith("-") or not seed.isdigit() or kind not in ("i32", "i64"):
+        sys.exit("scripts.py: usage: scripts.py FOLDER [SEED [TYPE [NAME..]]], as in scripts.py scripts 11 i64 random-plain")
+    made = all_scripts(int(seed))
+    unknown = [name for name in wanted if name not in made]
+    if unknown:
+        sys.exit(f"scripts.py: no script is called {unknown[0]}; there are {', '.join(made)}")
     os.makedirs(folder, exist_ok=True)
-    for name, lines in all_scripts(int(seed)):
-        text = "\n".join(lines).replace(" i32 ", f" {kind} ") + "\n"
+    for name in wanted or made:
+        text = "\n".join(made[name]()).replace(" i32 ", f" {kind} ") + "\n"
         if len(text) > LENGTH_LIMIT:
             sys.exit(f"scripts.py: {name} is longer than a script may be")
         with open(os.path.join(folder, f"{name}.script"), "w", encoding="ascii") as file:

@@ -1,0 +1,1 @@
+"""Modules of bench/all: each measures, or writes, one subject."""

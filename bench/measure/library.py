@@ -1,0 +1,83 @@
+"""Calls of the crates' libraries, beside loops over OpenVDB's."""
+import re
+import subprocess
+
+from . import programs
+from .parts import in_turn, row, table, tell
+from .places import Failed
+from .play import LIMIT
+
+BENCHMARKS = ("accessors", "tree", "walks", "boxes", "pairs")
+
+# OpenVDB's call in each row: the first pattern that a row's name begins with
+CALLS = {
+    "accessor, writes": "ValueAccessor::setValue",
+    "accessor, reads": "ValueAccessor::getValue",
+    "grid, reads": "Tree::getValue",
+    "tree, writes": "Tree::setValue",
+    "tree, reads": "Tree::probeValue",
+    "tree, pass": "Tree::cbeginLeaf",
+    "prune": "tools::prune",
+    "count": "tools::countActiveVoxels",
+    "bounding box": "Tree::evalActiveVoxelBoundingBox",
+    "census": "a copy, tools::prune, Tree::nodeCount",
+    "list": "Tree::cbeginValueOn",
+    "fill": "Tree::fill",
+    "clip": "Tree::clip",
+    "union": "Tree::topologyUnion",
+    "intersection": "Tree::topologyIntersection",
+    "difference": "Tree::topologyDifference",
+    "sum": "a copy, tools::compSum",
+    "maximum": "a copy, tools::compMax",
+    "replacement": "a copy, tools::compReplace",
+}
+
+
+def run(command):
+    """Runs a benchmark, and returns its rows with nanoseconds and unit, and the line of its sums."""
+    try:
+        ran = subprocess.run(command, stdin=subprocess.DEVNULL, capture_output=True, text=True, errors="replace", timeout=LIMIT)
+    except subprocess.TimeoutExpired:
+        raise Failed(f"{' '.join(command)} hadn't ended after {LIMIT} seconds") from None
+    if ran.returncode:
+        raise Failed(f"{' '.join(command)} ended with status {ran.returncode}: {ran.stderr.strip()[:300]}")
+    rows = {name: (int(picos) / 1000, unit) for name, picos, unit in re.findall(r"(?m)^(.+): (\d+) ps a (\w+)$", ran.stdout)}
+    sums = re.search(r"(?m)^sums (.*)$", ran.stdout)
+    if not rows or not sums:
+        raise Failed(f"{' '.join(command)} printed no row or no sums")
+    return rows, sums[1]
+
+
+def measure_benchmark(name, program, runs):
+    """Runs a benchmark on both libraries in turn, and returns its rows, and what differed if anything did."""
+    loops = f"{programs.OPENVDB}/loops"
+    commands = {"vdb": [program], "one": [loops, name, "1"], "all": [loops, name, "all"]}
+    found = in_turn({key: lambda _, command=command: run(command) for key, command in commands.items()}, runs)
+    sums = {key: {sums for _, sums in series} for key, series in found.items()}
+    rows = []
+    for title, (_, unit) in found["vdb"][0][0].items():
+        series = {key: [each[0][title][0] for each in series] for key, series in found.items() if title in series[0][0]}
+        call = next((f"`{text}`" for start, text in CALLS.items() if title.startswith(start)), "")
+        rows.append(row(title, f"ns a {unit}", series, **{"OpenVDB's call": call}))
+    all_same = len(set.union(*sums.values())) == 1
+    return rows, [] if all_same else [f"{name}: the results differ: {'; '.join(f'{key} {sorted(it)}' for key, it in sums.items())}"]
+
+
+def measure(runs, quick):
+    built = programs.build(BENCHMARKS, ["loops"])
+    if isinstance(built["loops"], Failed):
+        raise built["loops"]
+    rows, failed = [], []
+    for number, name in enumerate(BENCHMARKS, 1):
+        tell(f"library, {name}", number, len(BENCHMARKS))
+        try:
+            if isinstance(built[name], Failed):
+                raise built[name]
+            more, differing = measure_benchmark(name, built[name], runs)
+            rows, failed = rows + more, failed + differing
+        except Failed as failure:
+            failed.append(str(failure))
+    if not rows:
+        raise Failed("; ".join(dict.fromkeys(failed)))
+    note = "One call, or one voxel or leaf of it, in nanoseconds. vdb uses one thread. Trees have 4,096 full leaves of `i32` unless the row says otherwise."
+    return [{**table("Library", note, rows), "failed": failed}]

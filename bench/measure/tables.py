@@ -1,0 +1,108 @@
+"""The page of results: a head with the machine, and a table for each subject, in Markdown."""
+from . import machine
+from .figures import geometric_mean, median, ratio, verdict
+
+# facts that differ from run to run as a matter of course
+OWN = ("Date",)
+
+
+def short(number):
+    """Returns a number with three digits that count."""
+    if number == 0:
+        return "0"
+    for least, digits in ((100, 0), (10, 1), (1, 2), (0.1, 3), (0.01, 4)):
+        if number >= least:
+            return f"{number:,.{digits}f}"
+    return f"{number:.5f}"
+
+
+def cell(series):
+    """Returns the median of a series, with the least and the greatest if they differ."""
+    if not series:
+        return "-"
+    least, greatest = short(min(series)), short(max(series))
+    return short(median(series)) + (f" ({least} to {greatest})" if least != greatest else "")
+
+
+def line(cells):
+    return f"| {' | '.join(cells)} |"
+
+
+def compared(table):
+    """Yields each row with its ratio and verdict, None and an empty text if it has no peer."""
+    for row in table["rows"]:
+        ours, theirs = row["series"].get("vdb"), row["series"].get(table["base"])
+        if ours and theirs and ratio(ours, theirs):
+            yield row, ratio(ours, theirs), verdict(ours, theirs)
+        else:
+            yield row, None, ""
+
+
+def summary(table):
+    """Returns who is ahead how often, and the geometric mean of the ratios."""
+    found = [(by, ahead) for _, by, ahead in compared(table) if by]
+    if not found:
+        return "No row has a peer."
+    ahead = [it for _, it in found]
+    mean = geometric_mean([by for by, _ in found])
+    counts = {name: ahead.count(name) for name in ("vdb", "OpenVDB", "tie")}
+    return (
+        f"Of {len(found)} rows with a peer vdb is ahead in {counts['vdb']}, OpenVDB in {counts['OpenVDB']}, and {counts['tie']} are ties."
+        f" The geometric mean of the ratios is {mean:.2f}."
+    )
+
+
+def markdown(table):
+    """Yields the lines of a table."""
+    units = {row["unit"] for row in table["rows"]}
+    names = [*dict.fromkeys(name for row in table["rows"] for name in row["more"])]
+    heads = ["Row", *(["Unit"] if len(units) > 1 else []), *table["headings"].values(), f"vdb / {table['headings'][table['base']]}", "Ahead", *names]
+    yield f"### {table['title']}"
+    yield ""
+    yield table["note"] + (f" Figures are in {units.pop()}." if len(units) == 1 else "")
+    yield ""
+    yield line(heads)
+    yield line("---" for _ in heads)
+    with_unit = "Unit" in heads
+    for row, by, ahead in compared(table):
+        series = [cell(row["series"].get(key)) for key in table["headings"]]
+        unit = [row["unit"]] if with_unit else []
+        yield line([row["name"], *unit, *series, f"{by:.2f}" if by else "-", ahead or "-", *(row["more"].get(name, "") for name in names)])
+    yield ""
+    yield summary(table)
+    yield ""
+
+
+def measured(part, head):
+    """Returns when and how a part was measured, with the facts in which it differs from the head."""
+    load = part["load"]
+    runs = "1 run" if part["runs"] == 1 else f"{part['runs']} runs"
+    text = f"{part['facts']['Date']}, {runs}, in {part['seconds'] / 60:.1f} minutes, load average {load[0]} before."
+    if not machine.is_idle(load):
+        text += " **The machine wasn't idle, so these figures are worth little.**"
+    if part["quick"]:
+        text += " **A quick run, with fewer rows and runs.**"
+    other = [f"{name}: {fact}" for name, fact in part["facts"].items() if name not in OWN and fact != head.get(name)]
+    return text + (f" Measured with {'; '.join(other)}." if other else "")
+
+
+def page(parts):
+    """Returns the whole page."""
+    head = max((it["facts"] for it in parts.values()), key=lambda facts: facts["Date"])
+    lines = ["# Results", "", "`bench/all` wrote this page.", "", "| | |", "| --- | --- |"]
+    lines += [line([name, fact]) for name, fact in head.items()]
+    lines += [
+        "",
+        "Each figure is the median of all runs, with the least and the greatest in brackets. The programs take turns within a run. A row is a tie if the"
+        " brackets of vdb and of its peer overlap, or if the medians differ by less than 2 %. A ratio below 1 means that vdb takes less.",
+        "",
+        "![Ratios of vdb to OpenVDB, row by row](chart.svg)",
+        "",
+    ]
+    for name, part in parts.items():
+        lines += [f"## {name.capitalize()}", "", measured(part, head), ""]
+        for failed in part["failed"]:
+            lines += [f"**Failed in the last run:** {failed}", ""]
+        for table in part["tables"]:
+            lines += markdown(table)
+    return "\n".join(lines).rstrip() + "\n"

@@ -1,0 +1,122 @@
+"""A scene, which is the content of a file: grids by name."""
+from __future__ import annotations
+
+import os
+import stat
+from itertools import chain
+from typing import Dict, Iterator, Mapping, MutableMapping, Optional
+
+from .errors import SceneTooLongError
+from .files import replacing
+from .forms import DEFAULT_LIMIT, MAX_FILE, MAX_GRIDS, check_name
+from .grid import Grid
+from .reader import PADDING, Progress, Reader
+from .writer import Body, grid_head, scene_head
+
+__all__ = ["Scene", "load", "loads"]
+
+
+class Scene(MutableMapping[str, Grid]):
+    """Grids by name, at most 64, in the order of their names.
+
+    A name is a letter a to z, then up to 15 of a to z, 0 to 9 and _. Setting a grid raises TypeError or ValueError for
+    another name, TypeError for anything but a `Grid`, and ValueError for a grid too many; the scene stays as it was then.
+    """
+
+    def __init__(self, grids: "Mapping[str, Grid] | None" = None) -> None:
+        self._grids: Dict[str, Grid] = {}
+        self.update(grids or {})
+
+    def __getitem__(self, name: str) -> Grid:
+        return self._grids[name]
+
+    def __setitem__(self, name: str, grid: Grid) -> None:
+        check_name(name)
+        if not isinstance(grid, Grid):
+            raise TypeError(f"{name} is set to {type(grid).__name__}, not to a Grid: use Grid.from_array")
+        if name not in self._grids and len(self._grids) == MAX_GRIDS:
+            raise ValueError(f"a scene has at most {MAX_GRIDS} grids, and {name} would be one more")
+        self._grids[name] = grid
+
+    def __delitem__(self, name: str) -> None:
+        del self._grids[name]
+
+    def __iter__(self) -> Iterator[str]:
+        return iter(sorted(self._grids))
+
+    def __len__(self) -> int:
+        return len(self._grids)
+
+    def __repr__(self) -> str:
+        return f"Scene({{{', '.join(f'{name!r}: {grid!r}' for name, grid in self.items())}}})"
+
+    def to_bytes(self) -> bytes:
+        """Returns the encoding of the scene: version 2, the bytes that `vdb --save` writes.
+
+        Raises SceneTooLongError if it has more than 268,435,456 bytes.
+        """
+        return b"".join(self._encoded()[1])
+
+    def save(self, path: "str | os.PathLike[str]", progress: Optional[Progress] = None) -> None:
+        """Writes the encoding of the scene to a file.
+
+        The bytes go to a temporary file in the same folder, which then takes the place of `path`. `progress` is called with
+        the number of bytes written so far and that of all. Raises SceneTooLongError if there are more than 268,435,456, and
+        OSError if the file can't be written; an existing file stays as it was then.
+        """
+        length, pieces = self._encoded()
+        done = 0
+        with replacing(path) as file:
+            for piece in pieces:
+                file.write(piece)
+                done += len(piece)
+                if progress:
+                    progress(done, length)
+
+    def _encoded(self) -> "tuple[int, Iterator[bytes]]":
+        """Returns how many bytes the encoding has, and yields them piece by piece."""
+        head = scene_head(len(self))
+        heads, bodies = [], []
+        for name, grid in self.items():
+            heads.append(grid_head(name, grid._tree, grid.limit, grid.metadata))
+            bodies.append(Body(grid._tree))
+        length = len(head) + sum(map(len, heads)) + sum(body.length() for body in bodies)
+        if length > MAX_FILE:
+            raise SceneTooLongError(length, MAX_FILE)
+        grids = (piece for start, body in zip(heads, bodies) for piece in chain([start], body.pieces()))
+        return length, chain([head], grids)
+
+
+def load(path: "str | os.PathLike[str]", progress: Optional[Progress] = None) -> Scene:
+    """Reads a scene file of version 1 or 2.
+
+    `progress` is called with the number of bytes read so far and the size of the file. Raises the FormatError of the first
+    fault, in the order of docs/FORMAT.md, and OSError if the file can't be opened or read.
+    """
+    with open(path, "rb") as file:
+        found = os.fstat(file.fileno())
+        if stat.S_ISREG(found.st_mode):
+            data = bytearray(min(found.st_size, MAX_FILE + 1) + PADDING)
+            read = file.readinto(memoryview(data)[: len(data) - PADDING])
+            del data[read : len(data) - PADDING]
+        else:
+            data = bytearray(file.read(MAX_FILE + 1) + bytes(PADDING))
+    return _scene(Reader(data, os.fspath(path), progress))
+
+
+def loads(data: bytes) -> Scene:
+    """Reads a scene from the bytes of a file. Raises the FormatError of the first fault."""
+    return _scene(Reader(bytearray(data) + bytes(PADDING), None))
+
+
+def _scene(reader: Reader) -> Scene:
+    version, grids = reader.head()
+    scene, name = Scene(), None
+    for _ in range(grids):
+        name = reader.name(name, "name", "name")
+        kind = reader.kind()
+        background = reader.value(kind, "the background")
+        limit, pairs = (reader.limit(), reader.pairs()) if version == 2 else (DEFAULT_LIMIT, {})
+        scene[name] = Grid._of(reader.tree(kind, background, limit), limit, pairs)
+    reader.finish()
+    return scene

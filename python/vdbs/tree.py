@@ -1,0 +1,141 @@
+"""The voxels of a grid in memory: leaves and tiles as arrays, in block order.
+
+A leaf keeps only the voxels that a file lists: those that aren't the inactive background. So a grid takes about as much
+memory as its file has bytes. A block has a code, an integer that rises in block order: the place of its root block in the
+table of root blocks, then the entry of the upper node (15 bits), then the entry of the lower node (12 bits).
+"""
+from __future__ import annotations
+
+from dataclasses import dataclass
+
+import numpy as np
+
+from .forms import ENTRIES, KEY_SPAN, SIDES, Kind
+
+#: How many bits a code has below its root block's place, for leaf extents, lower extents and upper extents.
+CODE_BITS = (27, 15, 0)
+#: How many listed voxels are handled at once: their arrays stay in the processor's cache and are soon allocated.
+CHUNK = 1 << 15
+
+
+@dataclass(frozen=True)
+class Tiles:
+    """The tiles of one level, in block order: their codes (int64), values and states (bool)."""
+
+    codes: np.ndarray
+    values: np.ndarray
+    active: np.ndarray
+
+    def __len__(self) -> int:
+        return len(self.codes)
+
+
+@dataclass(frozen=True)
+class Leaves:
+    """The leaves, in block order, and the voxels that they list.
+
+    Leaf i has the code `codes[i]` and lists the voxels from `starts[i]` to `starts[i + 1]` of `index` (uint16, rising in a
+    leaf: x * 64 + y * 8 + z in the leaf), `active` (bool) and `values`.
+    """
+
+    codes: np.ndarray
+    starts: np.ndarray
+    index: np.ndarray
+    active: np.ndarray
+    values: np.ndarray
+
+    def __len__(self) -> int:
+        return len(self.codes)
+
+    def counts(self) -> np.ndarray:
+        """Returns how many voxels each leaf lists."""
+        return np.diff(self.starts)
+
+    def chunks(self):
+        """Yields (first, last), slices of leaves that list about CHUNK voxels together."""
+        return chunks(self.starts)
+
+
+@dataclass(frozen=True)
+class Tree:
+    """All voxels of a grid, in the one smallest form: what is constant is a tile, and the inactive background is left out.
+
+    `roots` are the keys of the root blocks (R x 3, int64), rising by x, y, z; `tiles` those of leaf, lower and upper extents.
+    """
+
+    kind: Kind
+    background: "bool | int"
+    roots: np.ndarray
+    leaves: Leaves
+    tiles: tuple[Tiles, Tiles, Tiles]
+
+    def origins(self, codes: np.ndarray, level: int = 0) -> np.ndarray:
+        """Returns the least coordinates (N x 3, int64) of the blocks with these codes."""
+        codes = codes << (CODE_BITS[0] - CODE_BITS[level])
+        found = self.roots[codes >> 27] * SIDES[2]
+        upper, lower = codes >> 12 & 0x7FFF, codes & 0xFFF
+        for axis in range(3):
+            found[:, axis] += (upper >> 10 - 5 * axis & 31) * SIDES[1] + (lower >> 8 - 4 * axis & 15) * SIDES[0]
+        return found
+
+    def find(self, x: int, y: int, z: int) -> "tuple[bool | int, bool]":
+        """Returns the value and the state of a voxel."""
+        place = place_of(pack_keys(self.roots), pack_keys(np.array([[x >> 12, y >> 12, z >> 12]]))[0])
+        if place is None:
+            return self.background, False
+        code = place << 27 | (x >> 7 & 31) << 22 | (y >> 7 & 31) << 17 | (z >> 7 & 31) << 12
+        code |= (x >> 3 & 15) << 8 | (y >> 3 & 15) << 4 | z >> 3 & 15
+        for level, tiles in enumerate(self.tiles):
+            at = place_of(tiles.codes, code >> CODE_BITS[0] - CODE_BITS[level])
+            if at is not None:
+                return tiles.values[at].item(), bool(tiles.active[at])
+        leaves, leaf = self.leaves, place_of(self.leaves.codes, code)
+        if leaf is not None:
+            first, last = leaves.starts[leaf], leaves.starts[leaf + 1]
+            at = place_of(leaves.index[first:last], (x & 7) << 6 | (y & 7) << 3 | z & 7)
+            if at is not None:
+                return leaves.values[first + at].item(), bool(leaves.active[first + at])
+        return self.background, False
+
+
+def chunks(starts: np.ndarray):
+    """Yields (first, last) of runs of leaves of about CHUNK voxels, where leaf i begins at voxel `starts[i]`."""
+    inner = np.searchsorted(starts, np.arange(0, starts[-1], CHUNK))
+    cuts = np.unique(np.append(inner, len(starts) - 1)).tolist()
+    yield from zip(cuts[:-1], cuts[1:])
+
+
+def place_of(sorted_codes: np.ndarray, code: int) -> "int | None":
+    """Returns the place of a code among rising ones, or None if it isn't there."""
+    at = int(np.searchsorted(sorted_codes, code))
+    return at if at < len(sorted_codes) and sorted_codes[at] == code else None
+
+
+def pack_keys(keys: np.ndarray) -> np.ndarray:
+    """Returns the keys of root blocks (N x 3) as integers (N, int64) of the same order."""
+    x, y, z = (keys + KEY_SPAN).T
+    return x << 40 | y << 20 | z
+
+
+def empty_tree(kind: Kind, background: "bool | int") -> Tree:
+    """Returns the voxels of a grid that holds its background everywhere, inactive."""
+    none = np.zeros(0, np.int64)
+    tiles = Tiles(none, np.zeros(0, kind.dtype), np.zeros(0, np.bool_))
+    leaves = Leaves(none, np.zeros(1, np.int64), np.zeros(0, np.uint16), tiles.active, tiles.values)
+    return Tree(kind, background, np.zeros((0, 3), np.int64), leaves, (tiles, tiles, tiles))
+
+
+def collapse(tiles: Tiles, level: int) -> "tuple[Tiles, Tiles]":
+    """Splits the tiles of a level: those that stay, and the tiles of the next level that constant nodes become."""
+    bits, most = (12, ENTRIES[1]) if level == 0 else (15, ENTRIES[0])
+    parents, firsts, counts = np.unique(tiles.codes >> bits, return_index=True, return_counts=True)
+    stays, made = np.ones(len(tiles), np.bool_), []
+    for parent, first in zip(parents[counts == most].tolist(), firsts[counts == most].tolist()):
+        part = slice(first, first + most)
+        if (tiles.values[part] == tiles.values[first]).all() and (tiles.active[part] == tiles.active[first]).all():
+            stays[part] = False
+            made.append((parent, first))
+    codes = np.array([parent for parent, _ in made], np.int64)
+    firsts = np.array([first for _, first in made], np.int64)
+    larger = Tiles(codes, tiles.values[firsts], tiles.active[firsts])
+    return Tiles(tiles.codes[stays], tiles.values[stays], tiles.active[stays]), larger
