@@ -1,6 +1,6 @@
 -- Accessors of a grid, one by one.
 use Rattle.std.proofs.Common.{◌≡◌, ℕ, ◌+◌, ◌<◌, ◌≤◌, List, length, refl, sym, ap, ◌∙◌, arith, inl, inr, ◌⊎◌, get_or-set_same, get_or-set_other, replicate}
-use Rattle.std.specs.Prelude.{Option, Some, None, slice_set}
+use Rattle.std.specs.Prelude.{Option, Some, None, slice_index_or, slice_set}
 use Rattle.std.proofs.lemmas.List.{get_or_past, get_or-replicate, length-replicate}
 use Rattle.std.proofs.lemmas.Grind.{common_steps}
 use Rattle.std.proofs.lemmas.Bool.Decides.{eqb_tells}
@@ -9,7 +9,7 @@ use Rattle.vdb_coord.specs.declared.Coord.{Coord}
 use Rattle.vdb_tree.specs.Layout.{Layout}
 use Rattle.vdb_tree.specs.Paths.{IsWhole, Lives, TreePath}
 use Rattle.vdb_tree.specs.declared.path.PathOf.TheVariants.{Empty}
-use Rattle.vdb_grid.specs.Grid.{ArePathsWhole, last, path}
+use Rattle.vdb_grid.specs.Grid.{ArePathsWhole, AreUnusedEmpty, last, path}
 
 below_or : (a b : ℕ) → (a < b) ⊎ (b ≤ a)
 below_or a b = grind arith
@@ -36,12 +36,19 @@ there coords k p e =
 given : (coords : List (Option Coord)) (k : ℕ) (p q : Coord) → k < length coords → last (slice_set coords k (Some p)) k ≡ Some q → p ≡ q
 given coords k p q b e = some_same p q (sym (get_or-set_same coords k (Some p) None b) ∙ e)
 
-pub nothing_last : (n k : ℕ) → last (replicate n None) k ≡ None
-nothing_last n k =
+-- a list that repeats a value has this value at each index, if it stands for the ones past the end, too
+repeated : {A : Type 0} (n k : ℕ) (x : A) → slice_index_or (replicate n x) k x ≡ x
+repeated n k x =
     elim (below_or k n) [
-      | inl h ↦ get_or-replicate n k None None h
-      | inr h ↦ get_or_past (replicate n None) k None (rw length-replicate h)
+      | inl h ↦ get_or-replicate n k x x h
+      | inr h ↦ get_or_past (replicate n x) k x (rw length-replicate h)
     ]
+
+pub nothing_last : (n k : ℕ) → last (replicate n None) k ≡ None
+nothing_last n k = repeated n k None
+
+pub nothing_path : {V : Type 0} (n k : ℕ) → ◌≡◌ {A = TreePath V} (path (replicate n Empty) k) Empty
+nothing_path n k = repeated n k Empty
 
 length_set : (coords : List (Option Coord)) (k : ℕ) (p : Coord) → length (slice_set coords k (Some p)) ≡ length coords
 length_set coords k p = grind (arith, common_steps)
@@ -113,14 +120,38 @@ module _ {V : Type 0} (t : Layout V) where
   pub nothing_whole : (n : ℕ) (paths : List (TreePath V)) → ArePathsWhole t (replicate n None) paths
   nothing_whole n paths k p e = absurd (none_apart p (sym (nothing_last n k) ∙ e))
 
-  -- the path of an accessor that was given no coordinate may be emptied
-  pub whole_emptied : (coords : List (Option Coord)) (paths : List (TreePath V)) (k : ℕ) → last coords k ≡ None → ArePathsWhole t coords paths → ArePathsWhole t coords (slice_set paths k Empty)
-  whole_emptied coords paths k s h j q e =
-      elim (eqb_tells j k) [
-        | inl f ↦ absurd (none_apart q (sym s ∙ sym (ap (last coords) f.1) ∙ e))
-        | inr f ↦ whole_as q q _ _ refl (sym (get_or-set_other paths k j Empty Empty f.1)) (h j q e)
-      ]
+  -- an empty path is live
+  pub empty_lives : (paths : List (TreePath V)) (k : ℕ) (p : Coord) → path paths k ≡ Empty → Lives vdb t (path paths k) p
+  empty_lives paths k p e = rw e tt
 
   -- a whole path is live
   pub start_lives : (coords : List (Option Coord)) (paths : List (TreePath V)) (k : ℕ) (p : Coord) → ArePathsWhole t coords paths → last coords k ≡ Some p → Lives vdb t (path paths k) p
   start_lives coords paths k p h e = (h k p e).lives
+
+module _ {V : Type 0} where
+  -- the paths of accessors without a coordinate stay empty if one accessor gets a coordinate
+  pub unused_moved : (coords : List (Option Coord)) (paths : List (TreePath V)) (k : ℕ) (p : Coord) → AreUnusedEmpty coords paths → AreUnusedEmpty (slice_set coords k (Some p)) paths
+  unused_moved coords paths k p h j e =
+      elim (eqb_tells j k) [
+        | inl s ↦
+            elim (below_or k (length coords)) [
+              | inl b ↦ absurd (none_apart p (sym e ∙ ap (last (slice_set coords k (Some p))) s.1 ∙ get_or-set_same coords k (Some p) None b))
+              | inr b ↦ h j (get_or_past coords j None (omega (arith, s.1, b)))
+            ]
+        | inr s ↦ h j (sym (get_or-set_other coords k j (Some p) None s.1) ∙ e)
+      ]
+
+  -- the same if an accessor that has a coordinate gets a path
+  pub unused_traced : (coords : List (Option Coord)) (paths : List (TreePath V)) (k : ℕ) (p : Coord) (cached : TreePath V)
+      → last coords k ≡ Some p → AreUnusedEmpty coords paths → AreUnusedEmpty coords (slice_set paths k cached)
+  unused_traced coords paths k p cached g h j e =
+      elim (eqb_tells j k) [
+        | inl s ↦ absurd (none_apart p (sym e ∙ ap (last coords) s.1 ∙ g))
+        | inr s ↦ get_or-set_other paths k j cached Empty s.1 ∙ h j e
+      ]
+
+  -- the same if one accessor gets a coordinate and a path
+  pub unused_set : (coords : List (Option Coord)) (paths : List (TreePath V)) (k : ℕ) (p : Coord) (cached : TreePath V)
+      → k < length coords → AreUnusedEmpty coords paths → AreUnusedEmpty (slice_set coords k (Some p)) (slice_set paths k cached)
+  unused_set coords paths k p cached b h =
+      unused_traced (slice_set coords k (Some p)) paths k p cached (get_or-set_same coords k (Some p) None b) (unused_moved coords paths k p h)

@@ -129,6 +129,17 @@ near_below t coords paths k q p old new h s e few =
     let below = leaf_visit t q p (path paths k) ends (h k q s) in
     omega (arith, few, below)
 
+-- if the leaf that ends a path to a coordinate holds p, the descent to p meets a node
+leaf_down : {V : Type 0} (t : Layout V) (coords : List (Option Coord)) (paths : List (TreePath V)) (k : ℕ) (p : Coord) (cached : Option Coord)
+    → ArePathsWhole t coords paths → last coords k ≡ cached → has_leaf cached (path paths k) p ≡ true → 1 ≤ down_count vdb t p
+leaf_down t coords paths k p None h s e = absurd (apart (sym e))
+leaf_down t coords paths k p (Some q) h s e = let below = leaf_visit t q p (path paths k) e (h k q s) in omega (arith, below)
+
+-- if the leaf that ends a path holds p, one visit is at most the visits of the descent
+pub near_down : {V : Type 0} (t : Layout V) (coords : List (Option Coord)) (paths : List (TreePath V)) (k : ℕ) (p : Coord) (old new : ℕ)
+    → ArePathsWhole t coords paths → has_leaf (last coords k) (path paths k) p ≡ true → new ≤ old + 1 → new ≤ old + down_count vdb t p
+near_down t coords paths k p old new h e few = let down = leaf_down t coords paths k p (last coords k) h refl e in omega (arith, few, down)
+
 -- the paths of accessors after a write in the leaf that one of them ends in
 pub whole_near : {V : Type 0} (old new : Layout V) (coords : List (Option Coord)) (paths : List (TreePath V)) (k : ℕ) (q p : Coord)
     → ArePathsWhole old coords paths → last coords k ≡ Some q → ends_in_leaf (common vdb q p (path paths k)) ≡ true

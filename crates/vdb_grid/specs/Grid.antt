@@ -25,6 +25,10 @@ module _ {V : Type 0} where
   abbrev pub ArePathsWhole : Layout V → List (Option Coord) → List (TreePath V) → Type 0
   ArePathsWhole tree coords paths = (k : ℕ) (p : Coord) → last coords k ≡ Some p → IsWhole vdb tree (path paths k) p
 
+  -- the path of each accessor that was given no coordinate is empty
+  abbrev pub AreUnusedEmpty : List (Option Coord) → List (TreePath V) → Type 0
+  AreUnusedEmpty coords paths = (k : ℕ) → last coords k ≡ None → path paths k ≡ Empty
+
   -- whether the path that an accessor caches to this coordinate ends in a leaf that holds p
   abbrev pub has_leaf : Option Coord → TreePath V → Coord → Bool
   has_leaf None cached p = false

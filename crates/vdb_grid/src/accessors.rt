@@ -1,7 +1,7 @@
 //! Paths of accessors, traced again after a change of the tree.
 
 ghost use Rattle.std.specs.Prelude.{◌≡◌, ◌+◌, ◌*◌, ◌≤◌, length};
-ghost use Rattle.vdb_grid.specs.Grid.{ArePathsWhole};
+ghost use Rattle.vdb_grid.specs.Grid.{ArePathsWhole, AreUnusedEmpty};
 
 use vdb_coord::Coord;
 use vdb_node::Stored;
@@ -9,15 +9,17 @@ use vdb_pool::Steps;
 use vdb_tree::{Path, Tree};
 
 /// Traces the path to each coordinate that an accessor was last given, by at most three visits each and without
-/// memory.
+/// memory. An accessor that was given no coordinate keeps its empty path.
 pub fn retrace<V: Stored<512> + Stored<64> + Stored<8>>(
     tree: &Tree<V>,
     coords: &[Option<Coord>],
     paths: &mut [Path<V>],
     steps: &mut Steps,
 )
-    requires { length paths.old ≡ length coords.now }
+    requires length { length paths.old ≡ length coords.now }
+    requires unused { AreUnusedEmpty coords.now paths.old }
     ensures whole { ArePathsWhole tree.now coords.now paths.new }
+    ensures unused { AreUnusedEmpty coords.now paths.new }
     ensures steps { steps.new ≤ steps.old + 3 * length coords.now }
 {
     for k in 0..coords.len() {

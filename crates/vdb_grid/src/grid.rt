@@ -12,6 +12,7 @@ ghost use Rattle.vdb_tree.specs.Nodes.{IsSameTree, KeepsElsewhere};
 ghost use Rattle.vdb_tree.specs.Outcome.{IsOutcome};
 ghost use Rattle.vdb_tree.specs.Paths.{common, depth, down_count, in_leaf, IsWhole, Lives};
 ghost use Rattle.vdb_tree.specs.Table.{HasCapacity};
+ghost use Rattle.vdb_tree.specs.declared.path.PathOf.TheVariants.{Empty};
 ghost use Rattle.vdb_tree.specs.declared.refusal.TreeRefusal.TheVariants.{Memory};
 ghost use Rattle.vdb_grid.specs.Grid.{has_leaf, last, path};
 
@@ -30,12 +31,12 @@ pub struct Grid<V: Stored<512> + Stored<64> + Stored<8>, const K: usize> {
     pub(crate) tree: Tree<V>,
     // The coordinate that each accessor was last given.
     pub(crate) coords: [Option<Coord>; K],
-    // The path to it; any path if there is none.
+    // The path to it; empty if there is none.
     pub(crate) paths: [Path<V>; K],
 }
 
 impl<V: Stored<512> + Stored<64> + Stored<8>, const K: usize> Model for Grid<V, K> {
-    ghost use Rattle.vdb_grid.specs.Grid.{ArePathsWhole, GridOf};
+    ghost use Rattle.vdb_grid.specs.Grid.{ArePathsWhole, AreUnusedEmpty, GridOf};
 
     ghost Value = { GridOf V };
 
@@ -45,16 +46,17 @@ impl<V: Stored<512> + Stored<64> + Stored<8>, const K: usize> Model for Grid<V, 
       paths = g.paths;
     } };
 
-    ghost invariant = { λ g. ArePathsWhole g.tree g.coords g.paths };
+    ghost invariant = { λ g. ArePathsWhole g.tree g.coords g.paths × AreUnusedEmpty g.coords g.paths };
 }
 
 impl<V: Stored<512> + Stored<64> + Stored<8>, const K: usize> Grid<V, K> {
     /// Returns a grid without nodes, whose every coordinate has the background, inactive. At most `limit` of its upper
-    /// extents may hold another cell. Its accessors were given no coordinate.
+    /// extents may hold another cell. Its accessors were given no coordinate and cache no node.
     pub fn new(alloc: Global, background: V, limit: u32) -> Self
         ensures field { field_of vdb result.tree ≡ new background }
         ensures limit { result.tree.limit ≡ limit }
         ensures last { (k : ℕ) → last result.coords k ≡ None }
+        ensures empty { (k : ℕ) → path result.paths k ≡ Empty }
     {
         Grid {
             tree: Tree::new(alloc, background, limit),
@@ -63,10 +65,11 @@ impl<V: Stored<512> + Stored<64> + Stored<8>, const K: usize> Grid<V, K> {
         }
     }
 
-    /// Returns the grid of a tree, with accessors that were given no coordinate. It takes no memory.
+    /// Returns the grid of a tree, with accessors that were given no coordinate and cache no node. It takes no memory.
     pub fn from_tree(tree: Tree<V>) -> Self
         ensures tree { result.tree ≡ tree }
         ensures last { (k : ℕ) → last result.coords k ≡ None }
+        ensures empty { (k : ℕ) → path result.paths k ≡ Empty }
     {
         Grid {
             tree,
@@ -91,8 +94,8 @@ impl<V: Stored<512> + Stored<64> + Stored<8>, const K: usize> Grid<V, K> {
     }
 
     /// Returns the cell of a voxel through an accessor. The descent begins at the lowest node that the accessor
-    /// caches and that contains the voxel (OpenVDB's `ValueAccessor::getValue`). In the leaf extent of the last
-    /// coordinate it visits at most one node.
+    /// caches and that contains the voxel (OpenVDB's `ValueAccessor::getValue`). It visits at most the nodes of the
+    /// descent from the root. In the leaf extent of the last coordinate it visits at most one node.
     #[inline(always)]
     pub fn probe(&mut self, k: usize, p: Coord, steps: &mut Steps) -> Cell<V>
         requires { k < K }
@@ -104,6 +107,7 @@ impl<V: Stored<512> + Stored<64> + Stored<8>, const K: usize> Grid<V, K> {
             → steps.new ≤ steps.old + (down_count vdb self.old.tree p - (depth (common vdb q p (path self.old.paths k)) - 1)) }
         ensures near { (q : Coord) → last self.old.coords k ≡ Some q → block_number vdb Leaf q ≡ block_number vdb Leaf p
             → steps.new ≤ steps.old + 1 }
+        ensures down { steps.new ≤ steps.old + down_count vdb self.old.tree p }
         ensures steps { steps.new ≤ steps.old + 3 }
     {
         match self.near_cell(k, p, steps) {
@@ -141,6 +145,7 @@ impl<V: Stored<512> + Stored<64> + Stored<8>, const K: usize> Grid<V, K> {
             → steps.new ≤ steps.old + (down_count vdb self.old.tree p - (depth (common vdb q p (path self.old.paths k)) - 1)) }
         ensures near { (q : Coord) → last self.old.coords k ≡ Some q → block_number vdb Leaf q ≡ block_number vdb Leaf p
             → steps.new ≤ steps.old + 1 }
+        ensures down { steps.new ≤ steps.old + down_count vdb self.old.tree p }
         ensures steps { steps.new ≤ steps.old + 3 }
     {
         let q = self.start(k, p);
@@ -150,23 +155,17 @@ impl<V: Stored<512> + Stored<64> + Stored<8>, const K: usize> Grid<V, K> {
     }
 
     /// Returns the coordinate at which a descent to `p` through an accessor begins: the one that the accessor was
-    /// last given, with the path to it. If it was given none, its path is emptied, and the descent begins at `p`
+    /// last given, to which its path leads. If it was given none, its path is empty, and the descent begins at `p`
     /// itself.
     #[inline(always)]
-    fn start(&mut self, k: usize, p: Coord) -> Coord
+    fn start(&self, k: usize, p: Coord) -> Coord
         requires { k < K }
-        ensures tree { self.new.tree ≡ self.old.tree }
-        ensures last { self.new.coords ≡ self.old.coords }
-        ensures others { (j : ℕ) → j ≢ k → path self.new.paths j ≡ path self.old.paths j }
-        ensures value { (q : Coord) → last self.old.coords k ≡ Some q → (result ≡ q) × (path self.new.paths k ≡ path self.old.paths k) }
-        ensures lives { Lives vdb self.new.tree (path self.new.paths k) result }
+        ensures value { (q : Coord) → last self.now.coords k ≡ Some q → result ≡ q }
+        ensures lives { Lives vdb self.now.tree (path self.now.paths k) result }
     {
         match self.coords[k] {
             Some(q) => q,
-            None => {
-                self.paths[k] = Path::Empty;
-                p
-            }
+            None => p,
         }
     }
 
@@ -259,12 +258,13 @@ impl<V: Stored<512> + Stored<64> + Stored<8>, const K: usize> Grid<V, K> {
     }
 
     /// Returns a grid with the same cells, tiles, nodes, background and limit, and with accessors that were given no
-    /// coordinate. It fails with `Memory` after an allocation failure.
+    /// coordinate and cache no node. It fails with `Memory` after an allocation failure.
     pub fn try_copy(&self) -> Result<Self, TreeRefusal>
         ensures field { IfOk result (λ copy. field_of vdb copy.tree ≡ field_of vdb self.now.tree) }
         ensures limit { IfOk result (λ copy. copy.tree.limit ≡ self.now.tree.limit) }
         ensures same { IfOk result (λ copy. IsSameTree vdb self.now.tree copy.tree) }
         ensures last { IfOk result (λ copy. (k : ℕ) → last copy.coords k ≡ None) }
+        ensures empty { IfOk result (λ copy. (k : ℕ) → path copy.paths k ≡ Empty) }
         ensures memory { IfErr result (λ refusal. refusal ≡ Memory) }
     {
         let tree = self.tree.try_copy()?;

@@ -1,5 +1,6 @@
-use Rattle.vdb_grid.proofs.EachAccessor.{whole_emptied}
+use Rattle.vdb_grid.proofs.EachAccessor.{empty_lives}
 use Rattle.vdb_grid.proofs.grid.Grid.start.Goals as goal
 
-pub invariant_of-self : goal.invariant_of-self
-invariant_of-self g c = whole_emptied _ _ _ _ c.in-None.is c.self.invariant
+pub returns-in-None-clause-lives : goal.returns-in-None-clause-lives
+returns-in-None-clause-lives g c =
+    rw (← c.self.view_is) (empty_lives c.self.inside.tree c.self.inside.paths c.args.k c.args.p (c.self.invariant.1 c.args.k c.in-None.is))
