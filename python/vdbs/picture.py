@@ -73,13 +73,16 @@ def picture_of(slices: "list[Rows]") -> np.ndarray:
 
 
 def colours_of(values: np.ndarray) -> np.ndarray:
-    """Returns a colour (N x 3, uint8) for each value: its own hue, the same in every picture."""
-    mixed = values.astype(np.int64).astype(np.uint64) * np.uint64(0x9E3779B97F4A7C15)
-    mixed ^= mixed >> np.uint64(29)
-    hue = (mixed >> np.uint64(8) & np.uint64(0xFFFF)).astype(np.float64) / 65536 * 6
-    light = 150 + (mixed >> np.uint64(40) & np.uint64(0x3F)).astype(np.float64)
+    """Returns a colour (N x 3, uint8) for each value: its own hue, the same in every picture.
+
+    The hues of successive values are a golden angle apart, and every other value is darker, so neighbours differ clearly.
+    """
+    labels = values.astype(np.int64)
+    turns = labels.astype(np.uint64) * np.uint64(0x9E3779B97F4A7C15)  # 2**64 / golden ratio: a turn is 2**64
+    hue = (turns >> np.uint64(40)).astype(np.float64) / 2**24 * 6
+    value = np.where(labels % 2 == 0, 0.62, 0.85)
     parts = [np.clip(np.abs((hue + shift) % 6 - 3) - 1, 0, 1) for shift in (0, 4, 2)]
-    return np.stack([(light * (0.25 + 0.75 * part)) for part in parts], axis=-1).astype(np.uint8)
+    return np.stack([(255 * value * (0.25 + 0.75 * part)).astype(np.uint8) for part in parts], axis=-1)
 
 
 def labels_of(values: np.ndarray, active: np.ndarray, background: "bool | int", scale: int) -> np.ndarray:
