@@ -14,9 +14,9 @@ class Told(encoding.Reader):
         super().__init__(text)
         self.field, Told.last = 0, self
 
-    def take(self, size):
+    def read(self, size):
         self.field = self.at
-        return super().take(size)
+        return super().read(size)
 
 
 encoding.Reader = Told
