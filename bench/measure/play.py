@@ -1,9 +1,9 @@
 """Runs of a program: its time, its peak memory, its exit status and what it writes."""
 import os
 import signal
-import time
 from dataclasses import dataclass
 
+from . import programs
 from .places import Failed
 
 
@@ -21,7 +21,7 @@ LIMIT = 600
 
 
 def wait(command, child):
-    """Waits for a child, and returns its status and usage. It doesn't outlive an exception, and has LIMIT seconds."""
+    """Waits for a child. It doesn't outlive an exception, and has LIMIT seconds."""
 
     def late(*_):
         raise Failed(f"{' '.join(command)} hadn't ended after {LIMIT} seconds")
@@ -29,7 +29,7 @@ def wait(command, child):
     signal.signal(signal.SIGALRM, late)
     signal.alarm(LIMIT)
     try:
-        return os.wait4(child, 0)[1:]
+        os.waitpid(child, 0)
     except BaseException:
         os.kill(child, signal.SIGKILL)
         os.waitpid(child, 0)
@@ -40,7 +40,8 @@ def wait(command, child):
 
 def play(command, stdin=os.devnull, stdout=os.devnull, stderr=None):
     """Runs a command once on files, and returns the run."""
-    begun = time.perf_counter()
+    runner = programs.runner()
+    reading, writing = os.pipe()
     child = os.fork()
     if child == 0:
         try:
@@ -48,12 +49,18 @@ def play(command, stdin=os.devnull, stdout=os.devnull, stderr=None):
             os.dup2(os.open(stdout, os.O_WRONLY | os.O_CREAT | os.O_TRUNC, 0o644), 1)
             if stderr:
                 os.dup2(os.open(stderr, os.O_WRONLY | os.O_CREAT | os.O_TRUNC, 0o644), 2)
-            os.execvp(command[0], command)
+            os.dup2(writing, 3)
+            os.execv(runner, [runner, *command])
         finally:
             os._exit(127)
-    status, usage = wait(command, child)
-    # ru_maxrss counts units of 1,024 bytes
-    return Run(time.perf_counter() - begun, usage.ru_maxrss * 1024, os.waitstatus_to_exitcode(status))
+    os.close(writing)
+    with open(reading, encoding="ascii") as told:
+        wait(command, child)
+        words = told.read().split()
+    if len(words) != 3:
+        raise Failed(f"{' '.join(command)} couldn't be started")
+    nanoseconds, kibibytes, status = map(int, words)
+    return Run(nanoseconds / 1e9, kibibytes * 1024, os.waitstatus_to_exitcode(status))
 
 
 def play_well(command, *files, **more):

@@ -130,6 +130,16 @@ def peer(name, making=threading.Lock()):
     return f"{OPENVDB}/{name}"
 
 
+def runner(making=threading.Lock()):
+    """Returns the program that runs others and measures them, which is built if need be."""
+    source, program = f"{BENCH}/measure/runner.c", f"{OUT}/runner"
+    with making:
+        if not os.path.exists(program) or os.path.getmtime(program) < os.path.getmtime(source):
+            os.makedirs(OUT, exist_ok=True)
+            called(["cc", "-O2", "-o", program, source], OUT, "the build of bench/measure/runner.c")
+    return program
+
+
 def side_by_side():
     """Returns how many benchmarks may be built at once."""
     with open("/proc/meminfo", encoding="utf-8") as file:
