@@ -81,7 +81,7 @@ def draw(parts):
     for ahead, meaning in MEANINGS.items():
         legend += [f'<rect x="{x}" y="34" width="11" height="11" fill="{COLOURS[ahead]}"/>', text(x + 16, 44, meaning)]
         x += 36 + 7 * len(meaning)
-    head = text(MARGIN, 22, "Time of vdb by that of OpenVDB on one thread (less is better for vdb)", font_weight="600", font_size="14")
+    head = text(MARGIN, 22, "Time of vdb divided by the time of OpenVDB on one thread (below 1: vdb is faster)", font_weight="600", font_size="14")
     return "\n".join(
         [
             f'<svg xmlns="http://www.w3.org/2000/svg" width="{WIDTH}" height="{height}" viewBox="0 0 {WIDTH} {height}"'
