@@ -1,12 +1,14 @@
 -- The addresses of the slots of the chunks.
-use Rattle.std.proofs.Common.{◌≡◌, ℕ, zero, suc, ◌+◌, ◌*◌, ◌/◌, ◌^◌, ◌<◌, List, [], ◌∷◌, ◌++◌, length, get_or, refl, sym, ap, subst, ◌∙◌, arith, length-append, append-nil, append_assoc, Option}
+use Rattle.std.proofs.Common.{◌≡◌, ℕ, zero, suc, ◌+◌, ◌*◌, ◌/◌, ◌%◌, ◌^◌, ◌<◌, List, [], ◌∷◌, ◌++◌, length, get_or, refl, sym, ap, subst, ◌∙◌, arith, length-append, append-nil, append_assoc, Option}
 use native.Mathlib.Nat.{zero-mul, suc-mul}
+use Rattle.std.proofs.Math.Nat.{div-lt_iff_lt-mul, lt_of_mul-lt-mul_right, mul-le-mul_right}
+use Rattle.std.proofs.lemmas.Nat.{div-add-mod'}
 use lib.ListN.{get_or-append}
 use lib.Seq.{get_or-append-add}
 use Rattle.std.proofs.Common.{Global}
 use denote.RawPtr.{Ptr, block_ptr, null_ptr, ◌+ₚ◌}
 use Rattle.vdb_pool.specs.internal.Rows.{row_from}
-use Rattle.vdb_pool.specs.internal.Chunks.{chunk_len, rows_of, AreWhole}
+use Rattle.vdb_pool.specs.internal.Chunks.{rows_of, AreWhole}
 use Rattle.vdb_pool.specs.internal.Pool.{IsSound}
 use Rattle.vdb_pool.specs.declared.slot.Slot.{Slot}
 use Rattle.vdb_pool.specs.declared.chunk.Chunk.{Chunk}
@@ -29,64 +31,66 @@ row_at s p (suc n) zero lt = sym (unmoved p) ∙ ap (λ k. p +ₚ k) (sym (zero-
 row_at s p (suc n) (suc i) lt =
     row_at s (p +ₚ s) n i (omega (arith, lt)) ∙ shift p s (i * s) ∙ ap (λ k. p +ₚ k) (omega (arith, suc-mul i s))
 
-module _ {T : Type 0} where
-  pub length-rows : (cs : List (Chunk T)) → length (rows_of cs) ≡ length cs * chunk_len
-  length-rows [] = sym (zero-mul chunk_len)
+module _ {T : Type 0} (len : ℕ) where
+  pub length-rows : (cs : List (Chunk T)) → length (rows_of len cs) ≡ length cs * len
+  length-rows [] = sym (zero-mul len)
   length-rows (c ∷ cs) =
-      length-append (row_from c.block.stride c.base.pointer chunk_len) (rows_of cs)
-      ∙ omega (arith, length-row c.block.stride c.base.pointer chunk_len, length-rows cs, suc-mul (length cs) chunk_len)
+      length-append (row_from c.block.stride c.base.pointer len) (rows_of len cs)
+      ∙ omega (arith, length-row c.block.stride c.base.pointer len, length-rows cs, suc-mul (length cs) len)
 
   -- the i-th slot of the k-th chunk
-  pub rows_at : (cs : List (Chunk T)) (k i n : ℕ) (c : Chunk T) → k < length cs → i < chunk_len → n ≡ k * chunk_len + i → c ≡ get_or cs k c
-      → get_or (rows_of cs) n null_ptr ≡ c.base.pointer +ₚ i * c.block.stride
+  pub rows_at : (cs : List (Chunk T)) (k i n : ℕ) (c : Chunk T) → k < length cs → i < len → n ≡ k * len + i → c ≡ get_or cs k c
+      → get_or (rows_of len cs) n null_ptr ≡ c.base.pointer +ₚ i * c.block.stride
   rows_at [] k i n c lt lt₂ n_is e = absurd (omega (arith, lt))
   rows_at (d ∷ cs) zero i n c lt lt₂ n_is e =
-      let row : List Ptr = row_from d.block.stride d.base.pointer chunk_len in
-      let long : length row ≡ chunk_len = length-row d.block.stride d.base.pointer chunk_len in
-      let same : n ≡ i = omega (arith, zero-mul chunk_len) in
+      let row : List Ptr = row_from d.block.stride d.base.pointer len in
+      let long : length row ≡ len = length-row d.block.stride d.base.pointer len in
+      let same : n ≡ i = omega (arith, zero-mul len) in
       let below : n < length row = omega arith in
-      get_or-append row (rows_of cs) null_ptr n below
+      get_or-append row (rows_of len cs) null_ptr n below
       ∙ ap (λ k. get_or row k null_ptr) same
-      ∙ row_at d.block.stride d.base.pointer chunk_len i lt₂
+      ∙ row_at d.block.stride d.base.pointer len i lt₂
       ∙ ap (λ (x : Chunk T). x.base.pointer +ₚ i * x.block.stride) (sym e)
   rows_at (d ∷ cs) (suc k) i n c lt lt₂ n_is e =
-      let row : List Ptr = row_from d.block.stride d.base.pointer chunk_len in
-      let long : length row ≡ chunk_len = length-row d.block.stride d.base.pointer chunk_len in
-      let past : n ≡ length row + (k * chunk_len + i) = omega (arith, suc-mul k chunk_len) in
-      ap (λ m. get_or (row ++ rows_of cs) m null_ptr) past
-      ∙ get_or-append-add row (rows_of cs) (k * chunk_len + i) null_ptr
-      ∙ rows_at cs k i (k * chunk_len + i) c (omega (arith, lt)) lt₂ refl e
+      let row : List Ptr = row_from d.block.stride d.base.pointer len in
+      let long : length row ≡ len = length-row d.block.stride d.base.pointer len in
+      let past : n ≡ length row + (k * len + i) = omega (arith, suc-mul k len) in
+      ap (λ m. get_or (row ++ rows_of len cs) m null_ptr) past
+      ∙ get_or-append-add row (rows_of len cs) (k * len + i) null_ptr
+      ∙ rows_at cs k i (k * len + i) c (omega (arith, lt)) lt₂ refl e
 
-  pub chunk_of : (cs : List (Chunk T)) (n : ℕ) → n < length (rows_of cs) → n / chunk_len < length cs
-  chunk_of cs n lt = omega (arith, length-rows cs)
+  pub chunk_of : (cs : List (Chunk T)) (n : ℕ) → 0 < len → n < length (rows_of len cs) → n / len < length cs
+  chunk_of cs n some lt = (div-lt_iff_lt-mul some).1 (subst (λ k. n < k) (length-rows cs) lt)
 
   -- each chunk is whole
-  pub whole_at : (cs : List (Chunk T)) (k : ℕ) (c : Chunk T) → AreWhole cs → k < length cs → c ≡ get_or cs k c
-      → (c.block.at ≡ c.base.pointer) × (c.block.len ≡ chunk_len)
+  pub whole_at : (cs : List (Chunk T)) (k : ℕ) (c : Chunk T) → AreWhole len cs → k < length cs → c ≡ get_or cs k c
+      → (c.block.at ≡ c.base.pointer) × (c.block.len ≡ len)
   whole_at [] k c w lt e = absurd (omega (arith, lt))
-  whole_at (d ∷ cs) zero c w lt e = subst (λ (x : Chunk T). (x.block.at ≡ x.base.pointer) × (x.block.len ≡ chunk_len)) (sym e) w.0
+  whole_at (d ∷ cs) zero c w lt e = subst (λ (x : Chunk T). (x.block.at ≡ x.base.pointer) × (x.block.len ≡ len)) (sym e) w.0
   whole_at (d ∷ cs) (suc k) c w lt e = whole_at cs k c w.1 (omega (arith, lt)) e
 
   -- one more chunk
-  pub rows_push : (cs : List (Chunk T)) (c : Chunk T) → rows_of (cs ++ c ∷ []) ≡ rows_of cs ++ row_from c.block.stride c.base.pointer chunk_len
-  rows_push [] c = append-nil (row_from c.block.stride c.base.pointer chunk_len)
+  pub rows_push : (cs : List (Chunk T)) (c : Chunk T) → rows_of len (cs ++ c ∷ []) ≡ rows_of len cs ++ row_from c.block.stride c.base.pointer len
+  rows_push [] c = append-nil (row_from c.block.stride c.base.pointer len)
   rows_push (d ∷ cs) c =
-      let row = row_from d.block.stride d.base.pointer chunk_len in
-      ap (λ l. row ++ l) (rows_push cs c) ∙ sym (append_assoc row (rows_of cs) (row_from c.block.stride c.base.pointer chunk_len))
+      let row = row_from d.block.stride d.base.pointer len in
+      ap (λ l. row ++ l) (rows_push cs c) ∙ sym (append_assoc row (rows_of len cs) (row_from c.block.stride c.base.pointer len))
 
-  whole_push : (cs : List (Chunk T)) (c : Chunk T) → AreWhole cs → (c.block.at ≡ c.base.pointer) × (c.block.len ≡ chunk_len) → AreWhole (cs ++ c ∷ [])
+  whole_push : (cs : List (Chunk T)) (c : Chunk T) → AreWhole len cs → (c.block.at ≡ c.base.pointer) × (c.block.len ≡ len) → AreWhole len (cs ++ c ∷ [])
   whole_push [] c w h = (h, tt)
   whole_push (d ∷ cs) c w h = (w.0, whole_push cs c w.1 h)
 
-  pub grown : (cs cs' : List (Chunk T)) (ps ps' qs : List Ptr) (xs xs' : List (Slot T)) (used total held : ℕ) (top : Option ℕ) (c : Chunk T) → IsSound cs ps xs used total held top → total + chunk_len < 2 ^ 32
-      → qs ≡ row_from c.block.stride c.base.pointer chunk_len → (c.block.at ≡ c.base.pointer) × (c.block.len ≡ chunk_len)
-      → ps' ≡ ps ++ qs → xs' ≡ xs → cs' ≡ cs ++ c ∷ [] → IsSound cs' ps' xs' used (total + chunk_len) held top
+  pub grown : (cs cs' : List (Chunk T)) (ps ps' qs : List Ptr) (xs xs' : List (Slot T)) (used total held : ℕ) (top : Option ℕ) (c : Chunk T) → IsSound len cs ps xs used total held top → total + len < 2 ^ 32
+      → qs ≡ row_from c.block.stride c.base.pointer len → (c.block.at ≡ c.base.pointer) × (c.block.len ≡ len)
+      → ps' ≡ ps ++ qs → xs' ≡ xs → cs' ≡ cs ++ c ∷ [] → IsSound len cs' ps' xs' used (total + len) held top
   grown cs cs' ps ps' qs xs xs' used total held top c ok fits qs_is h ps_is xs_is cs_is =
-      let row : List Ptr = row_from c.block.stride c.base.pointer chunk_len in
-      let long : length qs ≡ chunk_len = ap length qs_is ∙ length-row c.block.stride c.base.pointer chunk_len in
+      let row : List Ptr = row_from c.block.stride c.base.pointer len in
+      let long : length qs ≡ len = ap length qs_is ∙ length-row c.block.stride c.base.pointer len in
       let longer : length ps' ≡ length ps + length qs = ap length ps_is ∙ length-append ps qs in
       let total_is = ok.total_is in let within = ok.within in
-      let sound : IsSound (cs ++ c ∷ []) ps' xs used (total + chunk_len) held top = record {
+      let sound : IsSound len (cs ++ c ∷ []) ps' xs used (total + len) held top = record {
+        some = ok.some;
+        divides = ok.divides;
         used_is = ok.used_is;
         total_is = omega arith;
         total_fits = fits;
@@ -98,12 +102,19 @@ module _ {T : Type 0} where
         stack = ok.stack;
         listed = ok.listed;
       } in
-      subst (λ (l : List (Slot T)). IsSound cs' ps' l used (total + chunk_len) held top) (sym xs_is)
-      (subst (λ (l : List (Chunk T)). IsSound l ps' xs used (total + chunk_len) held top) (sym cs_is) sound)
+      subst (λ (l : List (Slot T)). IsSound len cs' ps' l used (total + len) held top) (sym xs_is)
+      (subst (λ (l : List (Chunk T)). IsSound len l ps' xs used (total + len) held top) (sym cs_is) sound)
 
-  pub whole_last : (cs : List (Chunk T)) (c : Chunk T) → AreWhole (cs ++ c ∷ []) → AreWhole cs × ((c.block.at ≡ c.base.pointer) × (c.block.len ≡ chunk_len))
+  pub whole_last : (cs : List (Chunk T)) (c : Chunk T) → AreWhole len (cs ++ c ∷ []) → AreWhole len cs × ((c.block.at ≡ c.base.pointer) × (c.block.len ≡ len))
   whole_last [] c w = (tt, w.0)
   whole_last (d ∷ cs) c w = let r = whole_last cs c w.1 in ((w.0, r.0), r.1)
+
+-- the chunks of a pool have room for one more, if their length divides 4,294,967,295 and they have fewer slots
+pub one_more_fits : (len n : ℕ) → 4294967295 % len ≡ 0 → n * len < 4294967295 → n * len + len < 4294967296
+one_more_fits len n divides below =
+    let parts = div-add-mod' 4294967295 len in
+    let fewer : n < 4294967295 / len = lt_of_mul-lt-mul_right len (omega (arith, parts, divides, below)) in
+    omega (arith, suc-mul n len, mul-le-mul_right len fewer, parts, divides)
 
 pub one_global : (a b : Global) → a ≡ b
 one_global a b = refl

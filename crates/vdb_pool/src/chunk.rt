@@ -1,14 +1,46 @@
 //! The chunks of a pool: blocks with equally many slots each.
-ghost use Rattle.std.specs.Prelude.{◌≡◌, ◌<◌, length, get_or};
+ghost use Rattle.std.specs.Prelude.{◌≡◌, ◌<◌, ◌/◌, ◌%◌, length, get_or};
 ghost use denote.RawPtr.{null_ptr};
-ghost use Rattle.vdb_pool.specs.internal.Chunks.{AreWhole, rows_of};
+ghost use Rattle.vdb_pool.specs.internal.Chunks.{AreWhole, rows_of, slots_of};
 
 use crate::slot::Slot;
 use crate::storage::{Address, Block};
 use std::alloc::Global;
 
-/// How many slots a chunk has. It divides `u32::MAX`, so that the last chunk that a pool may have is whole too.
-pub(crate) const CHUNK_LEN: usize = 255;
+/// Returns how many slots of this many bytes a chunk has: as many as fit 64 KiB, of the divisors of `u32::MAX` from 1 to 255. By
+/// a divisor the last chunk that a pool may have is whole too.
+pub(crate) fn slots_of(bytes: usize) -> u32
+    ensures value { result ≡ slots_of bytes }
+    ensures some { 0 < result }
+    ensures divides { 4294967295 % result ≡ 0 }
+{
+    match bytes {
+        0..=257 => 255,
+        258..=771 => 85,
+        772..=1285 => 51,
+        1286..=3855 => 17,
+        3856..=4369 => 15,
+        4370..=13107 => 5,
+        13108..=21845 => 3,
+        _ => 1,
+    }
+}
+
+/// Returns the chunk of a slot and its index there, by the slots of a chunk. Divisions by a constant are multiplications.
+fn chunk_and_index(slot: u32, len: u32) -> (u32, u32)
+    requires { 0 < len }
+    ensures chunk { result.0 ≡ slot / len }
+    ensures index { result.1 ≡ slot % len }
+{
+    match len {
+        255 => (slot / 255, slot % 255),
+        85 => (slot / 85, slot % 85),
+        51 => (slot / 51, slot % 51),
+        17 => (slot / 17, slot % 17),
+        5 => (slot / 5, slot % 5),
+        _ => (slot / len, slot % len),
+    }
+}
 
 /// A block of slots, with its address.
 pub struct Chunk<T> {
@@ -16,11 +48,14 @@ pub struct Chunk<T> {
     pub(crate) block: Block<Slot<T>, Global>,
 }
 
-/// Returns the address of a slot.
-pub(crate) fn address_in<T>(chunks: &[Chunk<T>], slot: u32) -> Address<Slot<T>>
-    requires { AreWhole chunks.now × (slot < length (rows_of chunks.now)) }
-    ensures { result.pointer ≡ get_or (rows_of chunks.now) slot null_ptr }
+/// Returns the address of a slot, by the slots of a chunk.
+pub(crate) fn address_in<T>(chunks: &[Chunk<T>], len: u32, slot: u32) -> Address<Slot<T>>
+    requires some { 0 < len }
+    requires whole { AreWhole len chunks.now }
+    requires within { slot < length (rows_of len chunks.now) }
+    ensures { result.pointer ≡ get_or (rows_of len chunks.now) slot null_ptr }
 {
-    let chunk = &chunks[slot as usize / CHUNK_LEN];
-    chunk.block.place(chunk.base, slot as usize % CHUNK_LEN)
+    let (chunk, index) = chunk_and_index(slot, len);
+    let chunk = &chunks[chunk as usize];
+    chunk.block.place(chunk.base, index as usize)
 }

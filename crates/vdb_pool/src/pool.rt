@@ -3,15 +3,14 @@ ghost use Rattle.std.specs.Prelude.{◌≡◌, ◌+◌, ◌*◌, ◌^◌, ◌-�
 ghost use Rattle.std.specs.Borrow.{sem};
 ghost use denote.RawPtr.{null_ptr};
 ghost use Rattle.vdb_pool.specs.Contents.{node_at, count_of, spare_of, next_slot, with_inserted, without_node, Grows, IsFalling, IsOrderly};
-ghost use Rattle.vdb_pool.specs.internal.Chunks.{chunk_len};
 
-use crate::chunk::{CHUNK_LEN, Chunk, address_in};
+use crate::chunk::{Chunk, address_in, slots_of};
 use crate::copying::TryCopy;
 use crate::place::Place;
 use crate::refusal::Memory;
 use crate::slot::Slot;
 use crate::steps::Steps;
-use crate::storage::{Address, Storage, allocate, deallocate};
+use crate::storage::{Address, Storage, allocate, deallocate, place_bytes};
 use std::alloc::{AllocError, Global};
 use std::marker::Model;
 use std::mem;
@@ -19,9 +18,9 @@ use std_alloc::room::may_hold;
 
 /// Slots for nodes, at addresses that never change.
 ///
-/// Slots are numbered from 0, and a pool has at most 4,294,967,295. They come in chunks of 255, which are given back
-/// when the pool is dropped, so a pool never gets smaller. A slot takes at most 8 bytes beside its node, if the node
-/// has at least 4 bytes and is aligned to at most 8. Making an empty pool allocates nothing.
+/// Slots are numbered from 0, and a pool has at most 4,294,967,295. They come in chunks of 1 to 255, as many as fit
+/// 64 KiB, which are given back when the pool is dropped, so a pool never gets smaller. A slot takes at most 8 bytes
+/// beside its node, if the node has at least 4 bytes and is aligned to at most 8. Making an empty pool allocates nothing.
 ///
 /// Vacant slots are linked through themselves and used again last in, first out, as in Rust's crate `slab`.
 ///
@@ -31,6 +30,8 @@ pub struct Pool<T> {
     alloc: Global,
     chunks: Vec<Chunk<T>>,
     storage: Storage<Slot<T>>,
+    // How many slots a chunk has.
+    len: u32,
     // How many slots were ever held. They are the first ones.
     used: u32,
     // How many slots the pool has.
@@ -59,7 +60,7 @@ impl<T> Model for Pool<T> {
       places = p.storage.places;
     } };
 
-    ghost invariant = { λ p. IsSound p.chunks.items p.storage.places p.storage.items p.used p.total p.held p.top };
+    ghost invariant = { λ p. IsSound p.len p.chunks.items p.storage.places p.storage.items p.used p.total p.held p.top };
 }
 
 impl<T> Pool<T> {
@@ -74,6 +75,7 @@ impl<T> Pool<T> {
             alloc,
             chunks: Vec::new(alloc),
             storage: Storage::new(),
+            len: slots_of(place_bytes::<Slot<T>>()),
             used: 0,
             total: 0,
             held: 0,
@@ -101,7 +103,7 @@ impl<T> Pool<T> {
         requires { slot < length self.now.places }
         ensures { result.pointer ≡ get_or self.now.places slot null_ptr }
     {
-        address_in(self.chunks.as_slice(), slot)
+        address_in(self.chunks.as_slice(), self.len, slot)
     }
 
     /// Returns the place of a slot that is held, and `None` for any other number. It counts no visit.
@@ -163,18 +165,19 @@ impl<T> Pool<T> {
     /// Adds one more chunk.
     fn grow(&mut self) -> Result<(), Memory>
         requires { length self.old.places < 2 ^ 32 - 1 }
-        ensures capacity { OnOk result (spare_of self.new ≡ spare_of self.old + chunk_len) }
+        ensures capacity { OnOk result (spare_of self.old < spare_of self.new) }
         ensures grows { Grows self.old self.new }
         ensures live { KeepsLive self.old self.new }
     {
-        if !may_hold::<Slot<T>>(CHUNK_LEN) {
+        let len = self.len as usize;
+        if !may_hold::<Slot<T>>(len) {
             return Err(Memory);
         }
         self.chunks.reserve(1)?;
-        let (base, storage, block) = allocate(&self.alloc, CHUNK_LEN)?;
+        let (base, storage, block) = allocate(&self.alloc, len)?;
         self.storage.append(storage);
         self.chunks.push_reserved(Chunk { base, block });
-        self.total += CHUNK_LEN as u32;
+        self.total += self.len;
         Ok(())
     }
 
@@ -314,6 +317,7 @@ impl<T: Drop> Drop for Pool<T> {
             alloc,
             mut chunks,
             mut storage,
+            len,
             used,
             total: _,
             held: _,
@@ -322,12 +326,13 @@ impl<T: Drop> Drop for Pool<T> {
         let mut slot = used;
         while slot > 0 {
             slot -= 1;
-            drop(storage.pop(address_in(chunks.as_slice(), slot)));
+            drop(storage.pop(address_in(chunks.as_slice(), len, slot)));
         }
+        let size = len as usize;
         while let Some(chunk) = chunks.pop() {
             let Chunk { base, block } = chunk;
-            let freed = storage.split_off(chunks.len() * CHUNK_LEN);
-            deallocate(&alloc, base, CHUNK_LEN, freed, block);
+            let freed = storage.split_off(chunks.len() * size);
+            deallocate(&alloc, base, size, freed, block);
         }
         storage.end();
         chunks.destroy_empty();

@@ -6,7 +6,8 @@ use std::marker::Model;
 /// Counts node visits, and stays at 18,446,744,073,709,551,615 once it is there.
 ///
 /// Each count begins at 0 with `Steps::new`. Outside this crate only a call of a `Pool` can add to a count, and
-/// nothing can copy one or set it back.
+/// nothing can copy one or set it back. Its layout is that of C's `uint64_t`, so that a handle for C may hold one.
+#[repr(C)]
 #[derive(Drop)]
 pub struct Steps {
     count: u64,
@@ -18,6 +19,8 @@ impl Model for Steps {
     ghost Value = { ℕ };
 
     ghost view = { λ s. s.count };
+
+    ghost inverse = { λ n. record { count = n } };
 }
 
 impl Steps {

@@ -4,6 +4,8 @@
 //! them back. An `Address` is a pointer that owns nothing.
 ghost use Rattle.std.specs.Prelude.{◌≡◌, ℕ, ◌+◌, ◌*◌, ◌<◌, ◌≤◌, List, [], ◌∷◌, ◌++◌, length, take, drop, get_or, IfOk, slice_index_or, ⊤};
 ghost use Rattle.std.specs.Borrow.{sem};
+ghost use Rattle.std.specs.Mem.{type_size};
+ghost use prog.Memory.{capped};
 ghost use denote.RawPtr.{Ptr, null_ptr, ◌+ₚ◌};
 ghost use Rattle.std.specs.Vec.Ownership.{FitsInBlock};
 ghost use Rattle.vdb_pool.specs.internal.Ownership.{storage_owns, storage_lends, block_owns, block_says};
@@ -56,6 +58,13 @@ impl<T> Model for Storage<T> {
     ghost also_owns = { λ s. storage_owns T.row s.places s.items };
 
     ghost also_shares = { λ s _ κ. storage_lends T.row s.places s.items κ };
+}
+
+/// Returns the bytes of a place.
+pub(crate) fn place_bytes<T>() -> usize
+    ensures { result ≡ capped (type_size T.row) }
+{
+    size_of::<T>()
 }
 
 /// Allocates a block of `len` free places, beginning at the address that it returns.

@@ -1,5 +1,5 @@
 -- What holds of the fields of a pool. No public clause cites this module.
-use Rattle.std.specs.Prelude.{◌≡◌, ℕ, ◌-◌, ◌^◌, ◌<◌, ◌≤◌, List, length, map, Option, is_some, count_by}
+use Rattle.std.specs.Prelude.{◌≡◌, ℕ, ◌-◌, ◌%◌, ◌^◌, ◌<◌, ◌≤◌, List, length, map, Option, is_some, count_by}
 use denote.RawPtr.{Ptr}
 use Rattle.vdb_pool.specs.internal.Slot.{node_of}
 use Rattle.vdb_pool.specs.internal.Stack.{linked, IsStack, AreListed}
@@ -7,15 +7,17 @@ use Rattle.vdb_pool.specs.internal.Chunks.{rows_of, AreWhole}
 use Rattle.vdb_pool.specs.declared.chunk.Chunk.{Chunk}
 use Rattle.vdb_pool.specs.declared.slot.Slot.{Slot}
 
-module _ {T : Type 0} where
-  -- the chunks hold the places, the counts are true, and the stack has every vacant slot
+module _ {T : Type 0} (len : ℕ) where
+  -- the chunks, each of this many slots, hold the places, the counts are true, and the stack has every vacant slot
   pub record IsSound (cs : List (Chunk T)) (places : List Ptr) (slots : List (Slot T)) (used total held : ℕ) (top : Option ℕ) : Type 0 where
+    pub some : 0 < len
+    pub divides : 4294967295 % len ≡ 0
     pub used_is : used ≡ length slots
     pub total_is : total ≡ length places
     pub total_fits : total < 2 ^ 32
     pub within : used ≤ total
-    pub rows : places ≡ rows_of cs
-    pub whole : AreWhole cs
+    pub rows : places ≡ rows_of len cs
+    pub whole : AreWhole len cs
     pub held_is : held ≡ count_by is_some (map node_of slots)
     pub held_within : held ≤ used
     pub stack : IsStack (used - held) top slots

@@ -1,21 +1,30 @@
-use Rattle.std.proofs.Common.{◌≡◌, ◌<◌, ◌/◌, ◌%◌, ◌*◌, ◌+◌, arith, sym, ◌∙◌}
-use Rattle.vdb_pool.specs.internal.Chunks.{chunk_len}
+use Rattle.std.proofs.Common.{◌≡◌, ◌<◌, ◌/◌, ◌%◌, ◌*◌, ◌+◌, get_or, arith, sym, subst, ◌∙◌}
+use Rattle.std.proofs.Math.Nat.{mod-lt}
+use Rattle.std.proofs.lemmas.Nat.{div-add-mod'}
 use Rattle.vdb_pool.proofs.Rows.{rows_at, chunk_of, whole_at}
 use Rattle.vdb_pool.proofs.chunk.address_in.Goals as goal
 
-pub bounds-chunks-slot : goal.bounds-chunks-slot
-bounds-chunks-slot g c = chunk_of c.args.chunks.now c.args.slot c.requires.1
+pub bounds-chunks-chunk : goal.bounds-chunks-chunk
+bounds-chunks-chunk g c =
+    let a = c.args in
+    rw c.chunk_and_index-chunk.ensures.chunk (chunk_of a.len a.chunks.now a.slot c.requires.some c.requires.within)
 
 pub place-requires : goal.place-requires
 place-requires g c =
-    let cs = c.args.chunks.now in
-    let w = whole_at cs (c.args.slot / 255) c.index-chunks-slot.result c.requires.0 (chunk_of cs c.args.slot c.requires.1) c.index-chunks-slot.is in
-    let len_is = w.1 in (sym w.0, omega arith)
+    let a = c.args in
+    let number = c.chunk_and_index-chunk in
+    let chunk = c.index-chunks-chunk.result in
+    let is : chunk ≡ get_or a.chunks.now (a.slot / a.len) chunk = subst (λ k. chunk ≡ get_or a.chunks.now k chunk) number.ensures.chunk c.index-chunks-chunk.is in
+    let whole = whole_at a.len a.chunks.now (a.slot / a.len) chunk c.requires.whole (chunk_of a.len a.chunks.now a.slot c.requires.some c.requires.within) is in
+    (sym whole.0, omega (arith, whole.1, number.ensures.index, mod-lt a.slot c.requires.some))
 
 pub returns : goal.returns
 returns g c =
-    let cs = c.args.chunks.now in
-    let parts : c.args.slot ≡ c.args.slot / 255 * chunk_len + c.args.slot % 255 = omega arith in
-    let low : c.args.slot % 255 < chunk_len = omega arith in
+    let a = c.args in
+    let number = c.chunk_and_index-chunk in
+    let chunk = c.index-chunks-chunk.result in
+    let is : chunk ≡ get_or a.chunks.now (a.slot / a.len) chunk = subst (λ k. chunk ≡ get_or a.chunks.now k chunk) number.ensures.chunk c.index-chunks-chunk.is in
     c.place.ensures
-    ∙ sym (rows_at cs (c.args.slot / 255) (c.args.slot % 255) c.args.slot c.index-chunks-slot.result (chunk_of cs c.args.slot c.requires.1) low parts c.index-chunks-slot.is)
+    ∙ rw number.ensures.index
+    (sym (rows_at a.len a.chunks.now (a.slot / a.len) (a.slot % a.len) a.slot chunk (chunk_of a.len a.chunks.now a.slot c.requires.some c.requires.within)
+    (mod-lt a.slot c.requires.some) (sym (div-add-mod' a.slot a.len)) is))

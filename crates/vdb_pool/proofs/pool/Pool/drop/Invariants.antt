@@ -6,8 +6,8 @@ abbrev pub invariant-loop-slot : goal.invariant-loop-slot
 invariant-loop-slot g l = record {
   count : l.slot ≡ length l.storage.items;
   within : l.slot ≤ length l.storage.places;
-  places : l.storage.places ≡ rows_of l.chunks.items;
-  whole : AreWhole l.chunks.items;
+  places : l.storage.places ≡ rows_of l.len l.chunks.items;
+  whole : AreWhole l.len l.chunks.items;
   fits : length l.storage.places < 2 ^ 32;
 }
 
@@ -17,8 +17,8 @@ decreases-loop-slot g l = l.slot
 abbrev pub invariant-loop-chunk : goal.invariant-loop-chunk
 invariant-loop-chunk g l = record {
   items : l.storage.items ≡ [];
-  places : l.storage.places ≡ rows_of l.chunks.items;
-  whole : AreWhole l.chunks.items;
+  places : l.storage.places ≡ rows_of l.len l.chunks.items;
+  whole : AreWhole l.len l.chunks.items;
   fits : length l.storage.places < 2 ^ 32;
 }
 
