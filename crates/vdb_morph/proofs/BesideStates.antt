@@ -17,7 +17,8 @@ use Rattle.vdb_coord.proofs.Members.{coord_equiv, coord_exact}
 use Rattle.vdb_mask.specs.Mask.{is_on}
 use Rattle.vdb_tree.specs.Layout.{bits_of}
 use Rattle.vdb_morph.specs.internal.Behind.{state_beside}
-use Rattle.vdb_morph.specs.internal.Beside.{bit_after, bit_before, bit_beside, is_on_beside}
+use Rattle.vdb_node.specs.Beside.{bit_after, bit_before}
+use Rattle.vdb_morph.specs.internal.Beside.{bit_beside, is_on_beside}
 use Rattle.vdb_morph.specs.internal.Turning.{is_around}
 
 -- ---- one component

@@ -5,7 +5,7 @@ use Rattle.std.proofs.lemmas.Bool.{cases_lt}
 use Rattle.std.proofs.lemmas.Bool.Decides.{eqb_tells}
 use Rattle.vdb_mask.specs.Mask.{has_bit, is_on}
 use Rattle.vdb_mask.proofs.WordBits.{has_bit-or, has_bit-zero}
-use Rattle.vdb_morph.specs.internal.Beside.{bit_after, bit_before}
+use Rattle.vdb_node.specs.Beside.{bit_after, bit_before}
 
 -- a word is the k-th of a mask
 abbrev pub IsWord : List Bool → ℕ → ℕ → Type 0

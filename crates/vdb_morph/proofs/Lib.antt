@@ -3,7 +3,6 @@ pub mod Layers
 pub mod Crossings
 pub mod Marks
 pub mod SpreadBoxes
-pub mod ShiftedWords
 pub mod LeafWords
 pub mod BesideStates
 pub mod BlockStates

@@ -10,11 +10,12 @@ ghost use Rattle.vdb_coord.specs.declared.Level.TheVariants.{Leaf as leaf_level}
 ghost use Rattle.vdb_mask.specs.Mask.{has_bit, is_on};
 ghost use Rattle.vdb_tree.specs.Layout.{bits_of};
 ghost use Rattle.vdb_morph.specs.internal.Behind.{state_beside};
-ghost use Rattle.vdb_morph.specs.internal.Beside.{bit_after, bit_before, bit_beside, is_on_beside};
+ghost use Rattle.vdb_morph.specs.internal.Beside.{bit_beside, is_on_beside};
 ghost use Rattle.vdb_morph.specs.internal.Turning.{is_around};
 
 use vdb_coord::Face;
 use vdb_mask::Mask;
+use vdb_node::words::{after_y, after_z, before_y, before_z};
 
 /// Returns, at the entry of each voxel, the state behind its face, from the states of its own leaf extent and of the leaf extent
 /// behind that face.
@@ -85,36 +86,4 @@ fn word_beside_any<const W: usize>(own: &Mask<W>, k: u32) -> u64
     let minus_z = before_z(word, 0);
     let plus_z = after_z(word, 0);
     minus_x | plus_x | minus_y | plus_y | minus_z | plus_z
-}
-
-/// Returns, at each bit of a word, the bit before it along y. The other word is that of the block before.
-#[inline]
-fn before_y(own: u64, other: u64) -> u64
-    ensures { (j : ℕ) → j < 64 → has_bit result j ≡ bit_before 8 (has_bit own) (has_bit other) j }
-{
-    own << 8 | other >> 56
-}
-
-/// Returns, at each bit of a word, the bit after it along y. The other word is that of the block after.
-#[inline]
-fn after_y(own: u64, other: u64) -> u64
-    ensures { (j : ℕ) → j < 64 → has_bit result j ≡ bit_after 8 (has_bit own) (has_bit other) j }
-{
-    own >> 8 | other << 56
-}
-
-/// Returns, at each bit of a word, the bit before it along z. The other word is that of the block before.
-#[inline]
-fn before_z(own: u64, other: u64) -> u64
-    ensures { (j : ℕ) → j < 64 → has_bit result j ≡ bit_before 1 (has_bit own) (has_bit other) j }
-{
-    own << 1 & 0xfefe_fefe_fefe_fefe | other >> 7 & 0x0101_0101_0101_0101
-}
-
-/// Returns, at each bit of a word, the bit after it along z. The other word is that of the block after.
-#[inline]
-fn after_z(own: u64, other: u64) -> u64
-    ensures { (j : ℕ) → j < 64 → has_bit result j ≡ bit_after 1 (has_bit own) (has_bit other) j }
-{
-    own >> 1 & 0x7f7f_7f7f_7f7f_7f7f | other << 7 & 0x8080_8080_8080_8080
 }

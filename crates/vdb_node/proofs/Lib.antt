@@ -3,3 +3,5 @@ pub mod Leaves
 pub mod Listed
 pub mod Rows
 pub mod Sizes
+pub mod ShiftedWords
+pub mod Spans

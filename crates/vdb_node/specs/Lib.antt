@@ -1,4 +1,6 @@
+pub mod Beside
 pub mod Blends
+pub mod Bounds
 pub mod Entries
 pub mod Leaf
 pub mod Nodes

@@ -3,12 +3,14 @@
 ghost use Rattle.std.specs.Prelude.{◌≡◌, ◌*◌, ◌<◌, ◌≤◌, ◌↔◌, ℕ, false, if◌then◌else◌, length, IfOk, IsOk, IsTrue, Some};
 ghost use Rattle.vdb_mask.specs.Mask.{is_on, on_count};
 ghost use Rattle.vdb_node.specs.Blends.{AreBlended, LacksBlend};
+ghost use Rattle.vdb_node.specs.Bounds.{IsActiveBox};
 ghost use Rattle.vdb_node.specs.Leaf.{cell_in, FillsRun, IsConstantLeaf, SetsVoxel};
 ghost use Rattle.vdb_node.specs.Nodes.{entry_count, IsOffFrom};
 ghost use Rattle.vdb_value.specs.Blends.{blended};
 ghost use Rattle.vdb_value.specs.declared.Kind.TheVariants.{Bool as truths};
 
 use crate::Stored;
+use crate::bounds::{VoxelBox, active_box};
 use crate::uniform::{cut, entries, is_uniform, join, put};
 use std::alloc::{AllocError, Global};
 use std::marker::Model;
@@ -159,6 +161,15 @@ impl<V: Stored<W>, const LOG2: u32, const W: usize> Leaf<V, LOG2, W> {
         ensures { result ≡ on_count self.now.states (entry_count LOG2) }
     {
         self.states.count()
+    }
+
+    /// Returns the bounding box of the active voxels, or `None` if none is active. The leaf has 3
+    /// bits. `LeafNode::evalActiveBoundingBox(bbox)`, counted from the leaf's origin.
+    pub fn active_box(&self) -> Option<VoxelBox>
+        requires { LOG2 ≡ 3 }
+        ensures { IsActiveBox self.now.states result }
+    {
+        active_box(&self.states)
     }
 
     /// Combines each value with the other leaf's, and turns on what that leaf has on. Returns false

@@ -9,6 +9,7 @@
 //! `LeafNode::coordToOffset` does; nothing here uses coordinates.
 #![tactic(auto)]
 
+mod bounds;
 mod internal;
 mod kinds;
 mod leaf;
@@ -16,7 +17,9 @@ mod stored;
 #[cfg(test)]
 mod tests;
 mod uniform;
+pub mod words;
 
+pub use bounds::{Span, VoxelBox};
 pub use internal::Internal;
 pub use leaf::Leaf;
 pub use stored::Stored;

@@ -4,6 +4,8 @@ ghost use Rattle.std.specs.Prelude.{◌≡◌, ◌*◌, ◌<◌, ◌≤◌};
 ghost use Rattle.vdb_node.specs.Nodes.{entry_count};
 
 mod blends;
+mod bounds;
+mod words;
 
 use crate::{Entry, Internal, Leaf, Stored};
 use std::alloc::{AllocError, Global};

@@ -9,7 +9,7 @@ use Rattle.std.proofs.lemmas.Nat.{div-add-mod', shr-shr}
 use Rattle.std.proofs.lemmas.Nat.Bits.{bit_at_above, bit_at_cat_high, bit_at_cat_low, bit_at-zero}
 use Rattle.vdb_mask.specs.Mask.{has_bit}
 use Rattle.vdb_mask.proofs.WordBits.{has_bit-and, has_bit-or}
-use Rattle.vdb_morph.specs.internal.Beside.{bit_after, bit_before}
+use Rattle.vdb_node.specs.Beside.{bit_after, bit_before}
 
 -- a number wrapped to w bits keeps the lowest w
 bit_at_wrapped : (n w j : ℕ) → j < w → bit_at (n % 2 ^ w) j ≡ bit_at n j

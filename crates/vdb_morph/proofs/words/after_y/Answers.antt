@@ -1,5 +1,0 @@
-use Rattle.vdb_morph.proofs.ShiftedWords.{after_y_is}
-use Rattle.vdb_morph.proofs.words.after_y.Goals as goal
-
-pub returns : goal.returns
-returns c = λ j h. after_y_is c.args.own c.args.other j c.ranges.own.fits h
