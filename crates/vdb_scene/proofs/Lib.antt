@@ -18,3 +18,7 @@ pub mod Turning
 pub mod TwoGrids
 pub mod TwoNames
 pub mod Writing
+pub mod ScalarValues
+pub mod ValidEntries
+pub mod ValidFields
+pub mod ValidSteps

@@ -90,7 +90,7 @@ impl Scene {
         ensures rest { (left : GridEntry) × (self.new.grids.entries ≡ set_value (is_named name.now) self.old.grids.entries left) }
     {
         let empty = GridEntry {
-            grid: AnyGrid::new(self.alloc, Scalar::Bool(false), 0),
+            grid: AnyGrid::new(self.alloc, Scalar::Bool(false), 1),
             metas: Metas::new(self.alloc),
         };
         match self.grids.get_mut(name) {
