@@ -8,7 +8,7 @@ use Rattle.std.specs.Int.{w16, w32, to_be_bytes}
 use Rattle.std.specs.Io.KnownBytes.{Consumes, IsAtEnd, Keeps, prepend_known}
 use Rattle.std.proofs.KnownBytes.{Consumes-kept}
 use Rattle.vdb_file.specs.Readers.{GaveAtMost}
-use Rattle.vdb_file.specs.internal.Reading.{Position, Stock, Took, byte_total, given_count, position}
+use Rattle.vdb_file.specs.internal.Reading.{GaveWithin, Position, Stock, Took, byte_total, given_count, position}
 use Rattle.vdb_file.proofs.Fronts.{took_both}
 
 -- ---- pieces of a field
@@ -56,3 +56,16 @@ gave_few s (Some x) (Some y) h = let zero_first : 0 + length x ≡ length x = om
     counted : (b : Bool) → nat_le (given_count s) 268435457 ≡ b → (if b then Some (given_count s + length y) else None) ≡ Some (length x) → length x ≤ 268435457 + length y
     counted true few e = let same : given_count s + length y ≡ length x = cc in grind (arith, common_steps)
     counted false few e = absurd cc
+
+-- a reader gave at most one byte more than a file may have, and reported its end at most once
+pub gave_within : (s : Stock) (given empty more_given more_empty : ℕ)
+    → ((n m : ℕ) → GaveWithin n m (record { unread = []; capacity = 268435456; ended = false }) given empty → GaveWithin n m s more_given more_empty)
+    → (more_given ≤ given + 268435457) × (more_empty ≤ empty + 1)
+unfolding GaveWithin
+gave_within s given empty more_given more_empty h =
+    let within = h given empty (omega arith, omega arith, omega arith) in
+    (omega (arith, within.0, within.1), at_most_one s.ended within.2)
+  where
+    at_most_one : (ended : Bool) → more_empty ≤ empty + (if ended then 1 else 0) → more_empty ≤ empty + 1
+    at_most_one true h = h
+    at_most_one false h = omega (arith, h)

@@ -8,7 +8,7 @@ use Rattle.vdb_tree.specs.Field.{Field}
 use Rattle.vdb_scene.specs.Scalars.{kind_of, scalar_bytes, scalar_eq}
 use Rattle.vdb_scene.specs.Scene.{Grid}
 use Rattle.vdb_file.specs.Bodies.{roots_bytes}
-use Rattle.vdb_file.specs.Scenes.{IsGrid}
+use Rattle.vdb_scene.specs.ValidScenes.{IsGrid}
 use Rattle.vdb_file.specs.Spelling.{counted, kind_code}
 use Rattle.vdb_file.specs.internal.Parts.{Head, IsBody, IsHead, IsItem, IsLoadedGrid, IsNamed, IsNext, LoadedGrid, body_bytes, head_code, head_of, loaded_bytes, name_of, named_bytes}
 use Rattle.vdb_file.specs.internal.LoadedFields.{IsWithin}

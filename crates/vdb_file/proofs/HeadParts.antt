@@ -2,7 +2,7 @@
 use Rattle.std.proofs.Common.{◌≡◌, ℕ, ◌<◌, ◌^◌, [], refl, sym, subst, arith}
 use Rattle.std.specs.Int.{w32, to_be_bytes}
 use Rattle.vdb_scene.specs.Metas.{Pairs}
-use Rattle.vdb_file.specs.Scenes.{ArePairs}
+use Rattle.vdb_scene.specs.ValidScenes.{ArePairs}
 use Rattle.vdb_file.specs.Spelling.{pairs_bytes}
 use Rattle.vdb_file.specs.internal.Parts.{IsHead, IsLimit, head_code}
 use Rattle.vdb_file.specs.internal.Reading.{Fails, Position, Took}

@@ -9,7 +9,7 @@ use Rattle.vdb_value.specs.Values.{has_number, number_bytes, truth_bytes}
 use Rattle.vdb_value.specs.declared.Kind.TheVariants as kinds
 use Rattle.vdb_scene.specs.declared.scalar.Scalar.{Scalar}
 use Rattle.vdb_scene.specs.declared.scalar.Scalar.TheVariants.{Bool as truth, I32, I64}
-use Rattle.vdb_file.specs.Scenes.{is_value_of}
+use Rattle.vdb_scene.specs.ValidScenes.{is_value_of}
 use Rattle.vdb_file.proofs.TypedGrids.{IsKind}
 use Rattle.vdb_file.proofs.Values.{i32_fits, i64_fits}
 

@@ -18,12 +18,14 @@ pub mod PutRoots
 pub mod Values
 pub mod Pairs
 pub mod Scenes
+pub mod Alike
 mod Checks
 pub mod MadeBodies
 pub mod SavedGrids
 pub mod NthItems
 pub mod Texts
 pub mod Items
+pub mod LoadedScenes
 pub mod PairParts
 pub mod Beginnings
 pub mod HeadParts

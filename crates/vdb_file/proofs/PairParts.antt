@@ -4,7 +4,7 @@ use Rattle.std.specs.Prelude.{Option, ⊤}
 use Rattle.std.specs.List.{flat_map}
 use Rattle.std.specs.List.Sorted.{IsStrictlySortedBy}
 use Rattle.vdb_scene.specs.Metas.{Pairs, is_text}
-use Rattle.vdb_file.specs.Scenes.{ArePairs, IsPair}
+use Rattle.vdb_scene.specs.ValidScenes.{ArePairs, IsPair}
 use Rattle.vdb_file.specs.Spelling.{counted, pairs_bytes}
 use Rattle.vdb_file.specs.internal.Parts.{AreItems, IsItem, IsNext, name_of, pair_bytes}
 use Rattle.vdb_file.specs.internal.Reading.{Fails, Position, Took}

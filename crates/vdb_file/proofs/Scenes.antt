@@ -12,7 +12,7 @@ use Rattle.vdb_scene.specs.Scalars.{kind_of, scalar_bytes, scalar_eq}
 use Rattle.vdb_scene.specs.Scene.{Grid, Scene}
 use Rattle.vdb_scene.specs.declared.scalar.Scalar.{Scalar}
 use Rattle.vdb_file.specs.Bodies.{roots_bytes}
-use Rattle.vdb_file.specs.Scenes.{IsField, IsGrid, IsScene, is_value_of}
+use Rattle.vdb_scene.specs.ValidScenes.{IsField, IsGrid, IsScene, is_value_of}
 use Rattle.vdb_file.specs.Spelling.{IsFileOf, IsOldGrid, file_bytes, grid_bytes, head_bytes, spelling}
 use Rattle.vdb_file.proofs.Unambiguous.{IsCode, Says, says_all, says_behind, says_fixed, says_map, says_then, says_whole}
 use Rattle.vdb_file.proofs.Numbers.{says_counted, says_u16, says_u32}

@@ -14,7 +14,7 @@ use Rattle.vdb_scene.specs.Scalars.{kind_of, scalar_bytes, scalar_eq}
 use Rattle.vdb_scene.specs.Scene.{Grid}
 use Rattle.vdb_scene.specs.declared.scalar.Scalar.{Scalar}
 use Rattle.vdb_file.specs.Bodies.{roots_bytes}
-use Rattle.vdb_file.specs.Scenes.{IsField, is_value_of}
+use Rattle.vdb_scene.specs.ValidScenes.{IsField, is_value_of}
 use Rattle.vdb_file.specs.Spelling.{kind_bytes, kind_code}
 use Rattle.vdb_file.specs.internal.Parts.{IsBody, IsLoadedGrid, LoadedGrid, body_bytes, head_code, head_of, loaded, loaded_bytes}
 use Rattle.vdb_file.specs.internal.Reading.{Fails, Position, Took}

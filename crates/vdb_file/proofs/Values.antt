@@ -10,7 +10,7 @@ use Rattle.vdb_value.specs.declared.Kind.TheVariants as kinds
 use Rattle.vdb_scene.specs.Scalars.{kind_of, scalar_bytes, scalar_eq}
 use Rattle.vdb_scene.specs.declared.scalar.Scalar.{Scalar}
 use Rattle.vdb_scene.specs.declared.scalar.Scalar.TheVariants.{Bool as truth, I32, I64}
-use Rattle.vdb_file.specs.Scenes.{is_value_of}
+use Rattle.vdb_scene.specs.ValidScenes.{is_value_of}
 use Rattle.vdb_file.specs.Spelling.{kind_bytes, kind_code}
 use Rattle.vdb_file.proofs.Unambiguous.{IsCode, Says, says_behind, says_byte, says_map}
 use Rattle.vdb_file.proofs.Numbers.{says_i32, says_i64, says_truth}

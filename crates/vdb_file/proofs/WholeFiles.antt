@@ -5,7 +5,8 @@ use Rattle.std.specs.List.{AllByRecursion}
 use Rattle.std.specs.Io.KnownBytes.{Consumes, IsAtEnd, Keeps, prepend_known}
 use Rattle.vdb_scene.specs.Scene.{Grid, Scene}
 use Rattle.vdb_file.specs.Faults.{Claims}
-use Rattle.vdb_file.specs.Scenes.{BeginsWithFile, IsGrid, IsScene}
+use Rattle.vdb_scene.specs.ValidScenes.{IsGrid, IsScene}
+use Rattle.vdb_file.specs.Scenes.{BeginsWithFile}
 use Rattle.vdb_file.specs.Spelling.{IsFileOf, IsOldGrid}
 use Rattle.vdb_file.specs.internal.Parts.{IsFile, IsNamed, IsSceneOf, bytes_of_file}
 use Rattle.vdb_file.specs.internal.Reading.{Fails, Position, Took}

@@ -2,6 +2,8 @@
 pub mod Bodies
 pub mod Spelling
 pub mod Scenes
+pub mod Alike
+pub mod Accessors
 pub mod Faults
 pub mod Readers
 pub mod internal

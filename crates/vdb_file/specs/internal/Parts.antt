@@ -16,7 +16,7 @@ use Rattle.vdb_scene.specs.Names.{is_name}
 use Rattle.vdb_scene.specs.Scalars.{scalar_bytes, scalar_eq}
 use Rattle.vdb_scene.specs.Scene.{Grid, Scene}
 use Rattle.vdb_file.specs.Bodies.{roots_bytes}
-use Rattle.vdb_file.specs.Scenes.{ArePairs, IsField}
+use Rattle.vdb_scene.specs.ValidScenes.{ArePairs, IsField}
 use Rattle.vdb_file.specs.Spelling.{counted, file_bytes, grid_bytes, kind_bytes, pairs_bytes}
 use Rattle.vdb_file.specs.internal.Following.{Follows}
 use Rattle.vdb_file.specs.internal.LoadedFields.{IsWithin}

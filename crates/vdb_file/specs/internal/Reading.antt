@@ -34,6 +34,11 @@ abbrev pub byte_total : Stock → Option (List ℕ) → Option ℕ
 byte_total s None = None
 byte_total s (Some bytes) = if nat_le (given_count s) 268435457 then Some (given_count s + length bytes) else None
 
+-- Since n bytes and m empty reads: the reader gave no more bytes than those that fields have read and those that are unread, at
+-- most one more than a file may have, and reported its end at most once.
+unfoldable pub GaveWithin : ℕ → ℕ → Stock → ℕ → ℕ → Type 0
+GaveWithin n m s given empty = (given ≤ n + given_count s) × (given_count s ≤ 268435457) × (empty ≤ m + (if s.ended then 1 else 0))
+
 -- these bytes were read
 pub record Took (old new : Position) (text : List ℕ) : Type 0 where
   pub bytes : Consumes old.known new.known text

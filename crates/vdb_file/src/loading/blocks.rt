@@ -8,13 +8,13 @@ ghost use Rattle.vdb_coord.specs.Entries.{AreBits};
 ghost use Rattle.vdb_coord.specs.declared.Level.TheVariants.{Leaf as leaf_level, Lower, Upper};
 ghost use Rattle.vdb_tree.specs.ConstantBlocks.{is_constant};
 ghost use Rattle.vdb_tree.specs.Layout.{bits_of, field_of};
-ghost use Rattle.vdb_scene.specs.Watched.{has_failed, source};
+ghost use Rattle.vdb_scene.specs.Watched.{bytes_given, empty_reads, has_failed, source};
 ghost use Rattle.vdb_file.specs.Bodies.{leaf_body, listed, lower_body, root_body};
 ghost use Rattle.vdb_file.specs.Faults.{is_read_fault};
 ghost use Rattle.vdb_file.specs.internal.FieldFaults.{IsInner};
 ghost use Rattle.vdb_file.specs.internal.LoadedFields.{AreLoadable, IsNext, IsLoadable, KeptOutside, ShowsIn, ShowsInEach, entry_box, next_bytes};
 ghost use Rattle.vdb_file.specs.internal.Loading.{IsIndex};
-ghost use Rattle.vdb_file.specs.internal.Reading.{EndsWith, Reads, byte_total, position};
+ghost use Rattle.vdb_file.specs.internal.Reading.{EndsWith, GaveWithin, Reads, byte_total, position};
 ghost use Rattle.vdb_file.specs.internal.Written.{numbered};
 
 use crate::fault::LoadFault;
@@ -60,6 +60,7 @@ fn take_leaf_block_at<
     requires loadable { IsLoadable V.eq V.is_value (bits_of U L F) tree.old.limit leaf_level (entry_box (bits_of U L F) Lower p i).min (field_of (bits_of U L F) tree.old) }
     ensures ends { EndsWith input.new (R.remaining (source reader.new)) }
     ensures total { (n : ℕ) → byte_total input.old (R.remaining (source reader.old)) ≡ Some n → byte_total input.new (R.remaining (source reader.new)) ≡ Some n }
+    ensures given { (n m : ℕ) → GaveWithin n m input.old (bytes_given reader.old) (empty_reads reader.old) → GaveWithin n m input.new (bytes_given reader.new) (empty_reads reader.new) }
     ensures reads { Reads (λ _. field_of (bits_of U L F) tree.new) (ShowsIn V.eq V.is_value tree.old.background (entry_box (bits_of U L F) Lower p i)) (λ f. leaf_body V.eq V.bytes_of (bits_of U L F) f (entry_box (bits_of U L F) Lower p i)) result
         (position input.old (R.remaining (source reader.old))) (position input.new (R.remaining (source reader.new))) }
     ensures kept { OnOk result (KeptOutside (entry_box (bits_of U L F) Lower p i) (field_of (bits_of U L F) tree.old) (field_of (bits_of U L F) tree.new)) }
@@ -95,6 +96,7 @@ fn take_next_leaf_block<
     requires loadable { AreLoadable V.eq V.is_value (bits_of U L F) tree.old.limit leaf_level (IsIndex (entries (bits_of U L F) Lower) before) (entry_box (bits_of U L F) Lower p) (field_of (bits_of U L F) tree.old) }
     ensures ends { EndsWith input.new (R.remaining (source reader.new)) }
     ensures total { (n : ℕ) → byte_total input.old (R.remaining (source reader.old)) ≡ Some n → byte_total input.new (R.remaining (source reader.new)) ≡ Some n }
+    ensures given { (n m : ℕ) → GaveWithin n m input.old (bytes_given reader.old) (empty_reads reader.old) → GaveWithin n m input.new (bytes_given reader.new) (empty_reads reader.new) }
     ensures reads { Reads (λ i. (i, field_of (bits_of U L F) tree.new)) (IsNext V.eq V.is_value tree.old.background (IsIndex (entries (bits_of U L F) Lower) before) (entry_box (bits_of U L F) Lower p)) (next_bytes (to_be_bytes w16) (leaf_body V.eq V.bytes_of (bits_of U L F)) (entry_box (bits_of U L F) Lower p)) result
         (position input.old (R.remaining (source reader.old))) (position input.new (R.remaining (source reader.new))) }
     ensures kept { IfOk result (λ i. KeptOutside (entry_box (bits_of U L F) Lower p i) (field_of (bits_of U L F) tree.old) (field_of (bits_of U L F) tree.new)) }
@@ -131,6 +133,7 @@ fn take_leaf_blocks<
     requires loadable { IsLoadable V.eq V.is_value (bits_of U L F) tree.old.limit Lower p (field_of (bits_of U L F) tree.old) }
     ensures ends { EndsWith input.new (R.remaining (source reader.new)) }
     ensures total { (n : ℕ) → byte_total input.old (R.remaining (source reader.old)) ≡ Some n → byte_total input.new (R.remaining (source reader.new)) ≡ Some n }
+    ensures given { (n m : ℕ) → GaveWithin n m input.old (bytes_given reader.old) (empty_reads reader.old) → GaveWithin n m input.new (bytes_given reader.new) (empty_reads reader.new) }
     ensures reads { Reads (λ _. field_of (bits_of U L F) tree.new) (ShowsInEach V.eq V.is_value tree.old.background (entry_box (bits_of U L F) Lower p) (entry_numbers (bits_of U L F) Lower) count) (λ f. numbered (λ i. leaf_body V.eq V.bytes_of (bits_of U L F) f (entry_box (bits_of U L F) Lower p i)) (listed V.eq V.bytes_of (bits_of U L F) f Lower (block_around (bits_of U L F) Lower p))) result
         (position input.old (R.remaining (source reader.old))) (position input.new (R.remaining (source reader.new))) }
     ensures kept { OnOk result (KeptOutside (block_around (bits_of U L F) Lower p) (field_of (bits_of U L F) tree.old) (field_of (bits_of U L F) tree.new)) }
@@ -169,6 +172,7 @@ fn take_lower_node<
     requires loadable { IsLoadable V.eq V.is_value (bits_of U L F) tree.old.limit Lower p (field_of (bits_of U L F) tree.old) }
     ensures ends { EndsWith input.new (R.remaining (source reader.new)) }
     ensures total { (n : ℕ) → byte_total input.old (R.remaining (source reader.old)) ≡ Some n → byte_total input.new (R.remaining (source reader.new)) ≡ Some n }
+    ensures given { (n m : ℕ) → GaveWithin n m input.old (bytes_given reader.old) (empty_reads reader.old) → GaveWithin n m input.new (bytes_given reader.new) (empty_reads reader.new) }
     ensures reads { Reads (λ _. field_of (bits_of U L F) tree.new) (λ f. ShowsInEach V.eq V.is_value tree.old.background (entry_box (bits_of U L F) Lower p) (entry_numbers (bits_of U L F) Lower) count f × (is_constant V.eq f (block_around (bits_of U L F) Lower p) ≡ false)) (λ f. numbered (λ i. leaf_body V.eq V.bytes_of (bits_of U L F) f (entry_box (bits_of U L F) Lower p i)) (listed V.eq V.bytes_of (bits_of U L F) f Lower (block_around (bits_of U L F) Lower p))) result
         (position input.old (R.remaining (source reader.old))) (position input.new (R.remaining (source reader.new))) }
     ensures kept { OnOk result (KeptOutside (block_around (bits_of U L F) Lower p) (field_of (bits_of U L F) tree.old) (field_of (bits_of U L F) tree.new)) }
@@ -205,6 +209,7 @@ fn take_lower_block<
     requires loadable { IsLoadable V.eq V.is_value (bits_of U L F) tree.old.limit Lower p (field_of (bits_of U L F) tree.old) }
     ensures ends { EndsWith input.new (R.remaining (source reader.new)) }
     ensures total { (n : ℕ) → byte_total input.old (R.remaining (source reader.old)) ≡ Some n → byte_total input.new (R.remaining (source reader.new)) ≡ Some n }
+    ensures given { (n m : ℕ) → GaveWithin n m input.old (bytes_given reader.old) (empty_reads reader.old) → GaveWithin n m input.new (bytes_given reader.new) (empty_reads reader.new) }
     ensures reads { Reads (λ _. field_of (bits_of U L F) tree.new) (ShowsIn V.eq V.is_value tree.old.background (block_around (bits_of U L F) Lower p)) (λ f. lower_body V.eq V.bytes_of (bits_of U L F) f (block_around (bits_of U L F) Lower p)) result
         (position input.old (R.remaining (source reader.old))) (position input.new (R.remaining (source reader.new))) }
     ensures kept { OnOk result (KeptOutside (block_around (bits_of U L F) Lower p) (field_of (bits_of U L F) tree.old) (field_of (bits_of U L F) tree.new)) }
@@ -243,6 +248,7 @@ fn take_lower_block_at<
     requires loadable { IsLoadable V.eq V.is_value (bits_of U L F) tree.old.limit Lower (entry_box (bits_of U L F) Upper p i).min (field_of (bits_of U L F) tree.old) }
     ensures ends { EndsWith input.new (R.remaining (source reader.new)) }
     ensures total { (n : ℕ) → byte_total input.old (R.remaining (source reader.old)) ≡ Some n → byte_total input.new (R.remaining (source reader.new)) ≡ Some n }
+    ensures given { (n m : ℕ) → GaveWithin n m input.old (bytes_given reader.old) (empty_reads reader.old) → GaveWithin n m input.new (bytes_given reader.new) (empty_reads reader.new) }
     ensures reads { Reads (λ _. field_of (bits_of U L F) tree.new) (ShowsIn V.eq V.is_value tree.old.background (entry_box (bits_of U L F) Upper p i)) (λ f. lower_body V.eq V.bytes_of (bits_of U L F) f (entry_box (bits_of U L F) Upper p i)) result
         (position input.old (R.remaining (source reader.old))) (position input.new (R.remaining (source reader.new))) }
     ensures kept { OnOk result (KeptOutside (entry_box (bits_of U L F) Upper p i) (field_of (bits_of U L F) tree.old) (field_of (bits_of U L F) tree.new)) }
@@ -278,6 +284,7 @@ fn take_next_lower_block<
     requires loadable { AreLoadable V.eq V.is_value (bits_of U L F) tree.old.limit Lower (IsIndex (entries (bits_of U L F) Upper) before) (entry_box (bits_of U L F) Upper p) (field_of (bits_of U L F) tree.old) }
     ensures ends { EndsWith input.new (R.remaining (source reader.new)) }
     ensures total { (n : ℕ) → byte_total input.old (R.remaining (source reader.old)) ≡ Some n → byte_total input.new (R.remaining (source reader.new)) ≡ Some n }
+    ensures given { (n m : ℕ) → GaveWithin n m input.old (bytes_given reader.old) (empty_reads reader.old) → GaveWithin n m input.new (bytes_given reader.new) (empty_reads reader.new) }
     ensures reads { Reads (λ i. (i, field_of (bits_of U L F) tree.new)) (IsNext V.eq V.is_value tree.old.background (IsIndex (entries (bits_of U L F) Upper) before) (entry_box (bits_of U L F) Upper p)) (next_bytes (to_be_bytes w16) (lower_body V.eq V.bytes_of (bits_of U L F)) (entry_box (bits_of U L F) Upper p)) result
         (position input.old (R.remaining (source reader.old))) (position input.new (R.remaining (source reader.new))) }
     ensures kept { IfOk result (λ i. KeptOutside (entry_box (bits_of U L F) Upper p i) (field_of (bits_of U L F) tree.old) (field_of (bits_of U L F) tree.new)) }
@@ -314,6 +321,7 @@ fn take_lower_blocks<
     requires loadable { IsLoadable V.eq V.is_value (bits_of U L F) tree.old.limit Upper p (field_of (bits_of U L F) tree.old) }
     ensures ends { EndsWith input.new (R.remaining (source reader.new)) }
     ensures total { (n : ℕ) → byte_total input.old (R.remaining (source reader.old)) ≡ Some n → byte_total input.new (R.remaining (source reader.new)) ≡ Some n }
+    ensures given { (n m : ℕ) → GaveWithin n m input.old (bytes_given reader.old) (empty_reads reader.old) → GaveWithin n m input.new (bytes_given reader.new) (empty_reads reader.new) }
     ensures reads { Reads (λ _. field_of (bits_of U L F) tree.new) (ShowsInEach V.eq V.is_value tree.old.background (entry_box (bits_of U L F) Upper p) (entry_numbers (bits_of U L F) Upper) count) (λ f. numbered (λ i. lower_body V.eq V.bytes_of (bits_of U L F) f (entry_box (bits_of U L F) Upper p i)) (listed V.eq V.bytes_of (bits_of U L F) f Upper (block_around (bits_of U L F) Upper p))) result
         (position input.old (R.remaining (source reader.old))) (position input.new (R.remaining (source reader.new))) }
     ensures kept { OnOk result (KeptOutside (block_around (bits_of U L F) Upper p) (field_of (bits_of U L F) tree.old) (field_of (bits_of U L F) tree.new)) }
@@ -352,6 +360,7 @@ fn take_upper_node<
     requires loadable { IsLoadable V.eq V.is_value (bits_of U L F) tree.old.limit Upper p (field_of (bits_of U L F) tree.old) }
     ensures ends { EndsWith input.new (R.remaining (source reader.new)) }
     ensures total { (n : ℕ) → byte_total input.old (R.remaining (source reader.old)) ≡ Some n → byte_total input.new (R.remaining (source reader.new)) ≡ Some n }
+    ensures given { (n m : ℕ) → GaveWithin n m input.old (bytes_given reader.old) (empty_reads reader.old) → GaveWithin n m input.new (bytes_given reader.new) (empty_reads reader.new) }
     ensures reads { Reads (λ _. field_of (bits_of U L F) tree.new) (λ f. ShowsInEach V.eq V.is_value tree.old.background (entry_box (bits_of U L F) Upper p) (entry_numbers (bits_of U L F) Upper) count f × (is_constant V.eq f (block_around (bits_of U L F) Upper p) ≡ false)) (λ f. numbered (λ i. lower_body V.eq V.bytes_of (bits_of U L F) f (entry_box (bits_of U L F) Upper p i)) (listed V.eq V.bytes_of (bits_of U L F) f Upper (block_around (bits_of U L F) Upper p))) result
         (position input.old (R.remaining (source reader.old))) (position input.new (R.remaining (source reader.new))) }
     ensures kept { OnOk result (KeptOutside (block_around (bits_of U L F) Upper p) (field_of (bits_of U L F) tree.old) (field_of (bits_of U L F) tree.new)) }
@@ -388,6 +397,7 @@ pub(crate) fn take_root_block<
     requires loadable { IsLoadable V.eq V.is_value (bits_of U L F) tree.old.limit Upper p (field_of (bits_of U L F) tree.old) }
     ensures ends { EndsWith input.new (R.remaining (source reader.new)) }
     ensures total { (n : ℕ) → byte_total input.old (R.remaining (source reader.old)) ≡ Some n → byte_total input.new (R.remaining (source reader.new)) ≡ Some n }
+    ensures given { (n m : ℕ) → GaveWithin n m input.old (bytes_given reader.old) (empty_reads reader.old) → GaveWithin n m input.new (bytes_given reader.new) (empty_reads reader.new) }
     ensures reads { Reads (λ _. field_of (bits_of U L F) tree.new) (ShowsIn V.eq V.is_value tree.old.background (block_around (bits_of U L F) Upper p)) (λ f. root_body V.eq V.bytes_of (bits_of U L F) f (block_around (bits_of U L F) Upper p)) result
         (position input.old (R.remaining (source reader.old))) (position input.new (R.remaining (source reader.new))) }
     ensures kept { OnOk result (KeptOutside (block_around (bits_of U L F) Upper p) (field_of (bits_of U L F) tree.old) (field_of (bits_of U L F) tree.new)) }

@@ -1,14 +1,15 @@
 //! Reads the grids of a file.
 
-ghost use Rattle.std.specs.Prelude.{◌≡◌, ℕ, ◌||◌, Err, IfErr, Some};
+ghost use Rattle.std.specs.Prelude.{◌≡◌, ℕ, ◌||◌, Err, IfErr, IfOk, Some};
 ghost use Rattle.std.specs.Io.KnownBytes.{IsAtEnd};
 ghost use Rattle.vdb_coord.specs.Blocks.{vdb};
 ghost use Rattle.vdb_scene.specs.Grids.{grid_with};
-ghost use Rattle.vdb_scene.specs.Watched.{has_failed, source};
+ghost use Rattle.vdb_scene.specs.Watched.{bytes_given, empty_reads, has_failed, source};
+ghost use Rattle.vdb_file.specs.Accessors.{HasUnusedAccessors};
 ghost use Rattle.vdb_file.specs.Faults.{is_read_fault};
 ghost use Rattle.vdb_file.specs.internal.FieldFaults.{IsInner};
 ghost use Rattle.vdb_file.specs.internal.Parts.{IsBody, IsItem, IsLoadedGrid, IsNamed, body_bytes, loaded, loaded_bytes, name_of, named_bytes, named_view};
-ghost use Rattle.vdb_file.specs.internal.Reading.{EndsWith, Reads, byte_total, position};
+ghost use Rattle.vdb_file.specs.internal.Reading.{EndsWith, GaveWithin, Reads, byte_total, position};
 
 use crate::fault::LoadFault;
 use crate::loading::fields::{take_u8, take_value};
@@ -36,6 +37,7 @@ fn take_tree<V: Stored<512> + Stored<64> + Stored<8>, R: Read>(
     requires ends { EndsWith input.old (R.remaining (source reader.old)) }
     ensures ends { EndsWith input.new (R.remaining (source reader.new)) }
     ensures total { (n : ℕ) → byte_total input.old (R.remaining (source reader.old)) ≡ Some n → byte_total input.new (R.remaining (source reader.new)) ≡ Some n }
+    ensures given { (n m : ℕ) → GaveWithin n m input.old (bytes_given reader.old) (empty_reads reader.old) → GaveWithin n m input.new (bytes_given reader.new) (empty_reads reader.new) }
     ensures reads { Reads (λ r. loaded r.0 r.1) (IsLoadedGrid V.is_value V.eq V.bytes_of version) (loaded_bytes V.is_value V.eq V.bytes_of version) result
         (position input.old (R.remaining (source reader.old))) (position input.new (R.remaining (source reader.new))) }
     ensures inner { IfErr result IsInner }
@@ -60,8 +62,10 @@ fn take_grid<R: Read>(
     requires ends { EndsWith input.old (R.remaining (source reader.old)) }
     ensures ends { EndsWith input.new (R.remaining (source reader.new)) }
     ensures total { (n : ℕ) → byte_total input.old (R.remaining (source reader.old)) ≡ Some n → byte_total input.new (R.remaining (source reader.new)) ≡ Some n }
+    ensures given { (n m : ℕ) → GaveWithin n m input.old (bytes_given reader.old) (empty_reads reader.old) → GaveWithin n m input.new (bytes_given reader.new) (empty_reads reader.new) }
     ensures reads { Reads (λ r. grid_with r.0 r.1) (IsBody version) (body_bytes version) result
         (position input.old (R.remaining (source reader.old))) (position input.new (R.remaining (source reader.new))) }
+    ensures unused { IfOk result (λ r. HasUnusedAccessors r.0) }
     ensures inner { IfErr result IsInner }
     ensures ended { result ≡ Err LoadFault.Truncated → IsAtEnd (position input.new (R.remaining (source reader.new))).known }
     ensures failed { has_failed reader.new ≡ (has_failed reader.old || is_read_fault result) }
@@ -104,8 +108,10 @@ pub(crate) fn take_named<R: Read>(
     requires ends { EndsWith input.old (R.remaining (source reader.old)) }
     ensures ends { EndsWith input.new (R.remaining (source reader.new)) }
     ensures total { (n : ℕ) → byte_total input.old (R.remaining (source reader.old)) ≡ Some n → byte_total input.new (R.remaining (source reader.new)) ≡ Some n }
+    ensures given { (n m : ℕ) → GaveWithin n m input.old (bytes_given reader.old) (empty_reads reader.old) → GaveWithin n m input.new (bytes_given reader.new) (empty_reads reader.new) }
     ensures reads { Reads named_view (IsItem (IsNamed version) name_of before) (named_bytes version) result
         (position input.old (R.remaining (source reader.old))) (position input.new (R.remaining (source reader.new))) }
+    ensures unused { IfOk result (λ named. HasUnusedAccessors named.grid) }
     ensures inner { IfErr result IsInner }
     ensures ended { result ≡ Err LoadFault.Truncated → IsAtEnd (position input.new (R.remaining (source reader.new))).known }
     ensures failed { has_failed reader.new ≡ (has_failed reader.old || is_read_fault result) }

@@ -2,9 +2,9 @@
 
 ghost use Rattle.std.specs.Prelude.{◌≡◌, ℕ, ◌+◌, ◌++◌, ◌-◌, ◌<◌, ◌≤◌, ◌||◌, true, false, List, [], Option, is_err, length, min, take, drop, IfErr, IfNone, IfSome, Ok, OnOk, Some};
 ghost use Rattle.std.specs.Io.KnownBytes.{IsAtEnd, Keeps, prepend_known};
-ghost use Rattle.vdb_scene.specs.Watched.{has_failed, source};
+ghost use Rattle.vdb_scene.specs.Watched.{bytes_given, empty_reads, has_failed, source};
 ghost use Rattle.vdb_file.specs.Faults.{is_read_fault};
-ghost use Rattle.vdb_file.specs.internal.Reading.{EndsWith, byte_total};
+ghost use Rattle.vdb_file.specs.internal.Reading.{EndsWith, GaveWithin, byte_total};
 
 use crate::fault::LoadFault;
 use std::io::Read;
@@ -65,12 +65,14 @@ impl Input {
         requires ends { EndsWith self.old (R.remaining (source reader.old)) }
         ensures ends { EndsWith self.new (R.remaining (source reader.new)) }
         ensures total { (n : ℕ) → byte_total self.old (R.remaining (source reader.old)) ≡ Some n → byte_total self.new (R.remaining (source reader.new)) ≡ Some n }
+        ensures given { (n m : ℕ) → GaveWithin n m self.old (bytes_given reader.old) (empty_reads reader.old) → GaveWithin n m self.new (bytes_given reader.new) (empty_reads reader.new) }
         ensures some { result ≡ Ok true → 0 < length self.new.unread }
         ensures none { result ≡ Ok false → self.new.unread ≡ [] }
         ensures end { result ≡ Ok false → IsAtEnd (R.remaining (source reader.new)) }
         ensures kept { OnOk result (Keeps (prepend_known self.old.unread (R.remaining (source reader.old)))
             (prepend_known self.new.unread (R.remaining (source reader.new)))) }
         ensures capacity { self.new.capacity ≡ self.old.capacity }
+        ensures quiet { self.old.ended ≡ true → reader.new ≡ reader.old }
         ensures read { IfErr result (λ fault. fault ≡ LoadFault.Read) }
         ensures failed { has_failed reader.new ≡ (has_failed reader.old || is_read_fault result) }
     {
@@ -82,15 +84,18 @@ impl Input {
     }
 
     /// Asks the reader for bytes, unless the reader has ended. No byte is unread.
+    #[tactic(auto, unfolding(crate::specs::internal::Reading::GaveWithin))]
     fn refill<R: Read>(&mut self, reader: &mut Watched<R>) -> Result<(), LoadFault>
         requires unread { self.old.unread ≡ [] }
         requires ends { EndsWith self.old (R.remaining (source reader.old)) }
         ensures ends { EndsWith self.new (R.remaining (source reader.new)) }
         ensures total { (n : ℕ) → byte_total self.old (R.remaining (source reader.old)) ≡ Some n → byte_total self.new (R.remaining (source reader.new)) ≡ Some n }
+        ensures given { (n m : ℕ) → GaveWithin n m self.old (bytes_given reader.old) (empty_reads reader.old) → GaveWithin n m self.new (bytes_given reader.new) (empty_reads reader.new) }
         ensures marks { OnOk result (self.new.unread ≡ [] → self.new.ended ≡ true) }
         ensures kept { OnOk result (Keeps (prepend_known self.old.unread (R.remaining (source reader.old)))
             (prepend_known self.new.unread (R.remaining (source reader.new)))) }
         ensures capacity { self.new.capacity ≡ self.old.capacity }
+        ensures quiet { self.old.ended ≡ true → reader.new ≡ reader.old }
         ensures read { IfErr result (λ fault. fault ≡ LoadFault.Read) }
         ensures failed { has_failed reader.new ≡ (has_failed reader.old || is_err result) }
     {
@@ -110,12 +115,14 @@ impl Input {
 
     /// Reads the next unread bytes, as many as the array has. Returns `None` if fewer are unread or the fields may not have that
     /// many.
+    #[tactic(auto, unfolding(crate::specs::internal::Reading::GaveWithin))]
     pub(crate) fn take_array<const N: usize>(&mut self) -> Option<[u8; N]>
         ensures some { IfSome result (λ bytes. self.old.unread ≡ bytes ++ self.new.unread) }
         ensures capacity { IfSome result (λ bytes. N + self.new.capacity ≡ self.old.capacity) }
         ensures none { IfNone result (self.new ≡ self.old) }
         ensures ended { self.new.ended ≡ self.old.ended }
         ensures total { (known : Option (List ℕ)) → byte_total self.new known ≡ byte_total self.old known }
+        ensures given { (n m given empty : ℕ) → GaveWithin n m self.old given empty → GaveWithin n m self.new given empty }
     {
         if N > self.end - self.start || N > self.capacity {
             return None;
@@ -128,6 +135,7 @@ impl Input {
     }
 
     /// Copies unread bytes into a field from one position on, as many as are unread and the field needs. Returns how many.
+    #[tactic(auto, unfolding(crate::specs::internal::Reading::GaveWithin))]
     pub(crate) fn run(&mut self, field: &mut [u8], at: usize) -> usize
         requires within { at ≤ length field.old }
         requires fits { length field.old ≤ at + self.old.capacity }
@@ -137,6 +145,7 @@ impl Input {
         ensures capacity { self.new.capacity ≡ self.old.capacity - result }
         ensures ended { self.new.ended ≡ self.old.ended }
         ensures total { (known : Option (List ℕ)) → byte_total self.new known ≡ byte_total self.old known }
+        ensures given { (n m given empty : ℕ) → GaveWithin n m self.old given empty → GaveWithin n m self.new given empty }
     {
         let count = (field.len() - at).min(self.end - self.start);
         let next = self.start + count;

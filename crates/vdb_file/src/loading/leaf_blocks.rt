@@ -7,13 +7,13 @@ ghost use Rattle.vdb_coord.specs.declared.Level.TheVariants.{Leaf as leaf_level,
 ghost use Rattle.vdb_tree.specs.Field.{fill as filled};
 ghost use Rattle.vdb_tree.specs.Layout.{bits_of, field_of};
 ghost use Rattle.vdb_tree.specs.Leaves.{with_leaf};
-ghost use Rattle.vdb_scene.specs.Watched.{has_failed, source};
+ghost use Rattle.vdb_scene.specs.Watched.{bytes_given, empty_reads, has_failed, source};
 ghost use Rattle.vdb_file.specs.Bodies.{leaf_body};
 ghost use Rattle.vdb_file.specs.Faults.{is_read_fault};
 ghost use Rattle.vdb_file.specs.internal.FieldFaults.{IsInner};
 ghost use Rattle.vdb_file.specs.internal.LeafVoxels.{IsMixed, voxel_count, voxels_bytes};
 ghost use Rattle.vdb_file.specs.internal.LoadedFields.{HasCapacityAt, IsLoadable, KeptOutside, ShowsIn};
-ghost use Rattle.vdb_file.specs.internal.Reading.{EndsWith, Reads, byte_total, position};
+ghost use Rattle.vdb_file.specs.internal.Reading.{EndsWith, GaveWithin, Reads, byte_total, position};
 
 use crate::fault::LoadFault;
 use crate::loading::block_head::{Head, take_head};
@@ -109,6 +109,7 @@ fn take_leaf<
     requires loadable { IsLoadable V.eq V.is_value (bits_of U L F) tree.old.limit leaf_level p (field_of (bits_of U L F) tree.old) }
     ensures ends { EndsWith input.new (R.remaining (source reader.new)) }
     ensures total { (n : ℕ) → byte_total input.old (R.remaining (source reader.old)) ≡ Some n → byte_total input.new (R.remaining (source reader.new)) ≡ Some n }
+    ensures given { (n m : ℕ) → GaveWithin n m input.old (bytes_given reader.old) (empty_reads reader.old) → GaveWithin n m input.new (bytes_given reader.new) (empty_reads reader.new) }
     ensures reads { Reads (λ _. field_of (bits_of U L F) tree.new) (λ f. IsMixed V.eq V.is_value tree.old.background (bits_of U L F) p f × (voxel_count V.eq V.bytes_of (bits_of U L F) p f ≡ count)) (voxels_bytes V.eq V.bytes_of (bits_of U L F) p) result
         (position input.old (R.remaining (source reader.old))) (position input.new (R.remaining (source reader.new))) }
     ensures kept { OnOk result (KeptOutside (block_around (bits_of U L F) leaf_level p) (field_of (bits_of U L F) tree.old) (field_of (bits_of U L F) tree.new)) }
@@ -152,6 +153,7 @@ pub(crate) fn take_leaf_block<
     requires loadable { IsLoadable V.eq V.is_value (bits_of U L F) tree.old.limit leaf_level p (field_of (bits_of U L F) tree.old) }
     ensures ends { EndsWith input.new (R.remaining (source reader.new)) }
     ensures total { (n : ℕ) → byte_total input.old (R.remaining (source reader.old)) ≡ Some n → byte_total input.new (R.remaining (source reader.new)) ≡ Some n }
+    ensures given { (n m : ℕ) → GaveWithin n m input.old (bytes_given reader.old) (empty_reads reader.old) → GaveWithin n m input.new (bytes_given reader.new) (empty_reads reader.new) }
     ensures reads { Reads (λ _. field_of (bits_of U L F) tree.new) (ShowsIn V.eq V.is_value tree.old.background (block_around (bits_of U L F) leaf_level p)) (λ f. leaf_body V.eq V.bytes_of (bits_of U L F) f (block_around (bits_of U L F) leaf_level p)) result
         (position input.old (R.remaining (source reader.old))) (position input.new (R.remaining (source reader.new))) }
     ensures kept { OnOk result (KeptOutside (block_around (bits_of U L F) leaf_level p) (field_of (bits_of U L F) tree.old) (field_of (bits_of U L F) tree.new)) }

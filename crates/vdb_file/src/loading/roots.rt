@@ -10,13 +10,13 @@ ghost use Rattle.vdb_coord.specs.declared.Level.TheVariants.{Upper};
 ghost use Rattle.vdb_tree.specs.ConstantBlocks.{root_keys};
 ghost use Rattle.vdb_tree.specs.Field.{new};
 ghost use Rattle.vdb_tree.specs.Layout.{bits_of, field_of};
-ghost use Rattle.vdb_scene.specs.Watched.{has_failed, source};
+ghost use Rattle.vdb_scene.specs.Watched.{bytes_given, empty_reads, has_failed, source};
 ghost use Rattle.vdb_file.specs.Bodies.{key_bytes, root_body, roots_bytes};
 ghost use Rattle.vdb_file.specs.Faults.{is_read_fault};
 ghost use Rattle.vdb_file.specs.internal.FieldFaults.{IsInner};
 ghost use Rattle.vdb_file.specs.internal.LoadedFields.{AreLoadable, IsNext, IsLoadable, IsWithin, KeptOutside, ShowsIn, ShowsInEach, next_bytes};
 ghost use Rattle.vdb_file.specs.internal.Loading.{IsKey};
-ghost use Rattle.vdb_file.specs.internal.Reading.{EndsWith, Reads, byte_total, position};
+ghost use Rattle.vdb_file.specs.internal.Reading.{EndsWith, GaveWithin, Reads, byte_total, position};
 
 use crate::fault::LoadFault;
 use crate::loading::block_head::take_key;
@@ -52,6 +52,7 @@ pub(crate) fn take_roots<
     requires value { V.is_value tree.old.background }
     ensures ends { EndsWith input.new (R.remaining (source reader.new)) }
     ensures total { (n : ℕ) → byte_total input.old (R.remaining (source reader.old)) ≡ Some n → byte_total input.new (R.remaining (source reader.new)) ≡ Some n }
+    ensures given { (n m : ℕ) → GaveWithin n m input.old (bytes_given reader.old) (empty_reads reader.old) → GaveWithin n m input.new (bytes_given reader.new) (empty_reads reader.new) }
     ensures reads { Reads (λ _. field_of (bits_of U L F) tree.new) (IsWithin V.eq V.is_value tree.old.background (bits_of U L F) tree.old.limit) (roots_bytes V.eq V.bytes_of (bits_of U L F)) result
         (position input.old (R.remaining (source reader.old))) (position input.new (R.remaining (source reader.new))) }
     ensures limit { OnOk result (tree.new.limit ≡ tree.old.limit) }
@@ -90,6 +91,7 @@ fn take_keyed_roots<
     requires few { count ≤ tree.old.limit }
     ensures ends { EndsWith input.new (R.remaining (source reader.new)) }
     ensures total { (n : ℕ) → byte_total input.old (R.remaining (source reader.old)) ≡ Some n → byte_total input.new (R.remaining (source reader.new)) ≡ Some n }
+    ensures given { (n m : ℕ) → GaveWithin n m input.old (bytes_given reader.old) (empty_reads reader.old) → GaveWithin n m input.new (bytes_given reader.new) (empty_reads reader.new) }
     ensures reads { Reads (λ _. field_of (bits_of U L F) tree.new) (ShowsInEach V.eq V.is_value tree.old.background (block (bits_of U L F) Upper) (coordinates (block_numbers (bits_of U L F) Upper)) count)
         (λ f. flat_map (λ k. key_bytes k ++ root_body V.eq V.bytes_of (bits_of U L F) f (block (bits_of U L F) Upper k)) (root_keys V.eq (bits_of U L F) f)) result
         (position input.old (R.remaining (source reader.old))) (position input.new (R.remaining (source reader.new))) }
@@ -128,6 +130,7 @@ fn take_next_root<
     requires loadable { AreLoadable V.eq V.is_value (bits_of U L F) tree.old.limit Upper (IsKey (bits_of U L F) before) (block (bits_of U L F) Upper) (field_of (bits_of U L F) tree.old) }
     ensures ends { EndsWith input.new (R.remaining (source reader.new)) }
     ensures total { (n : ℕ) → byte_total input.old (R.remaining (source reader.old)) ≡ Some n → byte_total input.new (R.remaining (source reader.new)) ≡ Some n }
+    ensures given { (n m : ℕ) → GaveWithin n m input.old (bytes_given reader.old) (empty_reads reader.old) → GaveWithin n m input.new (bytes_given reader.new) (empty_reads reader.new) }
     ensures reads { Reads (λ k. (k, field_of (bits_of U L F) tree.new)) (IsNext V.eq V.is_value tree.old.background (IsKey (bits_of U L F) before) (block (bits_of U L F) Upper)) (next_bytes key_bytes (root_body V.eq V.bytes_of (bits_of U L F)) (block (bits_of U L F) Upper)) result
         (position input.old (R.remaining (source reader.old))) (position input.new (R.remaining (source reader.new))) }
     ensures kept { IfOk result (λ k. KeptOutside (block (bits_of U L F) Upper k) (field_of (bits_of U L F) tree.old) (field_of (bits_of U L F) tree.new)) }
@@ -164,6 +167,7 @@ fn take_root_at<
     requires loadable { IsLoadable V.eq V.is_value (bits_of U L F) tree.old.limit Upper (block (bits_of U L F) Upper key).min (field_of (bits_of U L F) tree.old) }
     ensures ends { EndsWith input.new (R.remaining (source reader.new)) }
     ensures total { (n : ℕ) → byte_total input.old (R.remaining (source reader.old)) ≡ Some n → byte_total input.new (R.remaining (source reader.new)) ≡ Some n }
+    ensures given { (n m : ℕ) → GaveWithin n m input.old (bytes_given reader.old) (empty_reads reader.old) → GaveWithin n m input.new (bytes_given reader.new) (empty_reads reader.new) }
     ensures reads { Reads (λ _. field_of (bits_of U L F) tree.new) (ShowsIn V.eq V.is_value tree.old.background (block (bits_of U L F) Upper key)) (λ f. root_body V.eq V.bytes_of (bits_of U L F) f (block (bits_of U L F) Upper key)) result
         (position input.old (R.remaining (source reader.old))) (position input.new (R.remaining (source reader.new))) }
     ensures kept { OnOk result (KeptOutside (block (bits_of U L F) Upper key) (field_of (bits_of U L F) tree.old) (field_of (bits_of U L F) tree.new)) }

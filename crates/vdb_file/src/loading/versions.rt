@@ -3,11 +3,11 @@
 ghost use Rattle.std.specs.Prelude.{◌≡◌, ℕ, ◌<◌, ◌∷◌, ◌||◌, [], codes, length, Err, IfErr, IfSome, ⊤, Some};
 ghost use Rattle.std.specs.Int.{w16, to_be_bytes};
 ghost use Rattle.std.specs.Io.KnownBytes.{IsAtEnd};
-ghost use Rattle.vdb_scene.specs.Watched.{has_failed, source};
+ghost use Rattle.vdb_scene.specs.Watched.{bytes_given, empty_reads, has_failed, source};
 ghost use Rattle.vdb_file.specs.Faults.{HasOtherMagic, StartsWithOther, is_read_fault};
 ghost use Rattle.vdb_file.specs.internal.FieldFaults.{IsMagicFault, IsVersionFault};
 ghost use Rattle.vdb_file.specs.internal.Parts.{version_number};
-ghost use Rattle.vdb_file.specs.internal.Reading.{EndsWith, Reads, byte_total, position};
+ghost use Rattle.vdb_file.specs.internal.Reading.{EndsWith, GaveWithin, Reads, byte_total, position};
 
 use crate::fault::LoadFault;
 use crate::loading::fields::{take_field, take_u16};
@@ -32,6 +32,7 @@ pub(crate) fn take_magic<R: Read>(
     requires ends { EndsWith input.old (R.remaining (source reader.old)) }
     ensures ends { EndsWith input.new (R.remaining (source reader.new)) }
     ensures total { (n : ℕ) → byte_total input.old (R.remaining (source reader.old)) ≡ Some n → byte_total input.new (R.remaining (source reader.new)) ≡ Some n }
+    ensures given { (n m : ℕ) → GaveWithin n m input.old (bytes_given reader.old) (empty_reads reader.old) → GaveWithin n m input.new (bytes_given reader.new) (empty_reads reader.new) }
     ensures reads { Reads (λ u. u) (λ u. ⊤) (λ u. codes "VDBS") result
         (position input.old (R.remaining (source reader.old))) (position input.new (R.remaining (source reader.new))) }
     ensures fault { IfErr result IsMagicFault }
@@ -55,6 +56,7 @@ pub(crate) fn take_version<R: Read>(
     requires ends { EndsWith input.old (R.remaining (source reader.old)) }
     ensures ends { EndsWith input.new (R.remaining (source reader.new)) }
     ensures total { (n : ℕ) → byte_total input.old (R.remaining (source reader.old)) ≡ Some n → byte_total input.new (R.remaining (source reader.new)) ≡ Some n }
+    ensures given { (n m : ℕ) → GaveWithin n m input.old (bytes_given reader.old) (empty_reads reader.old) → GaveWithin n m input.new (bytes_given reader.new) (empty_reads reader.new) }
     ensures reads { Reads (λ version. version) (λ version. ⊤) (λ version. to_be_bytes w16 (version_number version)) result
         (position input.old (R.remaining (source reader.old))) (position input.new (R.remaining (source reader.new))) }
     ensures fault { IfErr result IsVersionFault }

@@ -4,14 +4,14 @@ use Rattle.std.proofs.KnownBytes.{prepend_known-end}
 use Rattle.std.proofs.lemmas.Result.{err_from_is_err_and}
 use Rattle.vdb_scene.specs.Grids.{scene_of}
 use Rattle.vdb_scene.specs.Scene.{Scene}
-use Rattle.vdb_scene.specs.Watched.{source}
+use Rattle.vdb_scene.specs.Watched.{bytes_given, empty_reads, source}
 use Rattle.vdb_file.specs.Faults.{HasOtherMagic, HasOtherVersion}
 use Rattle.vdb_file.specs.internal.FieldFaults.{IsFieldFault}
 use Rattle.vdb_file.specs.declared.fault.LoadFault.TheVariants as faults
 use Rattle.vdb_file.specs.declared.loading.versions.Version.{Version}
 use Rattle.vdb_file.specs.internal.Parts.{IsFile, bytes_of_file}
-use Rattle.vdb_file.specs.internal.Reading.{Fails, Stock, Took, byte_total, position}
-use Rattle.vdb_file.proofs.FieldBytes.{gave_few}
+use Rattle.vdb_file.specs.internal.Reading.{Fails, GaveWithin, Stock, Took, byte_total, position}
+use Rattle.vdb_file.proofs.FieldBytes.{gave_few, gave_within}
 use Rattle.vdb_file.proofs.WholeFiles.{begins_only, file_and_more, no_file, nothing_before, reader_at_end, scene_is, whole_file}
 use Rattle.vdb_file.proofs.loading.load.Goals as goal
 
@@ -107,3 +107,27 @@ returns-clause-loaded g c =
 
 pub returns-clause-end : goal.returns-clause-end
 returns-clause-end g c = c.in_ok-more.ensures.end (ap Ok c.if-more.false)
+
+pub returns-in_err-file-clause-given : goal.returns-in_err-file-clause-given
+returns-in_err-file-clause-given g c = (gave_within c.take_file.new.input _ _ _ _ (λ n m h. c.in_err-file.ensures.given n m (subst (λ (s : Stock). GaveWithin n m s (bytes_given c.args.reader.now) (empty_reads c.args.reader.now)) (sym c.new-input.ensures) h))).0
+
+pub returns-in_err-file-clause-once : goal.returns-in_err-file-clause-once
+returns-in_err-file-clause-once g c = (gave_within c.take_file.new.input _ _ _ _ (λ n m h. c.in_err-file.ensures.given n m (subst (λ (s : Stock). GaveWithin n m s (bytes_given c.args.reader.now) (empty_reads c.args.reader.now)) (sym c.new-input.ensures) h))).1
+
+pub returns-in_err-more-clause-given : goal.returns-in_err-more-clause-given
+returns-in_err-more-clause-given g c = (gave_within c.fill.new.self _ _ _ _ (λ n m h. c.in_err-more.ensures.given n m (c.in_ok-file.ensures.given n m (subst (λ (s : Stock). GaveWithin n m s (bytes_given c.args.reader.now) (empty_reads c.args.reader.now)) (sym c.new-input.ensures) h)))).0
+
+pub returns-in_err-more-clause-once : goal.returns-in_err-more-clause-once
+returns-in_err-more-clause-once g c = (gave_within c.fill.new.self _ _ _ _ (λ n m h. c.in_err-more.ensures.given n m (c.in_ok-file.ensures.given n m (subst (λ (s : Stock). GaveWithin n m s (bytes_given c.args.reader.now) (empty_reads c.args.reader.now)) (sym c.new-input.ensures) h)))).1
+
+pub returns-then-more-clause-given : goal.returns-then-more-clause-given
+returns-then-more-clause-given g c = (gave_within c.fill.new.self _ _ _ _ (λ n m h. c.in_ok-more.ensures.given n m (c.in_ok-file.ensures.given n m (subst (λ (s : Stock). GaveWithin n m s (bytes_given c.args.reader.now) (empty_reads c.args.reader.now)) (sym c.new-input.ensures) h)))).0
+
+pub returns-then-more-clause-once : goal.returns-then-more-clause-once
+returns-then-more-clause-once g c = (gave_within c.fill.new.self _ _ _ _ (λ n m h. c.in_ok-more.ensures.given n m (c.in_ok-file.ensures.given n m (subst (λ (s : Stock). GaveWithin n m s (bytes_given c.args.reader.now) (empty_reads c.args.reader.now)) (sym c.new-input.ensures) h)))).1
+
+pub returns-clause-given : goal.returns-clause-given
+returns-clause-given g c = (gave_within c.fill.new.self _ _ _ _ (λ n m h. c.in_ok-more.ensures.given n m (c.in_ok-file.ensures.given n m (subst (λ (s : Stock). GaveWithin n m s (bytes_given c.args.reader.now) (empty_reads c.args.reader.now)) (sym c.new-input.ensures) h)))).0
+
+pub returns-clause-once : goal.returns-clause-once
+returns-clause-once g c = (gave_within c.fill.new.self _ _ _ _ (λ n m h. c.in_ok-more.ensures.given n m (c.in_ok-file.ensures.given n m (subst (λ (s : Stock). GaveWithin n m s (bytes_given c.args.reader.now) (empty_reads c.args.reader.now)) (sym c.new-input.ensures) h)))).1

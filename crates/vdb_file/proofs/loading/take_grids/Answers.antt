@@ -1,12 +1,14 @@
-use Rattle.std.proofs.Common.{rules, ◌≡◌, ◌++◌, ◌∷◌, [], ◌∙◌, length-append, sym, subst, arith}
+use Rattle.std.proofs.Common.{rules, ◌≡◌, ◌++◌, ◌∷◌, [], ◌∙◌, length-append, refl, sym, subst, arith}
 use Rattle.std.specs.Prelude.{None}
 use Rattle.std.proofs.lemmas.Result.{err_from_is_err_and}
 use Rattle.vdb_scene.specs.Grids.{scene_of}
 use Rattle.vdb_scene.specs.Watched.{source}
 use Rattle.vdb_file.specs.internal.Parts.{IsItem, IsNamed, name_of, named_bytes, named_view}
 use Rattle.vdb_file.specs.internal.Reading.{Fails, position}
+use Rattle.vdb_file.proofs.Fronts.{took_nothing}
 use Rattle.vdb_file.proofs.GridParts.{named_code}
 use Rattle.vdb_file.proofs.Items.{are_items, chain_more, fails_within, last_more, more_read, put_last}
+use Rattle.vdb_file.proofs.LoadedScenes.{none_unused}
 use Rattle.vdb_file.proofs.SceneParts.{any_named}
 use Rattle.vdb_file.proofs.loading.take_grids.Goals as goal
 
@@ -18,6 +20,21 @@ returns-in_err-named-clause-reads g c =
     (position c.args.input.now (g.R.Read.remaining (source c.args.reader.now))) mid (omega (arith, c.loop.invariant.count, c.loop-test.true)) c.loop.invariant.chain c.loop.invariant.took
     (subst (λ before. Fails (IsItem (IsNamed c.args.version) name_of before) (named_bytes c.args.version) c.in_err-named.field-0.0 mid) c.loop.invariant.before c.in_err-named.ensures.reads))
 
+pub loop-init : goal.loop-init
+loop-init g c =
+    let none : scene_of c.new-scene.result ≡ [] = c.new-scene.ensures in
+    rw none (record {
+      took = took_nothing (position c.args.input.now (g.R.Read.remaining (source c.args.reader.now)));
+      ends = c.requires.ends;
+      total = λ n h. h;
+      given = λ n m h. h;
+      count = refl;
+      chain = tt;
+      before = refl;
+      unused = none_unused c.new-scene.result none;
+      failed = refl;
+    })
+
 pub loop-preserved : goal.loop-preserved
 loop-preserved g c =
     let done = scene_of c.loop.scene in
@@ -28,9 +45,11 @@ loop-preserved g c =
       took = more_read (IsNamed c.args.version) name_of (named_bytes c.args.version) (position c.args.input.now (g.R.Read.remaining (source c.args.reader.now))) (position c.loop.input (g.R.Read.remaining (source c.loop.reader))) _ done e c.loop.invariant.took c.in_ok-named.ensures.reads.1;
       ends = c.in_ok-named.ensures.ends;
       total = λ n h. c.in_ok-named.ensures.total n (c.loop.invariant.total n h);
+      given = λ n m h. c.in_ok-named.ensures.given n m (c.loop.invariant.given n m h);
       count = omega (arith, length-append done (e ∷ []), c.loop.invariant.count);
       chain = chain_more (IsNamed c.args.version) name_of None done e c.loop.invariant.chain item;
       before = sym (last_more (IsNamed c.args.version) name_of None done e);
+      unused = c.in_ok-add.ensures.unused c.in_ok-named.ensures.unused c.loop.invariant.unused;
       failed = search rules;
     })
 

@@ -33,6 +33,7 @@ loop-init g c =
       loadable = entries_loadable values bits Lower p (leaf_body g.V.PartialEq.eq g.V.Voxel.bytes_of bits) t.background row f old 0 None f old under configured Leaf (entry_is_leaf bits p) t.limit c.requires.loadable.capacity;
       ends = c.requires.ends;
       total = λ n h. h;
+      given = λ n m h. h;
       limit = refl;
       failed = refl;
     }
@@ -77,6 +78,7 @@ loop-preserved g c =
       loadable = entries_loadable values bits Lower p (leaf_body g.V.PartialEq.eq g.V.Voxel.bytes_of bits) t.background row f old (c.loop.counter + 1) (Some c.in_ok-i.i) after next under configured Leaf (entry_is_leaf bits p) c.take_next_leaf_block.new.tree.limit capacity;
       ends = c.in_ok-i.ensures.ends;
       total = λ n h. c.in_ok-i.ensures.total n (c.loop.invariant.total n h);
+      given = λ n m h. c.in_ok-i.ensures.given n m (c.loop.invariant.given n m h);
       limit = limit;
       failed = search rules;
     }

@@ -2,11 +2,11 @@ use Rattle.std.proofs.Common.{◌≡◌, ℕ, Some}
 use Rattle.vdb_coord.specs.Blocks.{block_around, entries}
 use Rattle.vdb_coord.specs.declared.Level.TheVariants.{Leaf, Lower}
 use Rattle.vdb_tree.specs.Layout.{bits_of, field_of}
-use Rattle.vdb_scene.specs.Watched.{has_failed, source}
+use Rattle.vdb_scene.specs.Watched.{bytes_given, empty_reads, has_failed, source}
 use Rattle.vdb_file.specs.Bodies.{leaf_body}
 use Rattle.vdb_file.specs.internal.LoadedFields.{AreLoadable, entry_box}
 use Rattle.vdb_file.specs.internal.Loading.{IsIndex}
-use Rattle.vdb_file.specs.internal.Reading.{EndsWith, byte_total, position}
+use Rattle.vdb_file.specs.internal.Reading.{EndsWith, GaveWithin, byte_total, position}
 use Rattle.vdb_file.proofs.RowInstances.{node_row}
 use Rattle.vdb_file.proofs.RowLoops.{IsUnderway}
 use Rattle.vdb_file.proofs.loading.blocks.take_leaf_blocks.Given as goal
@@ -19,6 +19,7 @@ invariant-loop g l = let bits = bits_of g.row.U g.row.L g.row.F in record {
   loadable : AreLoadable g.V.PartialEq.eq g.V.Voxel.is_value bits l.tree.limit Leaf (IsIndex (entries bits Lower) l.before) (entry_box bits Lower l.fn.p) (field_of bits l.tree);
   ends : EndsWith l.input (g.R.Read.remaining (source l.reader));
   total : (n : ℕ) → byte_total l.fn.input (g.R.Read.remaining (source l.fn.reader)) ≡ Some n → byte_total l.input (g.R.Read.remaining (source l.reader)) ≡ Some n;
+  given : (n m : ℕ) → GaveWithin n m l.fn.input (bytes_given l.fn.reader) (empty_reads l.fn.reader) → GaveWithin n m l.input (bytes_given l.reader) (empty_reads l.reader);
   limit : l.tree.limit ≡ l.fn.tree.limit;
   failed : has_failed l.reader ≡ has_failed l.fn.reader;
 }

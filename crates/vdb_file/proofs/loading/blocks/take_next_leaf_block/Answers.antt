@@ -36,5 +36,11 @@ returns-clause-reads g c =
 pub returns-in_err-take_leaf_block_at-clause-total : goal.returns-in_err-take_leaf_block_at-clause-total
 returns-in_err-take_leaf_block_at-clause-total g c = λ n h. c.in_err-take_leaf_block_at.ensures.total n (c.in_ok-i.ensures.total n h)
 
+pub returns-in_err-take_leaf_block_at-clause-given : goal.returns-in_err-take_leaf_block_at-clause-given
+returns-in_err-take_leaf_block_at-clause-given g c = λ n m h. c.in_err-take_leaf_block_at.ensures.given n m (c.in_ok-i.ensures.given n m h)
+
 pub returns-clause-total : goal.returns-clause-total
 returns-clause-total g c = λ n h. c.in_ok-take_leaf_block_at.ensures.total n (c.in_ok-i.ensures.total n h)
+
+pub returns-clause-given : goal.returns-clause-given
+returns-clause-given g c = λ n m h. c.in_ok-take_leaf_block_at.ensures.given n m (c.in_ok-i.ensures.given n m h)

@@ -13,6 +13,7 @@ loop-at-init g c = record {
   ends = c.requires.ends;
   within = omega arith;
   total = λ n h. h;
+  given = λ n m h. h;
   same = refl;
   fits = search rules;
   failed = refl;
@@ -43,6 +44,7 @@ loop-at-preserved g c =
           (took_kept old mid more _ c.loop-at.invariant.took c.in_ok-more.ensures.kept c.in_ok-more.ensures.capacity)
           c.run-at.ensures.field c.run-at.ensures.unread c.run-at.ensures.capacity (omega (arith, count)) (omega (arith, count)) c.loop-at.invariant.within (omega (arith, c.loop-at.invariant.same, c.loop-at.invariant.fits));
       total = λ n h. search (rules, c.loop-at.invariant.total n h);
+      given = λ n m h. c.run-at.ensures.given n m _ _ (c.in_ok-more.ensures.given n m (c.loop-at.invariant.given n m h));
       ends = λ e. c.in_ok-more.ensures.ends (search rules);
       within = search rules;
       same = search rules;

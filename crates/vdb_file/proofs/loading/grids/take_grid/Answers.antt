@@ -1,3 +1,4 @@
+use Rattle.std.proofs.Common.{rules}
 use Rattle.std.specs.Prelude.{FitsSigned, ⊤}
 use Rattle.std.specs.Int.{w32, w64}
 use Rattle.std.specs.Ordering.{int_eq}
@@ -23,7 +24,7 @@ returns-in_err-truths-in-0-clause-reads g c =
 
 pub returns-in_ok-truths-in-0-clause-reads : goal.returns-in_ok-truths-in-0-clause-reads
 returns-in_ok-truths-in-0-clause-reads g c =
-    tree_typed (λ b. ⊤) beq truth_bytes kinds.Bool truth truth_of are_truths c.args.version _ _ _ c.in_ok-truths-in-0.truths.0 c.from_tree.result.tree c.in_ok-truths-in-0.truths.1 c.from_tree.ensures.tree (rw c.in-0.is at c.in_ok-kind.ensures.reads.1)
+    tree_typed (λ b. ⊤) beq truth_bytes kinds.Bool truth truth_of are_truths c.args.version _ _ _ c.in_ok-truths-in-0.truths.0 _ c.in_ok-truths-in-0.truths.1 (search rules) (rw c.in-0.is at c.in_ok-kind.ensures.reads.1)
     c.in_ok-truths-in-0.ensures.reads.0 c.in_ok-truths-in-0.ensures.reads.1
 
 pub returns-in_err-numbers-in-1-clause-reads : goal.returns-in_err-numbers-in-1-clause-reads
@@ -33,7 +34,7 @@ returns-in_err-numbers-in-1-clause-reads g c =
 
 pub returns-in_ok-numbers-in-1-clause-reads : goal.returns-in_ok-numbers-in-1-clause-reads
 returns-in_ok-numbers-in-1-clause-reads g c =
-    tree_typed (FitsSigned w32) int_eq (number_bytes w32) kinds.I32 I32 number_of are_i32s c.args.version _ _ _ c.in_ok-numbers-in-1.numbers.0 c.from_tree-in-1.result.tree c.in_ok-numbers-in-1.numbers.1 c.from_tree-in-1.ensures.tree (rw c.in-1.is at c.in_ok-kind.ensures.reads.1)
+    tree_typed (FitsSigned w32) int_eq (number_bytes w32) kinds.I32 I32 number_of are_i32s c.args.version _ _ _ c.in_ok-numbers-in-1.numbers.0 _ c.in_ok-numbers-in-1.numbers.1 (search rules) (rw c.in-1.is at c.in_ok-kind.ensures.reads.1)
     c.in_ok-numbers-in-1.ensures.reads.0 c.in_ok-numbers-in-1.ensures.reads.1
 
 pub returns-in_err-longs-in-2-clause-reads : goal.returns-in_err-longs-in-2-clause-reads
@@ -43,5 +44,26 @@ returns-in_err-longs-in-2-clause-reads g c =
 
 pub returns-in_ok-longs-in-2-clause-reads : goal.returns-in_ok-longs-in-2-clause-reads
 returns-in_ok-longs-in-2-clause-reads g c =
-    tree_typed (FitsSigned w64) int_eq (number_bytes w64) kinds.I64 I64 number_of are_i64s c.args.version _ _ _ c.in_ok-longs-in-2.longs.0 c.from_tree-in-2.result.tree c.in_ok-longs-in-2.longs.1 c.from_tree-in-2.ensures.tree (rw c.in-2.is at c.in_ok-kind.ensures.reads.1)
+    tree_typed (FitsSigned w64) int_eq (number_bytes w64) kinds.I64 I64 number_of are_i64s c.args.version _ _ _ c.in_ok-longs-in-2.longs.0 _ c.in_ok-longs-in-2.longs.1 (search rules) (rw c.in-2.is at c.in_ok-kind.ensures.reads.1)
     c.in_ok-longs-in-2.ensures.reads.0 c.in_ok-longs-in-2.ensures.reads.1
+
+pub returns-in_ok-truths-in-0-clause-unused : goal.returns-in_ok-truths-in-0-clause-unused
+returns-in_ok-truths-in-0-clause-unused g c = λ k. (c.from_tree.ensures.last k, c.from_tree.ensures.empty k)
+
+pub returns-in_ok-numbers-in-1-clause-total : goal.returns-in_ok-numbers-in-1-clause-total
+returns-in_ok-numbers-in-1-clause-total g c = λ n is. c.in_ok-numbers-in-1.ensures.total n (c.in_ok-kind.ensures.total n is)
+
+pub returns-in_ok-numbers-in-1-clause-given : goal.returns-in_ok-numbers-in-1-clause-given
+returns-in_ok-numbers-in-1-clause-given g c = λ n m within. c.in_ok-numbers-in-1.ensures.given n m (c.in_ok-kind.ensures.given n m within)
+
+pub returns-in_ok-numbers-in-1-clause-unused : goal.returns-in_ok-numbers-in-1-clause-unused
+returns-in_ok-numbers-in-1-clause-unused g c = λ k. (c.from_tree-in-1.ensures.last k, c.from_tree-in-1.ensures.empty k)
+
+pub returns-in_ok-longs-in-2-clause-total : goal.returns-in_ok-longs-in-2-clause-total
+returns-in_ok-longs-in-2-clause-total g c = λ n is. c.in_ok-longs-in-2.ensures.total n (c.in_ok-kind.ensures.total n is)
+
+pub returns-in_ok-longs-in-2-clause-given : goal.returns-in_ok-longs-in-2-clause-given
+returns-in_ok-longs-in-2-clause-given g c = λ n m within. c.in_ok-longs-in-2.ensures.given n m (c.in_ok-kind.ensures.given n m within)
+
+pub returns-in_ok-longs-in-2-clause-unused : goal.returns-in_ok-longs-in-2-clause-unused
+returns-in_ok-longs-in-2-clause-unused g c = λ k. (c.from_tree-in-2.ensures.last k, c.from_tree-in-2.ensures.empty k)

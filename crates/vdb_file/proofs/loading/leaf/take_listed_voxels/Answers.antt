@@ -20,6 +20,7 @@ loop-init g c =
     record {
       ends = c.requires.ends;
       total = λ n h. h;
+      given = λ n m h. h;
       failed = refl;
       cells = first_cells values c.args.bits c.requires.configured c.args.background c.in-Ok.leaf c.requires.value (entry_count g.row.F) all c.in-Ok.ensures.cells;
       each = λ p. none_read values c.args.bits c.requires.configured c.args.background p c.in-Ok.leaf (position c.args.input.now (g.R.Read.remaining (source c.args.reader.now))) (entry_count g.row.F) all c.in-Ok.ensures.cells;
@@ -55,6 +56,7 @@ loop-preserved g c =
     record {
       ends = c.in_ok-voxel.ensures.ends;
       total = λ n h. c.in_ok-voxel.ensures.total n (c.loop.invariant.total n h);
+      given = λ n m h. c.in_ok-voxel.ensures.given n m (c.loop.invariant.given n m h);
       failed = search rules;
       cells = more_cells values c.args.bits c.requires.configured c.args.background c.loop.leaf c.set.new.self i cell sets is.cell.value c.loop.invariant.cells;
       each = λ p. voxel_read values c.args.bits c.requires.configured c.args.background p c.loop.leaf c.set.new.self i cell sets less is.cell.other

@@ -2,7 +2,7 @@ use Rattle.std.proofs.Common.{rules, ◌≡◌, ◌++◌, ◌∷◌, [], ◌∙�
 use Rattle.std.specs.Prelude.{None}
 use Rattle.std.proofs.lemmas.Result.{err_from_is_err_and}
 use Rattle.vdb_scene.specs.Watched.{source}
-use Rattle.vdb_file.specs.Scenes.{IsPair}
+use Rattle.vdb_scene.specs.ValidScenes.{IsPair}
 use Rattle.vdb_file.specs.internal.Parts.{IsItem, name_of, pair_bytes}
 use Rattle.vdb_file.specs.internal.Reading.{Fails, position}
 use Rattle.vdb_file.proofs.Items.{are_items, chain_more, fails_within, last_more, more_read, put_last}
@@ -27,6 +27,7 @@ loop-preserved g c =
       took = more_read IsPair name_of pair_bytes (position c.args.input.now (g.R.Read.remaining (source c.args.reader.now))) (position c.loop.input (g.R.Read.remaining (source c.loop.reader))) _ done e c.loop.invariant.took c.in_ok-pair.ensures.reads.1;
       ends = c.in_ok-pair.ensures.ends;
       total = λ n h. c.in_ok-pair.ensures.total n (c.loop.invariant.total n h);
+      given = λ n m h. c.in_ok-pair.ensures.given n m (c.loop.invariant.given n m h);
       count = omega (arith, length-append done (e ∷ []), c.loop.invariant.count);
       chain = chain_more IsPair name_of None done e c.loop.invariant.chain item;
       before = sym (last_more IsPair name_of None done e);

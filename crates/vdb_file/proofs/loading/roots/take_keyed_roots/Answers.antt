@@ -27,6 +27,7 @@ loop-init g c =
       loadable = λ more. roots_loadable values bits configured t.background f old 0 None f old under c.args.count more t.limit c.requires.few;
       ends = c.requires.ends;
       total = λ n h. h;
+      given = λ n m h. h;
       limit = refl;
       failed = refl;
     }
@@ -67,6 +68,7 @@ loop-preserved g c =
       loadable = λ more. roots_loadable values bits configured t.background f old (c.loop.counter + 1) (Some c.in_ok-key.key) after next under c.args.count more c.take_next_root.new.tree.limit few;
       ends = c.in_ok-key.ensures.ends;
       total = λ n h. c.in_ok-key.ensures.total n (c.loop.invariant.total n h);
+      given = λ n m h. c.in_ok-key.ensures.given n m (c.loop.invariant.given n m h);
       limit = limit;
       failed = search rules;
     }
