@@ -1,5 +1,5 @@
 -- The state of a script that is read piece by piece.
-use Rattle.std.specs.Prelude.{◌≡◌, ◌≢◌, ℕ, ◌+◌, ◌<◌, ◌≤◌, Bool, true, false, List, [], ◌∷◌, ◌++◌, length, Option, Some, None, Result, Ok, Err, All}
+use Rattle.std.specs.Prelude.{◌≡◌, ◌≢◌, ℕ, ◌+◌, ◌<◌, ◌≤◌, Bool, true, false, if◌then◌else◌, List, [], ◌∷◌, ◌++◌, length, Option, Some, None, Result, Ok, Err, All}
 use Rattle.std.specs.Io.KnownBytes.{Consumes, IsAtEnd, prepend_known}
 use Rattle.vdb_script.specs.declared.source.ScriptFault.{ScriptFault}
 use Rattle.vdb_script.specs.declared.source.ScriptFault.TheVariants.{Read, TooLong}
@@ -98,3 +98,13 @@ ending_of (Ok found.Text) = None
 ending_of (Ok found.TooLong) = None
 ending_of (Ok found.End) = Some (Ok found.End)
 ending_of (Err fault) = Some (Err fault)
+
+-- 1 if the reader has reported its end, otherwise 0
+abbrev pub end_count : Stock → ℕ
+end_count s = if s.ended then 1 else 0
+
+-- how many bytes past the script's limit the reader gave: 1 if the script is too long, otherwise 0
+abbrev pub excess : {A : Type 0} → Result A ScriptFault → ℕ
+excess (Ok a) = 0
+excess (Err Read) = 0
+excess (Err TooLong) = 1

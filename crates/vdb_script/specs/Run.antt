@@ -1,5 +1,6 @@
 -- Runs over the lines of a script.
-use Rattle.std.specs.Prelude.{◌≡◌, ℕ, if◌then◌else◌, nat_lt, List, [], ◌∷◌, ◌++◌, length, Option, Some, None, Result, Ok, Err}
+use Rattle.std.specs.Prelude.{◌≡◌, ◌≢◌, ℕ, if◌then◌else◌, nat_lt, List, [], ◌∷◌, ◌++◌, length, Option, Some, None, Result, Ok, Err}
+use Rattle.std.specs.List.{AllByRecursion}
 use Rattle.vdb_scene.specs.Scene.{Scene}
 use Rattle.vdb_scene.specs.Replies.{Reply, Refused}
 use Rattle.vdb_scene.specs.Step.{Step}
@@ -23,3 +24,7 @@ abbrev pub Run : Scene → List (List ℕ) → List Reply → Scene → Type 0
 Run s [] replies last = (replies ≡ []) × (last ≡ s)
 Run s (line ∷ lines) replies last =
     (first : List Reply) × (rest : List Reply) × (next : Scene) × (replies ≡ first ++ rest) × TakesLine s (read line) first next × Run next lines rest last
+
+-- no answer is `error memory`
+abbrev pub HadMemory : List Reply → Type 0
+HadMemory replies = AllByRecursion (λ reply. reply ≢ Refused refusals.Memory) replies

@@ -1,6 +1,7 @@
 //! The script language: lines, commands, and answers as text.
 #![tactic(auto)]
 
+mod laws;
 mod line_text;
 mod lines;
 mod lists;
@@ -17,6 +18,7 @@ mod tokens;
 mod turns;
 mod two_grids;
 
+pub use laws::run_laws;
 pub use line_text::LINE_LIMIT;
 pub use lines::{Line, Lines, read_line};
 pub use output::WriteFault;

@@ -1,8 +1,8 @@
 //! The lines of a script.
 
-ghost use Rattle.std.specs.Prelude.{◌≡◌, ◌≢◌, ℕ, ◌<◌, ◌≤◌, ◌||◌, true, false, List, [], ◌++◌, length, IfOk, IfSome, None, Ok, Err};
-ghost use Rattle.vdb_scene.specs.Watched.{has_failed, source};
-ghost use Rattle.vdb_script.specs.Reading.{EndsWith, YieldsEnd, YieldsLine, YieldsPart, YieldsTooMuch, YieldsUpTo, KeepsText, ahead, budget, ending_of, is_read_fault};
+ghost use Rattle.std.specs.Prelude.{◌≡◌, ◌≢◌, ℕ, ◌+◌, ◌<◌, ◌≤◌, ◌||◌, true, false, List, [], ◌++◌, length, IfOk, IfSome, None, Ok, Err};
+ghost use Rattle.vdb_scene.specs.Watched.{bytes_given, empty_reads, has_failed, source};
+ghost use Rattle.vdb_script.specs.Reading.{EndsWith, YieldsEnd, YieldsLine, YieldsPart, YieldsTooMuch, YieldsUpTo, KeepsText, ahead, budget, end_count, ending_of, excess, is_read_fault};
 
 use crate::line_text::LineText;
 use crate::source::{ScriptFault, Source};
@@ -94,6 +94,8 @@ fn read_text<R: Read>(
         YieldsPart (ahead stock.old (R.remaining (source reader.old)))
         (R.remaining (source reader.new)) stock.old }
     ensures failed { has_failed reader.new ≡ (has_failed reader.old || is_read_fault result) }
+    ensures given { bytes_given reader.new + stock.new.left ≤ bytes_given reader.old + stock.old.left + excess result }
+    ensures empty { empty_reads reader.new + end_count stock.old ≤ empty_reads reader.old + end_count stock.new }
 {
     let mut fits = true;
     loop {
@@ -158,6 +160,8 @@ fn next_line<R: Read>(
         YieldsPart (ahead stock.old (R.remaining (source reader.old)))
         (R.remaining (source reader.new)) stock.old }
     ensures failed { has_failed reader.new ≡ (has_failed reader.old || is_read_fault result) }
+    ensures given { bytes_given reader.new + stock.new.left ≤ bytes_given reader.old + stock.old.left + excess result }
+    ensures empty { empty_reads reader.new + end_count stock.old ≤ empty_reads reader.old + end_count stock.new }
     ensures no_text { result ≢ Ok Line.Text → text.new ≡ [] }
     ensures progress { ending_of result ≡ None → budget stock.new < budget stock.old }
 {
@@ -209,6 +213,10 @@ pub fn read_line<R: Read>(lines: &mut Lines, reader: &mut Watched<R>) -> Result<
         (R.remaining (source reader.new)) lines.old.source }
     ensures failed { lines.old.ending ≡ None →
         has_failed reader.new ≡ (has_failed reader.old || is_read_fault result) }
+    // The bytes that the reader gives count against the script's limit, but for one byte past it.
+    ensures given { bytes_given reader.new + lines.new.source.left ≤ bytes_given reader.old + lines.old.source.left + excess result }
+    // Only the read that reports the end gives no byte.
+    ensures empty { empty_reads reader.new + end_count lines.old.source ≤ empty_reads reader.old + end_count lines.new.source }
     ensures ending { lines.old.ending ≡ None → lines.new.ending ≡ ending_of result }
     ensures progress { lines.old.ending ≡ None → ending_of result ≡ None →
         budget lines.new.source < budget lines.old.source }

@@ -1,9 +1,9 @@
 //! The bytes of a script, read from a reader piece by piece.
 
-ghost use Rattle.std.specs.Prelude.{◌≡◌, ◌≢◌, ℕ, ◌≤◌, ◌||◌, true, false, [], ◌∷◌, length, drop, OnOk, Err};
+ghost use Rattle.std.specs.Prelude.{◌≡◌, ◌≢◌, ℕ, ◌+◌, ◌≤◌, ◌||◌, true, false, [], ◌∷◌, length, drop, OnOk, Err};
 ghost use Rattle.std.specs.Io.KnownBytes.{Consumes, Keeps};
-ghost use Rattle.vdb_scene.specs.Watched.{has_failed, source};
-ghost use Rattle.vdb_script.specs.Reading.{EndsWith, ahead, budget, is_read_fault};
+ghost use Rattle.vdb_scene.specs.Watched.{bytes_given, empty_reads, has_failed, source};
+ghost use Rattle.vdb_script.specs.Reading.{EndsWith, ahead, budget, end_count, excess, is_read_fault};
 
 use std::io::Read;
 use std::marker::Model;
@@ -101,6 +101,8 @@ impl Source {
         ensures read { result ≡ Err ScriptFault.Read →
             Keeps (ahead self.old (R.remaining (source reader.old))) (R.remaining (source reader.new)) }
         ensures failed { has_failed reader.new ≡ (has_failed reader.old || is_read_fault result) }
+        ensures given { bytes_given reader.new + self.new.left ≤ bytes_given reader.old + self.old.left + excess result }
+        ensures empty { empty_reads reader.new + end_count self.old ≤ empty_reads reader.old + end_count self.new }
     {
         if self.ended {
             return Ok(());
@@ -140,6 +142,8 @@ impl Source {
         ensures read { result ≡ Err ScriptFault.Read →
             Keeps (ahead self.old (R.remaining (source reader.old))) (R.remaining (source reader.new)) }
         ensures failed { has_failed reader.new ≡ (has_failed reader.old || is_read_fault result) }
+        ensures given { bytes_given reader.new + self.new.left ≤ bytes_given reader.old + self.old.left + excess result }
+        ensures empty { empty_reads reader.new + end_count self.old ≤ empty_reads reader.old + end_count self.new }
     {
         if !self.unread().is_empty() {
             return Ok(());

@@ -12,6 +12,7 @@ use Rattle.vdb_scene.specs.declared.command.Num.TheVariants.{Near}
 use Rattle.vdb_script.specs.Lines.{lines}
 use Rattle.vdb_script.specs.Run.{Run}
 use Rattle.vdb_script.specs.Text.{answers_text}
+use Rattle.vdb_shell.specs.Determined.{IsUndisturbed, NamesNoMemory}
 use Rattle.vdb_shell.specs.Session.{Plays}
 use Rattle.vdb_shell.specs.declared.fault.Fault.TheVariants.{Answers}
 
@@ -34,3 +35,29 @@ printed = refl
 cut : Plays [] script (Some Answers) script (codes "ok\nval") (Done ∷ shown ∷ []) with_a
 unfolding digits
 cut = (2, Done ∷ [], shown, codes "val", omega arith, runs, refl, refl, (codes "ue 0 off\n", refl))
+
+-- a session without a failure, and answers that tell of one
+undisturbed : IsUndisturbed None script (record { fault = None; code = 0; given = script; written = codes "ok\nvalue 0 off\n"; last = with_a })
+unfolding digits
+undisturbed = record {
+  session = (
+    [],
+    refl,
+    record {
+      refused = false;
+      plays = record { replies = Done ∷ shown ∷ []; plays = (omega arith, runs, refl); few = omega arith; refused = refl };
+      status = refl;
+    },
+  );
+  fault = tt;
+  memory = (ok_line, (value_line, tt));
+}
+  where
+    ok_line : codes "ok" ≡ codes "error memory" → ⊥
+    ok_line h = cc
+
+    value_line : codes "value 0 off" ≡ codes "error memory" → ⊥
+    value_line h = cc
+
+disturbed : NamesNoMemory (codes "ok\nerror memory\n") → ⊥
+disturbed h = h.1.0 refl

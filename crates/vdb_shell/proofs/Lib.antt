@@ -6,3 +6,6 @@ pub mod LineSteps
 pub mod Told
 pub mod Turns
 pub mod Parts
+pub mod Memory
+pub mod OneSession
+pub mod ValidSessions

@@ -6,7 +6,7 @@ use Rattle.vdb_scene.specs.Grids.{scene_of}
 use Rattle.vdb_scene.specs.Scene.{Scene}
 use Rattle.vdb_scene.specs.declared.scene.Scene as loaded
 use Rattle.vdb_file.specs.Faults.{Claims}
-use Rattle.vdb_file.specs.Scenes.{IsScene}
+use Rattle.vdb_scene.specs.ValidScenes.{IsScene}
 use Rattle.vdb_file.specs.Spelling.{IsFileOf}
 use Rattle.vdb_file.specs.declared.fault.LoadFault.{LoadFault}
 use Rattle.vdb_file.specs.declared.fault.SaveFault.{SaveFault}

@@ -5,7 +5,7 @@ use Rattle.vdb_scene.specs.Scene.{Scene}
 use Rattle.vdb_scene.specs.Watched.{has_failed, source}
 use Rattle.vdb_scene.specs.declared.watched.Watched.{Watched}
 use Rattle.vdb_file.specs.Faults.{Claims}
-use Rattle.vdb_file.specs.Scenes.{IsScene}
+use Rattle.vdb_scene.specs.ValidScenes.{IsScene}
 use Rattle.vdb_file.specs.Spelling.{IsFileOf}
 use Rattle.vdb_file.specs.declared.fault.LoadFault.{LoadFault}
 

@@ -4,6 +4,7 @@
 mod command_line;
 mod fault;
 mod files;
+mod laws;
 mod named;
 mod playing;
 mod sessions;
@@ -11,6 +12,7 @@ mod sessions;
 pub use command_line::words;
 pub use fault::{Fault, status};
 pub use files::{finish, start};
+pub use laws::session_laws;
 pub use named::Words;
 pub use playing::{Played, play};
 pub use sessions::{Outcome, session};

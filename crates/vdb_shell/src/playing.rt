@@ -1,11 +1,11 @@
 //! Playing a script on a scene, line by line.
-ghost use Rattle.std.specs.Prelude.{◌≡◌, ◌<◌, ◌||◌, ◌↔◌, false, true, Some, None, Err, IfOk, IfSome, OnOk, OnErr, IsTrue, is_err, ℕ, List, length};
+ghost use Rattle.std.specs.Prelude.{◌≡◌, ◌+◌, ◌^◌, ◌<◌, ◌≤◌, ◌||◌, ◌↔◌, false, true, Some, None, Err, IfOk, IfSome, OnOk, OnErr, IsTrue, is_err, ℕ, List, length};
 ghost use Rattle.std.specs.Io.KnownBytes.{Appends, Consumes};
 ghost use Rattle.vdb_scene.specs.Grids.{scene_of};
 ghost use Rattle.vdb_scene.specs.Shown.{Shows};
 ghost use Rattle.vdb_scene.specs.Replies.{Reply};
-ghost use Rattle.vdb_scene.specs.Watched.{has_failed, source};
-ghost use Rattle.vdb_script.specs.Reading.{EndsWith, YieldsEnd, YieldsLine, YieldsPart, YieldsTooMuch, ahead, budget};
+ghost use Rattle.vdb_scene.specs.Watched.{bytes_given, empty_reads, has_failed, source};
+ghost use Rattle.vdb_script.specs.Reading.{EndsWith, YieldsEnd, YieldsLine, YieldsPart, YieldsTooMuch, ahead, budget, end_count};
 ghost use Rattle.vdb_script.specs.Text.{text};
 ghost use Rattle.vdb_script.specs.Writing.{Writes};
 ghost use Rattle.vdb_shell.specs.internal.Answering.{TakesTurn, is_read_ending};
@@ -61,6 +61,9 @@ pub fn play<R: Read, W: Write>(
     ensures faults { IfSome result.fault IsOfScript }
     ensures script { (result.fault ≡ Some (Fault.Script ScriptFault.Read)) ↔ IsTrue (has_failed script.new) }
     ensures answers { (result.fault ≡ Some Fault.Answers) ↔ IsTrue (has_failed answers.new) }
+    // Any reader, also one that never ends, gives at most one byte past the limit, and reports its end at most once.
+    ensures few { bytes_given script.new ≤ bytes_given script.old + (2 ^ 24 + 1) }
+    ensures once { empty_reads script.new ≤ empty_reads script.old + 1 }
 {
     let mut lines = Lines::new();
     let mut refused = false;
@@ -111,6 +114,9 @@ fn play_line<R: Read, W: Write>(
     ensures overflow { result ≡ Err (Some ScriptFault.TooLong) → YieldsTooMuch (ahead lines.old.source (R.remaining (source script.old))) (R.remaining (source script.new)) lines.old.source }
     ensures read { result ≡ Err (Some ScriptFault.Read) → YieldsPart (ahead lines.old.source (R.remaining (source script.old))) (R.remaining (source script.new)) lines.old.source }
     ensures failed { has_failed script.new ≡ (has_failed script.old || is_read_ending result) }
+    ensures given { OnOk result (bytes_given script.new + lines.new.source.left ≤ bytes_given script.old + lines.old.source.left) }
+    ensures few { bytes_given script.new + lines.new.source.left ≤ bytes_given script.old + lines.old.source.left + 1 }
+    ensures once { empty_reads script.new + end_count lines.old.source ≤ empty_reads script.old + end_count lines.new.source }
     ensures answers_failed { IfOk result (λ turn. has_failed answers.new ≡ (has_failed answers.old || is_err turn.written)) }
     ensures quiet { lines.old.source.ended ≡ true → script.new ≡ script.old }
     ensures same { OnErr result (scene_of scene.new ≡ scene_of scene.old) }

@@ -1,9 +1,9 @@
 //! Sessions.
-ghost use Rattle.std.specs.Prelude.{◌≡◌, ◌+◌, ◌↔◌, false, true, Option, Some, IfSome, IsSome, IsTrue, is_some, ℕ, List};
+ghost use Rattle.std.specs.Prelude.{◌≡◌, ◌+◌, ◌^◌, ◌≤◌, ◌↔◌, false, true, Option, Some, IfSome, IsSome, IsTrue, is_some, ℕ, List};
 ghost use Rattle.std.specs.Io.KnownBytes.{Appends, Consumes};
 ghost use Rattle.vdb_scene.specs.Grids.{scene_of};
 ghost use Rattle.vdb_scene.specs.Scene.{Scene as AbstractScene};
-ghost use Rattle.vdb_scene.specs.Watched.{has_failed, source};
+ghost use Rattle.vdb_scene.specs.Watched.{bytes_given, empty_reads, has_failed, source};
 ghost use Rattle.vdb_file.specs.Readers.{GaveAtMost};
 ghost use Rattle.vdb_file.specs.Spelling.{file_limit};
 ghost use Rattle.vdb_shell.specs.Files.{any_failed, given_file, held};
@@ -59,6 +59,11 @@ pub fn session<L: Read, R: Read, W: Write, S: Write>(
     ensures save_kept { is_some save.new ≡ is_some save.old }
     // At most one byte past the limit of a scene file is read.
     ensures load_few { IfSome load.old (λ before. IfSome load.new (λ after. GaveAtMost (file_limit + 1) (L.remaining (source before)) (L.remaining (source after)))) }
+    // Any reader, also one that never ends, gives at most one byte past the limit, and reports its end at most once.
+    ensures load_given { IfSome load.old (λ before. IfSome load.new (λ after. bytes_given after ≤ bytes_given before + (file_limit + 1))) }
+    ensures load_once { IfSome load.old (λ before. IfSome load.new (λ after. empty_reads after ≤ empty_reads before + 1)) }
+    ensures script_few { bytes_given script.new ≤ bytes_given script.old + (2 ^ 24 + 1) }
+    ensures script_once { empty_reads script.new ≤ empty_reads script.old + 1 }
     // A fault of reading or writing comes if and only if that reader or writer failed.
     ensures load { (result.fault ≡ Some (Fault.Load LoadFault.Read)) ↔ IsTrue (any_failed load.new) }
     ensures script { (result.fault ≡ Some (Fault.Script ScriptFault.Read)) ↔ IsTrue (has_failed script.new) }
@@ -94,6 +99,8 @@ fn play_and_save<R: Read, W: Write, S: Write>(
     ensures nowhere { (fault : SaveFault) → result.fault ≡ Some (Fault.Save fault) → IsSome save.old }
     ensures kept { is_some save.new ≡ is_some save.old }
     ensures loaded { IsUnloaded result.fault → ⊥ }
+    ensures script_few { bytes_given script.new ≤ bytes_given script.old + (2 ^ 24 + 1) }
+    ensures script_once { empty_reads script.new ≤ empty_reads script.old + 1 }
     ensures script { (result.fault ≡ Some (Fault.Script ScriptFault.Read)) ↔ IsTrue (has_failed script.new) }
     ensures answers { (result.fault ≡ Some Fault.Answers) ↔ IsTrue (has_failed answers.new) }
     ensures save { (result.fault ≡ Some (Fault.Save SaveFault.Write)) ↔ IsTrue (any_failed save.new) }

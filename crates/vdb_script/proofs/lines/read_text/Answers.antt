@@ -41,4 +41,6 @@ loop-stock-preserved g c =
       ends = search rules;
       quiet = search rules;
       stays = search rules;
+      given = search rules;
+      empty = search rules;
     }

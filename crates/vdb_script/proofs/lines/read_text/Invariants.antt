@@ -1,6 +1,6 @@
-use Rattle.std.proofs.Common.{◌≡◌, ℕ, List, true}
-use Rattle.vdb_scene.specs.Watched.{has_failed, source}
-use Rattle.vdb_script.specs.Reading.{budget, ahead, EndsWith, KeepsText}
+use Rattle.std.proofs.Common.{◌≡◌, ℕ, ◌+◌, ◌≤◌, List, true}
+use Rattle.vdb_scene.specs.Watched.{bytes_given, empty_reads, has_failed, source}
+use Rattle.vdb_script.specs.Reading.{budget, ahead, end_count, EndsWith, KeepsText}
 use Rattle.vdb_script.proofs.Reading.{Takes}
 use Rattle.vdb_script.proofs.lines.read_text.Given as goal
 
@@ -14,6 +14,8 @@ invariant-loop-stock g l = record {
   ends : EndsWith l.stock (g.R.Read.remaining (source l.reader));
   quiet : l.fn.stock.ended ≡ true → l.reader ≡ l.fn.reader;
   stays : l.fn.stock.ended ≡ true → l.stock.ended ≡ true;
+  given : bytes_given l.reader + l.stock.left ≤ bytes_given l.fn.reader + l.fn.stock.left;
+  empty : empty_reads l.reader + end_count l.fn.stock ≤ empty_reads l.fn.reader + end_count l.stock;
 }
 
 -- each piece uses up a part of the budget

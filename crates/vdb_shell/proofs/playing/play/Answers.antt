@@ -14,6 +14,8 @@ lines-init g c = record {
   ends = search rules;
   script = c.requires.script_fresh;
   answers = c.requires.answers_fresh;
+  few = search rules;
+  once = search rules;
 }
 
 pub returns-in-Err-Some-clause-plays : goal.returns-in-Err-Some-clause-plays
@@ -39,4 +41,6 @@ lines-preserved g c =
       ends = search rules;
       script = search rules;
       answers = search rules;
+      few = search rules;
+      once = search rules;
     }

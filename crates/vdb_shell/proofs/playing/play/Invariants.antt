@@ -1,8 +1,8 @@
-use Rattle.std.proofs.Common.{◌≡◌, ℕ, List, Some, None, false}
+use Rattle.std.proofs.Common.{◌≡◌, ℕ, ◌+◌, ◌^◌, ◌≤◌, List, Some, None, false}
 use Rattle.std.specs.Io.KnownBytes.{Appends}
 use Rattle.vdb_scene.specs.Grids.{scene_of}
-use Rattle.vdb_scene.specs.Watched.{has_failed, source}
-use Rattle.vdb_script.specs.Reading.{EndsWith, ahead, budget}
+use Rattle.vdb_scene.specs.Watched.{bytes_given, empty_reads, has_failed, source}
+use Rattle.vdb_script.specs.Reading.{EndsWith, ahead, budget, end_count}
 use Rattle.vdb_script.specs.Text.{answers_text}
 use Rattle.vdb_shell.proofs.Told.{Handed}
 use Rattle.vdb_shell.proofs.playing.play.Given as goal
@@ -17,6 +17,8 @@ invariant-lines g l = record {
   ends : EndsWith l.lines.source (g.R.Read.remaining (source l.script));
   script : has_failed l.script ≡ false;
   answers : has_failed l.answers ≡ false;
+  few : bytes_given l.script + l.lines.source.left ≤ bytes_given l.fn.script + 2 ^ 24;
+  once : empty_reads l.script ≤ empty_reads l.fn.script + end_count l.lines.source;
 }
 
 abbrev pub decreases-lines : goal.decreases-lines
