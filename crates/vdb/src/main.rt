@@ -7,7 +7,7 @@
 ghost use Rattle.std.specs.Prelude.{◌≡◌, IfOk, false};
 ghost use Rattle.vdb_shell.specs.Files.{any_failed};
 
-use std::alloc::{AllocError, Global};
+use std::alloc::Global;
 use std::fs::File;
 use std::process::ExitCode;
 use std::{env, fs, io};
@@ -20,22 +20,42 @@ use vdb_shell::{Fault, Played, Words, finish, play, start, status, words};
 /// The exit status of a faulty command line.
 const USAGE: u8 = 2;
 
-/// The number of bytes of the largest block that changes how much freed memory the C library keeps: just under 32 MiB.
-const KEEPING: usize = 33_488_896;
+/// The number of bytes of each block whose memory is kept: just under 32 MiB, the largest that glibc takes from its heap.
+const KEPT: usize = 33_488_896;
+
+/// The number of blocks whose memory is kept: 511 MiB in all.
+const BLOCKS: usize = 16;
+
+/// The number of bytes of the block behind them, more than any gap in the heap of a program that has just started.
+const LAST: usize = 65_536;
 
 fn main(rt: HostRuntime) -> ExitCode {
-    keep_freed_memory(rt.alloc());
-    match collected(&rt) {
+    let last = keep_freed_memory(rt.alloc());
+    let code = match collected(&rt) {
         Ok(given) => run(&rt, given.as_slice()),
         Err(_) => out_of_memory(&rt),
-    }
+    };
+    drop(last);
+    code
 }
 
-/// Lets the C library keep up to 64 MiB of freed memory for later allocations; else each freed node row goes back to the system.
-/// glibc sets its thresholds by the size of the largest block that was freed. An allocation failure here changes no answer.
-fn keep_freed_memory(alloc: Global) {
-    let block: Result<Vec<u8>, AllocError> = Vec::with_capacity(alloc, KEEPING);
-    let _ = block;
+/// Lets the C library keep freed memory for later allocations; else the memory of freed nodes goes back to the system.
+///
+/// glibc gives back the end of its heap, and blocks larger than the largest that was freed so far. So this frees a block of `KEPT`
+/// bytes, and then lays one more block, which it returns, behind the memory of `BLOCKS` such blocks. Memory that is never written
+/// takes no page. An allocation failure here changes no answer.
+fn keep_freed_memory(alloc: Global) -> Option<Vec<u8>> {
+    let _ = block(alloc, KEPT);
+    let mut blocks = Vec::with_capacity(alloc, BLOCKS).ok()?;
+    for _ in 0..BLOCKS {
+        blocks.push(block(alloc, KEPT)?).ok()?;
+    }
+    block(alloc, LAST)
+}
+
+/// Allocates a block of so many bytes.
+fn block(alloc: Global, bytes: usize) -> Option<Vec<u8>> {
+    Vec::with_capacity(alloc, bytes).ok()
 }
 
 /// Returns the words of the command line, the program's name first.
