@@ -16,7 +16,8 @@ use Rattle.vdb_scene.specs.ValidScenes.{IsField, IsGrid, IsScene, is_value_of}
 use Rattle.vdb_file.specs.Spelling.{IsFileOf, IsOldGrid, file_bytes, grid_bytes, head_bytes, spelling}
 use Rattle.vdb_file.proofs.Unambiguous.{IsCode, Says, says_all, says_behind, says_fixed, says_map, says_then, says_whole}
 use Rattle.vdb_file.proofs.Numbers.{says_counted, says_u16, says_u32}
-use Rattle.vdb_file.proofs.Values.{says_kinded, says_scalar, scalar_exact, scalar_itself}
+use Rattle.vdb_scene.proofs.ScalarValues.{scalar_exact, scalar_itself}
+use Rattle.vdb_file.proofs.Values.{says_kinded, says_scalar}
 use Rattle.vdb_file.proofs.Agreement.{AreAlike, AreValues}
 use Rattle.vdb_file.proofs.Roots.{same_field, says_roots}
 use Rattle.vdb_file.proofs.Pairs.{says_pairs}

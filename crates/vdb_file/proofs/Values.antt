@@ -1,13 +1,12 @@
--- Values of the three types: their bytes, their types, and when they are equal.
-use Rattle.std.proofs.Common.{◌≡◌, ℤ, pos, negsuc, Bool, true, false, [], ◌∷◌, refl, ap, subst, arith}
+-- Values of the three types: their bytes and their types.
+use Rattle.std.proofs.Common.{◌≡◌, ℤ, pos, negsuc, true, [], ◌∷◌, refl, ap, subst, arith}
 use Rattle.std.specs.Prelude.{FitsSigned}
 use Rattle.std.specs.Int.{w32, w64}
-use Rattle.std.proofs.lemmas.Bool.Decides.{Decides-int_eq}
 use Rattle.std.proofs.lemmas.Int.{ints}
 use Rattle.vdb_value.specs.Values.{has_number}
 use Rattle.vdb_value.specs.declared.Kind.{Kind}
 use Rattle.vdb_value.specs.declared.Kind.TheVariants as kinds
-use Rattle.vdb_scene.specs.Scalars.{kind_of, scalar_bytes, scalar_eq}
+use Rattle.vdb_scene.specs.Scalars.{kind_of, scalar_bytes}
 use Rattle.vdb_scene.specs.declared.scalar.Scalar.{Scalar}
 use Rattle.vdb_scene.specs.declared.scalar.Scalar.TheVariants.{Bool as truth, I32, I64}
 use Rattle.vdb_scene.specs.ValidScenes.{is_value_of}
@@ -49,26 +48,3 @@ says_kind k l = says_map (kind_exact k l) (says_byte (kind_code k) (kind_code l)
 -- the KIND determines how the bytes after it are read
 pub says_kinded : IsCode (λ v. is_value_of (kind_of v) v ≡ true) kind_bytes
 says_kinded a b ha hb = says_behind (says_kind (kind_of a) (kind_of b)) (λ e. says_scalar (kind_of b) a b (subst (λ k. is_value_of k a ≡ true) e ha) hb)
-
--- ---- values that compare equal are equal
-
--- booleans that compare equal are equal
-same_truth : (a b : Bool) → scalar_eq (truth a) (truth b) ≡ true → a ≡ b
-same_truth true true h = refl
-same_truth true false h = cc
-same_truth false true h = cc
-same_truth false false h = refl
-
--- values of any type that compare equal are equal
-pub scalar_exact : (a b : Scalar) → scalar_eq a b ≡ true → a ≡ b
-scalar_exact (truth a) (truth b) h = ap truth (same_truth a b h)
-scalar_exact (I32 y) (I32 z) h = ap I32 ((Decides-int_eq y z).0 h)
-scalar_exact (I64 y) (I64 z) h = ap I64 ((Decides-int_eq y z).0 h)
-scalar_exact a b h = absurd cc
-
--- a value compares equal to itself
-pub scalar_itself : (a : Scalar) → scalar_eq a a ≡ true
-scalar_itself (truth true) = refl
-scalar_itself (truth false) = refl
-scalar_itself (I32 z) = (Decides-int_eq z z).1 refl
-scalar_itself (I64 z) = (Decides-int_eq z z).1 refl

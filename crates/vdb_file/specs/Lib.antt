@@ -3,7 +3,6 @@ pub mod Bodies
 pub mod Spelling
 pub mod Scenes
 pub mod Alike
-pub mod Accessors
 pub mod Faults
 pub mod Readers
 pub mod internal

@@ -7,7 +7,7 @@ ghost use Rattle.std.specs.List.{flat_map};
 ghost use Rattle.vdb_scene.specs.Grids.{grid_with, scene_of};
 ghost use Rattle.vdb_scene.specs.Scene.{Scene as AbstractScene, with_grid};
 ghost use Rattle.vdb_scene.specs.Watched.{bytes_given, empty_reads, has_failed, source};
-ghost use Rattle.vdb_file.specs.Accessors.{HasUnusedAccessors, HaveUnusedAccessors};
+ghost use Rattle.vdb_scene.specs.Accessors.{HasUnusedAccessors, HaveUnusedAccessors};
 ghost use Rattle.vdb_file.specs.Faults.{Claims, HasOtherMagic, HasOtherVersion, is_read_fault};
 ghost use Rattle.vdb_file.specs.internal.FieldFaults.{IsFieldFault, IsInner};
 ghost use Rattle.vdb_file.specs.Readers.{GaveAtMost};

@@ -2,13 +2,14 @@
 use Rattle.std.specs.Prelude.{◌≡◌, ℕ, List, [], Option, Some, None, map, slice_set}
 use Rattle.std.proofs.Math.Bool.{beq}
 use Rattle.std.specs.Ordering.{int_eq}
-use Rattle.vdb_coord.specs.Blocks.{vdb}
+use Rattle.vdb_coord.specs.Blocks.{key, vdb}
 use Rattle.vdb_coord.specs.Space.{Box}
 use Rattle.vdb_coord.specs.declared.Coord.{Coord}
 use Rattle.vdb_tree.specs.Field.{Field, as_field_of}
 use Rattle.vdb_tree.specs.Layout.{field_of}
 use Rattle.vdb_tree.specs.Leaves.{HasLeaves}
 use Rattle.vdb_tree.specs.Nodes.{IsSameTree}
+use Rattle.vdb_tree.specs.Table.{HasCapacity}
 use Rattle.vdb_grid.specs.Grid.{last}
 use Rattle.vdb_tree.specs.Smallest.{IsLeast}
 use Rattle.vdb_scene.specs.Metas.{Pairs}
@@ -31,6 +32,12 @@ abbrev pub grid_root_limit : AnyGrid → ℕ
 grid_root_limit (Bool g) = g.tree.limit
 grid_root_limit (I32 g) = g.tree.limit
 grid_root_limit (I64 g) = g.tree.limit
+
+-- its root table has an entry for the coordinate, or capacity for one more
+abbrev pub HasRootCapacity : AnyGrid → Coord → Type 0
+HasRootCapacity (Bool g) p = HasCapacity g.tree (key vdb p)
+HasRootCapacity (I32 g) p = HasCapacity g.tree (key vdb p)
+HasRootCapacity (I64 g) p = HasCapacity g.tree (key vdb p)
 
 -- its tree has no entry and no node that its field doesn't need
 abbrev pub IsPruned : AnyGrid → Type 0

@@ -9,6 +9,7 @@ pub mod Refusals
 pub mod TwoGrids
 pub mod Step
 pub mod Grids
+pub mod Accessors
 pub mod ValidScenes
 pub mod Readers
 pub mod Slices

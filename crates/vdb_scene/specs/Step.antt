@@ -297,6 +297,11 @@ Step s c reply next =
 abbrev pub insertion_refusal : Scene → List ℕ → Option Refusal
 insertion_refusal s name = first_of_all (name_taken s name ∷ too_many_grids s ∷ [])
 
+-- a result whose error returns something, without that
+abbrev pub refusal_alone : {A B : Type 0} → Result A (Refusal × B) → Result A Refusal
+refusal_alone (Ok a) = Ok a
+refusal_alone (Err e) = Err e.0
+
 -- the grid has its name, or the first error; `Memory` comes only if nothing else applies
 abbrev pub Inserts : Scene → List ℕ → Grid → Result (Unit {0}) Refusal → Scene → Type 0
 Inserts s name g (Ok _) next = (insertion_refusal s name ≡ None) × (next ≡ with_grid s name g)

@@ -1,5 +1,5 @@
 //! A grid of any type of values.
-ghost use Rattle.std.specs.Prelude.{◌≡◌, ◌+◌, ◌<◌, ◌≤◌, ℕ, Some, false, IfErr, IfOk, IsOk, IsTrue, OnOk};
+ghost use Rattle.std.specs.Prelude.{◌≡◌, ◌+◌, ◌*◌, ◌<◌, ◌≤◌, ℕ, Some, false, IfErr, IfOk, IsOk, IsTrue, OnOk};
 ghost use Rattle.std.specs.Option.{unwrap_or};
 ghost use Rattle.vdb_coord.specs.Blocks.{vdb};
 ghost use Rattle.vdb_coord.specs.Space.{everywhere};
@@ -10,7 +10,7 @@ ghost use Rattle.vdb_tree.specs.declared.refusal.TreeRefusal.TheVariants.{Memory
 ghost use Rattle.vdb_morph.specs.Growth.{IsGrowth};
 ghost use Rattle.vdb_walk.specs.Reports.{IsActiveBounds, census as census_of};
 ghost use Rattle.vdb_scene.specs.Scalars.{is_of, kind_of, scalar_eq};
-ghost use Rattle.vdb_scene.specs.Grids.{HasSameTree, IsCopyOf, IsPruned, IsVoxelised, coords_after, grid_coords, grid_field, grid_root_limit};
+ghost use Rattle.vdb_scene.specs.Grids.{HasRootCapacity, HasSameTree, IsCopyOf, IsPruned, IsVoxelised, coords_after, grid_coords, grid_field, grid_root_limit};
 ghost use Rattle.vdb_scene.specs.Step.{passes, write_takes_memory};
 ghost use Rattle.vdb_scene.specs.TwoGrids.{IsMade, StaysBut};
 
@@ -57,6 +57,28 @@ impl AnyGrid {
             AnyGrid::Bool(_) => Kind::Bool,
             AnyGrid::I32(_) => Kind::I32,
             AnyGrid::I64(_) => Kind::I64,
+        }
+    }
+
+    /// Returns the background: the value of a voxel that was never written.
+    pub fn background(&self) -> Scalar
+        ensures { result ≡ (grid_field self.now).background }
+    {
+        match self {
+            AnyGrid::Bool(grid) => Scalar::Bool(grid.tree().background()),
+            AnyGrid::I32(grid) => Scalar::I32(grid.tree().background()),
+            AnyGrid::I64(grid) => Scalar::I64(grid.tree().background()),
+        }
+    }
+
+    /// Returns the maximum number of root blocks with a cell other than the inactive background.
+    pub fn limit(&self) -> u32
+        ensures { result ≡ grid_root_limit self.now }
+    {
+        match self {
+            AnyGrid::Bool(grid) => grid.tree().limit(),
+            AnyGrid::I32(grid) => grid.tree().limit(),
+            AnyGrid::I64(grid) => grid.tree().limit(),
         }
     }
 
@@ -107,6 +129,8 @@ impl AnyGrid {
         ensures limit { grid_root_limit self.new ≡ grid_root_limit self.old }
         ensures last { grid_coords self.new ≡ coords_after accessor at (grid_coords self.old) }
         ensures memory { write_takes_memory (grid_field self.old) at change ≡ false → IsOk result }
+        // No root block is counted, and no node is visited that doesn't hold the voxel or an accessor's coordinate.
+        ensures steps { HasRootCapacity self.old at → steps.new ≤ steps.old + (8 + 3 * ACCESSORS) }
     {
         match self {
             AnyGrid::Bool(grid) => grid_tree::write(grid, accessor, at, change, steps),
@@ -196,7 +220,7 @@ impl AnyGrid {
     /// - `SumRange` if a sum lies outside the type at some coordinate,
     /// - `RootLimit` if more root blocks than the limit would have a cell other than the inactive background,
     /// - `Memory` if an allocation fails.
-    pub(crate) fn combine(
+    pub fn combine(
         &mut self,
         operation: Operation,
         other: &AnyGrid,

@@ -1,12 +1,13 @@
 //! Calls on a grid of one type of values, or on its tree, in the terms of a grid of any type.
 
-ghost use Rattle.std.specs.Prelude.{◌≡◌, ◌+◌, ◌<◌, ◌≤◌, ℕ, Some, false, IfErr, IsOk, IsTrue};
+ghost use Rattle.std.specs.Prelude.{◌≡◌, ◌+◌, ◌*◌, ◌<◌, ◌≤◌, ℕ, Some, false, IfErr, IsOk, IsTrue};
 ghost use Rattle.std.specs.Option.{unwrap_or};
-ghost use Rattle.vdb_coord.specs.Blocks.{vdb};
+ghost use Rattle.vdb_coord.specs.Blocks.{key, vdb};
 ghost use Rattle.vdb_coord.specs.Space.{everywhere};
 ghost use Rattle.vdb_tree.specs.Field.{as_cell_of, as_field_of, as_write_of, clip as clipped, dilate as dilation, erode as erosion, fill as filled, turns as turned, write};
 ghost use Rattle.vdb_tree.specs.Layout.{field_of};
 ghost use Rattle.vdb_tree.specs.Outcome.{IsOutcome};
+ghost use Rattle.vdb_tree.specs.Table.{HasCapacity};
 ghost use Rattle.vdb_tree.specs.ConstantBlocks.{count as active_count};
 ghost use Rattle.vdb_tree.specs.declared.refusal.TreeRefusal.TheVariants.{Memory};
 ghost use Rattle.vdb_morph.specs.Growth.{IsGrowth};
@@ -67,6 +68,7 @@ pub fn write<V: GridValue>(
     ensures limit { grid.new.tree.limit ≡ grid.old.tree.limit }
     ensures last { grid.new.coords ≡ coords_after accessor at grid.old.coords }
     ensures memory { write_takes_memory (as_field_of V.as_scalar (field_of vdb grid.old.tree)) at change ≡ false → IsOk result }
+    ensures steps { HasCapacity grid.old.tree (key vdb at) → steps.new ≤ steps.old + (8 + 3 * ACCESSORS) }
 {
     let change = of_kind(change);
     match accessor {

@@ -5,6 +5,7 @@ ghost use Rattle.std.specs.List.Sorted.{IsStrictlySortedBy};
 ghost use Rattle.std.specs.Map.{lookup};
 ghost use Rattle.std.specs.Option.{option_map};
 ghost use Rattle.std.specs.Ordering.{nat_cmp};
+ghost use Rattle.vdb_scene.specs.Accessors.{HaveUnusedAccessors};
 ghost use Rattle.vdb_scene.specs.Doing.{AddsGrid, KeepsGrids};
 ghost use Rattle.vdb_scene.specs.Grids.{grid_alone, grid_field, grid_root_limit, grid_of, grid_with, scene_of};
 ghost use Rattle.vdb_scene.specs.Scene.{grid_at, is_named, with_grid};
@@ -35,7 +36,8 @@ pub struct Scene {
 impl Scene {
     /// Creates an empty scene. Allocates nothing.
     pub fn new(alloc: Global) -> Scene
-        ensures { scene_of result ≡ [] }
+        ensures empty { scene_of result ≡ [] }
+        ensures unused { HaveUnusedAccessors result }
     {
         Scene {
             alloc,

@@ -16,7 +16,7 @@ use vdb_tree::StateRule;
 
 /// An operation on two grids.
 #[derive(Clone, Copy, Debug, PartialEq, Eq)]
-pub(crate) enum Operation {
+pub enum Operation {
     /// Combines the states by a rule, and keeps the values of the first.
     States(StateRule),
     /// Combines values and states of both.
@@ -25,7 +25,7 @@ pub(crate) enum Operation {
 
 /// A way to combine the values of two grids.
 #[derive(Clone, Copy, Debug, PartialEq, Eq)]
-pub(crate) enum Composite {
+pub enum Composite {
     /// The greater values, active if either is.
     Maximum,
     /// The lesser values, active if either is.

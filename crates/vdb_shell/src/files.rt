@@ -1,7 +1,9 @@
 //! The scene that a session loads before its script, and saves after it.
 ghost use Rattle.std.specs.Prelude.{◌≡◌, ◌+◌, ◌<◌, ◌≤◌, ◌↔◌, Option, Err, IfErr, IfOk, IfSome, IsErr, IsSome, IsTrue, OnOk, false, is_some, ℕ, List, length};
 ghost use Rattle.std.specs.Io.KnownBytes.{Appends, IsAtEnd};
+ghost use Rattle.vdb_scene.specs.Accessors.{HaveUnusedAccessors};
 ghost use Rattle.vdb_scene.specs.Grids.{scene_of};
+ghost use Rattle.vdb_scene.specs.ValidScenes.{IsScene};
 ghost use Rattle.vdb_scene.specs.Watched.{bytes_given, empty_reads, source};
 ghost use Rattle.vdb_file.specs.Readers.{GaveAtMost};
 ghost use Rattle.vdb_file.specs.Spelling.{Spells, file_limit, spelling};
@@ -25,7 +27,10 @@ pub fn start<R: Read>(
 ) -> Result<Scene, LoadFault>
     requires fresh { any_failed load.old ≡ false }
     ensures begins { (file : Option (List ℕ)) → given_file R.remaining load.old ≡ Some file → IfOk result (λ scene. Begins file (scene_of scene)) }
+    ensures scene { IfOk result (λ scene. IsScene (scene_of scene)) }
     ensures refuses { (file : Option (List ℕ)) → given_file R.remaining load.old ≡ Some file → IfErr result (λ fault. Refuses fault file) }
+    // The accessors of the scene's grids were given no coordinate and cache no node.
+    ensures unused { IfOk result HaveUnusedAccessors }
     // The whole file is read.
     ensures end { OnOk result (IfSome load.new (λ file. IsAtEnd (R.remaining (source file)))) }
     ensures kept { is_some load.new ≡ is_some load.old }

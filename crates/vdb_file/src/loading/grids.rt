@@ -5,7 +5,7 @@ ghost use Rattle.std.specs.Io.KnownBytes.{IsAtEnd};
 ghost use Rattle.vdb_coord.specs.Blocks.{vdb};
 ghost use Rattle.vdb_scene.specs.Grids.{grid_with};
 ghost use Rattle.vdb_scene.specs.Watched.{bytes_given, empty_reads, has_failed, source};
-ghost use Rattle.vdb_file.specs.Accessors.{HasUnusedAccessors};
+ghost use Rattle.vdb_scene.specs.Accessors.{HasUnusedAccessors};
 ghost use Rattle.vdb_file.specs.Faults.{is_read_fault};
 ghost use Rattle.vdb_file.specs.internal.FieldFaults.{IsInner};
 ghost use Rattle.vdb_file.specs.internal.Parts.{IsBody, IsItem, IsLoadedGrid, IsNamed, body_bytes, loaded, loaded_bytes, name_of, named_bytes, named_view};

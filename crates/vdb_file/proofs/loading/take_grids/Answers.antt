@@ -8,7 +8,6 @@ use Rattle.vdb_file.specs.internal.Reading.{Fails, position}
 use Rattle.vdb_file.proofs.Fronts.{took_nothing}
 use Rattle.vdb_file.proofs.GridParts.{named_code}
 use Rattle.vdb_file.proofs.Items.{are_items, chain_more, fails_within, last_more, more_read, put_last}
-use Rattle.vdb_file.proofs.LoadedScenes.{none_unused}
 use Rattle.vdb_file.proofs.SceneParts.{any_named}
 use Rattle.vdb_file.proofs.loading.take_grids.Goals as goal
 
@@ -22,7 +21,7 @@ returns-in_err-named-clause-reads g c =
 
 pub loop-init : goal.loop-init
 loop-init g c =
-    let none : scene_of c.new-scene.result ≡ [] = c.new-scene.ensures in
+    let none : scene_of c.new-scene.result ≡ [] = c.new-scene.ensures.empty in
     rw none (record {
       took = took_nothing (position c.args.input.now (g.R.Read.remaining (source c.args.reader.now)));
       ends = c.requires.ends;
@@ -31,7 +30,7 @@ loop-init g c =
       count = refl;
       chain = tt;
       before = refl;
-      unused = none_unused c.new-scene.result none;
+      unused = c.new-scene.ensures.unused;
       failed = refl;
     })
 

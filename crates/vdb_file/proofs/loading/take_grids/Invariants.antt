@@ -3,7 +3,7 @@ use Rattle.std.specs.Prelude.{None}
 use Rattle.std.specs.List.{flat_map}
 use Rattle.vdb_scene.specs.Grids.{scene_of}
 use Rattle.vdb_scene.specs.Watched.{bytes_given, empty_reads, has_failed, source}
-use Rattle.vdb_file.specs.Accessors.{HaveUnusedAccessors}
+use Rattle.vdb_scene.specs.Accessors.{HaveUnusedAccessors}
 use Rattle.vdb_file.specs.internal.Parts.{IsNamed, name_of, named_bytes}
 use Rattle.vdb_file.specs.internal.Reading.{EndsWith, GaveWithin, Took, byte_total, position}
 use Rattle.vdb_file.proofs.Items.{IsChain, last_of}

@@ -1,4 +1,4 @@
-use Rattle.std.proofs.Common.{◌≡◌, ◌∙◌, false, inl, inr, subst, sym}
+use Rattle.std.proofs.Common.{◌≡◌, ◌∙◌, arith, false, inl, inr, subst, sym}
 use Rattle.vdb_coord.specs.Blocks.{block_around, vdb}
 use Rattle.vdb_coord.specs.declared.Level.TheVariants.{Leaf}
 use Rattle.vdb_tree.specs.Field.{as_field_of, write, written}
@@ -56,3 +56,9 @@ returns-in-None-clause-memory g c = λ free.
       | inr non_constant ↦
           c.write.ensures.non_constant (sym (as_field_of_constant make t.background (cell_at vdb t) eq scalar_eq same (block_around vdb Leaf c.args.at)) ∙ non_constant)
     ]
+
+pub returns-in-Some-clause-steps : goal.returns-in-Some-clause-steps
+returns-in-Some-clause-steps g c = λ room. c.write_by.ensures.steps (inl room)
+
+pub returns-in-None-clause-steps : goal.returns-in-None-clause-steps
+returns-in-None-clause-steps g c = λ room. omega (arith, c.write.ensures.steps (inl room))

@@ -26,3 +26,12 @@ returns-in-I32-clause-last c = rw c.in-I32.is c.write-in-I32.ensures.last
 
 pub returns-in-I64-clause-last : goal.returns-in-I64-clause-last
 returns-in-I64-clause-last c = rw c.in-I64.is c.write-in-I64.ensures.last
+
+pub returns-in-Bool-clause-steps : goal.returns-in-Bool-clause-steps
+returns-in-Bool-clause-steps c = rw c.in-Bool.is c.write.ensures.steps
+
+pub returns-in-I32-clause-steps : goal.returns-in-I32-clause-steps
+returns-in-I32-clause-steps c = rw c.in-I32.is c.write-in-I32.ensures.steps
+
+pub returns-in-I64-clause-steps : goal.returns-in-I64-clause-steps
+returns-in-I64-clause-steps c = rw c.in-I64.is c.write-in-I64.ensures.steps
