@@ -1,0 +1,9 @@
+pub mod Owners
+pub mod Results
+pub mod Changes
+pub mod LeafChanges
+pub mod Prunes
+pub mod NodeReads
+pub mod Gives
+pub mod Sizes
+pub mod Roots

@@ -1,0 +1,11 @@
+pub mod Places
+pub mod Blocks
+pub mod Sound
+pub mod Same
+pub mod Pruned
+pub mod Given
+pub mod HasPlaces
+pub mod Field
+pub mod Table
+pub mod EntryFacts
+pub mod SameFacts
