@@ -1,0 +1,5 @@
+mod Pointers
+mod KeptValues
+mod HeldGridValues
+mod HeldSceneValues
+mod NextActive

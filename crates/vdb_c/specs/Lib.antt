@@ -1,0 +1,9 @@
+pub mod Kept
+pub mod HeldGrid
+pub mod HeldScene
+pub mod Codes
+pub mod Values
+pub mod Calls
+pub mod Reports
+pub mod Scenes
+pub mod Regions

@@ -1,0 +1,31 @@
+//! The engine for C: grids and scenes behind handles.
+//!
+//! A call takes handles, numbers and arrays, and returns a code. Code 0 means that it is done. With any other code no cell, no limit
+//! and nothing that the call writes to has changed. Each call tests its arguments, so none has a condition; what C owes is
+//! stated in the header.
+//!
+//! The modules, from below:
+//! - `kept`: the pointer of a box, the one module that makes and follows it.
+//! - `held_grid`, `held_scene`, `handles`: what C holds.
+//! - `codes`, `values`: codes, types, values, states, accessors and boxes as they cross.
+//! - `grid_life`, `voxels`, `regions`: calls on one grid.
+//! - `pairs`: calls that combine two grids.
+//! - `scene_files`, `scene_grids`, `scene_moves`: calls on a scene and on its grids.
+//! - `reports`, `found`: calls that report on a grid.
+#![tactic(auto)]
+
+mod codes;
+mod found;
+mod grid_life;
+mod handles;
+mod held_grid;
+mod held_scene;
+mod kept;
+mod pairs;
+mod regions;
+mod reports;
+mod scene_files;
+mod scene_grids;
+mod scene_moves;
+mod values;
+mod voxels;
