@@ -5,7 +5,7 @@ It reports and exits with status 1 if
 
 - a relative link of a Markdown file names no file or no heading,
 - a sentence outside tables and code has more than 40 words,
-- the example in README.md differs from `main` of example_first, which CI compiles,
+- the example in docs/LIBRARY.md differs from `main` of example_first, which CI compiles,
 - README.md has more than 120 lines,
 - the table of definitions in docs/PROOFS.md gives a wrong number of lines or a wrong sum.
 """
@@ -87,8 +87,8 @@ def stale_numbers():
     """Yields the numbers and copies that are out of date."""
     program, readme = text("crates/example_first/src/main.rt"), text("README.md")
     example = "".join(f"    {line}" if line.strip() else line for line in program[program.index("fn main") :].splitlines(True))
-    if example not in readme:
-        yield "README.md: another main than that of example_first"
+    if example not in text("docs/LIBRARY.md"):
+        yield "docs/LIBRARY.md: another main than that of example_first"
     if readme.count("\n") > README_LINES:
         yield f"README.md: {readme.count(chr(10))} lines"
     proofs, sums = text("docs/PROOFS.md"), [0, 0]

@@ -1,8 +1,9 @@
 #!/usr/bin/env python3
 """Tests the built programs and the tools around them: programs.py
 
-It runs the fault injection, the tests of tools/vdb-run and those of python/vdbs. The last need NumPy: if no interpreter has it, this
-installs Debian's python3-numpy if it may, else it skips these tests and counts them. The last line is 'N passed, M failed, K skipped'.
+It runs the fault injection, the tests of tools/vdb-run and tools/libvdb, and those of the Python packages. The last need NumPy: if no
+interpreter has it, this installs Debian's python3-numpy if it may, else it skips these tests and counts them. The last line is
+'N passed, M failed, K skipped'.
 """
 import os
 import re
@@ -63,18 +64,19 @@ def installed():
     return with_numpy()
 
 
-def of_package():
-    """The tests of python/vdbs."""
+def of_packages():
+    """The tests of python/vdbs and python/vdb."""
     interpreter, folder = installed(), f"{TOP}/python/tests"
     if interpreter:
         return tested([interpreter, "-m", "unittest", "discover", "-s", folder, "-t", f"{TOP}/python"])
-    print("no interpreter has NumPy: the tests of python/vdbs are skipped")
+    print("no interpreter has NumPy: the tests of the Python packages are skipped")
     texts = (open(f"{folder}/{name}", encoding="utf-8").read() for name in os.listdir(folder) if name.endswith(".py"))
     return 0, 0, sum(len(re.findall(r"^    def test_", text, re.M)) for text in texts)
 
 
 def main():
-    results = [injected(), tested([sys.executable, f"{TOP}/tools/test_vdb_run.py"]), of_package()]
+    tools = [tested([sys.executable, f"{TOP}/tools/{name}"]) for name in ("test_vdb_run.py", "test_libvdb.py")]
+    results = [injected(), *tools, of_packages()]
     passed, failed, skipped = (sum(column) for column in zip(*results))
     print(f"{passed} passed, {failed} failed, {skipped} skipped")
     sys.exit(failed > 0)

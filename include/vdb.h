@@ -1,0 +1,345 @@
+/* libvdb: sparse grids of booleans and integers, for C and C++.
+ *
+ * A grid has a cell at each coordinate of three signed 32-bit integers: a value, and a state that is active or inactive.
+ * It is stored as a VDB tree of tiles and of leaves of 8 x 8 x 8 voxels. Tiles and leaves never alter a cell.
+ *
+ *     #include <vdb.h>
+ *
+ *     vdb_grid grid = VDB_GRID_INIT;
+ *     int32_t code = vdb_grid_new(&grid, VDB_I32, 0, VDB_LIMIT_DEFAULT);
+ *     if (!code)
+ *         code = vdb_grid_set(&grid, VDB_NO_ACCESSOR, 1, 2, 3, 5, 1);
+ *     if (code)
+ *         fprintf(stderr, "labels: %s\n", vdb_message(code));
+ *     vdb_grid_free(&grid);
+ *
+ * Handles. A vdb_grid or vdb_scene is a struct in the memory of the caller. It starts empty: VDB_GRID_INIT,
+ * VDB_SCENE_INIT, or all bytes 0. Calls create a grid or scene in it; vdb_grid_free and vdb_scene_free end that and leave
+ * the handle empty. Never change a field. Never copy a handle by assignment, unless the old one isn't used again:
+ * vdb_grid_copy makes a second grid.
+ *
+ * Codes. Each call except the two that free returns a code. VDB_OK is 0: done. After any other code nothing has changed,
+ * neither a grid or scene nor what a pointer argument points to. A call whose
+ * comment names no code returns VDB_OK or VDB_EMPTY alone; every call returns VDB_EMPTY if a handle that it needs is empty.
+ * vdb_message returns the text of a code.
+ *
+ * Values cross as int64_t: 0 or 1 for VDB_BOOL, -2,147,483,648 to 2,147,483,647 for VDB_I32, any for VDB_I64. A state
+ * comes out as 1 (active) or 0 (inactive); every state but 0 goes in as active.
+ *
+ * Coordinates are voxels. A box includes both of its corners, and its least corner comes first.
+ *
+ * Block order: by cubes of 4,096 voxels along each axis, within these by cubes of 128, within these by cubes of 8, within
+ * these by voxels, each in order of x, then y, then z.
+ *
+ * Memory comes from malloc, and goes back with free when the handle is freed. If malloc refuses, the call returns
+ * VDB_MEMORY and the program goes on.
+ *
+ * Threads. One call at a time may use a handle, also for look-ups. Threads may use different handles at the same time, and
+ * a handle may pass from one thread to another. The library keeps nothing outside its handles. Make no call in a signal handler.
+ *
+ * The caller owes what no code can tell. Each pointer points to an initialised object of its type, or to as many as the
+ * length beside it says. It isn't null, not even beside a length of 0. No two arguments of a call overlap, so a call on two
+ * grids needs two handles.
+ */
+#ifndef VDB_H
+#define VDB_H
+
+#include <stddef.h>
+#include <stdint.h>
+
+#ifdef __cplusplus
+extern "C" {
+#endif
+
+/* A handle of a grid. The fields belong to the library. */
+typedef struct vdb_grid {
+    void *at;
+    uint64_t visits;
+} vdb_grid;
+
+/* A handle of a scene, which holds up to 64 grids by name. The fields belong to the library. */
+typedef struct vdb_scene {
+    void *at;
+    uint64_t visits;
+} vdb_scene;
+
+#define VDB_GRID_INIT { 0, 0 }
+#define VDB_SCENE_INIT { 0, 0 }
+
+/* A voxel. */
+typedef struct vdb_coord {
+    int32_t x, y, z;
+} vdb_coord;
+
+/* A box of voxels with its least and its greatest corner, both included. */
+typedef struct vdb_box {
+    vdb_coord min, max;
+} vdb_box;
+
+/* All voxels, as an initialiser of a vdb_box. */
+#define VDB_EVERYWHERE { { INT32_MIN, INT32_MIN, INT32_MIN }, { INT32_MAX, INT32_MAX, INT32_MAX } }
+
+/* A number of voxels, high * 2^64 + low, at most 2^96. */
+typedef struct vdb_count {
+    uint64_t low, high;
+} vdb_count;
+
+/* The size of the smallest tree of a grid's cells. It depends on the cells alone. */
+typedef struct vdb_census {
+    uint64_t roots; /* root blocks (cubes of 4,096 voxels) with a cell other than the background, inactive */
+    uint64_t upper; /* cubes of 4,096 voxels whose cells aren't all equal */
+    uint64_t lower; /* cubes of 128 voxels whose cells aren't all equal */
+    uint64_t leaf;  /* cubes of 8 voxels whose cells aren't all equal */
+} vdb_census;
+
+/* The type of a grid's values. */
+enum { VDB_BOOL = 0, VDB_I32 = 1, VDB_I64 = 2 };
+
+/* A grid has the accessors 0 to 7. Each keeps the path to the voxel that it last visited, so that the next one nearby takes
+ * less time. VDB_NO_ACCESSOR starts at the root. */
+enum { VDB_NO_ACCESSOR = -1, VDB_ACCESSORS = 8 };
+
+/* Limits. The root limit of a grid is the most root blocks that may have a cell other than the background, inactive. */
+enum {
+    VDB_LIMIT_DEFAULT = 4096,
+    VDB_LIMIT_MOST = 65536,
+    VDB_ITERATIONS_MOST = 16,
+    VDB_GRIDS_MOST = 64,
+    VDB_METAS_MOST = 16,
+    VDB_NAME_MOST = 16,
+    VDB_TEXT_MOST = 64,
+    VDB_FILE_MOST = 268435456
+};
+
+/* The codes. */
+enum {
+    VDB_OK = 0,
+    VDB_EMPTY = 1,
+    VDB_MEMORY = 2,
+    VDB_ROOT_LIMIT = 3,
+    VDB_RANGE = 4,
+    VDB_SUM_RANGE = 5,
+    VDB_KINDS = 6,
+    VDB_NO_SUM = 7,
+    VDB_NO_GRID = 8,
+    VDB_NAME = 9,
+    VDB_NAME_TAKEN = 10,
+    VDB_GRID_LIMIT = 11,
+    VDB_META_LIMIT = 12,
+    VDB_NO_META = 13,
+    VDB_TEXT = 14,
+    VDB_BUFFER = 15,
+    /* Faults of a scene file. */
+    VDB_FILE_MAGIC = 20,
+    VDB_FILE_VERSION = 21,
+    VDB_FILE_TRUNCATED = 22,
+    VDB_FILE_NAME = 23,
+    VDB_FILE_KIND = 24,
+    VDB_FILE_VALUE = 25,
+    VDB_FILE_LIMIT = 26,
+    VDB_FILE_META = 27,
+    VDB_FILE_KEY = 28,
+    VDB_FILE_ROOT_LIMIT = 29,
+    VDB_FILE_TAG = 30,
+    VDB_FILE_INDEX = 31,
+    VDB_FILE_BACKGROUND = 32,
+    VDB_FILE_CONSTANT_NODE = 33,
+    VDB_FILE_TRAILING = 34,
+    VDB_FILE_TOO_LONG = 35
+};
+
+/* Returns the text of a code, which is never freed. */
+static inline const char *vdb_message(int32_t code)
+{
+    switch (code) {
+    case VDB_OK: return "done";
+    case VDB_EMPTY: return "the handle is empty";
+    case VDB_MEMORY: return "out of memory";
+    case VDB_ROOT_LIMIT: return "the grid would need more root blocks than its root limit";
+    case VDB_RANGE: return "an argument is out of range";
+    case VDB_SUM_RANGE: return "a sum is outside the type of the grid's values";
+    case VDB_KINDS: return "the two grids have values of different types";
+    case VDB_NO_SUM: return "booleans have no sum";
+    case VDB_NO_GRID: return "the scene has no such grid";
+    case VDB_NAME: return "a name is a letter a to z, then up to 15 of a to z, 0 to 9 and _";
+    case VDB_NAME_TAKEN: return "the scene has a grid of this name";
+    case VDB_GRID_LIMIT: return "a scene has at most 64 grids";
+    case VDB_META_LIMIT: return "a grid has at most 16 metadata pairs";
+    case VDB_NO_META: return "the grid has no such metadata pair";
+    case VDB_TEXT: return "a metadata text is 1 to 64 printable ASCII characters without spaces";
+    case VDB_BUFFER: return "the buffer is too small";
+    case VDB_FILE_MAGIC: return "magic: the file doesn't begin with VDBS";
+    case VDB_FILE_VERSION: return "version: the version is neither 1 nor 2";
+    case VDB_FILE_TRUNCATED: return "truncated: the file ends before a field or inside it";
+    case VDB_FILE_NAME: return "name: a name has another form or order, or the file has more than 64 grids";
+    case VDB_FILE_KIND: return "kind: the number of a grid's type is above 2";
+    case VDB_FILE_VALUE: return "value: the byte of a boolean is above 1";
+    case VDB_FILE_LIMIT: return "limit: a root limit is 0 or above 65,536";
+    case VDB_FILE_META: return "meta: a metadata pair has another form or order, or a grid has more than 16";
+    case VDB_FILE_KEY: return "key: the key of a root block is out of range or out of order";
+    case VDB_FILE_ROOT_LIMIT: return "root-limit: a grid has more root blocks than its root limit";
+    case VDB_FILE_TAG: return "tag: a body begins with a byte that is no tag";
+    case VDB_FILE_INDEX: return "index: the count or the number of an entry is out of range or out of order";
+    case VDB_FILE_BACKGROUND: return "background: the file lists an inactive cell of the background";
+    case VDB_FILE_CONSTANT_NODE: return "constant-node: all entries of a node have the same cell";
+    case VDB_FILE_TRAILING: return "trailing: a byte follows the last field";
+    case VDB_FILE_TOO_LONG: return "too-long: a file has at most 268,435,456 bytes";
+    default: return "unknown code";
+    }
+}
+
+/* ---- A grid -------------------------------------------------------------------------------------------------------- */
+
+/* Creates a grid with values of type `kind`, in which each cell is the background, inactive. It replaces the handle's grid.
+ * VDB_RANGE: no such type, a background outside it, or a limit outside 1 to 65,536. VDB_MEMORY. */
+int32_t vdb_grid_new(vdb_grid *grid, int32_t kind, int64_t background, uint32_t limit);
+
+/* Frees the handle's grid, if it has one, and leaves the handle empty. */
+void vdb_grid_free(vdb_grid *grid);
+
+/* Copies a grid, which replaces the grid of the other handle. The accessors of the copy are empty. VDB_MEMORY. */
+int32_t vdb_grid_copy(vdb_grid *from, vdb_grid *to);
+
+/* Returns the type of the values, the background, and the root limit. */
+int32_t vdb_grid_kind(vdb_grid *grid, int32_t *kind);
+int32_t vdb_grid_background(vdb_grid *grid, int64_t *value);
+int32_t vdb_grid_limit(vdb_grid *grid, uint32_t *limit);
+
+/* Returns the value and the state of a voxel, from the root. */
+int32_t vdb_grid_get(vdb_grid *grid, int32_t x, int32_t y, int32_t z, int64_t *value, int32_t *active);
+
+/* Returns the value and the state of a voxel through an accessor. VDB_RANGE: no such accessor. */
+int32_t vdb_grid_probe(vdb_grid *grid, int32_t accessor, int32_t x, int32_t y, int32_t z, int64_t *value, int32_t *active);
+
+/* Sets the value and the state of a voxel, or only one of them, through an accessor or without one.
+ * VDB_RANGE: no such accessor, or a value outside the type. VDB_ROOT_LIMIT. VDB_MEMORY. */
+int32_t vdb_grid_set(vdb_grid *grid, int32_t accessor, int32_t x, int32_t y, int32_t z, int64_t value, int32_t active);
+int32_t vdb_grid_set_value(vdb_grid *grid, int32_t accessor, int32_t x, int32_t y, int32_t z, int64_t value);
+int32_t vdb_grid_set_active(vdb_grid *grid, int32_t accessor, int32_t x, int32_t y, int32_t z, int32_t active);
+
+/* Sets the value and the state of each voxel of a box.
+ * VDB_RANGE: corners out of order, or a value outside the type. VDB_ROOT_LIMIT. VDB_MEMORY. */
+int32_t vdb_grid_fill(vdb_grid *grid, const vdb_box *box, int64_t value, int32_t active);
+
+/* Sets each voxel outside a box to the background, inactive. VDB_RANGE: corners out of order. VDB_MEMORY. */
+int32_t vdb_grid_clip(vdb_grid *grid, const vdb_box *box);
+
+/* Makes the tree as small as its cells allow. No cell changes. */
+int32_t vdb_grid_prune(vdb_grid *grid);
+
+/* Puts each active voxel of a box into a leaf. No cell changes. It visits every cube of 8 voxels in the box, so give it a small
+ * box, such as that of vdb_grid_bounds. VDB_RANGE: corners out of order. VDB_MEMORY. */
+int32_t vdb_grid_voxelise(vdb_grid *grid, const vdb_box *box);
+
+/* Activates, in each of 1 to 16 iterations, every voxel that has an active face neighbour. No value changes.
+ * VDB_RANGE: the number of iterations. VDB_ROOT_LIMIT. VDB_MEMORY, which may also hide a VDB_ROOT_LIMIT. */
+int32_t vdb_grid_dilate(vdb_grid *grid, uint32_t iterations);
+
+/* Deactivates, in each of 1 to 16 iterations, every voxel that has an inactive face neighbour. No value changes.
+ * VDB_RANGE: the number of iterations. VDB_MEMORY. */
+int32_t vdb_grid_erode(vdb_grid *grid, uint32_t iterations);
+
+/* ---- Two grids: the first one changes, the other one stays ---------------------------------------------------------- */
+
+/* Activates each voxel that is active in the other grid. No value changes, and types may differ. VDB_ROOT_LIMIT. VDB_MEMORY. */
+int32_t vdb_grid_unite(vdb_grid *grid, vdb_grid *other);
+
+/* Deactivates each voxel that is active in the other grid. No value changes, and types may differ. VDB_MEMORY. */
+int32_t vdb_grid_subtract(vdb_grid *grid, vdb_grid *other);
+
+/* Deactivates each voxel that is inactive in the other grid. No value changes, and types may differ. VDB_MEMORY. */
+int32_t vdb_grid_intersect(vdb_grid *grid, vdb_grid *other);
+
+/* Sets each voxel and the background to the greater or the lesser of its two values. A voxel that is active in either grid is
+ * active then. VDB_KINDS. VDB_ROOT_LIMIT. VDB_MEMORY. */
+int32_t vdb_grid_maximum(vdb_grid *grid, vdb_grid *other);
+int32_t vdb_grid_minimum(vdb_grid *grid, vdb_grid *other);
+
+/* Sets each voxel and the background to the sum of its two values. A voxel that is active in either grid is active then.
+ * VDB_KINDS. VDB_NO_SUM: both grids have booleans. VDB_SUM_RANGE: a sum is outside the type. VDB_ROOT_LIMIT. VDB_MEMORY. */
+int32_t vdb_grid_sum(vdb_grid *grid, vdb_grid *other);
+
+/* Copies the value and the state of each voxel that is active in the other grid. VDB_KINDS. VDB_ROOT_LIMIT. VDB_MEMORY. */
+int32_t vdb_grid_replace(vdb_grid *grid, vdb_grid *other);
+
+/* ---- Reports of a grid, none of which needs memory ------------------------------------------------------------------ */
+
+/* Returns the number of active voxels, of the grid or of a box. VDB_RANGE: corners out of order. */
+int32_t vdb_grid_count(vdb_grid *grid, vdb_count *count);
+int32_t vdb_grid_count_in(vdb_grid *grid, const vdb_box *box, vdb_count *count);
+
+/* Returns the bounding box of the active voxels. If no voxel is active, *found is 0 and *box stays; otherwise *found is 1. */
+int32_t vdb_grid_bounds(vdb_grid *grid, vdb_box *box, int32_t *found);
+
+/* Returns the size of the smallest tree of the grid's cells. */
+int32_t vdb_grid_census(vdb_grid *grid, vdb_census *census);
+
+/* Returns the first active voxel of a box in block order, or the first one after *at, and its value. If none is left, *found
+ * is 0, and *at and *value stay; otherwise *found is 1. VDB_RANGE: corners out of order.
+ *
+ *     for (code = vdb_grid_first_active(g, &box, &at, &value, &found); !code && found;
+ *          code = vdb_grid_next_active(g, &box, &at, &value, &found))
+ *         ...
+ */
+int32_t vdb_grid_first_active(vdb_grid *grid, const vdb_box *box, vdb_coord *at, int64_t *value, int32_t *found);
+int32_t vdb_grid_next_active(vdb_grid *grid, const vdb_box *box, vdb_coord *at, int64_t *value, int32_t *found);
+
+/* ---- A scene -------------------------------------------------------------------------------------------------------- */
+
+/* A name, a key or a text is an array of bytes and its length. No 0 ends it. VDB_NAME: a name or a key has another form than
+ * a letter a to z, then up to 15 of a to z, 0 to 9 and _. */
+
+/* Creates a scene without grids. It replaces the handle's scene. VDB_MEMORY. */
+int32_t vdb_scene_new(vdb_scene *scene);
+
+/* Frees the handle's scene with its grids, if it has one, and leaves the handle empty. */
+void vdb_scene_free(vdb_scene *scene);
+
+/* Creates a scene from the bytes of a scene file. It replaces the handle's scene. VDB_FILE_..: the first fault of the file.
+ * VDB_MEMORY. */
+int32_t vdb_scene_load(vdb_scene *scene, const uint8_t *bytes, size_t len);
+
+/* Returns the length of the scene's file in bytes. A file has at most 268,435,456. */
+int32_t vdb_scene_length(vdb_scene *scene, uint64_t *length);
+
+/* Writes the scene's file into a buffer, and returns its length. VDB_FILE_TOO_LONG. VDB_BUFFER. VDB_MEMORY. */
+int32_t vdb_scene_save(vdb_scene *scene, uint8_t *bytes, size_t len, uint64_t *written);
+
+/* Returns the number of grids. */
+int32_t vdb_scene_count(vdb_scene *scene, uint64_t *count);
+
+/* Returns the name of a grid and its length, by the index of the grid in order of names. VDB_NO_GRID. VDB_BUFFER: VDB_NAME_MOST
+ * bytes are always enough. */
+int32_t vdb_scene_name(vdb_scene *scene, size_t index, char *out, size_t room, uint64_t *used);
+
+/* Moves a grid into the scene. Its handle is empty then. VDB_NAME. VDB_NAME_TAKEN. VDB_GRID_LIMIT. VDB_MEMORY. */
+int32_t vdb_scene_put(vdb_scene *scene, const char *name, size_t len, vdb_grid *grid);
+
+/* Moves a grid out of the scene, and replaces the grid of the handle by it. Its metadata are gone then. VDB_NAME. VDB_NO_GRID.
+ * VDB_MEMORY. */
+int32_t vdb_scene_take(vdb_scene *scene, const char *name, size_t len, vdb_grid *grid);
+
+/* Copies a grid of the scene, and replaces the grid of the handle by it. VDB_NAME. VDB_NO_GRID. VDB_MEMORY. */
+int32_t vdb_scene_copy(vdb_scene *scene, const char *name, size_t len, vdb_grid *grid);
+
+/* Returns the number of metadata pairs of a grid. VDB_NAME. VDB_NO_GRID. */
+int32_t vdb_scene_meta_count(vdb_scene *scene, const char *name, size_t len, uint64_t *count);
+
+/* Returns the key of a metadata pair, or its text, and the length, by the index of the pair in order of keys. VDB_NAME. VDB_NO_GRID.
+ * VDB_NO_META. VDB_BUFFER: VDB_NAME_MOST bytes are always enough for a key, VDB_TEXT_MOST for a text. */
+int32_t vdb_scene_meta_key(vdb_scene *scene, const char *name, size_t len, size_t index, char *out, size_t room, uint64_t *used);
+int32_t vdb_scene_meta_text(vdb_scene *scene, const char *name, size_t len, size_t index, char *out, size_t room, uint64_t *used);
+
+/* Sets the text of a key. VDB_NAME. VDB_NO_GRID. VDB_TEXT: not 1 to 64 printable ASCII characters without spaces. VDB_META_LIMIT.
+ * VDB_MEMORY. */
+int32_t vdb_scene_meta_set(vdb_scene *scene, const char *name, size_t len, const char *key, size_t key_len, const char *text,
+                           size_t text_len);
+
+/* Removes a metadata pair, if the grid has the key. VDB_NAME. VDB_NO_GRID. */
+int32_t vdb_scene_meta_remove(vdb_scene *scene, const char *name, size_t len, const char *key, size_t key_len);
+
+#ifdef __cplusplus
+}
+#endif
+
+#endif

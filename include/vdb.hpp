@@ -1,0 +1,447 @@
+// libvdb for C++17 and later: owners in place of handles, exceptions in place of codes.
+//
+//     #include <vdb.hpp>
+//
+//     vdb::Scene scene = vdb::Scene::load("labels.vdbs");
+//     vdb::Grid organ = scene.copy("organ");
+//     organ.dilate(2);
+//     std::cout << organ.count() << " active voxels\n";
+//
+// A call that fails throws: MemoryError if an allocation failed, std::system_error if a file can't be read or written,
+// otherwise Error with the code of vdb.h. Every grid and every scene is then as it was.
+//
+// Owners move and don't copy; copy() makes a second grid. A moved-from grid or scene is empty, and its calls throw VDB_EMPTY.
+// No call may run on an owner that another thread uses. Look-ups change an owner too, so they aren't const.
+#ifndef VDB_HPP
+#define VDB_HPP
+
+#include "vdb.h"
+
+#include <algorithm>
+#include <cerrno>
+#include <cstddef>
+#include <cstdio>
+#include <iterator>
+#include <map>
+#include <memory>
+#include <new>
+#include <optional>
+#include <stdexcept>
+#include <string>
+#include <string_view>
+#include <system_error>
+#include <utility>
+#include <vector>
+
+namespace vdb {
+
+using Coord = vdb_coord;
+using Box = vdb_box;
+using Census = vdb_census;
+
+// The box of all voxels.
+inline constexpr Box everywhere = VDB_EVERYWHERE;
+
+// The type of a grid's values.
+enum class Kind : int32_t { boolean = VDB_BOOL, i32 = VDB_I32, i64 = VDB_I64 };
+
+// A value and a state. The value of a boolean is 0 or 1.
+struct Cell {
+    int64_t value;
+    bool active;
+};
+
+// An active voxel.
+struct Voxel {
+    Coord at;
+    int64_t value;
+};
+
+// A call that failed. `what` is the text of the code, after the file if the call has one.
+class Error : public std::runtime_error {
+public:
+    explicit Error(int32_t code, const std::string &file = "")
+        : std::runtime_error(file.empty() ? vdb_message(code) : file + ": " + vdb_message(code)), code_(code) {}
+    int32_t code() const noexcept { return code_; }
+
+private:
+    int32_t code_;
+};
+
+// An allocation failed.
+class MemoryError : public std::bad_alloc {
+public:
+    const char *what() const noexcept override { return vdb_message(VDB_MEMORY); }
+};
+
+// Throws the exception of a code other than VDB_OK.
+inline void check(int32_t code, const std::string &file = "")
+{
+    if (code == VDB_MEMORY)
+        throw MemoryError();
+    if (code != VDB_OK)
+        throw Error(code, file);
+}
+
+namespace detail {
+
+// The bytes of a text as vdb.h wants them: never null.
+inline const char *bytes_of(std::string_view text) { return text.empty() ? "" : text.data(); }
+
+struct Close {
+    void operator()(std::FILE *file) const { std::fclose(file); }
+};
+using File = std::unique_ptr<std::FILE, Close>;
+
+[[noreturn]] inline void fail(int error, const std::string &path) { throw std::system_error(error, std::generic_category(), path); }
+
+inline File open(const std::string &path, const std::string &shown, const char *mode)
+{
+    File file(std::fopen(path.c_str(), mode));
+    if (!file)
+        fail(errno, shown);
+    return file;
+}
+
+// Returns the bytes of a file, and no more than one past the longest scene file.
+inline std::vector<uint8_t> read(const std::string &path)
+{
+    File file = open(path, path, "rb");
+    std::vector<uint8_t> bytes;
+    std::size_t had = 0;
+    do {
+        had = bytes.size();
+        bytes.resize(had + std::min<std::size_t>(std::max<std::size_t>(had, 65536), VDB_FILE_MOST + 1 - had));
+        bytes.resize(had + std::fread(bytes.data() + had, 1, bytes.size() - had, file.get()));
+    } while (bytes.size() > had && bytes.size() <= VDB_FILE_MOST);
+    if (std::ferror(file.get()))
+        fail(errno, path);
+    return bytes;
+}
+
+// Writes a file beside `path`, which then replaces it.
+inline void replace(const std::string &path, const std::vector<uint8_t> &bytes)
+{
+    const std::string beside = path + ".tmp";
+    File file = open(beside, path, "wb");
+    bool done = std::fwrite(bytes.data(), 1, bytes.size(), file.get()) == bytes.size();
+    done = std::fclose(file.release()) == 0 && done;
+    if (!done || std::rename(beside.c_str(), path.c_str()) != 0) {
+        const int error = errno;
+        std::remove(beside.c_str());
+        fail(error, path);
+    }
+}
+
+} // namespace detail
+
+class Accessor;
+class ActiveVoxels;
+
+// A grid. The comments of vdb.h describe each call.
+class Grid {
+public:
+    explicit Grid(Kind kind, int64_t background = 0, uint32_t limit = VDB_LIMIT_DEFAULT)
+    {
+        check(vdb_grid_new(&grid_, static_cast<int32_t>(kind), background, limit));
+    }
+    Grid(Grid &&other) noexcept : grid_(std::exchange(other.grid_, vdb_grid VDB_GRID_INIT)) {}
+    Grid &operator=(Grid &&other) noexcept
+    {
+        if (this != &other) {
+            vdb_grid_free(&grid_);
+            grid_ = std::exchange(other.grid_, vdb_grid VDB_GRID_INIT);
+        }
+        return *this;
+    }
+    ~Grid() { vdb_grid_free(&grid_); }
+
+    Grid copy()
+    {
+        Grid made;
+        check(vdb_grid_copy(&grid_, &made.grid_));
+        return made;
+    }
+
+    // The handle, for calls of vdb.h. It stays this object's.
+    vdb_grid *handle() { return &grid_; }
+
+    Kind kind()
+    {
+        int32_t kind = 0;
+        check(vdb_grid_kind(&grid_, &kind));
+        return static_cast<Kind>(kind);
+    }
+    int64_t background()
+    {
+        int64_t value = 0;
+        check(vdb_grid_background(&grid_, &value));
+        return value;
+    }
+    uint32_t limit()
+    {
+        uint32_t limit = 0;
+        check(vdb_grid_limit(&grid_, &limit));
+        return limit;
+    }
+
+    Cell get(Coord at) { return probe(VDB_NO_ACCESSOR, at); }
+    void set(Coord at, int64_t value, bool active = true) { check(vdb_grid_set(&grid_, VDB_NO_ACCESSOR, at.x, at.y, at.z, value, active)); }
+    void set_value(Coord at, int64_t value) { check(vdb_grid_set_value(&grid_, VDB_NO_ACCESSOR, at.x, at.y, at.z, value)); }
+    void set_active(Coord at, bool active) { check(vdb_grid_set_active(&grid_, VDB_NO_ACCESSOR, at.x, at.y, at.z, active)); }
+
+    // Accessor 0 to 7 of this grid.
+    Accessor accessor(int32_t index);
+
+    void fill(const Box &box, int64_t value, bool active = true) { check(vdb_grid_fill(&grid_, &box, value, active)); }
+    void clip(const Box &box) { check(vdb_grid_clip(&grid_, &box)); }
+    void prune() { check(vdb_grid_prune(&grid_)); }
+    void voxelise(const Box &box) { check(vdb_grid_voxelise(&grid_, &box)); }
+    void dilate(uint32_t iterations = 1) { check(vdb_grid_dilate(&grid_, iterations)); }
+    void erode(uint32_t iterations = 1) { check(vdb_grid_erode(&grid_, iterations)); }
+
+    void unite(Grid &other) { combine(vdb_grid_unite, other); }
+    void subtract(Grid &other) { combine(vdb_grid_subtract, other); }
+    void intersect(Grid &other) { combine(vdb_grid_intersect, other); }
+    void maximum(Grid &other) { combine(vdb_grid_maximum, other); }
+    void minimum(Grid &other) { combine(vdb_grid_minimum, other); }
+    void sum(Grid &other) { combine(vdb_grid_sum, other); }
+    void replace(Grid &other) { combine(vdb_grid_replace, other); }
+
+    // The number of active voxels of a box. Throws std::overflow_error above 2^64 - 1.
+    uint64_t count(const Box &box = everywhere)
+    {
+        vdb_count count = {0, 0};
+        check(vdb_grid_count_in(&grid_, &box, &count));
+        if (count.high != 0)
+            throw std::overflow_error("more than 2^64 - 1 active voxels");
+        return count.low;
+    }
+
+    // The bounding box of the active voxels, if there are any.
+    std::optional<Box> bounds()
+    {
+        Box box = everywhere;
+        int32_t found = 0;
+        check(vdb_grid_bounds(&grid_, &box, &found));
+        return found ? std::optional<Box>(box) : std::nullopt;
+    }
+
+    Census census()
+    {
+        Census census = {0, 0, 0, 0};
+        check(vdb_grid_census(&grid_, &census));
+        return census;
+    }
+
+    // The active voxels of a box in block order, for a range-based for. They may change during the loop: each step finds the
+    // first active voxel after the last one.
+    ActiveVoxels active(const Box &box = everywhere);
+
+private:
+    friend class Accessor;
+    friend class Scene;
+
+    Grid() = default;
+
+    Cell probe(int32_t accessor, Coord at)
+    {
+        int64_t value = 0;
+        int32_t active = 0;
+        check(vdb_grid_probe(&grid_, accessor, at.x, at.y, at.z, &value, &active));
+        return {value, active != 0};
+    }
+
+    void combine(int32_t (*call)(vdb_grid *, vdb_grid *), Grid &other)
+    {
+        if (&other != this)
+            return check(call(&grid_, &other.grid_));
+        Grid twin = copy();
+        check(call(&grid_, &twin.grid_));
+    }
+
+    vdb_grid grid_ = VDB_GRID_INIT;
+};
+
+// An accessor of a grid, which makes look-ups and writes near the last one faster. The grid must outlive it.
+class Accessor {
+public:
+    Accessor(Grid &grid, int32_t index) : grid_(grid), index_(index)
+    {
+        if (index < 0 || index >= VDB_ACCESSORS)
+            throw Error(VDB_RANGE);
+    }
+
+    Cell get(Coord at) { return grid_.probe(index_, at); }
+    void set(Coord at, int64_t value, bool active = true) { check(vdb_grid_set(grid_.handle(), index_, at.x, at.y, at.z, value, active)); }
+    void set_value(Coord at, int64_t value) { check(vdb_grid_set_value(grid_.handle(), index_, at.x, at.y, at.z, value)); }
+    void set_active(Coord at, bool active) { check(vdb_grid_set_active(grid_.handle(), index_, at.x, at.y, at.z, active)); }
+
+private:
+    Grid &grid_;
+    int32_t index_;
+};
+
+inline Accessor Grid::accessor(int32_t index) { return Accessor(*this, index); }
+
+// The active voxels of a box, in block order. The grid must outlive it.
+class ActiveVoxels {
+public:
+    class Iterator {
+    public:
+        using iterator_category = std::input_iterator_tag;
+        using value_type = Voxel;
+        using difference_type = std::ptrdiff_t;
+        using pointer = const Voxel *;
+        using reference = const Voxel &;
+
+        Iterator() = default;
+        Iterator(Grid &grid, const Box &box) : grid_(&grid), box_(box) { step(vdb_grid_first_active); }
+
+        reference operator*() const { return voxel_; }
+        pointer operator->() const { return &voxel_; }
+        Iterator &operator++()
+        {
+            step(vdb_grid_next_active);
+            return *this;
+        }
+        void operator++(int) { ++*this; }
+        friend bool operator==(const Iterator &a, const Iterator &b) { return a.grid_ == b.grid_; }
+        friend bool operator!=(const Iterator &a, const Iterator &b) { return a.grid_ != b.grid_; }
+
+    private:
+        void step(int32_t (*call)(vdb_grid *, const vdb_box *, vdb_coord *, int64_t *, int32_t *))
+        {
+            int32_t found = 0;
+            check(call(grid_->handle(), &box_, &voxel_.at, &voxel_.value, &found));
+            if (!found)
+                grid_ = nullptr;
+        }
+
+        Grid *grid_ = nullptr;
+        Box box_ = everywhere;
+        Voxel voxel_ = {{0, 0, 0}, 0};
+    };
+
+    ActiveVoxels(Grid &grid, const Box &box) : grid_(grid), box_(box) {}
+    Iterator begin() { return Iterator(grid_, box_); }
+    Iterator end() { return Iterator(); }
+
+private:
+    Grid &grid_;
+    Box box_;
+};
+
+inline ActiveVoxels Grid::active(const Box &box) { return ActiveVoxels(*this, box); }
+
+// A scene. The comments of vdb.h describe each call.
+class Scene {
+public:
+    Scene() { check(vdb_scene_new(&scene_)); }
+    Scene(Scene &&other) noexcept : scene_(std::exchange(other.scene_, vdb_scene VDB_SCENE_INIT)) {}
+    Scene &operator=(Scene &&other) noexcept
+    {
+        if (this != &other) {
+            vdb_scene_free(&scene_);
+            scene_ = std::exchange(other.scene_, vdb_scene VDB_SCENE_INIT);
+        }
+        return *this;
+    }
+    ~Scene() { vdb_scene_free(&scene_); }
+
+    // Reads a scene file.
+    static Scene load(const std::string &path) { return from_bytes(detail::read(path), path); }
+
+    // Reads the bytes of a scene file. `file` is its name in the text of an error.
+    static Scene from_bytes(const std::vector<uint8_t> &bytes, const std::string &file = "")
+    {
+        static const uint8_t none = 0;
+        Scene made;
+        check(vdb_scene_load(&made.scene_, bytes.empty() ? &none : bytes.data(), bytes.size()), file);
+        return made;
+    }
+
+    // Writes the scene file, through a file beside it that replaces an old one when it is complete.
+    void save(const std::string &path) { detail::replace(path, to_bytes(path)); }
+
+    // Returns the bytes of the scene file. `file` is its name in the text of an error.
+    std::vector<uint8_t> to_bytes(const std::string &file = "")
+    {
+        uint64_t length = 0;
+        check(vdb_scene_length(&scene_, &length), file);
+        if (length > VDB_FILE_MOST)
+            throw Error(VDB_FILE_TOO_LONG, file);
+        std::vector<uint8_t> bytes(length);
+        check(vdb_scene_save(&scene_, bytes.data(), bytes.size(), &length), file);
+        return bytes;
+    }
+
+    // The handle, for calls of vdb.h. It stays this object's.
+    vdb_scene *handle() { return &scene_; }
+
+    // The names of the grids, in order.
+    std::vector<std::string> names()
+    {
+        uint64_t count = 0, used = 0;
+        check(vdb_scene_count(&scene_, &count));
+        std::vector<std::string> names;
+        for (uint64_t index = 0; index < count; index++) {
+            char name[VDB_NAME_MOST] = {};
+            check(vdb_scene_name(&scene_, index, name, sizeof name, &used));
+            names.emplace_back(name, used);
+        }
+        return names;
+    }
+
+    // Moves a grid into the scene, which leaves `grid` empty.
+    void put(std::string_view name, Grid &&grid) { check(vdb_scene_put(&scene_, detail::bytes_of(name), name.size(), &grid.grid_)); }
+
+    // Moves a grid out of the scene.
+    Grid take(std::string_view name)
+    {
+        Grid grid;
+        check(vdb_scene_take(&scene_, detail::bytes_of(name), name.size(), &grid.grid_));
+        return grid;
+    }
+
+    // Copies a grid of the scene.
+    Grid copy(std::string_view name)
+    {
+        Grid grid;
+        check(vdb_scene_copy(&scene_, detail::bytes_of(name), name.size(), &grid.grid_));
+        return grid;
+    }
+
+    // Returns the metadata pairs of a grid.
+    std::map<std::string, std::string> metadata(std::string_view name)
+    {
+        uint64_t count = 0, used = 0;
+        check(vdb_scene_meta_count(&scene_, detail::bytes_of(name), name.size(), &count));
+        std::map<std::string, std::string> pairs;
+        for (uint64_t index = 0; index < count; index++) {
+            char key[VDB_NAME_MOST] = {}, text[VDB_TEXT_MOST] = {};
+            check(vdb_scene_meta_key(&scene_, detail::bytes_of(name), name.size(), index, key, sizeof key, &used));
+            const std::string found(key, used);
+            check(vdb_scene_meta_text(&scene_, detail::bytes_of(name), name.size(), index, text, sizeof text, &used));
+            pairs.emplace(found, std::string(text, used));
+        }
+        return pairs;
+    }
+
+    void set_metadata(std::string_view name, std::string_view key, std::string_view text)
+    {
+        check(vdb_scene_meta_set(&scene_, detail::bytes_of(name), name.size(), detail::bytes_of(key), key.size(), detail::bytes_of(text),
+                                 text.size()));
+    }
+    void remove_metadata(std::string_view name, std::string_view key)
+    {
+        check(vdb_scene_meta_remove(&scene_, detail::bytes_of(name), name.size(), detail::bytes_of(key), key.size()));
+    }
+
+private:
+    vdb_scene scene_ = VDB_SCENE_INIT;
+};
+
+} // namespace vdb
+
+#endif

@@ -1,0 +1,260 @@
+"""The package vdb over libvdb, against brute force and against vdbs."""
+import copy
+import os
+import tempfile
+import unittest
+from pathlib import Path
+
+from .support import DTYPES, EXTREMES, boxes, chance, np, random_array, vdbs
+
+try:
+    import vdb
+except ImportError as error:
+    raise unittest.SkipTest(str(error)) from error
+
+MOST = 2**31 - 1
+
+
+def random_grid(dice, kind=None):
+    """A random array with its states and its least corner, and the grid of it."""
+    kind = kind or dice.choice(list(EXTREMES))
+    background = dice.choice(EXTREMES[kind])
+    low = tuple(dice.choice([0, -8, 3, -5, 124, 4090, -4100]) for _ in range(3))
+    shape = tuple(dice.randint(1, 20) for _ in range(3))
+    values, active = random_array(dice, kind, background, low, shape)
+    return values, active, low, vdb.Grid.from_array(values, active, low, background)
+
+
+def shifted(mask, axis, step):
+    """The mask moved by one voxel along an axis."""
+    moved = np.zeros_like(mask)
+    source, target = [slice(None)] * 3, [slice(None)] * 3
+    source[axis], target[axis] = (slice(None, -1), slice(1, None)) if step > 0 else (slice(1, None), slice(None, -1))
+    moved[tuple(target)] = mask[tuple(source)]
+    return moved
+
+
+def dilated(mask):
+    return np.logical_or.reduce([mask, *(shifted(mask, axis, step) for axis in range(3) for step in (-1, 1))])
+
+
+class Arrays(unittest.TestCase):
+    def test_random(self):
+        for seed in range(60):
+            with self.subTest(seed=seed):
+                dice = chance(seed)
+                values, active, low, grid = random_grid(dice)
+                high = tuple(at + side - 1 for at, side in zip(low, values.shape))
+                found, states = grid.to_array((low, high))
+                self.assertEqual((found.dtype, states.dtype), (values.dtype, np.dtype(np.bool_)))
+                np.testing.assert_array_equal(found, values)
+                np.testing.assert_array_equal(states, active)
+                self.assertEqual((grid.bounds, grid.count), (boxes(values, active, low)[0], int(active.sum())))
+                wider = tuple(tuple(a + step for a in corner) for corner, step in ((low, -9), (high, 9)))
+                found, states = grid.to_array(wider, fill=EXTREMES[grid.kind][1])
+                inner = tuple(slice(9, -9) for _ in range(3))
+                np.testing.assert_array_equal(found[inner][active], values[active])
+                self.assertTrue((found[~states] == EXTREMES[grid.kind][1]).all())
+                self.assertEqual(int(states.sum()), grid.count)
+
+    def test_empty(self):
+        for shape in ((0, 0, 0), (0, 5, 5), (5, 0, 5)):
+            self.assertEqual(vdb.Grid.from_array(np.zeros(shape, np.int64)).count, 0)
+        values, active = vdb.Grid("bool").to_array()
+        self.assertEqual((values.shape, active.shape, values.dtype), ((0, 0, 0), (0, 0, 0), np.bool_))
+
+    def test_types_are_checked(self):
+        for dtype in (np.float32, np.uint64, "U1"):
+            with self.assertRaises(TypeError):
+                vdb.Grid.from_array(np.zeros((1, 1, 1), dtype))
+        cube = np.zeros((2, 2, 2), np.int32)
+        for wrong in (np.zeros((2, 2), np.int32), np.zeros((2, 2, 2, 1), np.int32)):
+            with self.assertRaises(ValueError):
+                vdb.Grid.from_array(wrong)
+        with self.assertRaises(ValueError):
+            vdb.Grid.from_array(cube, np.zeros((2, 2, 1), np.bool_))
+        with self.assertRaises(TypeError):
+            vdb.Grid.from_array(cube, cube)
+        with self.assertRaises(ValueError):
+            vdb.Grid.from_array(cube, origin=(0, 0, MOST))
+        with self.assertRaisesRegex(vdb.RootLimitError, "needs 2 root blocks, and its limit is 1"):
+            vdb.Grid.from_array(cube + 1, origin=(-1, 0, 0), limit=1)
+        with self.assertRaises(vdb.ArrayTooLargeError):
+            vdb.Grid("i64").to_array(((0, 0, 0), (4095, 4095, 4095)))
+
+
+class Calls(unittest.TestCase):
+    def test_voxels(self):
+        grid = vdb.Grid("i32", -1, limit=3)
+        self.assertEqual((grid.kind, grid.background, grid.limit, grid[1, 2, 3]), ("i32", -1, 3, (-1, False)))
+        grid[1, 2, 3] = 5
+        grid[1, 2, 4] = 6, False
+        grid.set_active((1, 2, 5), True)
+        grid.set_value((1, 2, 3), np.int32(7))
+        self.assertEqual([grid[1, 2, z] for z in (3, 4, 5)], [(7, True), (6, False), (-1, True)])
+        self.assertEqual(list(grid.voxels()), [((1, 2, 3), 7), ((1, 2, 5), -1)])
+        self.assertEqual(list(grid.voxels(((1, 2, 4), (1, 2, 9)))), [((1, 2, 5), -1)])
+        flags = vdb.Grid("bool")
+        flags[0, 0, -1] = True
+        self.assertEqual((flags[0, 0, -1], flags.count), ((True, True), 1))
+
+    def test_boxes(self):
+        grid = vdb.Grid("i64")
+        grid.fill(((0, 0, 0), (9, 9, 9)), 2**40)
+        self.assertEqual((grid.count, grid.count_in(((0, 0, 0), (0, 9, 4))), grid.bounds), (1000, 50, ((0, 0, 0), (9, 9, 9))))
+        grid.voxelise(((0, 0, 0), (9, 9, 9)))
+        self.assertEqual(grid.census(), (1, 1, 1, 7))
+        grid.prune()
+        grid.clip(((0, 0, 0), (9, 9, 0)))
+        self.assertEqual(grid.count, 100)
+        grid.fill(((0, 0, 0), (4095, 4095, 4095)), -1)
+        self.assertEqual((grid.count, grid.census()), (2**36, (1, 0, 0, 0)))
+
+    def test_dilate_and_erode(self):
+        for seed in range(20):
+            with self.subTest(seed=seed):
+                dice = chance(seed)
+                values, active, low, grid = random_grid(dice)
+                times = dice.randint(1, 3)
+                wider = np.pad(active, 4)
+                box = tuple(tuple(a + step for a in corner) for corner, step in ((low, -4), ([a + b - 1 for a, b in zip(low, active.shape)], 4)))
+                grown, shrunk = wider, wider
+                for _ in range(times):
+                    grown, shrunk = dilated(grown), ~dilated(~shrunk)
+                other = grid.copy()
+                grid.dilate(times)
+                other.erode(times)
+                np.testing.assert_array_equal(grid.to_array(box)[1], grown)
+                np.testing.assert_array_equal(other.to_array(box)[1], shrunk)
+
+    def test_two_grids(self):
+        for seed in range(20):
+            with self.subTest(seed=seed):
+                dice = chance(seed)
+                first, second = (random_array(dice, "i32", 0, (0, 0, 0), (17, 9, 12)) for _ in range(2))
+                (a, on), (b, also) = [(np.clip(values, -1000, 1000), active) for values, active in (first, second)]
+                one, two = vdb.Grid.from_array(a, on), vdb.Grid.from_array(b, also)
+                box = (0, 0, 0), (16, 8, 11)
+                for made, wanted in ((one | two, on | also), (one & two, on & also), (one - two, on & ~also)):
+                    np.testing.assert_array_equal(made.to_array(box)[1], wanted)
+                    np.testing.assert_array_equal(made.to_array(box)[0], a)
+                for name, values in (("maximum", np.maximum(a, b)), ("minimum", np.minimum(a, b)), ("sum", a + b)):
+                    made = one.copy()
+                    getattr(made, name)(two)
+                    np.testing.assert_array_equal(made.to_array(box), (values, on | also))
+                made = one.copy()
+                made.replace(two)
+                np.testing.assert_array_equal(made.to_array(box), (np.where(also, b, a), on | also))
+                np.testing.assert_array_equal(one.to_array(box), (a, on))
+
+    def test_one_grid_twice(self):
+        values, active, low, grid = random_grid(chance(3), "i64")
+        before = grid.to_array()
+        for call in (grid.unite, grid.intersect, grid.maximum, grid.minimum, grid.replace):
+            call(grid)
+        grid |= grid
+        grid &= grid
+        for found, wanted in zip(grid.to_array(), before):
+            np.testing.assert_array_equal(found, wanted)
+        self.assertEqual(((grid - grid).count, (grid | grid).count, (grid & grid).count), (0, grid.count, grid.count))
+        small = vdb.Grid("i32")
+        small[0, 0, 0] = 4
+        small.sum(small)
+        self.assertEqual(small[0, 0, 0], (8, True))
+        small -= small
+        self.assertEqual(small[0, 0, 0], (8, False))
+
+    def test_copies_are_independent(self):
+        grid = vdb.Grid("i32", metadata={"unit": "mm"})
+        for other in (grid.copy(), copy.copy(grid), copy.deepcopy(grid)):
+            other[0, 0, 0] = 5
+            other.metadata["unit"] = "cm"
+            self.assertEqual((grid[0, 0, 0], grid.metadata["unit"], other[0, 0, 0]), ((0, False), "mm", (5, True)))
+
+    def test_errors_name_the_reason_and_change_nothing(self):
+        grid = vdb.Grid("i32", limit=1)
+        grid[0, 0, 0] = MOST
+        box, flags = ((0, 0, 0), (1, 1, 1)), vdb.Grid("bool")
+        for error, text, call in (
+            (ValueError, "the value 2147483648 is outside i32", lambda: grid.fill(box, MOST + 1)),
+            (TypeError, "the value of an i32 grid is an integer", lambda: grid.fill(box, 1.5)),
+            (ValueError, "greater than the maximum", lambda: grid.fill(box[::-1], 1)),
+            (ValueError, "outside 32 bits", lambda: grid[0, 0, MOST + 1]),
+            (TypeError, "three integers", lambda: grid[0, 0]),
+            (ValueError, "1 to 16, not 17", lambda: grid.dilate(17)),
+            (ValueError, "1 to 16, not 0", lambda: grid.erode(0)),
+            (TypeError, "not float", lambda: grid.unite(1.5)),
+            (ValueError, "'bool', 'i32' or 'i64'", lambda: vdb.Grid("f32")),
+            (ValueError, "from 1 to 65,536", lambda: vdb.Grid("i32", limit=0)),
+            (vdb.RootLimitError, "more root blocks than its root limit", lambda: grid.fill(((0, 0, 0), (0, 0, 4096)), 1)),
+            (vdb.RootLimitError, "more root blocks than its root limit", lambda: grid.dilate(1)),
+            (vdb.SumRangeError, "a sum is outside the type", lambda: grid.sum(grid)),
+            (vdb.KindsError, "different types", lambda: grid.maximum(flags)),
+            (vdb.KindsError, "booleans have no sum", lambda: flags.sum(vdb.Grid("bool"))),
+        ):
+            with self.subTest(text), self.assertRaisesRegex(error, text):
+                call()
+            self.assertEqual((grid.count, grid[0, 0, 0]), (1, (MOST, True)))
+
+
+class Scenes(unittest.TestCase):
+    def test_the_files_are_those_of_vdbs(self):
+        for seed in range(20):
+            with self.subTest(seed=seed):
+                dice = chance(seed)
+                scene, other = vdb.Scene(), vdbs.Scene()
+                for name in ("organ", "a_1"):
+                    values, active, low, grid = random_grid(dice)
+                    grid.metadata = {"unit": "mm", "by": name}
+                    scene[name] = grid
+                    other[name] = vdbs.Grid.from_array(values, active, low, grid.background, grid.limit, grid.metadata)
+                encoding = other.to_bytes()
+                self.assertEqual(scene.to_bytes(), encoding)
+                loaded = vdb.loads(encoding)
+                self.assertEqual((loaded.to_bytes(), list(loaded)), (encoding, ["a_1", "organ"]))
+                self.assertEqual(dict(loaded["organ"].metadata), {"unit": "mm", "by": "organ"})
+
+    def test_the_first_fault_is_that_of_vdbs(self):
+        values = np.zeros((3, 3, 3), np.int32)
+        values[1, 1] = 5
+        encoding = vdbs.Scene({"a": vdbs.Grid.from_array(values, metadata={"unit": "mm"})}).to_bytes()
+        files = [encoding[:at] for at in range(len(encoding))] + [encoding + b"\0"]
+        files += [encoding[:at] + bytes([255 - encoding[at]]) + encoding[at + 1 :] for at in range(len(encoding))]
+        for data in files:
+            try:
+                wanted = vdbs.loads(data).to_bytes()
+            except vdbs.FormatError as fault:
+                wanted = fault.fault
+            try:
+                found = vdb.loads(data).to_bytes()
+            except vdb.FormatError as fault:
+                found = fault.fault
+            self.assertEqual(found, wanted, data)
+
+    def test_save_and_load(self):
+        scene = vdb.Scene({"a": vdb.Grid.from_array(np.ones((3, 3, 3), np.bool_))})
+        with tempfile.TemporaryDirectory() as folder:
+            path = Path(folder) / "scene.vdbs"
+            scene.save(path)
+            self.assertEqual(path.read_bytes(), scene.to_bytes())
+            self.assertEqual((vdb.load(path)["a"].count, os.listdir(folder)), (27, ["scene.vdbs"]))
+            path.write_bytes(b"VDBS")
+            with self.assertRaisesRegex(vdb.FormatError, f"{path}: truncated: the file ends") as caught:
+                vdb.load(path)
+            self.assertEqual((caught.exception.fault, caught.exception.path), ("truncated", str(path)))
+            for missing in (lambda: vdb.load(f"{folder}/none"), lambda: scene.save(f"{folder}/none/scene.vdbs")):
+                with self.assertRaisesRegex(FileNotFoundError, f"{folder}/none"):
+                    missing()
+
+    def test_mapping(self):
+        scene = vdb.Scene({"b": vdb.Grid("i32"), "a": vdb.Grid("bool")})
+        self.assertEqual((list(scene), len(scene), "a" in scene), (["a", "b"], 2, True))
+        del scene["a"]
+        self.assertEqual(list(vdb.loads(scene.to_bytes())), ["b"])
+        for name, grid in (("A", vdb.Grid("i32")), ("a" * 17, vdb.Grid("i32")), ("a", vdbs.Grid("i32"))):
+            with self.assertRaises((TypeError, ValueError)):
+                scene[name] = grid
+        with self.assertRaises(KeyError):
+            scene["a"]
+        scene["b"][0, 0, 0] = 5
+        self.assertEqual(vdb.loads(scene.to_bytes())["b"][0, 0, 0], (5, True))

@@ -1,0 +1,136 @@
+"""The shared library: where it is, its structs, and the types of its calls. include/vdb.h describes them.
+
+Each call raises the exception of its code. Calls keep the interpreter's lock, so no two threads are in the library at the same time.
+"""
+from __future__ import annotations
+
+import ctypes
+import ctypes.util
+import os
+from ctypes import POINTER, Structure, c_char_p, c_int32, c_int64, c_size_t, c_uint8, c_uint32, c_uint64, c_void_p
+from pathlib import Path
+from typing import Iterator
+
+from .errors import error_of
+
+
+class GridHandle(Structure):
+    _fields_ = [("at", c_void_p), ("visits", c_uint64)]
+
+
+class SceneHandle(Structure):
+    _fields_ = [("at", c_void_p), ("visits", c_uint64)]
+
+
+class Coord(Structure):
+    _fields_ = [("x", c_int32), ("y", c_int32), ("z", c_int32)]
+
+
+class Box(Structure):
+    _fields_ = [("min", Coord), ("max", Coord)]
+
+
+class Count(Structure):
+    _fields_ = [("low", c_uint64), ("high", c_uint64)]
+
+
+class CensusCounts(Structure):
+    _fields_ = [("roots", c_uint64), ("upper", c_uint64), ("lower", c_uint64), ("leaf", c_uint64)]
+
+
+GRID, SCENE, BOX, COORD = POINTER(GridHandle), POINTER(SceneHandle), POINTER(Box), POINTER(Coord)
+I32, I64, U32, U64 = (POINTER(it) for it in (c_int32, c_int64, c_uint32, c_uint64))
+BYTES, BUFFER = c_char_p, POINTER(c_uint8)
+PLACE = (c_int32, c_int32, c_int32)
+NAMED = (SCENE, BYTES, c_size_t)
+
+#: The types of the arguments of each call.
+ARGUMENTS = {
+    "vdb_grid_new": (GRID, c_int32, c_int64, c_uint32),
+    "vdb_grid_free": (GRID,),
+    "vdb_grid_copy": (GRID, GRID),
+    "vdb_grid_kind": (GRID, I32),
+    "vdb_grid_background": (GRID, I64),
+    "vdb_grid_limit": (GRID, U32),
+    "vdb_grid_get": (GRID, *PLACE, I64, I32),
+    "vdb_grid_probe": (GRID, c_int32, *PLACE, I64, I32),
+    "vdb_grid_set": (GRID, c_int32, *PLACE, c_int64, c_int32),
+    "vdb_grid_set_value": (GRID, c_int32, *PLACE, c_int64),
+    "vdb_grid_set_active": (GRID, c_int32, *PLACE, c_int32),
+    "vdb_grid_fill": (GRID, BOX, c_int64, c_int32),
+    "vdb_grid_clip": (GRID, BOX),
+    "vdb_grid_prune": (GRID,),
+    "vdb_grid_voxelise": (GRID, BOX),
+    "vdb_grid_dilate": (GRID, c_uint32),
+    "vdb_grid_erode": (GRID, c_uint32),
+    "vdb_grid_unite": (GRID, GRID),
+    "vdb_grid_subtract": (GRID, GRID),
+    "vdb_grid_intersect": (GRID, GRID),
+    "vdb_grid_maximum": (GRID, GRID),
+    "vdb_grid_minimum": (GRID, GRID),
+    "vdb_grid_sum": (GRID, GRID),
+    "vdb_grid_replace": (GRID, GRID),
+    "vdb_grid_count": (GRID, POINTER(Count)),
+    "vdb_grid_count_in": (GRID, BOX, POINTER(Count)),
+    "vdb_grid_bounds": (GRID, BOX, I32),
+    "vdb_grid_census": (GRID, POINTER(CensusCounts)),
+    "vdb_grid_first_active": (GRID, BOX, COORD, I64, I32),
+    "vdb_grid_next_active": (GRID, BOX, COORD, I64, I32),
+    "vdb_scene_new": (SCENE,),
+    "vdb_scene_free": (SCENE,),
+    "vdb_scene_load": (SCENE, BUFFER, c_size_t),
+    "vdb_scene_length": (SCENE, U64),
+    "vdb_scene_save": (SCENE, BUFFER, c_size_t, U64),
+    "vdb_scene_count": (SCENE, U64),
+    "vdb_scene_name": (SCENE, c_size_t, BYTES, c_size_t, U64),
+    "vdb_scene_put": (*NAMED, GRID),
+    "vdb_scene_take": (*NAMED, GRID),
+    "vdb_scene_copy": (*NAMED, GRID),
+    "vdb_scene_meta_count": (*NAMED, U64),
+    "vdb_scene_meta_key": (*NAMED, c_size_t, BYTES, c_size_t, U64),
+    "vdb_scene_meta_text": (*NAMED, c_size_t, BYTES, c_size_t, U64),
+    "vdb_scene_meta_set": (*NAMED, BYTES, c_size_t, BYTES, c_size_t),
+    "vdb_scene_meta_remove": (*NAMED, BYTES, c_size_t),
+}
+
+
+def places() -> Iterator[str]:
+    """Yields where the library may be: VDB_LIBRARY alone, or the repository's out/, the package's folder, and the system's folders."""
+    if "VDB_LIBRARY" in os.environ:
+        yield os.environ["VDB_LIBRARY"]
+        return
+    package = Path(__file__).resolve().parent
+    yield str(package.parents[1] / "out" / "lib" / "libvdb.so")
+    yield str(package / "libvdb.so")
+    found = ctypes.util.find_library("vdb")
+    if found:
+        yield found
+
+
+def load() -> ctypes.PyDLL:
+    """Loads the library and declares its calls. Raises ImportError with each place that failed, and the reason."""
+    failed = []
+    for place in places():
+        try:
+            library = ctypes.PyDLL(place)
+            for name, arguments in ARGUMENTS.items():
+                function = getattr(library, name)
+                function.argtypes = arguments
+                function.restype = None if name.endswith("_free") else c_int32
+                if function.restype:
+                    function.errcheck = checked
+            return library
+        except (OSError, AttributeError) as error:
+            failed.append(str(error))
+    hint = "build it by tools/libvdb, or name it in VDB_LIBRARY"
+    raise ImportError(f"the library libvdb.so can't be used ({'; '.join(failed)}): {hint}")
+
+
+def checked(code: int, _function: object, _arguments: object) -> int:
+    """Returns 0. Raises the exception of any other code."""
+    if code:
+        raise error_of(code)
+    return code
+
+
+LIBRARY = load()

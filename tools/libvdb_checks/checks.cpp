@@ -1,0 +1,215 @@
+// Calls of vdb.hpp with their results, worked out by hand. Each check that fails prints its line; the status is 1 then.
+#include "vdb.hpp"
+
+#include <cstdio>
+#include <numeric>
+
+static int failed = 0;
+
+static void check_at(int line, bool holds)
+{
+    if (!holds) {
+        std::printf("checks.cpp:%d: failed\n", line);
+        failed = 1;
+    }
+}
+#define CHECK(holds) check_at(__LINE__, holds)
+
+// Returns the code of the Error that a call throws, or VDB_OK if it throws none.
+template <class Call> static int32_t code_of(Call call)
+{
+    try {
+        call();
+    } catch (const vdb::Error &error) {
+        return error.code();
+    }
+    return VDB_OK;
+}
+
+static vdb::Grid cube(int32_t from, int32_t to, int64_t value)
+{
+    vdb::Grid grid(vdb::Kind::i32);
+    grid.fill({{from, from, from}, {to, to, to}}, value);
+    return grid;
+}
+
+static void voxels()
+{
+    vdb::Grid grid(vdb::Kind::i64, -1, 7);
+    CHECK(grid.kind() == vdb::Kind::i64 && grid.background() == -1 && grid.limit() == 7);
+    CHECK(grid.get({1, 2, 3}).value == -1 && !grid.get({1, 2, 3}).active && !grid.bounds());
+    grid.set({1, 2, 3}, INT64_MAX);
+    grid.set({-9, 0, 0}, 4, false);
+    grid.set_active({-9, 0, 1}, true);
+    grid.set_value({1, 2, 3}, 6);
+    CHECK(grid.get({1, 2, 3}).value == 6 && grid.get({1, 2, 3}).active);
+    CHECK(grid.get({-9, 0, 0}).value == 4 && !grid.get({-9, 0, 0}).active);
+    CHECK(grid.get({-9, 0, 1}).value == -1 && grid.get({-9, 0, 1}).active);
+    vdb::Accessor accessor = grid.accessor(3);
+    accessor.set({1, 2, 4}, 8);
+    accessor.set_value({1, 2, 5}, 9);
+    accessor.set_active({1, 2, 5}, true);
+    CHECK(accessor.get({1, 2, 3}).value == 6 && accessor.get({1, 2, 4}).value == 8 && accessor.get({1, 2, 5}).active);
+    CHECK(grid.count() == 4 && grid.count({{1, 2, 4}, {1, 2, 5}}) == 2);
+    CHECK(grid.bounds()->min.x == -9 && grid.bounds()->max.z == 5);
+    CHECK(code_of([&] { grid.accessor(8); }) == VDB_RANGE);
+    CHECK(code_of([&] { cube(0, 0, 1).set({0, 0, 0}, INT64_C(1) << 31); }) == VDB_RANGE);
+    CHECK(code_of([] { vdb::Grid(vdb::Kind::boolean, 2); }) == VDB_RANGE);
+    CHECK(code_of([] { vdb::Grid(vdb::Kind::boolean, 0, 65537); }) == VDB_RANGE);
+}
+
+static void boxes()
+{
+    vdb::Grid grid = cube(0, 9, 5);
+    CHECK(grid.count() == 1000 && grid.count({{0, 0, 5}, {3, 3, 20}}) == 80);
+    grid.dilate();
+    CHECK(grid.count() == 1600 && grid.get({-1, 3, 3}).active && grid.get({-1, 3, 3}).value == 0);
+    grid.erode();
+    CHECK(grid.count() == 1000);
+    grid.voxelise({{0, 0, 0}, {9, 9, 9}});
+    CHECK(grid.census().roots == 1 && grid.census().leaf == 7);
+    grid.prune();
+    grid.clip({{0, 0, 0}, {9, 9, 0}});
+    CHECK(grid.count() == 100);
+    CHECK(code_of([&] { grid.fill({{0, 0, 0}, {0, 0, -1}}, 5); }) == VDB_RANGE && code_of([&] { grid.dilate(17); }) == VDB_RANGE);
+    CHECK(code_of([&] { grid.fill(vdb::everywhere, 5); }) == VDB_ROOT_LIMIT && grid.count() == 100);
+}
+
+static void pairs()
+{
+    vdb::Grid a = cube(0, 3, 5), b = cube(2, 5, 7);
+    const uint64_t both = 8, each = 64;
+    vdb::Grid c = a.copy();
+    c.unite(b);
+    CHECK(c.count() == 2 * each - both && a.count() == each && c.get({5, 5, 5}).value == 0);
+    c.subtract(b);
+    CHECK(c.count() == each - both);
+    c.intersect(b);
+    CHECK(c.count() == 0);
+    c = a.copy();
+    c.maximum(b);
+    CHECK(c.get({2, 2, 2}).value == 7);
+    c.minimum(b);
+    CHECK(c.get({0, 0, 0}).value == 0 && c.get({2, 2, 2}).value == 7);
+    c.replace(a);
+    CHECK(c.get({2, 2, 2}).value == 5);
+    c.sum(b);
+    CHECK(c.get({2, 2, 2}).value == 12 && c.count() == 2 * each - both);
+    vdb::Grid flags(vdb::Kind::boolean);
+    CHECK(code_of([&] { c.sum(flags); }) == VDB_KINDS && code_of([&] { flags.sum(flags); }) == VDB_NO_SUM);
+    vdb::Grid most = cube(0, 0, INT32_MAX);
+    CHECK(code_of([&] { most.sum(most); }) == VDB_SUM_RANGE && most.get({0, 0, 0}).value == INT32_MAX);
+}
+
+// A call on one grid twice.
+static void same()
+{
+    vdb::Grid a = cube(0, 3, 5);
+    a.unite(a);
+    a.intersect(a);
+    a.maximum(a);
+    a.minimum(a);
+    a.replace(a);
+    CHECK(a.count() == 64 && a.get({1, 1, 1}).value == 5);
+    a.sum(a);
+    CHECK(a.count() == 64 && a.get({1, 1, 1}).value == 10);
+    a.subtract(a);
+    CHECK(a.count() == 0 && a.get({1, 1, 1}).value == 10);
+}
+
+static void moves()
+{
+    vdb::Grid a = cube(0, 3, 5), b = std::move(a);
+    CHECK(b.count() == 64 && code_of([&] { a.count(); }) == VDB_EMPTY && code_of([&] { b.unite(a); }) == VDB_EMPTY);
+    a = std::move(b);
+    CHECK(a.count() == 64 && code_of([&] { b.kind(); }) == VDB_EMPTY);
+    vdb::Grid &alias = a;
+    a = std::move(alias);
+    CHECK(a.count() == 64);
+    static_assert(!std::is_copy_constructible_v<vdb::Grid> && !std::is_copy_assignable_v<vdb::Grid>, "a grid moves");
+    static_assert(!std::is_copy_constructible_v<vdb::Scene> && !std::is_copy_assignable_v<vdb::Scene>, "a scene moves");
+}
+
+static void walks()
+{
+    vdb::Grid grid(vdb::Kind::i32);
+    for (int32_t z : {9, 0, -1, 7})
+        grid.set({0, 0, z}, z + 100);
+    std::vector<int64_t> values;
+    for (const vdb::Voxel &voxel : grid.active())
+        values.push_back(voxel.value);
+    CHECK((values == std::vector<int64_t>{99, 100, 107, 109}));
+    vdb::ActiveVoxels some = grid.active({{0, 0, 0}, {0, 0, 8}});
+    CHECK(std::accumulate(some.begin(), some.end(), INT64_C(0), [](int64_t sum, const vdb::Voxel &it) { return sum + it.value; }) == 207);
+    for (const vdb::Voxel &voxel : grid.active())
+        grid.set_active(voxel.at, false);
+    CHECK(grid.count() == 0);
+}
+
+static void scenes()
+{
+    vdb::Scene scene;
+    CHECK(scene.names().empty() && scene.to_bytes().size() == 8);
+    vdb::Grid grid = cube(0, 3, 5);
+    scene.put("b", std::move(grid));
+    scene.put("a", cube(1, 1, 1));
+    CHECK(code_of([&] { grid.kind(); }) == VDB_EMPTY && code_of([&] { scene.put("c", std::move(grid)); }) == VDB_EMPTY);
+    CHECK((scene.names() == std::vector<std::string>{"a", "b"}));
+    scene.set_metadata("a", "unit", "mm");
+    scene.set_metadata("a", "by", "lab");
+    scene.set_metadata("a", "unit", "cm");
+    scene.remove_metadata("a", "no");
+    CHECK((scene.metadata("a") == std::map<std::string, std::string>{{"by", "lab"}, {"unit", "cm"}}));
+    CHECK(code_of([&] { scene.copy("c"); }) == VDB_NO_GRID && code_of([&] { scene.copy(""); }) == VDB_NAME);
+    CHECK(code_of([&] { scene.put("a", cube(0, 0, 1)); }) == VDB_NAME_TAKEN);
+    CHECK(code_of([&] { scene.set_metadata("a", "k", "a b"); }) == VDB_TEXT && code_of([&] { scene.set_metadata("a", "K", "t"); }) == VDB_NAME);
+    CHECK(scene.copy("b").count() == 64);
+    vdb::Scene again = vdb::Scene::from_bytes(scene.to_bytes());
+    CHECK(again.to_bytes() == scene.to_bytes() && again.metadata("a").size() == 2);
+    CHECK(again.take("b").count() == 64 && again.names().size() == 1);
+    CHECK(code_of([] { vdb::Scene::from_bytes({}); }) == VDB_FILE_TRUNCATED);
+    CHECK(code_of([] { vdb::Scene::from_bytes({'V', 'D', 'B', 'S', 0, 3, 0, 0}); }) == VDB_FILE_VERSION);
+}
+
+static void files(const std::string &folder)
+{
+    vdb::Scene scene;
+    scene.put("a", cube(0, 3, 5));
+    scene.save(folder + "/scene.vdbs");
+    scene.save(folder + "/scene.vdbs");
+    CHECK(vdb::Scene::load(folder + "/scene.vdbs").copy("a").count() == 64);
+    for (const char *name : {"/missing", "/"}) {
+        try {
+            vdb::Scene::load(folder + name);
+            CHECK(false);
+        } catch (const std::system_error &error) {
+            CHECK(std::string(error.what()).find(folder + name) == 0);
+        }
+    }
+    try {
+        scene.save(folder + "/missing/scene.vdbs");
+        CHECK(false);
+    } catch (const std::system_error &error) {
+        CHECK(error.code() == std::errc::no_such_file_or_directory);
+    }
+    std::fclose(std::fopen((folder + "/empty").c_str(), "wb"));
+    try {
+        vdb::Scene::load(folder + "/empty");
+        CHECK(false);
+    } catch (const vdb::Error &error) {
+        CHECK(error.what() == folder + "/empty: truncated: the file ends before a field or inside it");
+    }
+}
+
+int main(int, char **argv)
+{
+    voxels();
+    boxes();
+    pairs();
+    same();
+    moves();
+    walks();
+    scenes();
+    files(argv[1]);
+    return failed;
+}
