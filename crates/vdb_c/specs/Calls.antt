@@ -1,5 +1,5 @@
 -- What the calls do, by the code that they return: one definition for each shape of call.
-use Rattle.std.specs.Prelude.{◌≡◌, ◌⊎◌, ℕ, ℤ, ⊤, Bool, if◌then◌else◌, nat_le, ◌&&◌, Option, Some, None, Result, IfErr, IsTrue, OnOk}
+use Rattle.std.specs.Prelude.{◌≡◌, ◌⊎◌, ℕ, ℤ, ⊤, Bool, false, if◌then◌else◌, nat_le, ◌&&◌, Option, Some, None, Result, IfErr, IsOk, IsTrue, OnOk}
 use Rattle.std.specs.Option.{option_and_then}
 use Rattle.vdb_coord.specs.Blocks.{vdb}
 use Rattle.vdb_coord.specs.Space.{Box}
@@ -12,7 +12,7 @@ use Rattle.vdb_tree.specs.declared.refusal.TreeRefusal.{TreeRefusal}
 use Rattle.vdb_tree.specs.declared.refusal.TreeRefusal.TheVariants as trees
 use Rattle.vdb_scene.specs.Grids.{IsCopyOf, IsVoxelised, grid_field, grid_root_limit}
 use Rattle.vdb_scene.specs.Scalars.{is_of, kind_of, scalar_eq}
-use Rattle.vdb_scene.specs.Step.{passes}
+use Rattle.vdb_scene.specs.Step.{passes, write_takes_memory}
 use Rattle.vdb_scene.specs.TwoGrids.{IsMade}
 use Rattle.vdb_scene.specs.declared.answer.Refusal.{Refusal}
 use Rattle.vdb_scene.specs.declared.two_grids.Operation.{Operation}
@@ -82,11 +82,16 @@ abbrev pub IsWriteFor : Kind → Option (Write Scalar) → Type 0
 IsWriteFor kind None = ⊤
 IsWriteFor kind (Some change) = IsTrue (passes (is_of kind) change)
 
+-- the outcome of a write, which fails with `Memory` only if it may have to allocate
+abbrev pub IsWritten : Coord → Write Scalar → AnyGrid → AnyGrid → Result (Unit {0}) TreeRefusal → Type 0
+IsWritten at w old new result =
+    IsOutcome scalar_eq vdb (grid_root_limit old) (grid_field old) (write at w (grid_field old)) (grid_field new) result
+    × (write_takes_memory (grid_field old) at w ≡ false → IsOk result)
+
 -- a write to a voxel, through an accessor or none, both of which are tested
 abbrev pub Writes : Option (Option ℕ) → Coord → Option (Write Scalar) → AnyGrid → AnyGrid → ℤ → Type 0
 Writes accessor at change old new code =
-    OnValid change old new code ⊤ (λ w. OnValid accessor old new code ⊤ (λ _. Changes old new code
-    (IsOutcome scalar_eq vdb (grid_root_limit old) (grid_field old) (write at w (grid_field old)) (grid_field new))))
+    OnValid change old new code ⊤ (λ w. OnValid accessor old new code ⊤ (λ _. Changes old new code (IsWritten at w old new)))
 
 -- a number of iterations, if it is 1 to 16
 abbrev pub iterations_of : ℕ → Option ℕ
