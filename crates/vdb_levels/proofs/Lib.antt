@@ -7,3 +7,4 @@ pub mod NodeReads
 pub mod Gives
 pub mod Sizes
 pub mod Roots
+pub mod OneNode

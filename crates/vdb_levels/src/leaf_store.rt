@@ -1,5 +1,6 @@
 //! The lowest level.
 ghost use Rattle.std.specs.Prelude.{◌≡◌, [], ◌∷◌};
+ghost use Rattle.vdb_levels.specs.Sound.{IsNode};
 
 use crate::offsets::offset;
 use crate::pools::{held_place, insert_node};
@@ -14,7 +15,8 @@ use vdb_value::Cell;
 /// Leaves.
 #[derive(Drop)]
 pub struct LeafStore<V: Stored<W>, const LOG2: u32, const W: usize> {
-    pool: Pool<Leaf<V, LOG2, W>>,
+    pub(crate) pool: Pool<Leaf<V, LOG2, W>>,
+    ghost node: { IsNode LOG2 W },
 }
 
 impl<V: Stored<W>, const LOG2: u32, const W: usize> NodeStore<V> for LeafStore<V, LOG2, W> {
