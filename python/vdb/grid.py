@@ -98,8 +98,7 @@ class Grid:
 
         `values` has the dtype bool (a bool grid), an integer of at most 32 bits signed or 16 bits unsigned (i32), or int64 or uint32
         (i64). `active` is a bool array of the same shape; without it, each voxel whose value differs from the background is active.
-        `origin` is the coordinate of `values[0, 0, 0]`. Outside the array voxels are the background, inactive. The grid passes through a
-        scene file in memory, so SceneTooLongError is raised if that has more than 268,435,456 bytes.
+        `origin` is the coordinate of `values[0, 0, 0]`. Outside the array voxels are the background, inactive.
         """
         return cls._of(write_array(np.asarray(values), active, origin, background, limit), metadata)
 
@@ -113,8 +112,7 @@ class Grid:
 
         Without bounds it is the bounding box of the active voxels; if no voxel is active, both arrays have the shape (0, 0, 0). With
         `fill`, inactive voxels have that value in place of their own. Raises ArrayTooLargeError, before anything is allocated, if both
-        arrays together have more than `max_bytes` bytes. The box passes through a scene file in memory, so FormatError is raised if that
-        has more than 268,435,456 bytes.
+        arrays together have more than `max_bytes` bytes.
         """
         if fill is not None:
             fill = self._kind.check(fill, "fill")
@@ -126,7 +124,7 @@ class Grid:
         needed = shape[0] * shape[1] * shape[2] * (self.dtype.itemsize + 1)
         if needed > max_bytes:
             raise ArrayTooLargeError(shape, needed, max_bytes)
-        return read_array(self._handle, bounds, fill, max_bytes)
+        return read_array(self._handle, bounds, self.dtype, fill)
 
     @property
     def kind(self) -> str:
