@@ -43,7 +43,7 @@ class CensusCounts(Structure):
 
 
 GRID, SCENE, BOX, COORD = POINTER(GridHandle), POINTER(SceneHandle), POINTER(Box), POINTER(Coord)
-I32, I64, U32, U64 = (POINTER(it) for it in (c_int32, c_int64, c_uint32, c_uint64))
+I32, I64, U32, U64, SIZE = (POINTER(it) for it in (c_int32, c_int64, c_uint32, c_uint64, c_size_t))
 BYTES, BUFFER = c_char_p, POINTER(c_uint8)
 PLACE = (c_int32, c_int32, c_int32)
 NAMED = (SCENE, BYTES, c_size_t)
@@ -82,7 +82,7 @@ ARGUMENTS = {
     "vdb_grid_first_active": (GRID, BOX, COORD, I64, I32),
     "vdb_grid_next_active": (GRID, BOX, COORD, I64, I32),
     "vdb_grid_get_many": (GRID, c_int32, COORD, c_size_t, I64, c_size_t, BUFFER, c_size_t),
-    "vdb_grid_write_many": (GRID, c_int32, COORD, c_size_t, I64, c_size_t, BUFFER, c_size_t, POINTER(c_size_t)),
+    "vdb_grid_write_many": (GRID, c_int32, COORD, c_size_t, I64, c_size_t, BUFFER, c_size_t, SIZE),
     "vdb_grid_read_box": (GRID, *DENSE),
     "vdb_grid_write_box": (GRID, c_int32, *DENSE),
     "vdb_scene_new": (SCENE,),
