@@ -7,3 +7,5 @@ pub mod NodeReads
 pub mod Gives
 pub mod Sizes
 pub mod Roots
+pub mod FirstNumbers
+pub mod WalkSteps

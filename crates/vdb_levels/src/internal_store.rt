@@ -25,15 +25,15 @@ use vdb_value::Cell;
 /// Internal nodes, whose children are nodes of the store below.
 #[derive(Drop)]
 pub struct InternalStore<V: Stored<W>, const LOG2: u32, const W: usize, Below: NodeStore<V>> {
-    pool: Pool<Internal<V, LOG2, W>>,
+    pub(crate) pool: Pool<Internal<V, LOG2, W>>,
     pub(crate) below: Below,
 }
 
 /// The place of a node, and the path below it, if there is one.
 #[derive(Clone, Copy)]
 pub struct NodePath<N, P> {
-    place: N,
-    below: Option<P>,
+    pub(crate) place: N,
+    pub(crate) below: Option<P>,
 }
 
 impl<V: Stored<W>, const LOG2: u32, const W: usize, Below: NodeStore<V>> NodeStore<V>

@@ -14,7 +14,7 @@ use vdb_value::Cell;
 /// Leaves.
 #[derive(Drop)]
 pub struct LeafStore<V: Stored<W>, const LOG2: u32, const W: usize> {
-    pool: Pool<Leaf<V, LOG2, W>>,
+    pub(crate) pool: Pool<Leaf<V, LOG2, W>>,
 }
 
 impl<V: Stored<W>, const LOG2: u32, const W: usize> NodeStore<V> for LeafStore<V, LOG2, W> {
