@@ -9,7 +9,7 @@ from vdbs.errors import ArrayTooLargeError
 from vdbs.forms import COORDINATE_SPAN, DEFAULT_LIMIT, KIND_NUMBERS, KINDS, Kind, Metadata, check_limit
 from vdbs.grid import MAX_BYTES, _coordinate, check_bounds
 
-from .arrays import box_of, read_array, write_array
+from .arrays import box_of, read_array, read_voxels, write_array, write_voxels
 from .library import LIBRARY, Box, CensusCounts, Coord, Count, GridHandle
 
 __all__ = ["Grid", "Census"]
@@ -35,8 +35,9 @@ class Census(NamedTuple):
 class Grid:
     """A sparse grid of booleans or integers over all coordinates of 32 bits.
 
-    Bounds are two corners, both included. A call that fails leaves every voxel as it was. It raises MemoryError if an allocation
-    fails, RootLimitError if the grid would need more root blocks than its limit, and ValueError or TypeError for wrong arguments.
+    Bounds are two corners, both included. A call that fails, other than `set_many`, leaves every voxel as it was. It raises MemoryError
+    if an allocation fails, RootLimitError if the grid would need more root blocks than its limit, and ValueError or TypeError for wrong
+    arguments.
     """
 
     def __init__(
@@ -177,6 +178,19 @@ class Grid:
     def set_active(self, at: Coordinate, active: bool) -> None:
         """Sets the state of a voxel and keeps its value."""
         LIBRARY.vdb_grid_set_active(self._handle, NO_ACCESSOR, *_coordinate(at, "coordinate"), bool(active))
+
+    def get_many(self, at: np.ndarray) -> "tuple[np.ndarray, np.ndarray]":
+        """Returns the values and the states (bool) of voxels. `at` has their coordinates, an array of integers of shape (n, 3)."""
+        return read_voxels(self._handle, at, self.dtype)
+
+    def set_many(self, at: np.ndarray, values: "np.ndarray | Value", active: "np.ndarray | bool" = True) -> None:
+        """Sets the values and the states of voxels, one after another. `at` has their coordinates, an array of integers of shape (n, 3);
+        `values` and `active` are one for all voxels, or arrays of length n.
+
+        Raises RangeError, before anything changes, if a value is outside the type. After MemoryError or RootLimitError the voxels before
+        the failed one are set.
+        """
+        write_voxels(self._handle, at, values, active)
 
     def fill(self, bounds: Sequence[Sequence[int]], value: Value, active: bool = True) -> None:
         """Sets the value and the state of each voxel of a box."""
