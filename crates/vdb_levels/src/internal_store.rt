@@ -27,6 +27,7 @@ use vdb_value::Cell;
 pub struct InternalStore<V: Stored<W>, const LOG2: u32, const W: usize, Below: NodeStore<V>> {
     pub(crate) pool: Pool<Internal<V, LOG2, W>>,
     pub(crate) below: Below,
+    ghost node: { IsNode LOG2 W },
 }
 
 /// The place of a node, and the path below it, if there is one.
@@ -272,7 +273,7 @@ impl<V: Stored<W>, const LOG2: u32, const W: usize, Below: NodeStore<V>> Interna
     }
 
     /// Makes a child in place of a tile, with the tile's cell all over.
-    fn split(
+    pub(crate) fn split(
         &mut self,
         alloc: Global,
         slot: u32,
@@ -412,7 +413,14 @@ impl<V: Stored<W>, const LOG2: u32, const W: usize, Below: NodeStore<V>> Interna
     }
 
     /// Makes a tile of a child, whose nodes are given back.
-    fn replace_child(&mut self, slot: u32, index: u32, child: u32, cell: Cell<V>, steps: &mut Steps)
+    pub(crate) fn replace_child(
+        &mut self,
+        slot: u32,
+        index: u32,
+        child: u32,
+        cell: Cell<V>,
+        steps: &mut Steps,
+    )
         requires sound { AreSoundNodes LOG2 W Below.bits (Below.IsSound self.old.below) self.old.pool (Below.blocks self.old.below).holds }
         requires held { IsSome (node_at self.old.pool slot) }
         requires child { IsChildAt (entry_count LOG2) self.old.pool slot index child }

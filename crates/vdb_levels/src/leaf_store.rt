@@ -1,5 +1,6 @@
 //! The lowest level.
 ghost use Rattle.std.specs.Prelude.{◌≡◌, [], ◌∷◌};
+ghost use Rattle.vdb_levels.specs.Sound.{IsNode};
 
 use crate::offsets::offset;
 use crate::pools::{held_place, insert_node};
@@ -15,6 +16,7 @@ use vdb_value::Cell;
 #[derive(Drop)]
 pub struct LeafStore<V: Stored<W>, const LOG2: u32, const W: usize> {
     pub(crate) pool: Pool<Leaf<V, LOG2, W>>,
+    ghost node: { IsNode LOG2 W },
 }
 
 impl<V: Stored<W>, const LOG2: u32, const W: usize> NodeStore<V> for LeafStore<V, LOG2, W> {

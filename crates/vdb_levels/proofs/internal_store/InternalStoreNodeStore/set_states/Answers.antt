@@ -5,6 +5,7 @@ use Rattle.vdb_levels.specs.Same.{ChangesEntry}
 use Rattle.vdb_levels.specs.Sound.{IsChildAt}
 use Rattle.vdb_levels.proofs.Changes.{below_changes, child_leaf, child_lives, holds_all, keeps_apart}
 use Rattle.vdb_levels.proofs.Owners.{owns_held}
+use Rattle.vdb_levels.proofs.OneNode.{one_node}
 use Rattle.vdb_levels.proofs.internal_store.InternalStoreNodeStore.set_states.Goals as goal
 
 pub set_states-requires-clause-held : goal.set_states-requires-clause-held
@@ -96,3 +97,6 @@ returns-in-Child-clause-paths g c =
     let child : IsChildAt n pool c.args.slot x r = (rw (← c.bits.ensures.value, ← c.offset-offset.ensures.value) (c.offset-offset.ensures.bound, c.in-Child.ensures.entry)) in
     let change : ChangesEntry n (b.Same old new) pool pool c.args.slot x = below_changes n (b.Same old new) pool c.args.slot x (keeps_apart n (b.Same old new) pool (b.blocks old).holds c.args.slot x r c.requires.sound.owns child c.set_states.ensures.others) in
     λ path at k. (k.0, k.1, child_lives n (b.Same old new) pool c.args.slot x r child change (b.Lives old) (b.Lives new) (g.met.Below.NodeStore.same_lives old new) c.set_states.ensures.paths c.args.slot path.below at k.2)
+
+pub returns-in-Child-clause-untouched : goal.returns-in-Child-clause-untouched
+returns-in-Child-clause-untouched g c = λ h i. record { pool = c.args.self.now.pool; below = c.set_states.ensures.untouched h i; node = one_node g.row.LOG2 g.row.W c.self-1.given.0 c.args.self.now.node i }

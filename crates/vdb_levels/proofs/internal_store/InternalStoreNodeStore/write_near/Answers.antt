@@ -3,6 +3,7 @@ use Rattle.vdb_levels.specs.Places.{offset_of}
 use Rattle.vdb_levels.specs.Same.{ChangesEntry}
 use Rattle.vdb_levels.proofs.Changes.{below_changes, child_changes, child_leaf, keeps_apart, near_child}
 use Rattle.vdb_levels.proofs.Owners.{owns_held}
+use Rattle.vdb_levels.proofs.OneNode.{one_node}
 use Rattle.vdb_levels.proofs.internal_store.InternalStoreNodeStore.write_near.Goals as goal
 
 pub returns-in-Some-clause-sound : goal.returns-in-Some-clause-sound
@@ -63,3 +64,6 @@ returns-in-Some-clause-others g c = λ slot at lives one.
     let child = m.2 in
     let change : ChangesEntry n (b.Same old new) pool pool slot x = below_changes n (b.Same old new) pool slot x (keeps_apart n (b.Same old new) pool (b.blocks old).holds slot x r c.requires.sound.owns child (c.write_near.ensures.others r m.1 m.3 m.4)) in
     change.others
+
+pub returns-in-Some-clause-untouched : goal.returns-in-Some-clause-untouched
+returns-in-Some-clause-untouched g c = λ h i. record { pool = c.args.self.now.pool; below = c.write_near.ensures.untouched h i; node = one_node g.row.LOG2 g.row.W c.self-1.given.0 c.args.self.now.node i }
