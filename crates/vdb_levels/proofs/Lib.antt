@@ -9,3 +9,4 @@ pub mod Sizes
 pub mod Roots
 pub mod FirstNumbers
 pub mod WalkSteps
+pub mod RootWalkSteps
