@@ -11,3 +11,4 @@ pub mod EntryFacts
 pub mod SameFacts
 pub mod Walks
 pub mod WalkFacts
+pub mod RootWalks

@@ -11,6 +11,7 @@ mod part;
 mod pools;
 mod refusal;
 mod root;
+mod root_walk;
 mod table;
 mod walk;
 mod write;

@@ -25,7 +25,7 @@ pub struct Root<V: Voxel, S: NodeStore<V>> {
     background: V,
     limit: u32,
     table: RootTable<V>,
-    nodes: S,
+    pub(crate) nodes: S,
 }
 
 impl<V: Voxel, S: NodeStore<V>> Model for Root<V, S> {
@@ -75,7 +75,7 @@ impl<V: Voxel, S: NodeStore<V>> Root<V, S> {
         }
     }
 
-    fn key(&self, p: Coord) -> Coord
+    pub(crate) fn key(&self, p: Coord) -> Coord
         ensures { result ≡ key_of S.bits p }
     {
         let bits = self.nodes.bits();
@@ -102,7 +102,7 @@ impl<V: Voxel, S: NodeStore<V>> Root<V, S> {
     }
 
     /// The entry under a key, or the tile that an absent one stands for.
-    fn entry(&self, key: Coord) -> Entry<V>
+    pub(crate) fn entry(&self, key: Coord) -> Entry<V>
         ensures { entry_of_key self.now.background self.now.table key ≡ result }
     {
         match self.table.get(key) {
