@@ -10,3 +10,4 @@ pub mod Roots
 pub mod FirstNumbers
 pub mod WalkSteps
 pub mod RootWalkSteps
+pub mod KeysPast

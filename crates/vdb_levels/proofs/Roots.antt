@@ -17,7 +17,7 @@ use Rattle.vdb_levels.specs.Table.{KeepsField, Layout, RootOwns, cell_at, entry_
 use Rattle.vdb_levels.specs.SameFacts.{below_same}
 use Rattle.vdb_levels.specs.EntryFacts.{true_false}
 
-bool_cases : (b : Bool) → (b ≡ true) ⊎ (b ≡ false)
+pub bool_cases : (b : Bool) → (b ≡ true) ⊎ (b ≡ false)
 bool_cases true = inl refl
 bool_cases false = inr refl
 

@@ -3,8 +3,8 @@ ghost use Rattle.std.specs.Prelude.{◌≡◌, ◌⊎◌, ◌+◌, ◌≤◌, �
 ghost use Rattle.vdb_coord.specs.declared.Coord.{Coord};
 ghost use Rattle.vdb_node.specs.declared.Entry.TheVariants.{Child, Tile};
 ghost use Rattle.vdb_levels.specs.Places.{key_of};
-ghost use Rattle.vdb_levels.specs.RootWalks.{in_root, IsInRoot, IsPassedIn, IsRootPart, LeadsTo};
-ghost use Rattle.vdb_levels.specs.Table.{entry_of_key, IsKey};
+ghost use Rattle.vdb_levels.specs.RootWalks.{in_root, IsEarlierIn, IsInRoot, IsPassedIn, IsPassedOver, IsRootPart, LeadsTo};
+ghost use Rattle.vdb_levels.specs.Table.{entry_of_key, IsKey, IsPast};
 ghost use Rattle.vdb_levels.specs.Walks.{IsBefore, IsEarlier, IsFrom, Skips};
 
 use crate::corners::{corner, first_of_key};
@@ -94,6 +94,29 @@ impl<V: Voxel, S: WalkStore<V>> Root<V, S> {
                 Some(part_in_root(part))
             }
         }
+    }
+
+    /// Returns the first part that the walk doesn't pass over, of the entries of the root table whose keys come past `after`, or of
+    /// all. It visits the nodes of what it passes over.
+    pub fn part_past(
+        &self,
+        after: Option<Coord>,
+        skip: &Skip<V>,
+        steps: &mut Steps,
+    ) -> Option<Part<V, &S::Leaf, Option<S::Path>>>
+        ensures part { IfSome result (λ part. IsRootPart S.bits S.place S.blocks self.now S.leaf_bits (λ leaf. S.seen leaf.now) (S.Lives self.now.nodes) part.first part) }
+        ensures past { IfSome result (λ part. IsPast after (key_of S.bits part.first)) }
+        ensures passed { (q : Coord) → IsPast after (key_of S.bits q) → IsEarlierIn S.bits S.place result q → IsPassedOver S.bits S.place S.blocks self.now skip.now q }
+    {
+        let mut past = after;
+        'keys: while let Some(key) = self.next_key(past) {
+            let part = self.first_part(key, skip, steps);
+            if part.is_some() {
+                return part;
+            }
+            past = Some(key);
+        }
+        None
     }
 
     /// Returns the root block around `p` as a part, unless the walk passes over its tile.
