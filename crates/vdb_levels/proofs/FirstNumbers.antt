@@ -1,15 +1,18 @@
 -- First coordinates of blocks and of entries.
-use Rattle.std.proofs.Common.{◌≡◌, ℕ, ℤ, pos, zero, ◌+◌, ◌*◌, ◌<◌, ◌/◌, ◌%◌, ◌^◌, ◌+ℤ◌, ◌*ℤ◌, arith, ap, refl, sym, ◌∙◌}
+use Rattle.std.proofs.Common.{◌≡◌, ℕ, ℤ, pos, zero, ◌+◌, ◌*◌, ◌<◌, ◌/◌, ◌%◌, ◌^◌, ◌+ℤ◌, ◌*ℤ◌, negsuc, int_le, Bool, true, arith, ap, refl, sym, ◌∙◌}
 use Rattle.std.proofs.Math.Nat.{mod-lt}
 use Rattle.std.proofs.lemmas.Nat.{div_below, pow_pos}
 use Rattle.vdb_coord.specs.Components.{digit, first_of, number_at}
 use Rattle.vdb_coord.proofs.Digits.{digit_is, first_of_entry, number_of_entry, number_up}
 use Rattle.vdb_coord.proofs.Division.{rest, rest_of}
-use Rattle.vdb_coord.specs.Space.{by_component}
+use Rattle.vdb_coord.proofs.Boxes.{and_true, both, three, together}
+use Rattle.vdb_coord.proofs.Meeting.{number_le}
+use Rattle.vdb_coord.specs.Space.{by_component, everywhere, is_between, is_inside}
 use Rattle.vdb_coord.specs.declared.Coord.{Coord}
 use Rattle.vdb_node.specs.Nodes.{entry_count}
 use Rattle.vdb_levels.specs.HasPlaces.{same_coord, three_times}
 use Rattle.vdb_levels.specs.Places.{joined, key_of, offset_of}
+use Rattle.vdb_levels.specs.Table.{IsKey}
 use Rattle.vdb_levels.specs.WalkFacts.{number_of_first}
 use Rattle.vdb_levels.specs.Walks.{IsCorner}
 
@@ -68,3 +71,32 @@ entry_corner_of low bits p q x y z hx hy hz e =
       same_coord _ _ (start_block low bits nx x hx) (start_block low bits ny y hy) (start_block low bits nz z hz),
       same_coord _ _ (start_first low bits nx x hx) (start_first low bits ny y hy) (start_first low bits nz z hz),
     )
+
+-- ---- keys
+
+number_between : (bits : ℕ) (low high x : ℤ) → is_between low high x ≡ true → is_between (number_at bits low) (number_at bits high) (number_at bits x) ≡ true
+number_between bits low high x h =
+    let hs = both (int_le low x) (int_le x high) h in
+    and_true (int_le (number_at bits low) (number_at bits x)) (int_le (number_at bits x) (number_at bits high)) (number_le bits low x hs.0) (number_le bits x high hs.1)
+
+-- the key of a coordinate in range is that of a block
+pub key_within : (bits : ℕ) (p : Coord) → is_inside everywhere p ≡ true → IsKey bits (key_of bits p)
+key_within bits p h =
+    let least = negsuc 2147483647 in
+    let greatest = pos 2147483647 in
+    let hs = three (is_between least greatest p.x) (is_between least greatest p.y) (is_between least greatest p.z) h in
+    let between : ℤ → Bool = λ x. is_between (number_at bits least) (number_at bits greatest) (number_at bits x) in
+    together (between p.x) (between p.y) (between p.z) (number_between bits least greatest p.x hs.0) (number_between bits least greatest p.y hs.1) (number_between bits least greatest p.z hs.2)
+
+-- the numbers of a key are those of blocks
+pub key_parts : (bits : ℕ) (k : Coord) → IsKey bits k → let within : ℤ → Bool = is_between (number_at bits (negsuc 2147483647)) (number_at bits (pos 2147483647)) in (within k.x ≡ true) × (within k.y ≡ true) × (within k.z ≡ true)
+key_parts bits k h =
+    let within : ℤ → Bool = is_between (number_at bits (negsuc 2147483647)) (number_at bits (pos 2147483647)) in
+    three (within k.x) (within k.y) (within k.z) h
+
+-- the first coordinate of the block with a key
+pub first_coord_of : (bits : ℕ) (key q : Coord) → q ≡ by_component (first_of bits) key → IsCorner bits q × (key_of bits q ≡ key)
+first_coord_of bits key q e = rw e (
+  same_coord _ _ (ap (first_of bits) (number_of_first bits key.x)) (ap (first_of bits) (number_of_first bits key.y)) (ap (first_of bits) (number_of_first bits key.z)),
+  same_coord _ _ (number_of_first bits key.x) (number_of_first bits key.y) (number_of_first bits key.z),
+)

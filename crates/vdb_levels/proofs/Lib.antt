@@ -11,3 +11,4 @@ pub mod FirstNumbers
 pub mod WalkSteps
 pub mod OneNode
 pub mod RootWalkSteps
+pub mod KeysPast

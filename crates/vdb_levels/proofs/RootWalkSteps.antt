@@ -1,15 +1,18 @@
 -- Parts of a root block, from parts of its node.
-use Rattle.std.proofs.Common.{◌≡◌, ℕ, List, Bool, true, refl, sym, ap, subst, ◌∙◌}
-use Rattle.std.specs.Prelude.{Option, Some, None}
+use Rattle.std.proofs.Common.{◌≡◌, ◌⊎◌, inl, inr, ℕ, List, Bool, true, false, refl, sym, ap, subst, ◌∙◌}
+use Rattle.std.specs.Prelude.{Option, Some, None, IfSome, is_some}
+use Rattle.std.specs.declared.cmp.Ordering.TheVariants.{Less}
+use Rattle.vdb_coord.specs.Space.{coord_cmp}
 use Rattle.vdb_coord.specs.declared.Coord.{Coord}
 use Rattle.vdb_node.specs.Leaf.{Leaf as LeafOf, cell_in}
 use Rattle.vdb_node.specs.declared.Entry.TheVariants.{Child, Tile as TileEntry}
 use Rattle.vdb_value.specs.declared.Cell.{Cell}
 use Rattle.vdb_levels.specs.Blocks.{Blocks, below_entry, leaf_of_entry}
 use Rattle.vdb_levels.specs.Places.{key_of, offset_of}
-use Rattle.vdb_levels.specs.RootWalks.{IsPassedIn, IsRootPart, in_root, leaf_at}
-use Rattle.vdb_levels.specs.Table.{Layout, cell_at, entry_of_key, off}
-use Rattle.vdb_levels.specs.Walks.{HasContent, IsCorner, IsPartOf, IsPassed, OnLeaf, OnTile, Skips}
+use Rattle.vdb_levels.specs.RootWalks.{IsEarlierIn, IsPassedIn, IsRootPart, in_root, leaf_at}
+use Rattle.vdb_levels.specs.Table.{IsPast, Layout, cell_at, entry_of_key, off}
+use Rattle.vdb_levels.specs.Walks.{HasContent, IsCorner, IsEarlier, IsPartOf, IsPassed, OnLeaf, OnTile, Skips}
+use Rattle.vdb_levels.specs.EntryFacts.{true_false}
 use Rattle.vdb_levels.specs.declared.part.Content.{Content}
 use Rattle.vdb_levels.specs.declared.part.Content.TheVariants.{Leaf, Tile}
 use Rattle.vdb_levels.specs.declared.part.Part.{Part}
@@ -71,3 +74,22 @@ module _ {V S : Type 0} (bits : ℕ) (place : Coord → List ℕ) (blocks : S �
     pub tile_root_part : {L P : Type 0} (leaf_bits : ℕ) (seen : L → LeafOf V) (Lives : ℕ → P → List ℕ → Type 0) (first : Coord) → IsCorner bits first → key_of bits first ≡ key_of bits p
         → IsRootPart bits place blocks t leaf_bits seen Lives p (record { first = first; bits = bits; content = Tile cell; path = None })
     tile_root_part leaf_bits seen Lives first corner inside = record { inside = inside; corner = corner; path = tt; tile = λ q e. tile_cell q (e ∙ inside); leaf = tt }
+
+-- ---- from key to key
+
+module _ {V L P : Type 0} (bits : ℕ) (place : Coord → List ℕ) (key : Coord) where
+  -- a part under a key comes past what the key does
+  pub part_past : (after : Option Coord) → IsPast after key → (o : Option (Part V L P)) → IfSome o (λ part. key_of bits part.first ≡ key) → IfSome o (λ part. IsPast after (key_of bits part.first))
+  part_past after past None at = tt
+  part_past after past (Some part) at = subst (IsPast after) (sym at) past
+
+  -- what comes before a part under a key has a lesser key, or this one
+  pub before_part : (R : Type 0) (q : Coord) → (coord_cmp (key_of bits q) key ≡ Less → R) → (o : Option (Part V L P)) → is_some o ≡ true → IfSome o (λ part. key_of bits part.first ≡ key) → (key_of bits q ≡ key → IsEarlier place o (place q) → R) → IsEarlierIn bits place o q → R
+  before_part R q before None h at here e = absurd (true_false h refl)
+  before_part R q before (Some part) h at here e =
+      elim e [ inl less ↦ before (subst (λ k. coord_cmp (key_of bits q) k ≡ Less) at less) | inr same ↦ here (same.0 ∙ at) same.1 ]
+
+  -- each coordinate comes before no part
+  pub none_earlier : (o : Option (Part V L P)) → is_some o ≡ false → (at : List ℕ) → IsEarlier place o at
+  none_earlier None h at = tt
+  none_earlier (Some part) h at = absurd (true_false refl h)

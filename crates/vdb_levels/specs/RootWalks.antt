@@ -1,12 +1,14 @@
 -- The parts of a root block.
-use Rattle.std.specs.Prelude.{◌≡◌, ℕ, List, Option, Some, None}
+use Rattle.std.specs.Prelude.{◌≡◌, ◌⊎◌, ℕ, List, Option, Some, None}
+use Rattle.std.specs.declared.cmp.Ordering.TheVariants.{Less}
+use Rattle.vdb_coord.specs.Space.{coord_cmp}
 use Rattle.vdb_coord.specs.declared.Coord.{Coord}
 use Rattle.vdb_node.specs.Leaf.{Leaf as LeafOf, cell_in}
 use Rattle.vdb_node.specs.declared.Entry.TheVariants.{Child}
 use Rattle.vdb_levels.specs.Blocks.{Blocks, leaf_of_entry}
 use Rattle.vdb_levels.specs.Places.{key_of, offset_of}
-use Rattle.vdb_levels.specs.Table.{Layout, cell_at, entry_of_key, off}
-use Rattle.vdb_levels.specs.Walks.{IsCorner, OnLeaf, OnTile, Skips}
+use Rattle.vdb_levels.specs.Table.{Layout, cell_at, entry_of_key, off, root_at}
+use Rattle.vdb_levels.specs.Walks.{IsBefore, IsCorner, OnLeaf, OnTile, Skips}
 use Rattle.vdb_levels.specs.declared.part.Part.{Part}
 use Rattle.vdb_levels.specs.declared.part.Skip.{Skip}
 
@@ -19,6 +21,16 @@ abbrev pub IsInRoot : {P : Type 0} → (P → List ℕ → List ℕ → Type 0) 
 IsInRoot IsIn None at other = Unit {0}
 IsInRoot IsIn (Some path) at other = IsIn path at other
 
+module _ (bits : ℕ) (place : Coord → List ℕ) where
+  -- p comes before q: by the keys of their root blocks, and in block order in one of them
+  abbrev pub ComesBefore : Coord → Coord → Type 0
+  ComesBefore p q = (coord_cmp (key_of bits p) (key_of bits q) ≡ Less) ⊎ ((key_of bits p ≡ key_of bits q) × IsBefore (place p) (place q))
+
+  -- q comes before the part; without one, each coordinate does
+  abbrev pub IsEarlierIn : {V L P : Type 0} → Option (Part V L P) → Coord → Type 0
+  IsEarlierIn None q = Unit {0}
+  IsEarlierIn (Some part) q = ComesBefore q part.first
+
 module _ {V S : Type 0} (bits : ℕ) (place : Coord → List ℕ) (blocks : S → Blocks V) (t : Layout V S) where
   -- the leaf around a coordinate, if there is one
   abbrev pub leaf_at : Coord → Option (LeafOf V)
@@ -28,6 +40,10 @@ module _ {V S : Type 0} (bits : ℕ) (place : Coord → List ℕ) (blocks : S �
   pub record IsPassedIn (skip : Skip V) (p : Coord) : Type 0 where
     pub leaf : leaf_at p ≡ None
     pub cell : Skips skip (cell_at bits place blocks t p)
+
+  -- a walk over the tree may pass over a coordinate: its root block has no entry, or the walk passes over it in the block
+  abbrev pub IsPassedOver : Skip V → Coord → Type 0
+  IsPassedOver skip p = (root_at t.table (key_of bits p) ≡ None) ⊎ IsPassedIn skip p
 
   -- the path, if there is one, leads from p's root node to p
   abbrev pub LeadsTo : {P : Type 0} → (ℕ → P → List ℕ → Type 0) → Option P → Coord → Type 0

@@ -1,8 +1,10 @@
 //! The first coordinates of blocks.
-ghost use Rattle.std.specs.Prelude.{◌≡◌, ◌+◌, ◌*◌, ◌<◌, ◌≤◌, ◌^◌, ◌+ℤ◌, pos};
+ghost use Rattle.std.specs.Prelude.{◌≡◌, ◌+◌, ◌*◌, ◌<◌, ◌≤◌, ◌^◌, ◌+ℤ◌, pos, negsuc, IsTrue};
 ghost use Rattle.vdb_coord.specs.Components.{first_of, number_at};
+ghost use Rattle.vdb_coord.specs.Space.{is_between};
 ghost use Rattle.vdb_node.specs.Nodes.{entry_count};
 ghost use Rattle.vdb_levels.specs.Places.{key_of, offset_of};
+ghost use Rattle.vdb_levels.specs.Table.{IsKey};
 ghost use Rattle.vdb_levels.specs.Walks.{IsCorner};
 
 use crate::offsets::{number_at, power};
@@ -24,6 +26,27 @@ pub(crate) fn corner(p: Coord, bits: u32) -> Coord
     let x = first_around(p.x, bits);
     let y = first_around(p.y, bits);
     let z = first_around(p.z, bits);
+    Coord { x, y, z }
+}
+
+fn first_numbered(number: i32, bits: u32) -> i32
+    requires few { bits ≤ 15 }
+    requires within { IsTrue (is_between (number_at bits (negsuc 2147483647)) (number_at bits (pos 2147483647)) number) }
+    ensures { result ≡ first_of bits number }
+{
+    number * power(bits)
+}
+
+/// The first coordinate of the block of 2 to the power `bits` along each axis that has this key.
+pub(crate) fn first_of_key(key: Coord, bits: u32) -> Coord
+    requires few { bits ≤ 15 }
+    requires key { IsKey bits key }
+    ensures corner { IsCorner bits result }
+    ensures block { key_of bits result ≡ key }
+{
+    let x = first_numbered(key.x, bits);
+    let y = first_numbered(key.y, bits);
+    let z = first_numbered(key.z, bits);
     Coord { x, y, z }
 }
 

@@ -3,11 +3,11 @@ ghost use Rattle.std.specs.Prelude.{◌≡◌, ◌⊎◌, ◌+◌, ◌≤◌, �
 ghost use Rattle.vdb_coord.specs.declared.Coord.{Coord};
 ghost use Rattle.vdb_node.specs.declared.Entry.TheVariants.{Child, Tile};
 ghost use Rattle.vdb_levels.specs.Places.{key_of};
-ghost use Rattle.vdb_levels.specs.RootWalks.{in_root, IsInRoot, IsPassedIn, IsRootPart, LeadsTo};
-ghost use Rattle.vdb_levels.specs.Table.{entry_of_key};
+ghost use Rattle.vdb_levels.specs.RootWalks.{in_root, IsEarlierIn, IsInRoot, IsPassedIn, IsPassedOver, IsRootPart, LeadsTo};
+ghost use Rattle.vdb_levels.specs.Table.{entry_of_key, IsKey, IsPast};
 ghost use Rattle.vdb_levels.specs.Walks.{IsBefore, IsEarlier, IsFrom, Skips};
 
-use crate::corners::corner;
+use crate::corners::{corner, first_of_key};
 use crate::part::{Content, Part, Skip};
 use crate::root::Root;
 use crate::walk::WalkStore;
@@ -52,6 +52,24 @@ impl<V: Voxel, S: WalkStore<V>> Root<V, S> {
         }
     }
 
+    /// Returns the first part of the root block with this key that the walk doesn't pass over. `next_key` gives the keys of the
+    /// table in their order.
+    pub fn first_part(
+        &self,
+        key: Coord,
+        skip: &Skip<V>,
+        steps: &mut Steps,
+    ) -> Option<Part<V, &S::Leaf, Option<S::Path>>>
+        requires key { IsKey S.bits key }
+        ensures part { IfSome result (λ part. IsRootPart S.bits S.place S.blocks self.now S.leaf_bits (λ leaf. S.seen leaf.now) (S.Lives self.now.nodes) part.first part) }
+        ensures key { IfSome result (λ part. key_of S.bits part.first ≡ key) }
+        ensures passed { (q : Coord) → key_of S.bits q ≡ key → IsEarlier S.place result (S.place q) → IsPassedIn S.bits S.place S.blocks self.now skip.now q }
+        ensures steps { steps.new ≤ steps.old + S.visits }
+    {
+        let p = first_of_key(key, self.nodes.bits());
+        self.part_from(p, skip, steps)
+    }
+
     /// Returns the first part of p's root block, after the one in which a path to `p` ends, that the walk doesn't pass over. Without
     /// a path that part is the whole root block.
     pub fn part_after(
@@ -76,6 +94,29 @@ impl<V: Voxel, S: WalkStore<V>> Root<V, S> {
                 Some(part_in_root(part))
             }
         }
+    }
+
+    /// Returns the first part that the walk doesn't pass over, of the entries of the root table whose keys come past `after`, or of
+    /// all. It visits the nodes of what it passes over.
+    pub fn part_past(
+        &self,
+        after: Option<Coord>,
+        skip: &Skip<V>,
+        steps: &mut Steps,
+    ) -> Option<Part<V, &S::Leaf, Option<S::Path>>>
+        ensures part { IfSome result (λ part. IsRootPart S.bits S.place S.blocks self.now S.leaf_bits (λ leaf. S.seen leaf.now) (S.Lives self.now.nodes) part.first part) }
+        ensures past { IfSome result (λ part. IsPast after (key_of S.bits part.first)) }
+        ensures passed { (q : Coord) → IsPast after (key_of S.bits q) → IsEarlierIn S.bits S.place result q → IsPassedOver S.bits S.place S.blocks self.now skip.now q }
+    {
+        let mut past = after;
+        'keys: while let Some(key) = self.next_key(past) {
+            let part = self.first_part(key, skip, steps);
+            if part.is_some() {
+                return part;
+            }
+            past = Some(key);
+        }
+        None
     }
 
     /// Returns the root block around `p` as a part, unless the walk passes over its tile.
