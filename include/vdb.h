@@ -21,7 +21,7 @@
  * Codes. Each call except the two that free returns a code. VDB_OK is 0: done. After any other code nothing has changed,
  * neither a grid or scene nor what a pointer argument points to. A call whose
  * comment names no code returns VDB_OK or VDB_EMPTY alone; every call returns VDB_EMPTY if a handle that it needs is empty.
- * vdb_message returns the text of a code.
+ * vdb_message returns the text of a code. The two calls that write many voxels say what else they may have done.
  *
  * Values cross as int64_t: 0 or 1 for VDB_BOOL, -2,147,483,648 to 2,147,483,647 for VDB_I32, any for VDB_I64. A state
  * comes out as 1 (active) or 0 (inactive); every state but 0 goes in as active.
@@ -75,6 +75,14 @@ typedef struct vdb_coord {
 typedef struct vdb_box {
     vdb_coord min, max;
 } vdb_box;
+
+/* How many elements of an array lie from a voxel of a box to the next one along each axis. The element of the least corner is the
+ * first one of the array. Rows don't overlap: z is at least 1, y at least z times the number of voxels of the box along z, and x at
+ * least y times the number along y. For an array without gaps these are 1, the number along z, and the number along z times that
+ * along y. */
+typedef struct vdb_strides {
+    size_t x, y, z;
+} vdb_strides;
 
 /* All voxels, as an initialiser of a vdb_box. */
 #define VDB_EVERYWHERE { { INT32_MIN, INT32_MIN, INT32_MIN }, { INT32_MAX, INT32_MAX, INT32_MAX } }
@@ -283,6 +291,37 @@ int32_t vdb_grid_census(vdb_grid *grid, vdb_census *census);
  */
 int32_t vdb_grid_first_active(vdb_grid *grid, const vdb_box *box, vdb_coord *at, int64_t *value, int32_t *found);
 int32_t vdb_grid_next_active(vdb_grid *grid, const vdb_box *box, vdb_coord *at, int64_t *value, int32_t *found);
+
+/* ---- Many voxels of a grid at once ---------------------------------------------------------------------------------- */
+
+/* Values and states are arrays with lengths of their own, in elements: int64_t values, and uint8_t states, which come out as 1 or 0
+ * and go in as active unless they are 0. An array of length 0 is left out: that part isn't read, or the voxels keep it. Its pointer
+ * isn't null. */
+
+/* Writes the value and the state of each voxel of `at` to the element of the same index, through an accessor or without one.
+ * VDB_RANGE: no such accessor, or the length of an array is neither `count` nor 0. */
+int32_t vdb_grid_get_many(vdb_grid *grid, int32_t accessor, const vdb_coord *at, size_t count, int64_t *values, size_t values_len,
+                          uint8_t *states, size_t states_len);
+
+/* Sets each voxel of `at` to the value and the state of the same index, one after another, through an accessor or without one.
+ * VDB_RANGE: no such accessor, a value outside the type, the length of an array is neither `count` nor 0, or both are 0 and `count`
+ * isn't; then nothing has changed. VDB_ROOT_LIMIT, VDB_MEMORY: the voxel at index *written failed, and those before it are set. After
+ * VDB_OK, *written is `count`. */
+int32_t vdb_grid_write_many(vdb_grid *grid, int32_t accessor, const vdb_coord *at, size_t count, const int64_t *values,
+                            size_t values_len, const uint8_t *states, size_t states_len, size_t *written);
+
+/* Writes the value and the state of each voxel of a box to its element. No other element changes. It reads the tree tile by tile and
+ * leaf by leaf, and needs no memory.
+ * VDB_RANGE: corners out of order, rows that overlap by their strides, or an array that is neither of length 0 nor long enough. */
+int32_t vdb_grid_read_box(vdb_grid *grid, const vdb_box *box, const vdb_strides *strides, int64_t *values, size_t values_len,
+                          uint8_t *states, size_t states_len);
+
+/* Sets each voxel of a box to the value and the state of its element, row by row, through an accessor or without one.
+ * VDB_RANGE: no such accessor, corners out of order, rows that overlap by their strides, a value outside the type, an array that is
+ * neither of length 0 nor long enough, or both of length 0; then nothing has changed. VDB_ROOT_LIMIT, VDB_MEMORY: the voxels of the box
+ * that come before some voxel, by x, then y, then z, are set. */
+int32_t vdb_grid_write_box(vdb_grid *grid, int32_t accessor, const vdb_box *box, const vdb_strides *strides, const int64_t *values,
+                           size_t values_len, const uint8_t *states, size_t states_len);
 
 /* ---- A scene -------------------------------------------------------------------------------------------------------- */
 

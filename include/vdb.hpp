@@ -26,10 +26,14 @@
 #include <memory>
 #include <new>
 #include <optional>
+#if __cplusplus >= 202002L
+#include <span>
+#endif
 #include <stdexcept>
 #include <string>
 #include <string_view>
 #include <system_error>
+#include <type_traits>
 #include <utility>
 #include <vector>
 
@@ -38,6 +42,29 @@ namespace vdb {
 using Coord = vdb_coord;
 using Box = vdb_box;
 using Census = vdb_census;
+using Strides = vdb_strides;
+
+#if __cplusplus >= 202002L
+template <typename T> using Span = std::span<T>;
+#else
+// What std::span is from C++20 on: the elements of an array or a vector, which it doesn't own.
+template <typename T> class Span {
+public:
+    Span() = default;
+    Span(T *data, std::size_t size) : data_(data), size_(size) {}
+    template <typename Range, typename = std::enable_if_t<std::is_convertible_v<decltype(std::data(std::declval<Range &>())), T *>>>
+    Span(Range &&range) : data_(std::data(range)), size_(std::size(range))
+    {
+    }
+    T *data() const { return data_; }
+    std::size_t size() const { return size_; }
+    bool empty() const { return size_ == 0; }
+
+private:
+    T *data_ = nullptr;
+    std::size_t size_ = 0;
+};
+#endif
 
 // The box of all voxels.
 inline constexpr Box everywhere = VDB_EVERYWHERE;
@@ -74,6 +101,14 @@ public:
     const char *what() const noexcept override { return vdb_message(VDB_MEMORY); }
 };
 
+// The strides of an array of a box without gaps: z fastest, then y, then x.
+inline Strides strides_of(const Box &box)
+{
+    const auto side = [](int32_t first, int32_t last) { return static_cast<std::size_t>(int64_t(last) - first + 1); };
+    const std::size_t row = side(box.min.z, box.max.z);
+    return {row * side(box.min.y, box.max.y), row, 1};
+}
+
 // Throws the exception of a code other than VDB_OK.
 inline void check(int32_t code, const std::string &file = "")
 {
@@ -87,6 +122,12 @@ namespace detail {
 
 // The bytes of a text as vdb.h wants them: never null.
 inline const char *bytes_of(std::string_view text) { return text.empty() ? "" : text.data(); }
+
+template <typename T> T *data_of(Span<T> span)
+{
+    static std::remove_const_t<T> none{};
+    return span.empty() ? &none : span.data();
+}
 
 struct Close {
     void operator()(std::FILE *file) const { std::fclose(file); }
@@ -200,6 +241,28 @@ public:
     void dilate(uint32_t iterations = 1) { check(vdb_grid_dilate(&grid_, iterations)); }
     void erode(uint32_t iterations = 1) { check(vdb_grid_erode(&grid_, iterations)); }
 
+    // Reads or sets many voxels: values[i] and states[i] are those of at[i]. An array that is left out is neither read nor set.
+    // If a write throws other than VDB_RANGE, the first *written voxels are set.
+    void get_many(Span<const Coord> at, Span<int64_t> values, Span<uint8_t> states = {}) { get_by(VDB_NO_ACCESSOR, at, values, states); }
+    void set_many(Span<const Coord> at, Span<const int64_t> values, Span<const uint8_t> states = {}, std::size_t *written = nullptr)
+    {
+        set_by(VDB_NO_ACCESSOR, at, values, states, written);
+    }
+
+    // Reads a box into arrays, or sets it from arrays: z fastest and without gaps, unless there are strides. An array that is left
+    // out is neither read nor set. A write that throws other than VDB_RANGE may have set voxels.
+    void read_box(const Box &box, Span<int64_t> values, Span<uint8_t> states = {}) { read_box(box, strides_of(box), values, states); }
+    void read_box(const Box &box, const Strides &strides, Span<int64_t> values, Span<uint8_t> states = {})
+    {
+        check(vdb_grid_read_box(&grid_, &box, &strides, detail::data_of(values), values.size(), detail::data_of(states), states.size()));
+    }
+    void write_box(const Box &box, Span<const int64_t> values, Span<const uint8_t> states = {}) { write_box(box, strides_of(box), values, states); }
+    void write_box(const Box &box, const Strides &strides, Span<const int64_t> values, Span<const uint8_t> states = {})
+    {
+        check(vdb_grid_write_box(&grid_, VDB_NO_ACCESSOR, &box, &strides, detail::data_of(values), values.size(), detail::data_of(states),
+                                 states.size()));
+    }
+
     void unite(Grid &other) { combine(vdb_grid_unite, other); }
     void subtract(Grid &other) { combine(vdb_grid_subtract, other); }
     void intersect(Grid &other) { combine(vdb_grid_intersect, other); }
@@ -252,6 +315,22 @@ private:
         return {value, active != 0};
     }
 
+    void get_by(int32_t accessor, Span<const Coord> at, Span<int64_t> values, Span<uint8_t> states)
+    {
+        check(vdb_grid_get_many(&grid_, accessor, detail::data_of(at), at.size(), detail::data_of(values), values.size(), detail::data_of(states),
+                                states.size()));
+    }
+
+    void set_by(int32_t accessor, Span<const Coord> at, Span<const int64_t> values, Span<const uint8_t> states, std::size_t *written)
+    {
+        std::size_t done = 0;
+        const int32_t code = vdb_grid_write_many(&grid_, accessor, detail::data_of(at), at.size(), detail::data_of(values), values.size(),
+                                                 detail::data_of(states), states.size(), &done);
+        if (written)
+            *written = done;
+        check(code);
+    }
+
     void combine(int32_t (*call)(vdb_grid *, vdb_grid *), Grid &other)
     {
         if (&other != this)
@@ -276,6 +355,11 @@ public:
     void set(Coord at, int64_t value, bool active = true) { check(vdb_grid_set(grid_.handle(), index_, at.x, at.y, at.z, value, active)); }
     void set_value(Coord at, int64_t value) { check(vdb_grid_set_value(grid_.handle(), index_, at.x, at.y, at.z, value)); }
     void set_active(Coord at, bool active) { check(vdb_grid_set_active(grid_.handle(), index_, at.x, at.y, at.z, active)); }
+    void get_many(Span<const Coord> at, Span<int64_t> values, Span<uint8_t> states = {}) { grid_.get_by(index_, at, values, states); }
+    void set_many(Span<const Coord> at, Span<const int64_t> values, Span<const uint8_t> states = {}, std::size_t *written = nullptr)
+    {
+        grid_.set_by(index_, at, values, states, written);
+    }
 
 private:
     Grid &grid_;

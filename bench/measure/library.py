@@ -1,4 +1,4 @@
-"""Calls of the crates' libraries, beside loops over OpenVDB's."""
+"""Calls of the crates' libraries and of the C library, beside loops over OpenVDB's."""
 import re
 import subprocess
 
@@ -30,6 +30,12 @@ CALLS = {
     "sum": "a copy, tools::compSum",
     "maximum": "a copy, tools::compMax",
     "replacement": "a copy, tools::compReplace",
+    "C, sets": "ValueAccessor::setValue",
+    "C, gets from the root": "Tree::probeValue",
+    "C, gets": "ValueAccessor::probeValue",
+    "C, a box": "tools::copyToDense",
+    "C, an array": "tools::copyFromDense",
+    "C, copies": "Tree::cbeginLeaf, a copy of each leaf",
 }
 
 
@@ -48,10 +54,8 @@ def run(command):
     return rows, sums[1]
 
 
-def measure_benchmark(name, program, runs):
-    """Runs a benchmark on both libraries in turn, and returns its rows, and what differed if anything did."""
-    loops = f"{programs.OPENVDB}/loops"
-    commands = {"vdb": [program], "one": [loops, name, "1"], "all": [loops, name, "all"]}
+def measure_benchmark(name, commands, runs):
+    """Runs a benchmark on each library in turn, and returns its rows, and what differed if anything did."""
     found = in_turn({key: lambda _, command=command: run(command) for key, command in commands.items()}, runs)
     sums = {key: {sums for _, sums in series} for key, series in found.items()}
     rows = []
@@ -64,20 +68,29 @@ def measure_benchmark(name, program, runs):
 
 
 def measure(runs, quick):
-    built = programs.build(BENCHMARKS, ["loops"])
+    built = programs.build(BENCHMARKS, ["loops", "calls"])
     if isinstance(built["loops"], Failed):
         raise built["loops"]
-    rows, failed = [], []
-    for number, name in enumerate(BENCHMARKS, 1):
-        tell(f"library, {name}", number, len(BENCHMARKS))
-        try:
-            if isinstance(built[name], Failed):
-                raise built[name]
-            more, differing = measure_benchmark(name, built[name], runs)
-            rows, failed = rows + more, failed + differing
-        except Failed as failure:
-            failed.append(str(failure))
-    if not rows:
-        raise Failed("; ".join(dict.fromkeys(failed)))
+
+    def rows_of(benchmarks, commands):
+        """The rows of some benchmarks, and what failed."""
+        rows, failed = [], []
+        for number, name in enumerate(benchmarks, 1):
+            tell(f"library, {name}", number, len(benchmarks))
+            try:
+                if isinstance(built[name], Failed):
+                    raise built[name]
+                more, differing = measure_benchmark(name, commands(name), runs)
+                rows, failed = rows + more, failed + differing
+            except Failed as failure:
+                failed.append(str(failure))
+        return rows, failed
+
+    loops = built["loops"]
+    rows, failed = rows_of(BENCHMARKS, lambda name: {"vdb": [built[name]], "one": [loops, name, "1"], "all": [loops, name, "all"]})
+    c_rows, c_failed = rows_of(["calls"], lambda name: {"vdb": [built[name], "vdb"], "one": [built[name], "openvdb"]})
+    if not rows and not c_rows:
+        raise Failed("; ".join(dict.fromkeys(failed + c_failed)))
     note = "One call, or one voxel or leaf of it, in nanoseconds. vdb uses one thread. Trees have 4,096 full leaves of `i32` unless the row says otherwise."
-    return [{**table("Library", note, rows), "failed": failed}]
+    c_note = "The same through vdb.h, over 4,096 full leaves of `i64`. Both libraries use one thread."
+    return [{**table("Library", note, rows), "failed": failed}, {**table("C library", c_note, c_rows, {"vdb": "vdb", "one": "OpenVDB"}), "failed": c_failed}]

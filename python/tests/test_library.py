@@ -4,6 +4,7 @@ import os
 import tempfile
 import unittest
 from pathlib import Path
+from unittest import mock
 
 from .support import DTYPES, EXTREMES, boxes, chance, np, random_array, vdbs
 
@@ -57,6 +58,11 @@ class Arrays(unittest.TestCase):
                 self.assertTrue((found[~states] == EXTREMES[grid.kind][1]).all())
                 self.assertEqual(int(states.sum()), grid.count)
 
+    def test_slabs(self):
+        """Arrays that cross in several slabs, which end between leaves."""
+        with mock.patch("vdb.arrays.SLAB", 700):
+            self.test_random()
+
     def test_empty(self):
         for shape in ((0, 0, 0), (0, 5, 5), (5, 0, 5)):
             self.assertEqual(vdb.Grid.from_array(np.zeros(shape, np.int64)).count, 0)
@@ -81,6 +87,43 @@ class Arrays(unittest.TestCase):
             vdb.Grid.from_array(cube + 1, origin=(-1, 0, 0), limit=1)
         with self.assertRaises(vdb.ArrayTooLargeError):
             vdb.Grid("i64").to_array(((0, 0, 0), (4095, 4095, 4095)))
+
+
+class Many(unittest.TestCase):
+    def test_random(self):
+        for seed in range(30):
+            with self.subTest(seed=seed):
+                dice = chance(seed)
+                kind = dice.choice(list(EXTREMES))
+                grid, cells = vdb.Grid(kind, EXTREMES[kind][0]), {}
+                for _ in range(3):
+                    at = np.array([[dice.choice([-9, 0, 1, 7, 8, 4096, MOST]) for _ in range(3)] for _ in range(dice.randint(0, 40))]).reshape(-1, 3)
+                    values = np.array([dice.choice(EXTREMES[kind]) for _ in at], DTYPES[kind])
+                    active = np.array([dice.random() < 0.5 for _ in at], np.bool_)
+                    grid.set_many(at, values, active)
+                    cells.update({tuple(key): (value, on) for key, value, on in zip(at.tolist(), values.tolist(), active.tolist())})
+                keys = list(cells) + [(5, 5, 5)]
+                values, active = grid.get_many(np.array(keys))
+                self.assertEqual(values.dtype, DTYPES[kind])
+                self.assertEqual(list(zip(values.tolist(), active.tolist())), [*cells.values(), (EXTREMES[kind][0], False)])
+                self.assertEqual(grid.count, sum(on for _, on in cells.values()))
+
+    def test_one_value_for_all(self):
+        grid = vdb.Grid("i32", 4)
+        grid.set_many(np.array([[0, 0, 0], [1, 2, 3]]), 7, False)
+        self.assertEqual((grid[0, 0, 0], grid[1, 2, 3], grid[0, 0, 1]), ((7, False), (7, False), (4, False)))
+
+    def test_errors(self):
+        grid = vdb.Grid("i32", limit=1)
+        for at, error in (([[0, 0]], ValueError), ([0, 0, 0], ValueError), ([[0.0, 0, 0]], TypeError), ([[0, 0, MOST + 1]], ValueError)):
+            with self.subTest(at=at), self.assertRaises(error):
+                grid.set_many(np.array(at), 1)
+        with self.assertRaises(vdb.RangeError):
+            grid.set_many(np.array([[0, 0, 0], [0, 0, 1]]), np.array([1, MOST + 1]))
+        self.assertEqual(grid.count, 0)
+        with self.assertRaises(vdb.RootLimitError):
+            grid.set_many(np.array([[0, 0, 0], [0, 0, 4096], [0, 0, 1]]), 1)
+        self.assertEqual((grid.count, grid[0, 0, 0]), (1, (1, True)))
 
 
 class Calls(unittest.TestCase):

@@ -9,7 +9,7 @@
 The package calls the shared library libvdb, which tools/libvdb of the repository builds. Unlike those of `vdbs`, its grids change.
 Coordinates are voxels; array axes are x, y, z.
 """
-from vdbs.errors import ArrayTooLargeError, SceneTooLongError
+from vdbs.errors import ArrayTooLargeError
 from vdbs.forms import Metadata
 
 from . import errors
@@ -18,4 +18,4 @@ from .grid import Census, Grid
 from .scene import Scene, load, loads
 
 __version__ = "1.0"
-__all__ = ["load", "loads", "Scene", "Grid", "Census", "Metadata", "ArrayTooLargeError", "SceneTooLongError", "__version__", *errors.__all__]
+__all__ = ["load", "loads", "Scene", "Grid", "Census", "Metadata", "ArrayTooLargeError", "__version__", *errors.__all__]

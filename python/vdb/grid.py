@@ -9,7 +9,7 @@ from vdbs.errors import ArrayTooLargeError
 from vdbs.forms import COORDINATE_SPAN, DEFAULT_LIMIT, KIND_NUMBERS, KINDS, Kind, Metadata, check_limit
 from vdbs.grid import MAX_BYTES, _coordinate, check_bounds
 
-from .arrays import box_of, read_array, write_array
+from .arrays import box_of, read_array, read_voxels, write_array, write_voxels
 from .library import LIBRARY, Box, CensusCounts, Coord, Count, GridHandle
 
 __all__ = ["Grid", "Census"]
@@ -35,8 +35,9 @@ class Census(NamedTuple):
 class Grid:
     """A sparse grid of booleans or integers over all coordinates of 32 bits.
 
-    Bounds are two corners, both included. A call that fails leaves every voxel as it was. It raises MemoryError if an allocation
-    fails, RootLimitError if the grid would need more root blocks than its limit, and ValueError or TypeError for wrong arguments.
+    Bounds are two corners, both included. A call that fails, other than `set_many`, leaves every voxel as it was. It raises MemoryError
+    if an allocation fails, RootLimitError if the grid would need more root blocks than its limit, and ValueError or TypeError for wrong
+    arguments.
     """
 
     def __init__(
@@ -98,8 +99,7 @@ class Grid:
 
         `values` has the dtype bool (a bool grid), an integer of at most 32 bits signed or 16 bits unsigned (i32), or int64 or uint32
         (i64). `active` is a bool array of the same shape; without it, each voxel whose value differs from the background is active.
-        `origin` is the coordinate of `values[0, 0, 0]`. Outside the array voxels are the background, inactive. The grid passes through a
-        scene file in memory, so SceneTooLongError is raised if that has more than 268,435,456 bytes.
+        `origin` is the coordinate of `values[0, 0, 0]`. Outside the array voxels are the background, inactive.
         """
         return cls._of(write_array(np.asarray(values), active, origin, background, limit), metadata)
 
@@ -113,8 +113,7 @@ class Grid:
 
         Without bounds it is the bounding box of the active voxels; if no voxel is active, both arrays have the shape (0, 0, 0). With
         `fill`, inactive voxels have that value in place of their own. Raises ArrayTooLargeError, before anything is allocated, if both
-        arrays together have more than `max_bytes` bytes. The box passes through a scene file in memory, so FormatError is raised if that
-        has more than 268,435,456 bytes.
+        arrays together have more than `max_bytes` bytes.
         """
         if fill is not None:
             fill = self._kind.check(fill, "fill")
@@ -126,7 +125,7 @@ class Grid:
         needed = shape[0] * shape[1] * shape[2] * (self.dtype.itemsize + 1)
         if needed > max_bytes:
             raise ArrayTooLargeError(shape, needed, max_bytes)
-        return read_array(self._handle, bounds, fill, max_bytes)
+        return read_array(self._handle, bounds, self.dtype, fill)
 
     @property
     def kind(self) -> str:
@@ -179,6 +178,19 @@ class Grid:
     def set_active(self, at: Coordinate, active: bool) -> None:
         """Sets the state of a voxel and keeps its value."""
         LIBRARY.vdb_grid_set_active(self._handle, NO_ACCESSOR, *_coordinate(at, "coordinate"), bool(active))
+
+    def get_many(self, at: np.ndarray) -> "tuple[np.ndarray, np.ndarray]":
+        """Returns the values and the states (bool) of voxels. `at` has their coordinates, an array of integers of shape (n, 3)."""
+        return read_voxels(self._handle, at, self.dtype)
+
+    def set_many(self, at: np.ndarray, values: "np.ndarray | Value", active: "np.ndarray | bool" = True) -> None:
+        """Sets the values and the states of voxels, one after another. `at` has their coordinates, an array of integers of shape (n, 3);
+        `values` and `active` are one for all voxels, or arrays of length n.
+
+        Raises RangeError, before anything changes, if a value is outside the type. After MemoryError or RootLimitError the voxels before
+        the failed one are set.
+        """
+        write_voxels(self._handle, at, values, active)
 
     def fill(self, bounds: Sequence[Sequence[int]], value: Value, active: bool = True) -> None:
         """Sets the value and the state of each voxel of a box."""

@@ -30,6 +30,10 @@ class Box(Structure):
     _fields_ = [("min", Coord), ("max", Coord)]
 
 
+class Strides(Structure):
+    _fields_ = [("x", c_size_t), ("y", c_size_t), ("z", c_size_t)]
+
+
 class Count(Structure):
     _fields_ = [("low", c_uint64), ("high", c_uint64)]
 
@@ -39,10 +43,11 @@ class CensusCounts(Structure):
 
 
 GRID, SCENE, BOX, COORD = POINTER(GridHandle), POINTER(SceneHandle), POINTER(Box), POINTER(Coord)
-I32, I64, U32, U64 = (POINTER(it) for it in (c_int32, c_int64, c_uint32, c_uint64))
+I32, I64, U32, U64, SIZE = (POINTER(it) for it in (c_int32, c_int64, c_uint32, c_uint64, c_size_t))
 BYTES, BUFFER = c_char_p, POINTER(c_uint8)
 PLACE = (c_int32, c_int32, c_int32)
 NAMED = (SCENE, BYTES, c_size_t)
+DENSE = (BOX, POINTER(Strides), I64, c_size_t, BUFFER, c_size_t)
 
 #: The types of the arguments of each call.
 ARGUMENTS = {
@@ -76,6 +81,10 @@ ARGUMENTS = {
     "vdb_grid_census": (GRID, POINTER(CensusCounts)),
     "vdb_grid_first_active": (GRID, BOX, COORD, I64, I32),
     "vdb_grid_next_active": (GRID, BOX, COORD, I64, I32),
+    "vdb_grid_get_many": (GRID, c_int32, COORD, c_size_t, I64, c_size_t, BUFFER, c_size_t),
+    "vdb_grid_write_many": (GRID, c_int32, COORD, c_size_t, I64, c_size_t, BUFFER, c_size_t, SIZE),
+    "vdb_grid_read_box": (GRID, *DENSE),
+    "vdb_grid_write_box": (GRID, c_int32, *DENSE),
     "vdb_scene_new": (SCENE,),
     "vdb_scene_free": (SCENE,),
     "vdb_scene_load": (SCENE, BUFFER, c_size_t),

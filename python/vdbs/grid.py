@@ -8,7 +8,7 @@ import numpy as np
 from . import reports
 from .dense import arrays_of, tree_of
 from .errors import ArrayTooLargeError, RootLimitError
-from .forms import COORDINATE_SPAN, DEFAULT_LIMIT, KINDS, SIDES, Metadata, check_limit
+from .forms import COORDINATE_SPAN, DEFAULT_LIMIT, KINDS, SIDES, Kind, Metadata, check_limit
 from .reports import Bounds, Coordinate, Label
 from .tree import Tree, empty_tree
 
@@ -88,21 +88,8 @@ class Grid:
         Raises TypeError for another dtype, ValueError for another shape, for coordinates outside 32 bits or for a wrong
         background, limit or metadata, and RootLimitError if the grid needs more root blocks than `limit`.
         """
-        values = np.asarray(values)
-        form = KINDS[_kind_of(values.dtype)]
-        if values.ndim != 3:
-            raise ValueError(f"values has {values.ndim} axes, not 3 (x, y, z)")
+        form, values, active, low = checked_arrays(values, active, origin)
         background = cls(form.word, background, limit).background
-        if active is not None:
-            active = np.asarray(active)
-            if active.dtype != np.bool_:
-                raise TypeError(f"active has the dtype {active.dtype}, not bool: convert it by .astype(bool)")
-            if active.shape != values.shape:
-                raise ValueError(f"active has the shape {active.shape}, and values {values.shape}")
-        low = _coordinate(origin, "origin")
-        for axis, at, side in zip("xyz", low, values.shape):
-            if at + side > COORDINATE_SPAN:
-                raise ValueError(f"{axis} would reach {at + side - 1}, past 2,147,483,647")
         return cls._of(tree_of(form, values, active, low, background), limit, metadata)
 
     @property
@@ -228,6 +215,27 @@ class Grid:
 
     def __repr__(self) -> str:
         return f"<Grid {self.kind}, background {self.background}, {self.leaf_count:,} leaves>"
+
+
+def checked_arrays(
+    values: "np.ndarray", active: "np.ndarray | None", origin: Sequence[int]
+) -> "tuple[Kind, np.ndarray, np.ndarray | None, Coordinate]":
+    """Returns the kind of grid for dense arrays, the arrays, and their first coordinate, or raises as Grid.from_array says."""
+    values = np.asarray(values)
+    form = KINDS[_kind_of(values.dtype)]
+    if values.ndim != 3:
+        raise ValueError(f"values has {values.ndim} axes, not 3 (x, y, z)")
+    if active is not None:
+        active = np.asarray(active)
+        if active.dtype != np.bool_:
+            raise TypeError(f"active has the dtype {active.dtype}, not bool: convert it by .astype(bool)")
+        if active.shape != values.shape:
+            raise ValueError(f"active has the shape {active.shape}, and values {values.shape}")
+    low = _coordinate(origin, "origin")
+    for axis, at, side in zip("xyz", low, values.shape):
+        if at + side > COORDINATE_SPAN:
+            raise ValueError(f"{axis} would reach {at + side - 1}, past 2,147,483,647")
+    return form, values, active, low
 
 
 def _kind_of(dtype: np.dtype) -> str:

@@ -201,9 +201,43 @@ static void files(const std::string &folder)
     }
 }
 
+static void arrays()
+{
+    vdb::Grid grid(vdb::Kind::i32, 9);
+    const std::vector<vdb::Coord> at = {{0, 0, 0}, {7, 7, 7}, {-1, 5, 300}};
+    const std::vector<int64_t> given = {1, 2, 3}, wide = {1, 2, INT64_C(1) << 31};
+    const std::vector<uint8_t> on = {1, 0, 255};
+    std::size_t written = 0;
+    grid.set_many(at, given, on, &written);
+    CHECK(written == 3 && grid.get({7, 7, 7}).value == 2 && !grid.get({7, 7, 7}).active && grid.count() == 2);
+    std::vector<int64_t> values(3), few(2);
+    std::vector<uint8_t> states(3, 7);
+    grid.get_many(at, values, states);
+    CHECK(values == given && states == std::vector<uint8_t>({1, 0, 1}));
+    grid.accessor(2).set_many(at, {}, std::vector<uint8_t>{0, 1, 0});
+    grid.accessor(2).get_many(at, {}, states);
+    CHECK(states == std::vector<uint8_t>({0, 1, 0}) && grid.get({0, 0, 0}).value == 1);
+    CHECK(code_of([&] { grid.set_many(at, wide); }) == VDB_RANGE && grid.get({7, 7, 7}).value == 2);
+    CHECK(code_of([&] { grid.get_many(at, few); }) == VDB_RANGE);
+
+    const vdb::Box box = {{6, 7, 6}, {7, 8, 8}};
+    std::vector<int64_t> dense(12);
+    std::iota(dense.begin(), dense.end(), 100);
+    grid.write_box(box, dense, std::vector<uint8_t>(12, 1));
+    CHECK(grid.get({6, 7, 6}).value == 100 && grid.get({6, 7, 8}).value == 102 && grid.get({6, 8, 6}).value == 103 && grid.get({7, 8, 8}).value == 111);
+    CHECK(grid.count(box) == 12 && grid.count() == 12);
+    std::vector<int64_t> spread(40, -1);
+    std::vector<uint8_t> none;
+    grid.read_box({{5, 7, 7}, {6, 8, 8}}, vdb::Strides{20, 8, 3}, spread, none);
+    CHECK(spread[0] == 9 && spread[11] == 9 && spread[20] == 101 && spread[23] == 102 && spread[28] == 104 && spread[31] == 105 && spread[1] == -1);
+    CHECK(code_of([&] { grid.read_box(box, vdb::Strides{6, 2, 1}, spread); }) == VDB_RANGE);
+    CHECK(code_of([&] { grid.read_box(box, few); }) == VDB_RANGE);
+}
+
 int main(int, char **argv)
 {
     voxels();
+    arrays();
     boxes();
     pairs();
     same();

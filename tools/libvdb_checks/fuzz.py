@@ -11,12 +11,12 @@ import ctypes
 import random
 import sys
 import time
-from ctypes import byref, c_int32, c_int64, c_long, c_uint32, c_uint64
+from ctypes import byref, c_int32, c_int64, c_long, c_size_t, c_uint8, c_uint32, c_uint64
 
 import model
 from header import Header
 
-OK, EMPTY, MEMORY, RANGE, KINDS, NO_SUM = 0, 1, 2, 4, 6, 7
+OK, EMPTY, MEMORY, ROOT_LIMIT, RANGE, KINDS, NO_SUM = 0, 1, 2, 3, 4, 6, 7
 NO_GRID, NAME, NAME_TAKEN, GRID_LIMIT, META_LIMIT, NO_META, TEXT, BUFFER = 8, 9, 10, 11, 12, 13, 14, 15
 FAULTS = range(20, 36)
 GRIDS, VERIFY_EVERY, FAIL_EVERY, FAILURES = 4, 400, 100, 60
@@ -41,12 +41,13 @@ class Step:
     """A call of the library.
 
     `outs` are the results, with the values that they must have after the code 0, in the order of `results`. `refusals` are the
-    codes of which one must be returned, if there are any; otherwise `commit` changes the map and returns the code.
+    codes of which one must be returned, if there are any; otherwise `commit` changes the map and returns the code. `prefix` are the
+    places and the cells that the call writes in turn, if it writes some of them though it fails.
     """
 
-    def __init__(self, name, arguments, outs=(), refusals=(), commit=None, results=None, grids=()):
+    def __init__(self, name, arguments, outs=(), refusals=(), commit=None, results=None, grids=(), prefix=None):
         self.name, self.arguments, self.outs, self.refusals = name, arguments, outs, set(refusals)
-        self.commit, self.results, self.grids = commit or (lambda: OK), results or (lambda: ()), grids
+        self.commit, self.results, self.grids, self.prefix = commit or (lambda: OK), results or (lambda: ()), grids, prefix
 
 
 class Session:
@@ -244,6 +245,95 @@ class Session:
         if self.lattice is not VOXELS or far:
             return self.clip()
         return self.on_grid(name, [times], wrong, [slot], lambda grid: grid.iterate(times, grows))
+
+    # -- many voxels at once
+
+    def arrays(self, slot, count):
+        """Arrays of values and states with so many elements, or rarely with one more or one less, or with none; and their lengths."""
+        lengths = [0 if self.rarely(0.15) else max(0, count + (self.chance.choice([-1, 1]) if self.rarely() else 0)) for _ in range(2)]
+        kind = self.maps[slot].kind if self.maps[slot] else 1
+        values = (c_int64 * max(1, lengths[0]))(*(self.value(kind) for _ in range(lengths[0])))
+        states = (c_uint8 * max(1, lengths[1]))(*(self.chance.choice([0, 1, 1, 255]) for _ in range(lengths[1])))
+        return values, states, lengths
+
+    def written(self, grid, at, values, states, lengths, index):
+        """The cell that a voxel gets from the elements at an index."""
+        value, on = grid.get(at)
+        return (values[index] if lengths[0] else value, states[index] != 0 if lengths[1] else on)
+
+    def write_in_turn(self, slot, name, arguments, wrong, outs, places, cell):
+        """A step that writes places in turn; `cell` gives the cell of a place by the map's grid and a number."""
+        turns = [(at, lambda grid, at=at, number=number: cell(grid, at, number)) for number, at in enumerate(places)]
+
+        def commit(grid):
+            for number, (at, made) in enumerate(turns):
+                code = grid.set(at, made(grid))
+                if code:
+                    for out in outs:
+                        need(out.value == number, f"{out.value} voxels are written, and not {number}")
+                    return code
+            return OK
+
+        step = self.on_grid(name, arguments, wrong, [slot], commit, outs, lambda grid: [len(turns)] * len(outs))
+        step.prefix = turns
+        return step
+
+    def many(self):
+        slot, accessor, at = self.grid(), self.accessor(), [self.place() for _ in range(self.chance.choice([0, 1, 2, 5, 9]))]
+        coord, count = self.header.types["vdb_coord"], len(at)
+        values, states, lengths = self.arrays(slot, count)
+        coords = (coord * max(1, count))(*(coord(*self.voxel(it)) for it in at))
+        arguments = [accessor, coords, count, values, lengths[0], states, lengths[1]]
+        wrong = not -1 <= accessor < 8 or any(it not in (0, count) for it in lengths)
+        if self.rarely(0.5):
+            results = lambda grid: [  # noqa: E731
+                tuple(grid.get(it)[0] for it in at) if lengths[0] else tuple(values),
+                tuple(int(grid.get(it)[1]) for it in at) if lengths[1] else tuple(states),
+            ]
+            return self.on_grid("vdb_grid_get_many", arguments, wrong, [slot], None, [values, states], results)
+        grid, written = self.maps[slot], c_size_t(77)
+        wrong = wrong or (count > 0 and lengths == [0, 0]) or (grid is not None and not all(grid.has(it) for it in values[: lengths[0]]))
+        cell = lambda grid, it, number: self.written(grid, it, values, states, lengths, number)  # noqa: E731
+        return self.write_in_turn(slot, "vdb_grid_write_many", [*arguments, byref(written)], wrong, [written], at, cell)
+
+    def dense(self):
+        slot, accessor, box = self.grid(), self.accessor(), self.box(small=True)
+        if any(self.lattice.sides[it] > 1 for a, b in zip(*box) for it in range(a, b + 1)):
+            at = self.place()
+            box = at, at
+        if any(self.lattice.sides[it] > 1 for it in box[0]):
+            return self.get()
+        sides = [last - first + 1 for first, last in zip(*box)]
+        argument, wrong = self.box_argument(box)
+        step_z = self.chance.choice([1, 1, 1, 2, 3])
+        step_y = sides[2] * step_z + self.chance.choice([0, 0, 0, 1, 5])
+        step_x = sides[1] * step_y + self.chance.choice([0, 0, 0, 2])
+        if self.rarely():
+            step_z, step_y, step_x = self.chance.choice([(0, step_y, step_x), (step_z, step_y - 1, step_x), (step_z, step_y, step_x - 1)])
+            wrong = wrong or step_z == 0 or step_y < sides[2] * step_z or step_x < sides[1] * step_y
+        places = list(model.cells_of(box))
+        elements = [sum((it - low) * step for it, low, step in zip(at, box[0], (step_x, step_y, step_z))) for at in places]
+        count = max(elements) + 1
+        values, states, lengths = self.arrays(slot, count)
+        wrong = wrong or any(0 < it < count for it in lengths)
+        strides = self.type("vdb_strides", step_x, step_y, step_z)
+        arguments = [argument, byref(strides), values, lengths[0], states, lengths[1]]
+        if self.rarely(0.5):
+
+            def results(grid):
+                found = [list(values) if lengths[0] else [], list(states) if lengths[1] else []]
+                for at, element in zip(places, elements):
+                    for part, cell in zip(found, grid.get(at)):
+                        if part:
+                            part[element] = int(cell)
+                return [tuple(part or array) for part, array in zip(found, (values, states))]
+
+            return self.on_grid("vdb_grid_read_box", arguments, wrong, [slot], None, [values, states], results)
+        grid = self.maps[slot]
+        wrong = wrong or not -1 <= accessor < 8 or lengths == [0, 0]
+        wrong = wrong or (grid is not None and lengths[0] > 0 and not all(grid.has(values[it]) for it in elements))
+        cell = lambda grid, it, number: self.written(grid, it, values, states, lengths, elements[number])  # noqa: E731
+        return self.write_in_turn(slot, "vdb_grid_write_box", [accessor, *arguments], wrong, [], places, cell)
 
     # -- steps on two grids
 
@@ -443,7 +533,7 @@ class Session:
 
     KINDS_OF_STEP = [
         (set, 30), (get, 25), (fill, 8), (clip, 3), (nodes, 3), (iterate, 2), (combine, 5), (new, 3), (free, 0.5), (copy, 2), (facts, 2),
-        (count, 2), (bounds, 2), (census, 1), (active, 5), (scene_new, 0.5), (scene_load, 0.3), (scene_save, 0.5),
+        (count, 2), (bounds, 2), (census, 1), (active, 5), (many, 6), (dense, 6), (scene_new, 0.5), (scene_load, 0.3), (scene_save, 0.5),
         (scene_names, 1), (scene_put, 0.8), (scene_take, 0.8), (scene_meta, 2),
     ]  # fmt: skip
 
@@ -475,7 +565,10 @@ class Session:
             self.failures += 1
             need(code, f"returns OK, though allocation {number} failed")
             codes.append(code)
-            self.unchanged(step, before, f"allocation {number} failed")
+            if step.prefix is None or code not in (MEMORY, ROOT_LIMIT):
+                self.unchanged(step, before, f"allocation {number} failed")
+            else:
+                self.takes_prefix(step)
         else:
             code = getattr(self.library, step.name)(*step.arguments)
         self.compare(step, code, before)
@@ -488,14 +581,35 @@ class Session:
         else:
             wanted = step.commit()
             need(code == wanted, f"{code}, and not {wanted}")
-        if code:
+        if code and not (step.prefix and code == ROOT_LIMIT):
             self.unchanged(step, before, f"code {code}")
+        elif code:
+            self.verify(step.grids[0], 40)
         elif step.outs:
             found, wanted = [text_of(it) for it in step.outs], list(step.results())
             need(found == wanted, f"the results are {found}, and not {wanted}")
         if self.calls % VERIFY_EVERY == 0:
             for slot in range(GRIDS):
                 self.verify(slot, 10**6)
+
+    def takes_prefix(self, step):
+        """Makes in the map the writes of a call that failed: as many as the call says, or else as many as the library has."""
+        slot = step.grids[0]
+        grid, known = self.maps[slot], step.outs[0].value if step.outs else None
+        for number, (at, made) in enumerate(step.prefix):
+            cell = made(grid)
+            if number == known or (known is None and self.cell(slot, at) != cell):
+                break
+            need(grid.set(at, cell) == OK, f"voxel {number} was written past the root limit")
+        else:
+            raise Wrong("all voxels were written, though an allocation failed")
+        self.verify(slot, 10**6)
+
+    def cell(self, slot, at):
+        """The library's cell at some voxel of a place."""
+        value, on = c_int64(), c_int32()
+        self.library.vdb_grid_get(self.grids[slot], *self.voxel(at), byref(value), byref(on))
+        return value.value, on.value != 0
 
     def unchanged(self, step, before, why):
         """Checks that the results and the grids are as they were."""
@@ -507,7 +621,7 @@ class Session:
     def verify(self, slot, most):
         """Compares up to `most` cells of a grid that aren't the background, some others, and its reports, with the map."""
         grid, handle = self.maps[slot], self.grids[slot]
-        value, on, count = c_int64(), c_int32(), self.type("vdb_count")
+        value, count = c_int64(), self.type("vdb_count")
         code = self.library.vdb_grid_background(handle, byref(value))
         need(code == (EMPTY if grid is None else OK), f"the background returns {code}")
         if grid is None:
@@ -519,10 +633,8 @@ class Session:
         cells = list(grid.cells)
         others = [tuple(self.chance.randrange(len(self.lattice)) for _ in range(3)) for _ in range(10)]
         for at in [*(cells if len(cells) <= most else self.chance.sample(cells, most)), *others]:
-            voxel = self.voxel(at)
-            self.library.vdb_grid_get(handle, *voxel, byref(value), byref(on))
-            found = value.value, on.value != 0
-            need(found == grid.get(at), f"the cell of {voxel} is {found}, and not {grid.get(at)}")
+            found = self.cell(slot, at)
+            need(found == grid.get(at), f"the cell of {self.lattice.corners((at, at))} is {found}, and not {grid.get(at)}")
 
 
 def need(holds, what):
@@ -540,7 +652,7 @@ def text_of(out):
     if isinstance(out, ctypes.Structure):
         return tuple(text_of(getattr(out, name)) for name, _ in out._fields_)
     if isinstance(out, ctypes.Array):
-        return out.value
+        return out.value if out._type_ is ctypes.c_char else tuple(out)
     return getattr(out, "value", out)
 
 

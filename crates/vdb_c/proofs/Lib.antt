@@ -3,3 +3,4 @@ mod KeptValues
 mod HeldGridValues
 mod HeldSceneValues
 mod NextActive
+pub mod Filled

@@ -7,3 +7,4 @@ pub mod Calls
 pub mod Reports
 pub mod Scenes
 pub mod Regions
+pub mod Many

@@ -1,6 +1,5 @@
 -- How types, values, states, accessors and boxes cross to C.
-use Rattle.std.specs.Prelude.{ℕ, ℤ, pos, negsuc, Bool, true, false, not, ◌&&◌, if◌then◌else◌, Option, Some, None, unsigned_abs}
-use Rattle.std.specs.Option.{option_map}
+use Rattle.std.specs.Prelude.{ℕ, ℤ, pos, negsuc, Bool, true, false, not, if◌then◌else◌, nat_eq, Option, Some, None, unsigned_abs}
 use Rattle.std.specs.Ordering.{int_eq}
 use Rattle.vdb_coord.specs.Boxes.{box_of}
 use Rattle.vdb_coord.specs.Space.{Box, coord, is_between}
@@ -31,6 +30,14 @@ state_number on = if on then pos 1 else pos 0
 -- a number as a state: active unless it is 0
 abbrev pub is_on : ℤ → Bool
 is_on n = not (int_eq n (pos 0))
+
+-- a state as a byte: 1 if active, else 0
+abbrev pub state_byte : Bool → ℕ
+state_byte on = if on then 1 else 0
+
+-- a byte as a state: active unless it is 0
+abbrev pub byte_is_on : ℕ → Bool
+byte_is_on n = not (nat_eq n 0)
 
 -- a value as a number
 abbrev pub value_number : Scalar → ℤ

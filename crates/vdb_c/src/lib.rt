@@ -9,11 +9,13 @@
 //! - `held_grid`, `held_scene`, `handles`: what C holds.
 //! - `codes`, `values`: codes, types, values, states, accessors and boxes as they cross.
 //! - `grid_life`, `voxels`, `regions`: calls on one grid.
+//! - `arrays`, `many`: calls on many voxels, given by their coordinates.
 //! - `pairs`: calls that combine two grids.
 //! - `scene_files`, `scene_grids`, `scene_moves`: calls on a scene and on its grids.
 //! - `reports`, `found`: calls that report on a grid.
 #![tactic(auto)]
 
+mod arrays;
 mod codes;
 mod found;
 mod grid_life;
@@ -21,6 +23,7 @@ mod handles;
 mod held_grid;
 mod held_scene;
 mod kept;
+mod many;
 mod pairs;
 mod regions;
 mod reports;

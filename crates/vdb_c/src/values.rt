@@ -2,7 +2,7 @@
 ghost use Rattle.std.specs.Prelude.{◌≡◌, IfSome, IsTrue};
 ghost use Rattle.vdb_coord.specs.declared.Coord.{Coord};
 ghost use Rattle.vdb_scene.specs.Scalars.{is_of};
-ghost use Rattle.vdb_c.specs.Values.{accessor_of, corner_coord, corners_box, is_on as number_is_on, kind_number as number_of_kind, kind_of_number, state_number as number_of_state, value_number as number_of_value, value_of};
+ghost use Rattle.vdb_c.specs.Values.{accessor_of, byte_is_on, corner_coord, corners_box, is_on as number_is_on, kind_number as number_of_kind, kind_of_number, state_number as number_of_state, value_number as number_of_value, value_of};
 
 use vdb_coord::{Bounds, Coord};
 use vdb_scene::Scalar;
@@ -82,6 +82,13 @@ pub(crate) fn is_on(number: i32) -> bool
     ensures { result ≡ number_is_on number }
 {
     number != 0
+}
+
+/// Returns a byte as a state: active unless it is 0.
+pub(crate) fn is_byte_on(byte: u8) -> bool
+    ensures { result ≡ byte_is_on byte }
+{
+    byte != 0
 }
 
 /// Returns a value as a number.

@@ -7,4 +7,8 @@ pub mod NodeReads
 pub mod Gives
 pub mod Sizes
 pub mod Roots
+pub mod FirstNumbers
+pub mod WalkSteps
 pub mod OneNode
+pub mod RootWalkSteps
+pub mod KeysPast

@@ -37,7 +37,7 @@ module _ {V : Type 0} (n : ℕ) where
   no_child_next pool s node was from (Some index) h i c from_on below k = h.before i from_on below (c, λ d. sym (entry_of_node pool s node was d i) ∙ k.1 d)
 
   -- a node that reads one entry at the last index, whatever the default, reads one at each before it
-  read_there : (xs : List (Entry V)) (last : ℕ) (e : Entry V) → ((d : Entry V) → slice_index_or xs last d ≡ e) → (i : ℕ) → i < suc last → (d f : Entry V) → slice_index_or xs i d ≡ slice_index_or xs i f
+  pub read_there : (xs : List (Entry V)) (last : ℕ) (e : Entry V) → ((d : Entry V) → slice_index_or xs last d ≡ e) → (i : ℕ) → i < suc last → (d f : Entry V) → slice_index_or xs i d ≡ slice_index_or xs i f
   read_there xs last e h i k d f =
       elim (or_less last (length xs)) [
         | inl less ↦ get_or_default xs i d f (omega (arith, k, less))

@@ -1,6 +1,6 @@
 -- The root table over the nodes of a store.
 use Rattle.std.proofs.Common.{◌≡◌, ◌≢◌, ◌⊎◌, inl, inr, ℕ, Bool, true, false, List, refl, sym, ap, subst, ◌∙◌}
-use Rattle.std.specs.Prelude.{Option, Some, None, is_some, if◌then◌else◌}
+use Rattle.std.specs.Prelude.{Option, Some, None, IsSome, is_some, if◌then◌else◌}
 use Rattle.std.specs.Option.{option_map_or}
 use Rattle.std.proofs.lemmas.Bool.Decides.{eqb_tells}
 use Rattle.vdb_coord.specs.Space.{coord_eq}
@@ -17,7 +17,7 @@ use Rattle.vdb_levels.specs.Table.{KeepsField, Layout, RootOwns, cell_at, entry_
 use Rattle.vdb_levels.specs.SameFacts.{below_same}
 use Rattle.vdb_levels.specs.EntryFacts.{true_false}
 
-bool_cases : (b : Bool) → (b ≡ true) ⊎ (b ≡ false)
+pub bool_cases : (b : Bool) → (b ≡ true) ⊎ (b ≡ false)
 bool_cases true = inl refl
 bool_cases false = inr refl
 
@@ -58,6 +58,16 @@ module _ {V : Type 0} where
 
     put_there : (k : Coord) → coord_eq key k ≡ false → root_at new k ≡ root_at old k
     put_there k e = puts k ∙ rw e refl
+
+  -- keys that hold before an entry was put hold after it
+  pub put_keys : (Key : Coord → Type 0) (old new : List (Coord × Entry V)) (key : Coord) (x : Entry V) → Puts old new key x → Key key → ((k : Coord) → IsSome (root_at old k) → Key k) → (k : Coord) → IsSome (root_at new k) → Key k
+  put_keys Key old new key x puts here keys k some = elim (coord_cases key k) [
+    | inl e ↦ subst Key e.0 here
+    | inr e ↦ keys k (ap is_some (sym (put_there old new key x puts k e.1)) ∙ some)
+  ]
+
+  pub some_is : (o : Option (Entry V)) (x : Entry V) → o ≡ Some x → IsSome o
+  some_is o x e = ap is_some e
 
   -- an entry that stands for a child is one
   child_of_option : (background : V) (o : Option (Entry V)) (r : ℕ) → option_map_or (λ e. e) o (Tile (off background)) ≡ Child r → o ≡ Some (Child r)

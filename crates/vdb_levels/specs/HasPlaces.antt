@@ -9,7 +9,7 @@ use Rattle.vdb_coord.proofs.Digits.{digit_below, digit_is, number_up, number_zer
 use Rattle.vdb_node.specs.Nodes.{entry_count}
 use Rattle.vdb_levels.specs.Places.{IsLeafPlace, IsNodePlace, IsOneLeafBelow, joined, key_of, offset_of}
 
-three_times : (b : ℕ) → 2 ^ (3 * b) ≡ 2 ^ b * 2 ^ b * 2 ^ b
+pub three_times : (b : ℕ) → 2 ^ (3 * b) ≡ 2 ^ b * 2 ^ b * 2 ^ b
 three_times b =
     let e : 3 * b ≡ b + b + b = omega arith in
     rw (e, pow-add 2 (b + b) b, pow-add 2 b b) refl
@@ -37,7 +37,7 @@ pub node_has_place : (bits low : ℕ) (IsBelow : List ℕ → Type 0) (below : C
     → (p : Coord) → IsNodePlace (entry_count bits) IsBelow (offset_of low bits p ∷ below p)
 node_has_place bits low IsBelow below h p = (offset_below low bits p, h p)
 
-same_coord : (p q : Coord) → p.x ≡ q.x → p.y ≡ q.y → p.z ≡ q.z → p ≡ q
+pub same_coord : (p q : Coord) → p.x ≡ q.x → p.y ≡ q.y → p.z ≡ q.z → p ≡ q
 same_coord p q x y z = λ i. record { x = x i; y = y i; z = z i }
 
 -- two coordinates of one block, in one entry of its node, are in one block of the entries
@@ -80,7 +80,7 @@ same_up : (low bits : ℕ) (x y : ℤ) → number_at low x ≡ number_at low y �
 same_up low bits x y e = number_up low bits x ∙ rw e (sym (number_up low bits y))
 
 -- two coordinates in one block of the entries are in one entry of one node
-key_up : (low bits : ℕ) (p q : Coord) → key_of low p ≡ key_of low q → key_of (low + bits) p ≡ key_of (low + bits) q
+pub key_up : (low bits : ℕ) (p q : Coord) → key_of low p ≡ key_of low q → key_of (low + bits) p ≡ key_of (low + bits) q
 key_up low bits p q e =
     same_coord (key_of (low + bits) p) (key_of (low + bits) q)
     (same_up low bits p.x q.x (ap (λ (t : Coord). t.x) e))

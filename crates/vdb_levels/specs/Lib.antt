@@ -9,3 +9,6 @@ pub mod Field
 pub mod Table
 pub mod EntryFacts
 pub mod SameFacts
+pub mod Walks
+pub mod WalkFacts
+pub mod RootWalks

@@ -1,8 +1,10 @@
 -- What a contract sees of a tree.
-use Rattle.std.specs.Prelude.{◌≡◌, ◌≤◌, ◌<◌, ◌⊎◌, ℕ, Bool, true, false, List, Option, Some, IsSome, length, if◌then◌else◌}
+use Rattle.std.specs.Prelude.{◌≡◌, ◌≤◌, ◌<◌, ◌⊎◌, ℕ, Bool, true, false, List, Option, Some, None, IsSome, IsTrue, length, if◌then◌else◌}
 use Rattle.std.specs.Map.{lookup}
 use Rattle.std.specs.Option.{option_map_or}
-use Rattle.vdb_coord.specs.Space.{coord_eq}
+use Rattle.std.specs.Ordering.{is_gt}
+use Rattle.std.specs.declared.cmp.Ordering.TheVariants.{Less}
+use Rattle.vdb_coord.specs.Space.{coord_cmp, coord_eq, everywhere, is_inside}
 use Rattle.vdb_coord.specs.declared.Coord.{Coord}
 use Rattle.vdb_node.specs.declared.Entry.{Entry}
 use Rattle.vdb_node.specs.declared.Entry.TheVariants.{Child, Tile}
@@ -60,9 +62,25 @@ module _ {V : Type 0} where
       pub limit : new.limit ≡ old.limit
       pub cells : (p : Coord) → cell_at new p ≡ cell_at old p
 
+-- the key is that of the block of some coordinate
+abbrev pub IsKey : ℕ → Coord → Type 0
+IsKey bits k = IsTrue (is_inside (record { min = key_of bits everywhere.min; max = key_of bits everywhere.max }) k)
+
+-- the key comes past `after`; with no `after`, any key does
+abbrev pub IsPast : Option Coord → Coord → Type 0
+IsPast None key = Unit {0}
+IsPast (Some after) key = coord_cmp after key ≡ Less
+
+-- the least key of the table past `after`, if there is one
+abbrev pub IsNextKey : {V : Type 0} → List (Coord × Entry V) → Option Coord → Option Coord → Type 0
+IsNextKey table after None = (k : Coord) → IsPast after k → root_at table k ≡ None
+IsNextKey table after (Some next) =
+    IsSome (root_at table next) × IsPast after next × ((k : Coord) → IsPast after k → IsSome (root_at table k) → is_gt (coord_cmp next k) ≡ false)
+
 -- what holds of every tree
-pub record IsSoundRoot {V S : Type 0} (IsSound : S → Type 0) (blocks : S → Blocks V) (t : Layout V S) : Type 0 where
+pub record IsSoundRoot {V S : Type 0} (bits : ℕ) (IsSound : S → Type 0) (blocks : S → Blocks V) (t : Layout V S) : Type 0 where
   pub limit : length t.table ≤ t.limit
+  pub keys : (k : Coord) → IsSome (root_at t.table k) → IsKey bits k
   pub nodes : IsSound t.nodes
   pub owns : RootOwns t.table (blocks t.nodes).holds
 

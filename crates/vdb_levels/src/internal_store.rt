@@ -33,8 +33,8 @@ pub struct InternalStore<V: Stored<W>, const LOG2: u32, const W: usize, Below: N
 /// The place of a node, and the path below it, if there is one.
 #[derive(Clone, Copy)]
 pub struct NodePath<N, P> {
-    place: N,
-    below: Option<P>,
+    pub(crate) place: N,
+    pub(crate) below: Option<P>,
 }
 
 impl<V: Stored<W>, const LOG2: u32, const W: usize, Below: NodeStore<V>> NodeStore<V>

@@ -1,21 +1,27 @@
 //! The nodes of a sparse grid, level by level: a store of leaves, and stores of internal nodes over the store below.
 #![tactic(auto)]
 
+mod corners;
 mod internal_store;
 mod leaf_store;
 mod node_store;
 mod offsets;
 mod pair;
+mod part;
 mod pools;
 mod refusal;
 mod root;
+mod root_walk;
 mod table;
+mod walk;
 mod write;
 
 pub use internal_store::InternalStore;
 pub use leaf_store::LeafStore;
 pub use node_store::NodeStore;
 pub use pair::Pair;
+pub use part::{Content, Part, Skip};
 pub use refusal::Refusal;
 pub use root::{DeepTree, Root, Tree};
+pub use walk::WalkStore;
 pub use write::Write;

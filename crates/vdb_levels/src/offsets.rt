@@ -6,7 +6,7 @@ ghost use Rattle.vdb_levels.specs.Places.{offset_of};
 
 use vdb_coord::Coord;
 
-fn power(bits: u32) -> i32
+pub(crate) fn power(bits: u32) -> i32
     requires { bits ≤ 15 }
     ensures { result ≡ pos (2 ^ bits) }
 {

@@ -1,10 +1,10 @@
 //! A tree: a root table over a store of nodes.
-ghost use Rattle.std.specs.Prelude.{◌≡◌, ◌+◌, ◌*◌, ◌≤◌, ◌<◌, [], IfOk, IfErr, OnOk, OnErr, IsOk, Some, None, length};
+ghost use Rattle.std.specs.Prelude.{◌≡◌, ◌+◌, ◌*◌, ◌≤◌, ◌<◌, [], IfOk, IfErr, IfSome, OnOk, OnErr, IsOk, Some, None, length};
 ghost use Rattle.vdb_node.specs.declared.Entry.TheVariants.{Child, Tile};
 ghost use Rattle.vdb_value.specs.declared.Cell.{Cell};
 ghost use Rattle.vdb_levels.specs.Field.{written};
 ghost use Rattle.vdb_levels.specs.Places.{key_of};
-ghost use Rattle.vdb_levels.specs.Table.{entry_of_key, field_of, HasCapacity, KeepsField, off, root_at, write};
+ghost use Rattle.vdb_levels.specs.Table.{entry_of_key, field_of, HasCapacity, IsKey, IsNextKey, KeepsField, off, root_at, write};
 ghost use Rattle.vdb_levels.specs.declared.refusal.Refusal.TheVariants.{Memory};
 
 use crate::offsets::number_at;
@@ -25,7 +25,7 @@ pub struct Root<V: Voxel, S: NodeStore<V>> {
     background: V,
     limit: u32,
     table: RootTable<V>,
-    nodes: S,
+    pub(crate) nodes: S,
 }
 
 impl<V: Voxel, S: NodeStore<V>> Model for Root<V, S> {
@@ -35,7 +35,7 @@ impl<V: Voxel, S: NodeStore<V>> Model for Root<V, S> {
 
     ghost view = { λ t. record { background = t.background; limit = t.limit; table = t.table; nodes = t.nodes } };
 
-    ghost invariant = { λ t. IsSoundRoot S.IsSound S.blocks (record { background = t.background; limit = t.limit; table = t.table; nodes = t.nodes }) };
+    ghost invariant = { λ t. IsSoundRoot S.bits S.IsSound S.blocks (record { background = t.background; limit = t.limit; table = t.table; nodes = t.nodes }) };
 }
 
 /// The standard VDB tree, whose blocks span 8, 128 and 4,096 voxels along each axis.
@@ -64,6 +64,14 @@ impl<V: Voxel, S: NodeStore<V>> Root<V, S> {
         }
     }
 
+    /// The least key of the root table past `after`, or the least of all without `after`.
+    pub fn next_key(&self, after: Option<Coord>) -> Option<Coord>
+        ensures next { IsNextKey self.now.table after result }
+        ensures key { IfSome result (IsKey S.bits) }
+    {
+        self.table.next_key(after)
+    }
+
     /// The cell at a coordinate.
     pub fn get(&self, p: Coord, steps: &mut Steps) -> Cell<V>
         ensures cell { (field_of S.bits S.place S.blocks self.now).cell p ≡ result }
@@ -75,7 +83,7 @@ impl<V: Voxel, S: NodeStore<V>> Root<V, S> {
         }
     }
 
-    fn key(&self, p: Coord) -> Coord
+    pub(crate) fn key(&self, p: Coord) -> Coord
         ensures { result ≡ key_of S.bits p }
     {
         let bits = self.nodes.bits();
@@ -102,7 +110,7 @@ impl<V: Voxel, S: NodeStore<V>> Root<V, S> {
     }
 
     /// The entry under a key, or the tile that an absent one stands for.
-    fn entry(&self, key: Coord) -> Entry<V>
+    pub(crate) fn entry(&self, key: Coord) -> Entry<V>
         ensures { entry_of_key self.now.background self.now.table key ≡ result }
     {
         match self.table.get(key) {
@@ -160,7 +168,8 @@ impl<V: Voxel, S: NodeStore<V>> Root<V, S> {
 
     /// Makes sure that the key has an entry, the tile that it stands for.
     fn enter(&mut self, key: Coord, cell: Cell<V>) -> Result<(), Refusal>
-        requires { entry_of_key self.old.background self.old.table key ≡ Tile cell }
+        requires tiled { entry_of_key self.old.background self.old.table key ≡ Tile cell }
+        requires key { IsKey S.bits key }
         ensures keeps { KeepsField S.bits S.place S.blocks self.old self.new }
         ensures entered { OnOk result (root_at self.new.table key ≡ Some (Tile cell)) }
         ensures capacity { IfErr result (λ refusal. HasCapacity self.old key → refusal ≡ Memory) }

@@ -5,11 +5,12 @@ ghost use Rattle.std.specs.List.{IsDistinct};
 ghost use Rattle.std.specs.Map.{keys_of};
 ghost use Rattle.vdb_coord.specs.Space.{coord_eq};
 ghost use Rattle.vdb_coord.specs.declared.Coord.{Coord};
-ghost use Rattle.vdb_levels.specs.Table.{root_at};
+ghost use Rattle.vdb_levels.specs.Table.{IsNextKey, root_at};
 
 use std::alloc::{AllocError, Global};
 use std::collections::BTreeMap;
 use std::marker::Model;
+use std::ops::Bound;
 use vdb_coord::Coord;
 use vdb_node::Entry;
 
@@ -52,6 +53,42 @@ impl<V: Copy> RootTable<V> {
         ensures { result ≡ length self.now }
     {
         self.entries.len()
+    }
+
+    /// The least key past `after`, or the least of all without `after`.
+    pub(crate) fn next_key(&self, after: Option<Coord>) -> Option<Coord>
+        ensures { IsNextKey self.now after result }
+    {
+        match after {
+            Some(key) => self.key_after(key),
+            None => self.first_key(),
+        }
+    }
+
+    fn first_key(&self) -> Option<Coord>
+        ensures { IsNextKey self.now None result }
+    {
+        match self
+            .entries
+            .range((Bound::<Coord>::Unbounded, Bound::Unbounded))
+            .next()
+        {
+            Some((key, _)) => Some(*key),
+            None => None,
+        }
+    }
+
+    fn key_after(&self, after: Coord) -> Option<Coord>
+        ensures { IsNextKey self.now (Some after) result }
+    {
+        match self
+            .entries
+            .range((Bound::Excluded(after), Bound::Unbounded))
+            .next()
+        {
+            Some((key, _)) => Some(*key),
+            None => None,
+        }
     }
 
     /// Puts an entry under a key. The error says that memory was refused.

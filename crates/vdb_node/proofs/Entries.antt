@@ -47,60 +47,60 @@ pub or_false_r : (a b : Bool) → (a || b) ≡ false → b ≡ false
 or_false_r true b e = absurd (cc)
 or_false_r false b e = e
 
-module _ {V : Type 0} (children states : List Bool) (value_at : ℕ → V) (slots : List ℕ) where
+module _ {V : Type 0} (slot_of : V → ℕ → ℕ) (children states : List Bool) (value_at : ℕ → V) (numbers : List ℕ) where
   -- at an index that the child mask has on, the entry is the slot
-  pub entry_of-child : (i : ℕ) → is_on children i ≡ true → entry_of children states value_at slots i ≡ Child (get_or slots i 0)
+  pub entry_of-child : (i : ℕ) → is_on children i ≡ true → entry_of slot_of children states value_at numbers i ≡ Child (slot_of (value_at i) (get_or numbers i 0))
   entry_of-child i on = rw on refl
 
   -- at an index that the child mask has off, the entry is the value with its state
-  pub entry_of-tile : (i : ℕ) → is_on children i ≡ false → entry_of children states value_at slots i ≡ Tile (record { value = value_at i; on = is_on states i })
+  pub entry_of-tile : (i : ℕ) → is_on children i ≡ false → entry_of slot_of children states value_at numbers i ≡ Tile (record { value = value_at i; on = is_on states i })
   entry_of-tile i off = rw off refl
 
   -- a node with no child, one value and one state is constant
   pub IsConstant-node_of : (n : ℕ) (cell : Cell V) → ((i : ℕ) → i < n → is_on children i ≡ false) → ((i : ℕ) → i < n → value_at i ≡ cell.value)
-      → ((i : ℕ) → i < n → is_on states i ≡ cell.on) → IsConstant (listed (entry_of children states value_at slots) n) n (Tile cell)
+      → ((i : ℕ) → i < n → is_on states i ≡ cell.on) → IsConstant (listed (entry_of slot_of children states value_at numbers) n) n (Tile cell)
   IsConstant-node_of n cell off values on d i h =
-      get_or-listed (entry_of children states value_at slots) n i d h ∙ entry_of-tile i (off i h) ∙ rw (values i h, on i h) refl
+      get_or-listed (entry_of slot_of children states value_at numbers) n i d h ∙ entry_of-tile i (off i h) ∙ rw (values i h, on i h) refl
 
   -- each entry of a constant node is the tile
-  constant_entry : (n : ℕ) (cell : Cell V) → IsConstant (listed (entry_of children states value_at slots) n) n (Tile cell) → (i : ℕ) → i < n
-      → entry_of children states value_at slots i ≡ Tile cell
-  constant_entry n cell constant i h = sym (get_or-listed (entry_of children states value_at slots) n i (Tile cell) h) ∙ constant (Tile cell) i h
+  constant_entry : (n : ℕ) (cell : Cell V) → IsConstant (listed (entry_of slot_of children states value_at numbers) n) n (Tile cell) → (i : ℕ) → i < n
+      → entry_of slot_of children states value_at numbers i ≡ Tile cell
+  constant_entry n cell constant i h = sym (get_or-listed (entry_of slot_of children states value_at numbers) n i (Tile cell) h) ∙ constant (Tile cell) i h
 
   -- a constant node has no child
-  pub no_child : (n : ℕ) (cell : Cell V) → IsConstant (listed (entry_of children states value_at slots) n) n (Tile cell) → (i : ℕ) → i < n → is_on children i ≡ false
+  pub no_child : (n : ℕ) (cell : Cell V) → IsConstant (listed (entry_of slot_of children states value_at numbers) n) n (Tile cell) → (i : ℕ) → i < n → is_on children i ≡ false
   no_child n cell constant i h =
       elim (cases_Bool (is_on children i)) [
         | inl on ↦ absurd (tile_child cell _ (sym (constant_entry n cell constant i h) ∙ entry_of-child i on))
         | inr off ↦ off
       ]
 
-  constant_cell : (n : ℕ) (cell : Cell V) → IsConstant (listed (entry_of children states value_at slots) n) n (Tile cell) → (i : ℕ) → i < n
+  constant_cell : (n : ℕ) (cell : Cell V) → IsConstant (listed (entry_of slot_of children states value_at numbers) n) n (Tile cell) → (i : ℕ) → i < n
       → ◌≡◌ {A = Cell V} (record { value = value_at i; on = is_on states i }) cell
   constant_cell n cell constant i h =
       tile_tile _ cell (sym (entry_of-tile i (no_child n cell constant i h)) ∙ constant_entry n cell constant i h)
 
   -- a constant node has one value
-  pub one_value : (n : ℕ) (cell : Cell V) → IsConstant (listed (entry_of children states value_at slots) n) n (Tile cell) → (i : ℕ) → i < n → value_at i ≡ cell.value
+  pub one_value : (n : ℕ) (cell : Cell V) → IsConstant (listed (entry_of slot_of children states value_at numbers) n) n (Tile cell) → (i : ℕ) → i < n → value_at i ≡ cell.value
   one_value n cell constant i h = ap (λ (c : Cell V). c.value) (constant_cell n cell constant i h)
 
   -- a constant node has one state
-  pub one_state : (n : ℕ) (cell : Cell V) → IsConstant (listed (entry_of children states value_at slots) n) n (Tile cell) → (i : ℕ) → i < n → is_on states i ≡ cell.on
+  pub one_state : (n : ℕ) (cell : Cell V) → IsConstant (listed (entry_of slot_of children states value_at numbers) n) n (Tile cell) → (i : ℕ) → i < n → is_on states i ≡ cell.on
   one_state n cell constant i h = ap (λ (c : Cell V). c.on) (constant_cell n cell constant i h)
 
   -- an index that the child mask has on has a child
-  pub has_child : (n i : ℕ) → i < n → is_on children i ≡ true → HasChild (listed (entry_of children states value_at slots) n) i
-  has_child n i h on = (get_or slots i 0, λ d. get_or-listed (entry_of children states value_at slots) n i d h ∙ entry_of-child i on)
+  pub has_child : (n i : ℕ) → i < n → is_on children i ≡ true → HasChild (listed (entry_of slot_of children states value_at numbers) n) i
+  has_child n i h on = (slot_of (value_at i) (get_or numbers i 0), λ d. get_or-listed (entry_of slot_of children states value_at numbers) n i d h ∙ entry_of-child i on)
 
   -- an index that the child mask has off has none
-  pub has_no_child : (n i : ℕ) → i < n → is_on children i ≡ false → HasChild (listed (entry_of children states value_at slots) n) i → ⊥
+  pub has_no_child : (n i : ℕ) → i < n → is_on children i ≡ false → HasChild (listed (entry_of slot_of children states value_at numbers) n) i → ⊥
   has_no_child n i h off (slot, child) =
       tile_child _ slot
-      (sym (get_or-listed (entry_of children states value_at slots) n i (Child slot) h ∙ entry_of-tile i off) ∙ child (Child slot))
+      (sym (get_or-listed (entry_of slot_of children states value_at numbers) n i (Child slot) h ∙ entry_of-tile i off) ∙ child (Child slot))
 
   -- the next index of the child mask is the next child
   pub IsNextChild-listed : (n from : ℕ) (result : Option ℕ) → IsNext true children n from result
-      → IsNextChild (listed (entry_of children states value_at slots) n) n from result
+      → IsNextChild (listed (entry_of slot_of children states value_at numbers) n) n from result
   IsNextChild-listed n from (Some index) next =
       record {
         within = next.within;
@@ -110,28 +110,28 @@ module _ {V : Type 0} (children states : List Bool) (value_at : ℕ → V) (slot
       }
   IsNextChild-listed n from None next = λ i least below. has_no_child n i below (next i least below)
 
-  has_child_no_tile : (n i : ℕ) → i < n → is_on children i ≡ true → (cell : Cell V) → IsTileOf cell (listed (entry_of children states value_at slots) n) i → ⊥
+  has_child_no_tile : (n i : ℕ) → i < n → is_on children i ≡ true → (cell : Cell V) → IsTileOf cell (listed (entry_of slot_of children states value_at numbers) n) i → ⊥
   has_child_no_tile n i h on cell tile =
       tile_child cell _
-      (sym (tile (Tile cell)) ∙ get_or-listed (entry_of children states value_at slots) n i (Tile cell) h ∙ entry_of-child i on)
+      (sym (tile (Tile cell)) ∙ get_or-listed (entry_of slot_of children states value_at numbers) n i (Tile cell) h ∙ entry_of-child i on)
 
-  tile_at : (n i : ℕ) → i < n → is_on children i ≡ false → (cell : Cell V) → IsTileOf cell (listed (entry_of children states value_at slots) n) i
+  tile_at : (n i : ℕ) → i < n → is_on children i ≡ false → (cell : Cell V) → IsTileOf cell (listed (entry_of slot_of children states value_at numbers) n) i
       → ◌≡◌ {A = Cell V} (record { value = value_at i; on = is_on states i }) cell
   tile_at n i h off cell tile =
       tile_tile _ cell
-      (sym (entry_of-tile i off) ∙ sym (get_or-listed (entry_of children states value_at slots) n i (Tile cell) h) ∙ tile (Tile cell))
+      (sym (entry_of-tile i off) ∙ sym (get_or-listed (entry_of slot_of children states value_at numbers) n i (Tile cell) h) ∙ tile (Tile cell))
 
   -- an index that is off in both masks has an inactive tile
-  inactive_tile : (n i : ℕ) → i < n → (is_on children i || is_on states i) ≡ false → IsInactiveTile (listed (entry_of children states value_at slots) n) i
+  inactive_tile : (n i : ℕ) → i < n → (is_on children i || is_on states i) ≡ false → IsInactiveTile (listed (entry_of slot_of children states value_at numbers) n) i
   inactive_tile n i h off =
       let no_child : is_on children i ≡ false = or_false_l (is_on children i) (is_on states i) off in
       let no_state : is_on states i ≡ false = or_false_r (is_on children i) (is_on states i) off in (
         value_at i,
-        λ d. get_or-listed (entry_of children states value_at slots) n i d h ∙ entry_of-tile i no_child ∙ rw no_state refl,
+        λ d. get_or-listed (entry_of slot_of children states value_at numbers) n i d h ∙ entry_of-tile i no_child ∙ rw no_state refl,
       )
 
   -- an index that is on in one of the two masks has no inactive tile
-  no_inactive_tile : (n i : ℕ) → i < n → (is_on children i || is_on states i) ≡ true → IsInactiveTile (listed (entry_of children states value_at slots) n) i → ⊥
+  no_inactive_tile : (n i : ℕ) → i < n → (is_on children i || is_on states i) ≡ true → IsInactiveTile (listed (entry_of slot_of children states value_at numbers) n) i → ⊥
   no_inactive_tile n i h on (value, tile) =
       elim (cases_Bool (is_on children i)) [
         | inl child ↦ has_child_no_tile n i h child (record { value = value; on = false }) tile
@@ -142,7 +142,7 @@ module _ {V : Type 0} (children states : List Bool) (value_at : ℕ → V) (slot
 
   -- the next index that is on in one of the masks has the next entry that is no inactive tile
   pub IsFirstWithout-inactive : (n from : ℕ) (result : Option ℕ) → IsFirstOn (λ i. is_on children i || is_on states i) n from result
-      → IsFirstWithout (IsInactiveTile (listed (entry_of children states value_at slots) n)) n from result
+      → IsFirstWithout (IsInactiveTile (listed (entry_of slot_of children states value_at numbers) n)) n from result
   IsFirstWithout-inactive n from (Some index) first =
       record {
         within = first.within;
@@ -154,13 +154,13 @@ module _ {V : Type 0} (children states : List Bool) (value_at : ℕ → V) (slot
 
   -- an index has a tile of a cell if it has no child, and the value and the state are the cell's
   pub tile_of : (n i : ℕ) (cell : Cell V) → i < n → is_on children i ≡ false → value_at i ≡ cell.value → is_on states i ≡ cell.on
-      → IsTileOf cell (listed (entry_of children states value_at slots) n) i
+      → IsTileOf cell (listed (entry_of slot_of children states value_at numbers) n) i
   tile_of n i cell h off value on d =
-      get_or-listed (entry_of children states value_at slots) n i d h ∙ entry_of-tile i off ∙ rw (value, on) refl
+      get_or-listed (entry_of slot_of children states value_at numbers) n i d h ∙ entry_of-tile i off ∙ rw (value, on) refl
 
   -- an index has no tile of a cell if it has a child, or the value or the state isn't the cell's
   pub no_tile_of : (n i : ℕ) (cell : Cell V) → i < n → (is_on children i ≡ false → value_at i ≡ cell.value → is_on states i ≡ cell.on → ⊥)
-      → IsTileOf cell (listed (entry_of children states value_at slots) n) i → ⊥
+      → IsTileOf cell (listed (entry_of slot_of children states value_at numbers) n) i → ⊥
   no_tile_of n i cell h differ tile =
       elim (cases_Bool (is_on children i)) [
         | inl child ↦ has_child_no_tile n i h child cell tile
@@ -173,7 +173,7 @@ module _ {V : Type 0} (children states : List Bool) (value_at : ℕ → V) (slot
     -- if there is no child, the values are all equal and the states are, the first tile is the one of all
     pub constant_alike : (first : Cell V) → ((i : ℕ) → is_on children i ≡ false) → ((i : ℕ) → i < n → is_on states i ≡ is_on states 0)
         → ((i : ℕ) → i < n → value_at i ≡ value_at 0) → value_at 0 ≡ first.value → is_on states 0 ≡ first.on
-        → (cell : Cell V) → (Some first ≡ Some cell) ↔ IsConstant (listed (entry_of children states value_at slots) n) n (Tile cell)
+        → (cell : Cell V) → (Some first ≡ Some cell) ↔ IsConstant (listed (entry_of slot_of children states value_at numbers) n) n (Tile cell)
     constant_alike first off on values value state cell = (
       λ e.
           let same : first ≡ cell = cc in
@@ -188,7 +188,7 @@ module _ {V : Type 0} (children states : List Bool) (value_at : ℕ → V) (slot
     -- if there is a child, or two values or two states differ, the node has no one tile
     pub constant_mixed : (((i : ℕ) → i < n → is_on children i ≡ false) → ((i : ℕ) → i < n → is_on states i ≡ is_on states 0)
         → ((i : ℕ) → i < n → value_at i ≡ value_at 0) → ⊥)
-        → (cell : Cell V) → (None ≡ Some cell) ↔ IsConstant (listed (entry_of children states value_at slots) n) n (Tile cell)
+        → (cell : Cell V) → (None ≡ Some cell) ↔ IsConstant (listed (entry_of slot_of children states value_at numbers) n) n (Tile cell)
     constant_mixed differ cell = (
       λ e. absurd (cc),
       λ constant.

@@ -5,11 +5,13 @@ use Rattle.vdb_node.specs.Nodes.{entry_count, IsOffFrom}
 use Rattle.vdb_node.specs.declared.Entry.{Entry}
 use Rattle.vdb_node.specs.declared.Entry.TheVariants.{Child, Tile}
 use Rattle.vdb_value.specs.declared.Cell.{Cell}
+use Rattle.vdb_value.specs.declared.Kind.{Kind}
+use Rattle.vdb_value.specs.declared.Kind.TheVariants.{Bool as truths}
 
--- the child or the tile at an index of the masks and the rows
-abbrev pub entry_of : {V : Type 0} → List Bool → List Bool → (ℕ → V) → List ℕ → ℕ → Entry V
-entry_of children states value_at slots i =
-    if is_on children i then Child (slice_index_or slots i 0) else Tile (record { value = value_at i; on = is_on states i })
+-- the child or the tile at an index of the masks and the rows, by the slot of a child from what the rows have there
+abbrev pub entry_of : {V : Type 0} → (V → ℕ → ℕ) → List Bool → List Bool → (ℕ → V) → List ℕ → ℕ → Entry V
+entry_of slot_of children states value_at numbers i =
+    if is_on children i then Child (slot_of (value_at i) (slice_index_or numbers i 0)) else Tile (record { value = value_at i; on = is_on states i })
 
 -- the new list has this at the index, and at every other what the old one has
 pub record SetsEntry {A : Type 0} (old new : List A) (i : ℕ) (x : A) : Type 0 where
@@ -56,12 +58,12 @@ abbrev pub IsFirstWithout : (ℕ → Type 0) → ℕ → ℕ → Option ℕ → 
 IsFirstWithout Has n from (Some index) = IsFirstWithoutAt Has n from index
 IsFirstWithout Has n from None = (i : ℕ) → from ≤ i → i < n → Has i
 
--- an internal node with this many bits and words has capacity for its entries, and no bit past them
-pub record IsSoundInternal (bits words row_len slots_len : ℕ) (children states : List Bool) : Type 0 where
+-- an internal node with this many bits and words has capacity for its entries, and no bit past them; only booleans need the row of numbers
+pub record IsSoundInternal (kind : Kind) (bits words row_len numbers_len : ℕ) (children states : List Bool) : Type 0 where
   pub few_bits : bits ≤ 5
   pub few_words : words ≤ 512
   pub mask_capacity : entry_count bits ≤ 64 * words
   pub row_capacity : entry_count bits ≤ row_len
-  pub slots_capacity : entry_count bits ≤ slots_len
+  pub numbers_capacity : kind ≡ truths → entry_count bits ≤ numbers_len
   pub no_child_past : IsOffFrom children (entry_count bits)
   pub no_state_past : IsOffFrom states (entry_count bits)

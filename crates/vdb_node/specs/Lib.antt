@@ -4,3 +4,4 @@ pub mod Bounds
 pub mod Entries
 pub mod Leaf
 pub mod Nodes
+pub mod Slots

@@ -15,7 +15,8 @@ use vdb_pool::TryCopy;
 use vdb_value::Cell;
 
 /// A node whose 8 to the power `LOG2` entries are children or tiles. It keeps a mask of the
-/// children, a mask of active states, a row of values and a row of slots. The masks' bits past the
+/// children, a mask of active states and a row of values, in which a child's slot stands in the
+/// place of a value. Only for booleans a row of numbers keeps the slots. The masks' bits past the
 /// last entry are off; with the least `W` only a node of 1 bit has such bits.
 ///
 /// A contract sees the list of the entries. It reads the entry at index `i` by
@@ -38,10 +39,10 @@ impl<V: Stored<W>, const LOG2: u32, const W: usize> Model for Internal<V, LOG2, 
     ghost Value = { List (Entry V) };
 
     ghost view = { λ node. listed
-        (entry_of node.children node.states (V.value_in node.values) node.slots.items)
+        (entry_of V.slot_of node.children node.states (V.value_in node.values) node.slots.items)
         (entry_count LOG2) };
 
-    ghost invariant = { λ node. IsSoundInternal LOG2 W (V.row_len node.values)
+    ghost invariant = { λ node. IsSoundInternal V.KIND LOG2 W (V.row_len node.values)
         (length node.slots.items) node.children node.states };
 }
 
@@ -56,7 +57,7 @@ impl<V: Stored<W>, const LOG2: u32, const W: usize> Internal<V, LOG2, W> {
         ensures { IfOk result (λ node. IsConstant node (entry_count LOG2) (Tile cell)) }
     {
         let values = cell.value.filled_row(alloc, entries(LOG2))?;
-        let slots = vec![in alloc; 0; entries(LOG2) as usize]?;
+        let slots = V::slot_row(alloc, entries(LOG2))?;
         let mut states = Mask::filled(cell.on);
         cut(&mut states, entries(LOG2));
         Ok(Internal {
@@ -89,7 +90,7 @@ impl<V: Stored<W>, const LOG2: u32, const W: usize> Internal<V, LOG2, W> {
         ensures { (d : Entry V) → slice_index_or self.now i d ≡ result }
     {
         if self.children.test(i) {
-            Entry::Child(self.slots[i as usize])
+            Entry::Child(V::slot_at(&self.values, &self.slots, i))
         } else {
             Entry::Tile(Cell {
                 value: V::value_at(&self.values, i),
@@ -116,7 +117,7 @@ impl<V: Stored<W>, const LOG2: u32, const W: usize> Internal<V, LOG2, W> {
         ensures { SetsEntry self.old self.new i (Child slot) }
     {
         self.children.set(i);
-        self.slots[i as usize] = slot;
+        V::set_slot(&mut self.values, &mut self.slots, i, slot);
     }
 
     /// Returns the cell that every entry is a tile of, or `None` if there is a child or two tiles

@@ -3,9 +3,11 @@
 ghost use Rattle.std.specs.Prelude.{◌≡◌, ◌≢◌, ◌*◌, ◌<◌, ◌≤◌, ◌↔◌, ℕ, pos, length, slice_index_or, false, if◌then◌else◌, Some, None, IsTrue};
 ghost use Rattle.std.proofs.Common.{arith};
 ghost use Rattle.vdb_mask.specs.Mask.{is_on};
+ghost use Rattle.vdb_node.specs.Slots.{slot_of_i32, slot_of_i64};
 ghost use Rattle.vdb_value.specs.Blends.{blended};
 
 use crate::Stored;
+use crate::slots::{i32_of_slot, i64_of_slot, slot_of_i32, slot_of_i64};
 use crate::uniform::{is_uniform, put};
 use std::alloc::{AllocError, Global};
 use vdb_mask::Mask;
@@ -223,6 +225,8 @@ impl<const W: usize> Stored<W> for bool {
 
     ghost value_in = { is_on };
 
+    ghost slot_of = { λ _ number. number };
+
     fn filled_row(self, _alloc: Global, _count: u32) -> Result<Mask<W>, AllocError> {
         Ok(Mask::filled(self))
     }
@@ -284,6 +288,18 @@ impl<const W: usize> Stored<W> for bool {
         row.union(&taken);
     }
 
+    fn slot_row(alloc: Global, count: u32) -> Result<Vec<u32>, AllocError> {
+        vec![in alloc; 0; count as usize]
+    }
+
+    fn slot_at(_row: &Mask<W>, slots: &Vec<u32>, i: u32) -> u32 {
+        slots[i as usize]
+    }
+
+    fn set_slot(_row: &mut Mask<W>, slots: &mut Vec<u32>, i: u32, slot: u32) {
+        slots[i as usize] = slot;
+    }
+
     ghost row_small = { (Prim.omega arith, Prim.omega arith) };
 }
 
@@ -293,6 +309,8 @@ impl<const W: usize> Stored<W> for i32 {
     ghost row_len = { λ row. length row.items };
 
     ghost value_in = { λ row i. slice_index_or row.items i (pos 0) };
+
+    ghost slot_of = { λ value _. slot_of_i32 value };
 
     fn filled_row(self, alloc: Global, count: u32) -> Result<Vec<i32>, AllocError> {
         vec![in alloc; self; count as usize]
@@ -338,6 +356,18 @@ impl<const W: usize> Stored<W> for i32 {
         take_each(row, other, marks, count);
     }
 
+    fn slot_row(alloc: Global, _count: u32) -> Result<Vec<u32>, AllocError> {
+        Ok(Vec::new(alloc))
+    }
+
+    fn slot_at(row: &Vec<i32>, _slots: &Vec<u32>, i: u32) -> u32 {
+        slot_of_i32(row[i as usize])
+    }
+
+    fn set_slot(row: &mut Vec<i32>, _slots: &mut Vec<u32>, i: u32, slot: u32) {
+        row[i as usize] = i32_of_slot(slot);
+    }
+
     ghost row_small = { (Prim.omega arith, Prim.omega arith) };
 }
 
@@ -347,6 +377,8 @@ impl<const W: usize> Stored<W> for i64 {
     ghost row_len = { λ row. length row.items };
 
     ghost value_in = { λ row i. slice_index_or row.items i (pos 0) };
+
+    ghost slot_of = { λ value _. slot_of_i64 value };
 
     fn filled_row(self, alloc: Global, count: u32) -> Result<Vec<i64>, AllocError> {
         vec![in alloc; self; count as usize]
@@ -390,6 +422,18 @@ impl<const W: usize> Stored<W> for i64 {
 
     fn take_marked(row: &mut Vec<i64>, other: &Vec<i64>, marks: &Mask<W>, count: u32) {
         take_each(row, other, marks, count);
+    }
+
+    fn slot_row(alloc: Global, _count: u32) -> Result<Vec<u32>, AllocError> {
+        Ok(Vec::new(alloc))
+    }
+
+    fn slot_at(row: &Vec<i64>, _slots: &Vec<u32>, i: u32) -> u32 {
+        slot_of_i64(row[i as usize])
+    }
+
+    fn set_slot(row: &mut Vec<i64>, _slots: &mut Vec<u32>, i: u32, slot: u32) {
+        row[i as usize] = i64_of_slot(slot);
     }
 
     ghost row_small = { (Prim.omega arith, Prim.omega arith) };

@@ -13,6 +13,7 @@ mod bounds;
 mod internal;
 mod kinds;
 mod leaf;
+mod slots;
 mod stored;
 #[cfg(test)]
 mod tests;

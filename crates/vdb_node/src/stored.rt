@@ -2,7 +2,7 @@
 
 ghost use Rattle.std.specs.Align.{type_align};
 ghost use Rattle.std.specs.Mem.{type_size};
-ghost use Rattle.std.specs.Prelude.{◌≡◌, ◌≢◌, ◌+◌, ◌*◌, ◌<◌, ◌≤◌, ◌↔◌, ℕ, max, false, if◌then◌else◌, Some, None, IfOk, IsOk, IsTrue};
+ghost use Rattle.std.specs.Prelude.{◌≡◌, ◌≢◌, ◌+◌, ◌*◌, ◌<◌, ◌≤◌, ◌↔◌, ℕ, max, false, if◌then◌else◌, Some, None, IfOk, IsOk, IsTrue, length, slice_index_or};
 ghost use Rattle.vdb_mask.specs.Mask.{is_on};
 ghost use Rattle.vdb_mask.specs.contracts.Mask.{the_row as mask_row};
 ghost use Rattle.vdb_value.specs.Blends.{blended};
@@ -23,6 +23,10 @@ pub trait Stored<const W: usize>: Voxel {
     ghost row_len: { Self.Row → ℕ };
 
     ghost value_in: { Self.Row → ℕ → Self };
+
+    /// The slot of a child, by the value and the number at its index. An integer keeps the slot in
+    /// the place of the value; a boolean has no place for one, so a row of numbers keeps it.
+    ghost slot_of: { Self → ℕ → ℕ };
 
     /// Returns a row with this value at the first `count` indices. Returns an error if the memory
     /// for them cannot be allocated; booleans take none beyond the row's place.
@@ -123,6 +127,28 @@ pub trait Stored<const W: usize>: Voxel {
         ensures capacity { row_len row.new ≡ row_len row.old }
         ensures taken { (i : ℕ) → i < count → value_in row.new i
             ≡ (if is_on marks.now i then value_in other.now i else value_in row.old i) };
+
+    /// Returns the row of numbers that keeps the slots of `count` entries. It has no number, and takes
+    /// no memory, for integers. Returns an error if the memory for it cannot be allocated.
+    fn slot_row(alloc: Global, count: u32) -> Result<Vec<u32>, AllocError>
+        ensures { IfOk result (λ slots. Self.KIND ≡ truths → count ≤ length slots.items) };
+
+    /// Returns the slot of the child at an index.
+    fn slot_at(row: &Self::Row, slots: &Vec<u32>, i: u32) -> u32
+        requires within { i < row_len row.now }
+        requires kept { Self.KIND ≡ truths → i < length slots.now.items }
+        ensures { slot_of (value_in row.now i) (slice_index_or slots.now.items i 0) ≡ result };
+
+    /// Sets the slot of the child at an index, where the value there may change; every other value
+    /// and number stays.
+    fn set_slot(row: &mut Self::Row, slots: &mut Vec<u32>, i: u32, slot: u32)
+        requires within { i < row_len row.old }
+        requires kept { Self.KIND ≡ truths → i < length slots.old.items }
+        ensures capacity { row_len row.new ≡ row_len row.old }
+        ensures numbers { length slots.new.items ≡ length slots.old.items }
+        ensures here { slot_of (value_in row.new i) (slice_index_or slots.new.items i 0) ≡ slot }
+        ensures others { (j : ℕ) → j ≢ i → value_in row.new j ≡ value_in row.old j }
+        ensures other_numbers { (j : ℕ) → j ≢ i → slice_index_or slots.new.items j 0 ≡ slice_index_or slots.old.items j 0 };
 
     /// A row's place takes at most 64 bytes more than a mask's, at addresses that 8 divides or a
     /// mask's place needs. (A law here cannot count a mask's bytes, `8 * W`.)

@@ -28,6 +28,7 @@ returns-clause-ok g c =
 pub invariant_of-self : goal.invariant_of-self
 invariant_of-self g c = record {
   limit = c.self.invariant.limit;
+  keys = c.self.invariant.keys;
   nodes = c.write.ensures.sound;
   owns = root_held c.self.inside.table (g.S.NodeStore.blocks c.self.inside.nodes).holds (g.S.NodeStore.blocks c.write.new.self).holds
       (holds_all (g.S.NodeStore.blocks c.self.inside.nodes).holds (g.S.NodeStore.blocks c.write.new.self).holds c.args.slot
@@ -38,6 +39,7 @@ invariant_of-self g c = record {
 pub invariant_of-self-2 : goal.invariant_of-self-2
 invariant_of-self-2 g c = record {
   limit = c.self.invariant.limit;
+  keys = c.self.invariant.keys;
   nodes = c.write.ensures.sound;
   owns = root_held c.self.inside.table (g.S.NodeStore.blocks c.self.inside.nodes).holds (g.S.NodeStore.blocks c.write.new.self).holds
       (holds_all (g.S.NodeStore.blocks c.self.inside.nodes).holds (g.S.NodeStore.blocks c.write.new.self).holds c.args.slot

@@ -9,7 +9,7 @@ use Rattle.vdb_node.proofs.internal.Internal.constant.Goals.{else-all_off-via-th
 pub returns-then-are_alike : goal.returns-then-are_alike
 returns-then-are_alike g c =
     rw (← c.self.view_is)
-    (constant_alike c.self.inside.children c.self.inside.states (g.V.Stored.value_in c.self.inside.values) c.self.inside.slots.items
+    (constant_alike g.V.Stored.slot_of c.self.inside.children c.self.inside.states (g.V.Stored.value_in c.self.inside.values) c.self.inside.slots.items
     (entry_count g.row.LOG2) (entry_count-pos g.row.LOG2) (record { value = c.value_at.result; on = c.test.result })
     (c.all_off.ensures.0 c.if-all_off.true)
     (rw c.entries-count.ensures at (c.is_uniform.ensures.0 c.if-is_uniform.true))
@@ -19,7 +19,7 @@ returns-then-are_alike g c =
 pub returns-else-all_off : goal.returns-else-all_off
 returns-else-all_off g c =
     rw (← c.self.view_is)
-    (constant_mixed c.self.inside.children c.self.inside.states (g.V.Stored.value_in c.self.inside.values) c.self.inside.slots.items
+    (constant_mixed g.V.Stored.slot_of c.self.inside.children c.self.inside.states (g.V.Stored.value_in c.self.inside.values) c.self.inside.slots.items
     (entry_count g.row.LOG2) (entry_count-pos g.row.LOG2)
     (λ off on values.
     elim c.else-all_off.branch [

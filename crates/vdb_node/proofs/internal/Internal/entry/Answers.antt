@@ -1,5 +1,4 @@
-use Rattle.std.proofs.Common.{◌∙◌, ap, arith, sym, refl}
-use Rattle.std.proofs.lemmas.List.{get_or_default}
+use Rattle.std.proofs.Common.{◌∙◌, ap, refl}
 use Rattle.vdb_node.specs.Entries.{entry_of}
 use Rattle.vdb_node.specs.Nodes.{entry_count}
 use Rattle.vdb_node.specs.declared.Entry.TheVariants.{Child}
@@ -11,20 +10,18 @@ pub returns-then-test : goal.returns-then-test
 returns-then-test g c =
     rw (← c.self.view_is)
     (λ d.
-    get_or-listed (entry_of c.self.inside.children c.self.inside.states (g.V.Stored.value_in c.self.inside.values) c.self.inside.slots.items)
+    get_or-listed (entry_of g.V.Stored.slot_of c.self.inside.children c.self.inside.states (g.V.Stored.value_in c.self.inside.values) c.self.inside.slots.items)
     (entry_count g.row.LOG2) c.args.i d c.requires
-    ∙ entry_of-child c.self.inside.children c.self.inside.states (g.V.Stored.value_in c.self.inside.values) c.self.inside.slots.items c.args.i
+    ∙ entry_of-child g.V.Stored.slot_of c.self.inside.children c.self.inside.states (g.V.Stored.value_in c.self.inside.values) c.self.inside.slots.items c.args.i
     (c.test.ensures ∙ c.if-test.true)
-    ∙ ap Child
-    (get_or_default c.self.inside.slots.items c.args.i 0 c.index.result.now (omega (arith, c.requires, c.self.invariant.slots_capacity))
-    ∙ sym c.index.ensures))
+    ∙ ap Child c.slot_at.ensures)
 
 pub returns-else-test : goal.returns-else-test
 returns-else-test g c =
     rw (← c.self.view_is)
     (λ d.
-    get_or-listed (entry_of c.self.inside.children c.self.inside.states (g.V.Stored.value_in c.self.inside.values) c.self.inside.slots.items)
+    get_or-listed (entry_of g.V.Stored.slot_of c.self.inside.children c.self.inside.states (g.V.Stored.value_in c.self.inside.values) c.self.inside.slots.items)
     (entry_count g.row.LOG2) c.args.i d c.requires
-    ∙ entry_of-tile c.self.inside.children c.self.inside.states (g.V.Stored.value_in c.self.inside.values) c.self.inside.slots.items c.args.i
+    ∙ entry_of-tile g.V.Stored.slot_of c.self.inside.children c.self.inside.states (g.V.Stored.value_in c.self.inside.values) c.self.inside.slots.items c.args.i
     (c.test.ensures ∙ c.if-test.false)
     ∙ rw (c.value_at.ensures, c.test-else-test.ensures) refl)

@@ -24,7 +24,7 @@ returns-then-found-end g c =
     (record {
       within = within;
       from_on = omega (arith, c.parts.invariant.least, c.next_unlike-found.ensures.least);
-      here = no_tile_of c.self.inside.children c.self.inside.states (g.V.Stored.value_in c.self.inside.values) c.self.inside.slots.items
+      here = no_tile_of g.V.Stored.slot_of c.self.inside.children c.self.inside.states (g.V.Stored.value_in c.self.inside.values) c.self.inside.slots.items
           (entry_count g.row.LOG2) found c.args.cell within
           (λ off value on.
           elim (cases_lt found marked) [
@@ -34,7 +34,7 @@ returns-then-found-end g c =
                 c.next_marked-marked.ensures.here (omega (arith, at, c.if-found-end.true)) (rw at at off) (rw at at on)
           ]);
       before = λ i least less.
-          tile_of c.self.inside.children c.self.inside.states (g.V.Stored.value_in c.self.inside.values) c.self.inside.slots.items
+          tile_of g.V.Stored.slot_of c.self.inside.children c.self.inside.states (g.V.Stored.value_in c.self.inside.values) c.self.inside.slots.items
           (entry_count g.row.LOG2) i c.args.cell (omega (arith, less, within))
           (and_on (λ j. is_on c.self.inside.children j ≡ false) c.args.from c.parts.start found c.parts.invariant.unmarked
           (λ j low high. c.next_marked-marked.ensures.unmarked j low (omega (arith, high, far))) i least less)
@@ -68,6 +68,6 @@ returns g c =
     rw (← c.self.view_is)
     (λ i least below.
     let less : i < c.parts.start = omega (arith, below, all) in
-    tile_of c.self.inside.children c.self.inside.states (g.V.Stored.value_in c.self.inside.values) c.self.inside.slots.items
+    tile_of g.V.Stored.slot_of c.self.inside.children c.self.inside.states (g.V.Stored.value_in c.self.inside.values) c.self.inside.slots.items
     (entry_count g.row.LOG2) i c.args.cell below (c.parts.invariant.unmarked i least less) (c.parts.invariant.values i least less)
     (c.parts.invariant.same i least less))

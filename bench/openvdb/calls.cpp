@@ -1,0 +1,211 @@
+// Calls of the C library, or OpenVDB's, over the same voxels in the same order.
+#include "threads.h"
+#include "vdb.h"
+
+#include <openvdb/openvdb.h>
+#include <openvdb/tools/Dense.h>
+
+#include <chrono>
+#include <cstdint>
+#include <cstdio>
+#include <cstdlib>
+#include <cstring>
+#include <vector>
+
+using Sum = long long;
+
+// How many voxels there are along each axis and in all, and how many leaves they fill.
+constexpr std::uint32_t SIDE = 128, VOXELS = SIDE * SIDE * SIDE, LEAVES = 4096;
+
+// Does something, and prints how many picoseconds it took by the voxel or the leaf.
+template <typename Work>
+void report(const char* row, const char* unit, std::uint64_t count, Work work) {
+    const auto begun = std::chrono::steady_clock::now();
+    work();
+    const std::chrono::nanoseconds taken = std::chrono::steady_clock::now() - begun;
+    std::printf("%s: %lld ps a %s\n", row, Sum(taken.count()) * 1000 / Sum(count), unit);
+}
+
+// A grid of 64-bit integers behind the C library.
+class Library {
+public:
+    Library() { check(vdb_grid_new(&grid, VDB_I64, 0, VDB_LIMIT_DEFAULT)); }
+    ~Library() { vdb_grid_free(&grid); }
+
+    void set(const vdb_coord& at, std::int64_t value) { check(vdb_grid_set(&grid, 0, at.x, at.y, at.z, value, 1)); }
+
+    Sum near(const vdb_coord& at) {
+        std::int64_t value;
+        std::int32_t active;
+        check(vdb_grid_probe(&grid, 0, at.x, at.y, at.z, &value, &active));
+        return value + active;
+    }
+
+    Sum get(const vdb_coord& at) {
+        std::int64_t value;
+        std::int32_t active;
+        check(vdb_grid_get(&grid, at.x, at.y, at.z, &value, &active));
+        return value + active;
+    }
+
+    void set_many(const std::vector<vdb_coord>& at, const std::vector<std::int64_t>& values, const std::vector<std::uint8_t>& states) {
+        std::size_t written;
+        check(vdb_grid_write_many(&grid, 0, at.data(), at.size(), values.data(), values.size(), states.data(), states.size(), &written));
+    }
+
+    void get_many(const std::vector<vdb_coord>& at, std::vector<std::int64_t>& values, std::vector<std::uint8_t>& states) {
+        check(vdb_grid_get_many(&grid, 0, at.data(), at.size(), values.data(), values.size(), states.data(), states.size()));
+    }
+
+    void read_box(std::vector<std::int64_t>& values) {
+        const vdb_box box = {{0, 0, 0}, {SIDE - 1, SIDE - 1, SIDE - 1}};
+        const vdb_strides strides = {SIDE * SIDE, SIDE, 1};
+        check(vdb_grid_read_box(&grid, &box, &strides, values.data(), values.size(), &none, 0));
+    }
+
+    void write_box(const std::vector<std::int64_t>& values, const std::vector<std::uint8_t>& states) {
+        const vdb_box box = {{0, 0, 0}, {SIDE - 1, SIDE - 1, SIDE - 1}};
+        const vdb_strides strides = {SIDE * SIDE, SIDE, 1};
+        check(vdb_grid_write_box(&grid, 0, &box, &strides, values.data(), values.size(), states.data(), states.size()));
+    }
+
+private:
+    vdb_grid grid = VDB_GRID_INIT;
+    std::uint8_t none = 0;
+
+    static void check(std::int32_t code) {
+        if (!code) return;
+        std::fprintf(stderr, "calls: %s\n", vdb_message(code));
+        std::exit(1);
+    }
+};
+
+// A tree of 64-bit integers of OpenVDB.
+class OpenVDB {
+public:
+    void set(const vdb_coord& at, std::int64_t value) { accessor.setValue(coord(at), value); }
+
+    Sum near(const vdb_coord& at) {
+        std::int64_t value;
+        const bool active = accessor.probeValue(coord(at), value);
+        return value + active;
+    }
+
+    Sum get(const vdb_coord& at) {
+        std::int64_t value;
+        const bool active = tree.probeValue(coord(at), value);
+        return value + active;
+    }
+
+    void set_many(const std::vector<vdb_coord>& at, const std::vector<std::int64_t>& values, const std::vector<std::uint8_t>& states) {
+        for (std::size_t k = 0; k < at.size(); ++k) {
+            if (states[k])
+                accessor.setValueOn(coord(at[k]), values[k]);
+            else
+                accessor.setValueOff(coord(at[k]), values[k]);
+        }
+    }
+
+    void get_many(const std::vector<vdb_coord>& at, std::vector<std::int64_t>& values, std::vector<std::uint8_t>& states) {
+        for (std::size_t k = 0; k < at.size(); ++k) states[k] = accessor.probeValue(coord(at[k]), values[k]);
+    }
+
+    void read_box(std::vector<std::int64_t>& values) {
+        openvdb::tools::Dense<std::int64_t> dense(openvdb::CoordBBox(0, 0, 0, SIDE - 1, SIDE - 1, SIDE - 1), values.data());
+        openvdb::tools::copyToDense(tree, dense, true);
+    }
+
+    void write_box(const std::vector<std::int64_t>& values, const std::vector<std::uint8_t>&) {
+        openvdb::tools::Dense<std::int64_t> dense(openvdb::CoordBBox(0, 0, 0, SIDE - 1, SIDE - 1, SIDE - 1), const_cast<std::int64_t*>(values.data()));
+        openvdb::tools::copyFromDense(dense, tree, std::int64_t(0), true);
+    }
+
+private:
+    openvdb::Int64Tree tree{0};
+    openvdb::tree::ValueAccessor<openvdb::Int64Tree> accessor{tree};
+
+    static openvdb::Coord coord(const vdb_coord& at) { return openvdb::Coord(at.x, at.y, at.z); }
+};
+
+// The voxels of a cube, counted along z first.
+std::vector<vdb_coord> in_order() {
+    std::vector<vdb_coord> all;
+    all.reserve(VOXELS);
+    for (std::int32_t x = 0; x < std::int32_t(SIDE); ++x)
+        for (std::int32_t y = 0; y < std::int32_t(SIDE); ++y)
+            for (std::int32_t z = 0; z < std::int32_t(SIDE); ++z) all.push_back({x, y, z});
+    return all;
+}
+
+// The voxels of a random walk by faces in the same cube.
+std::vector<vdb_coord> along_a_walk() {
+    std::vector<vdb_coord> all;
+    all.reserve(VOXELS);
+    std::int32_t at[3] = {0, 0, 0};
+    std::uint64_t state = 1;
+    for (std::uint32_t turn = 0; turn < VOXELS; ++turn) {
+        state = state * 6364136223846793005u + 1442695040888963407u;
+        std::int32_t& part = at[(state >> 33) % 3];
+        part = (part + ((state >> 62 & 1) == 0 ? 1 : 127)) & 127;
+        all.push_back({at[0], at[1], at[2]});
+    }
+    return all;
+}
+
+template <typename Grid>
+void run() {
+    const std::vector<vdb_coord> ordered = in_order(), walk = along_a_walk();
+    std::vector<std::int64_t> values(VOXELS), read(VOXELS);
+    std::vector<std::uint8_t> states(VOXELS, 1), seen(VOXELS);
+    for (std::uint32_t number = 0; number < VOXELS; ++number) values[number] = number % 1000 + 1;
+    Sum probed = 0, rooted = 0, walked = 0, many = 0, boxed = 0, back = 0;
+    {
+        Grid grid;
+        report("C, sets by an accessor in order, new leaves", "voxel", VOXELS, [&] {
+            for (std::uint32_t number = 0; number < VOXELS; ++number) grid.set(ordered[number], values[number]);
+        });
+        report("C, sets by an accessor in order", "voxel", VOXELS, [&] {
+            for (std::uint32_t number = 0; number < VOXELS; ++number) grid.set(ordered[number], values[number]);
+        });
+        report("C, gets by an accessor in order", "voxel", VOXELS, [&] {
+            for (const vdb_coord& at : ordered) probed += grid.near(at);
+        });
+        report("C, gets from the root in order", "voxel", VOXELS, [&] {
+            for (const vdb_coord& at : ordered) rooted += grid.get(at);
+        });
+        report("C, gets by an accessor along a random walk", "voxel", VOXELS, [&] {
+            for (const vdb_coord& at : walk) walked += grid.near(at);
+        });
+        report("C, gets of many voxels in order", "voxel", VOXELS, [&] { grid.get_many(ordered, read, seen); });
+        for (std::uint32_t number = 0; number < VOXELS; ++number) many += read[number] + seen[number];
+        report("C, gets of many voxels along a random walk", "voxel", VOXELS, [&] { grid.get_many(walk, read, seen); });
+        for (std::uint32_t number = 0; number < VOXELS; ++number) many += read[number] + seen[number];
+        report("C, a box to an array", "voxel", VOXELS, [&] { grid.read_box(read); });
+        for (std::int64_t value : read) boxed += value;
+    }
+    {
+        Grid grid;
+        report("C, sets of many voxels in order, new leaves", "voxel", VOXELS, [&] { grid.set_many(ordered, values, states); });
+        report("C, sets of many voxels in order", "voxel", VOXELS, [&] { grid.set_many(ordered, values, states); });
+        report("C, sets of many voxels along a random walk", "voxel", VOXELS, [&] { grid.set_many(walk, values, states); });
+    }
+    {
+        Grid grid;
+        report("C, an array to a box, new leaves", "voxel", VOXELS, [&] { grid.write_box(values, states); });
+        report("C, an array to a box", "voxel", VOXELS, [&] { grid.write_box(values, states); });
+        grid.read_box(read);
+        for (std::int64_t value : read) back += value;
+    }
+    std::printf("sums %lld %lld %lld %lld %lld %lld\n", probed, rooted, walked, many, boxed, back);
+}
+
+int main(int count, char** words) {
+    const bool ours = count == 2 && !std::strcmp(words[1], "vdb"), theirs = count == 2 && !std::strcmp(words[1], "openvdb");
+    if (!ours && !theirs) {
+        std::fprintf(stderr, "usage: calls vdb|openvdb\n");
+        return 2;
+    }
+    tbb::global_control limit(tbb::global_control::max_allowed_parallelism, 1);
+    openvdb::initialize();
+    ours ? run<Library>() : run<OpenVDB>();
+}

@@ -1,0 +1,232 @@
+//! Calls on many voxels, given by their coordinates.
+ghost use Rattle.std.specs.Prelude.{◌≡◌, ◌<◌, ◌↔◌, ◌⊎◌, ℕ, IfSome, IsSome, IsTrue, None, Some, ⊤, false, length};
+ghost use Rattle.vdb_scene.specs.Grids.{grid_field, grid_root_limit};
+ghost use Rattle.vdb_c.specs.Calls.{IsWriteFor, OnHeld, OnValid, Reads, grid_kind};
+ghost use Rattle.vdb_c.specs.Many.{IsReadAt, WritesFirst, WritesMany, accessor_beside, byte_at, change_at as change_of_element, change_of as change_of_parts, is_beside, number_at, voxel_at};
+
+use crate::arrays::store;
+use crate::codes::{DONE, EMPTY, OUT_OF_RANGE, tree_code};
+use crate::handles::GridHandle;
+use crate::values::{Corner, accessor, coord, is_byte_on, value, value_number};
+use std::alloc::Global;
+use vdb_coord::Coord;
+use vdb_pool::Steps;
+use vdb_scene::{ACCESSORS, AnyGrid, Scalar};
+use vdb_tree::Write;
+use vdb_value::{Cell, Kind};
+
+/// Writes the value and the state of each voxel of `at` to `values` and `states`, through an accessor or, with -1, from the root.
+/// Each array has an element for each voxel, or is empty and stays so.
+#[unsafe(no_mangle)]
+pub extern "C" fn vdb_grid_get_many(
+    alloc: Global,
+    handle: &mut GridHandle,
+    number: i32,
+    at: &[Corner],
+    values: &mut [i64],
+    states: &mut [u8],
+) -> i32
+    ensures { OnHeld handle.old.grid.held handle.new.grid.held result ((values.new ≡ values.old) × (states.new ≡ states.old)) (λ g h.
+        OnValid (accessor_beside number (length at.now) (length values.old) (length states.old)) g h result ((values.new ≡ values.old) × (states.new ≡ states.old)) (λ _.
+        Reads g h result (IsReadAt (number_at (grid_field g)) at.now values.old values.new × IsReadAt (byte_at (grid_field g)) at.now states.old states.new))) }
+{
+    let Some(mut grid) = handle.grid.take(alloc) else {
+        return EMPTY;
+    };
+    let Some(accessor) = accessor_of_many(number, at.len(), values.len(), states.len()) else {
+        handle.grid.put(alloc, grid);
+        return OUT_OF_RANGE;
+    };
+    read_many(&mut grid, accessor, at, values, states, &mut handle.steps);
+    handle.grid.put(alloc, grid);
+    DONE
+}
+
+/// Returns the accessor of a number, or none for -1: `None` if the number is out of range, or an array doesn't fit the voxels.
+fn accessor_of_many(
+    number: i32,
+    count: usize,
+    values: usize,
+    states: usize,
+) -> Option<Option<usize>>
+    ensures { result ≡ accessor_beside number count values states }
+{
+    if is_beside_voxels(count, values) && is_beside_voxels(count, states) {
+        return accessor(number);
+    }
+    None
+}
+
+/// Returns whether an array has an element for each voxel, or none.
+fn is_beside_voxels(count: usize, len: usize) -> bool
+    ensures { result ≡ is_beside count len }
+{
+    len == count || len == 0
+}
+
+/// Writes the value and the state of each voxel to arrays that fit the voxels.
+fn read_many(
+    grid: &mut AnyGrid,
+    accessor: Option<usize>,
+    at: &[Corner],
+    values: &mut [i64],
+    states: &mut [u8],
+    steps: &mut Steps,
+)
+    requires within { (k : ℕ) → accessor ≡ Some k → k < ACCESSORS }
+    requires values { IsTrue (is_beside (length at.now) (length values.old)) }
+    requires states { IsTrue (is_beside (length at.now) (length states.old)) }
+    ensures field { grid_field grid.new ≡ grid_field grid.old }
+    ensures limit { grid_root_limit grid.new ≡ grid_root_limit grid.old }
+    ensures values { IsReadAt (number_at (grid_field grid.old)) at.now values.old values.new }
+    ensures states { IsReadAt (byte_at (grid_field grid.old)) at.now states.old states.new }
+{
+    for k in 0..at.len() {
+        let cell = probe(grid, accessor, coord(&at[k]), steps);
+        store(values, k, value_number(cell.value));
+        store(states, k, u8::from(cell.on));
+    }
+}
+
+/// Returns the cell of a voxel through an accessor or without one. No cell changes.
+fn probe(grid: &mut AnyGrid, accessor: Option<usize>, at: Coord, steps: &mut Steps) -> Cell<Scalar>
+    requires { (k : ℕ) → accessor ≡ Some k → k < ACCESSORS }
+    ensures cell { result ≡ (grid_field grid.old).cell at }
+    ensures field { grid_field grid.new ≡ grid_field grid.old }
+    ensures limit { grid_root_limit grid.new ≡ grid_root_limit grid.old }
+{
+    grid.probe(accessor, at, steps)
+}
+
+/// Sets the voxels of `at`, one after another, through an accessor or, with -1, from the root: to the numbers of `values` and the
+/// states of `states`. If one of these is empty, the voxels keep that part. It writes to `written` how many voxels it has set.
+#[unsafe(no_mangle)]
+pub extern "C" fn vdb_grid_write_many(
+    alloc: Global,
+    handle: &mut GridHandle,
+    number: i32,
+    at: &[Corner],
+    values: &[i64],
+    states: &[u8],
+    written: &mut usize,
+) -> i32
+    ensures { OnHeld handle.old.grid.held handle.new.grid.held result (written.new ≡ written.old) (λ g h.
+        OnValid (accessor_beside number (length at.now) (length values.now) (length states.now)) g h result (written.new ≡ written.old) (λ _.
+        WritesMany (length at.now) (voxel_at at.now) (change_of_element (grid_kind g) values.now states.now) g h written.old written.new result)) }
+{
+    let Some(mut grid) = handle.grid.take(alloc) else {
+        return EMPTY;
+    };
+    let mut code = OUT_OF_RANGE;
+    if let Some(accessor) = accessor_of_many(number, at.len(), values.len(), states.len()) {
+        code = write_many(
+            &mut grid,
+            accessor,
+            at,
+            values,
+            states,
+            written,
+            &mut handle.steps,
+        );
+    }
+    handle.grid.put(alloc, grid);
+    code
+}
+
+/// Writes the voxels one after another, if each has a write.
+#[tactic(auto, unfolding(crate::specs::Many::WritesMany))]
+fn write_many(
+    grid: &mut AnyGrid,
+    accessor: Option<usize>,
+    at: &[Corner],
+    values: &[i64],
+    states: &[u8],
+    written: &mut usize,
+    steps: &mut Steps,
+) -> i32
+    requires within { (k : ℕ) → accessor ≡ Some k → k < ACCESSORS }
+    ensures { WritesMany (length at.now) (voxel_at at.now) (change_of_element (grid_kind grid.old) values.now states.now) grid.old grid.new written.old written.new result }
+{
+    match missing_change(grid.kind(), at.len(), values, states) {
+        Some(_) => OUT_OF_RANGE,
+        None => write_first(grid, accessor, at, values, states, written, steps),
+    }
+}
+
+/// Returns the first voxel without a write, if any: its value isn't one of the type, or no array has an element for it.
+fn missing_change(kind: Kind, count: usize, values: &[i64], states: &[u8]) -> Option<usize>
+    ensures some { IfSome result (λ k. (k < count) × (change_of_element kind values.now states.now k ≡ None)) }
+    ensures none { result ≡ None → (k : ℕ) → k < count → IsSome (change_of_element kind values.now states.now k) }
+{
+    for k in 0..count {
+        if change_at(kind, values, states, k).is_none() {
+            return Some(k);
+        }
+    }
+    None
+}
+
+/// Returns the write of one element of each array.
+pub(crate) fn change_at(
+    kind: Kind,
+    values: &[i64],
+    states: &[u8],
+    k: usize,
+) -> Option<Write<Scalar>>
+    ensures write { result ≡ change_of_element kind values.now states.now k }
+    ensures fits { IsWriteFor kind result }
+{
+    change_of(kind, values.get(k).copied(), states.get(k).copied())
+}
+
+/// Returns the write of a value, a state or both: `None` if neither is given or the type doesn't have the value.
+fn change_of(kind: Kind, number: Option<i64>, byte: Option<u8>) -> Option<Write<Scalar>>
+    ensures write { result ≡ change_of_parts kind number byte }
+    ensures fits { IsWriteFor kind result }
+{
+    let Some(number) = number else {
+        return match byte {
+            Some(byte) => Some(Write::State(is_byte_on(byte))),
+            None => None,
+        };
+    };
+    let value = value(kind, number)?;
+    match byte {
+        Some(byte) => Some(if is_byte_on(byte) {
+            Write::On(value)
+        } else {
+            Write::Off(value)
+        }),
+        None => Some(Write::Value(value)),
+    }
+}
+
+/// Writes the voxels one after another until a write fails.
+#[tactic(auto, unfolding(crate::specs::Many::WritesFirst))]
+fn write_first(
+    grid: &mut AnyGrid,
+    accessor: Option<usize>,
+    at: &[Corner],
+    values: &[i64],
+    states: &[u8],
+    written: &mut usize,
+    steps: &mut Steps,
+) -> i32
+    requires within { (k : ℕ) → accessor ≡ Some k → k < ACCESSORS }
+    requires given { (k : ℕ) → k < length at.now → IsSome (change_of_element (grid_kind grid.old) values.now states.now k) }
+    ensures { WritesFirst (length at.now) (voxel_at at.now) (change_of_element (grid_kind grid.old) values.now states.now) grid.old grid.new written.new result }
+{
+    let kind = grid.kind();
+    for k in 0..at.len() {
+        let Some(change) = change_at(kind, values, states, k) else {
+            unreachable!()
+        };
+        let outcome = grid.write(accessor, coord(&at[k]), change, steps);
+        if outcome.is_err() {
+            *written = k;
+            return tree_code(outcome);
+        }
+    }
+    *written = at.len();
+    DONE
+}

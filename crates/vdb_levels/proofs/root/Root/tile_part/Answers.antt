@@ -1,0 +1,8 @@
+use Rattle.vdb_levels.proofs.WalkSteps.{from_not_before}
+use Rattle.vdb_levels.proofs.root.Root.tile_part.Goals as goal
+
+pub returns-clause-passed : goal.returns-clause-passed
+returns-clause-passed g c = λ q e h k.
+    let b = g.S.NodeStore in
+    let corner = rw c.bits-bits.ensures.value at c.corner.ensures.corner in
+    absurd (from_not_before (b.place c.corner.result) (b.place q) (g.met.S.WalkStore.first_place c.corner.result (b.place q) corner (g.met.S.NodeStore.has_place q)) k)
