@@ -3,15 +3,16 @@ use Rattle.std.proofs.Common.{◌≡◌, ◌⊎◌, inl, inr, ℕ, List, Bool, t
 use Rattle.std.specs.Prelude.{Option, Some, None, IfSome, is_some}
 use Rattle.std.specs.declared.cmp.Ordering.TheVariants.{Less}
 use Rattle.vdb_coord.specs.Space.{coord_cmp}
+use Rattle.vdb_coord.proofs.BlockOrder.{less_apart, less_once}
 use Rattle.vdb_coord.specs.declared.Coord.{Coord}
 use Rattle.vdb_node.specs.Leaf.{Leaf as LeafOf, cell_in}
 use Rattle.vdb_node.specs.declared.Entry.TheVariants.{Child, Tile as TileEntry}
 use Rattle.vdb_value.specs.declared.Cell.{Cell}
 use Rattle.vdb_levels.specs.Blocks.{Blocks, below_entry, leaf_of_entry}
 use Rattle.vdb_levels.specs.Places.{key_of, offset_of}
-use Rattle.vdb_levels.specs.RootWalks.{IsEarlierIn, IsPassedIn, IsRootPart, in_root, leaf_at}
+use Rattle.vdb_levels.specs.RootWalks.{ComesAfter, ComesFrom, IsEarlierIn, IsPassedIn, IsRootPart, in_root, leaf_at}
 use Rattle.vdb_levels.specs.Table.{IsPast, Layout, cell_at, entry_of_key, off}
-use Rattle.vdb_levels.specs.Walks.{HasContent, IsCorner, IsEarlier, IsPartOf, IsPassed, OnLeaf, OnTile, Skips}
+use Rattle.vdb_levels.specs.Walks.{HasContent, IsBefore, IsCorner, IsEarlier, IsFrom, IsPartOf, IsPassed, OnLeaf, OnTile, Skips}
 use Rattle.vdb_levels.specs.EntryFacts.{true_false}
 use Rattle.vdb_levels.specs.declared.part.Content.{Content}
 use Rattle.vdb_levels.specs.declared.part.Content.TheVariants.{Leaf, Tile}
@@ -93,3 +94,31 @@ module _ {V L P : Type 0} (bits : ℕ) (place : Coord → List ℕ) (key : Coord
   pub none_earlier : (o : Option (Part V L P)) → is_some o ≡ false → (at : List ℕ) → IsEarlier place o at
   none_earlier None h at = tt
   none_earlier (Some part) h at = absurd (true_false refl h)
+
+-- ---- from part to part
+
+module _ {V S L P : Type 0} (bits : ℕ) (place : Coord → List ℕ) (blocks : S → Blocks V) (t : Layout V S) (leaf_bits : ℕ) (seen : L → LeafOf V) (Lives : ℕ → P → List ℕ → Type 0) (p : Coord) where
+  pub after_in_block : (In : List ℕ → List ℕ → Type 0) (o : Option (Part V L (Option P))) → IfSome o (IsRootPart bits place blocks t leaf_bits seen Lives p) → IfSome o (λ part. IsBefore (place p) (place part.first)) → IfSome o (λ part. In (place p) (place part.first) → ⊥)
+      → IfSome o (ComesAfter bits place In p)
+  after_in_block In None h after apart = tt
+  after_in_block In (Some part) h after apart = inr (sym h.inside, after, apart)
+
+  pub after_block : (In : List ℕ → List ℕ → Type 0) (key : Coord) (o : Option (Part V L (Option P))) → key ≡ key_of bits p → IfSome o (λ part. IsPast (Some key) (key_of bits part.first)) → IfSome o (ComesAfter bits place In p)
+  after_block In key None e h = tt
+  after_block In key (Some part) e h = inl (subst (λ k. coord_cmp k (key_of bits part.first) ≡ Less) e h)
+
+  -- what comes from p on and before a part of p's root block lies in this block
+  pub before_in_block : (R : Type 0) (q : Coord) (o : Option (Part V L (Option P))) → is_some o ≡ true → IfSome o (IsRootPart bits place blocks t leaf_bits seen Lives p) → (key_of bits q ≡ key_of bits p → IsFrom (place p) (place q) → IsEarlier place o (place q) → R)
+      → ComesFrom bits place p q → IsEarlierIn bits place o q → R
+  before_in_block R q None some h here from e = absurd (true_false some refl)
+  before_in_block R q (Some part) some h here from e =
+      elim from [
+        | inl less ↦ elim e [
+          | inl earlier ↦ absurd (less_once (key_of bits p) (key_of bits q) less (subst (λ k. coord_cmp (key_of bits q) k ≡ Less) h.inside earlier))
+          | inr same ↦ absurd (less_apart (key_of bits p) (key_of bits q) less (sym (same.0 ∙ h.inside)))
+        ]
+        | inr on ↦ elim e [
+          | inl earlier ↦ absurd (less_apart (key_of bits q) (key_of bits part.first) earlier (on.0 ∙ sym h.inside))
+          | inr same ↦ here on.0 on.1 same.1
+        ]
+      ]

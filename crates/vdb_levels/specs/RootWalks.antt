@@ -8,7 +8,7 @@ use Rattle.vdb_node.specs.declared.Entry.TheVariants.{Child}
 use Rattle.vdb_levels.specs.Blocks.{Blocks, leaf_of_entry}
 use Rattle.vdb_levels.specs.Places.{key_of, offset_of}
 use Rattle.vdb_levels.specs.Table.{Layout, cell_at, entry_of_key, off, root_at}
-use Rattle.vdb_levels.specs.Walks.{IsBefore, IsCorner, OnLeaf, OnTile, Skips}
+use Rattle.vdb_levels.specs.Walks.{IsBefore, IsCorner, IsFrom, OnLeaf, OnTile, Skips}
 use Rattle.vdb_levels.specs.declared.part.Part.{Part}
 use Rattle.vdb_levels.specs.declared.part.Skip.{Skip}
 
@@ -25,6 +25,15 @@ module _ (bits : ℕ) (place : Coord → List ℕ) where
   -- p comes before q: by the keys of their root blocks, and in block order in one of them
   abbrev pub ComesBefore : Coord → Coord → Type 0
   ComesBefore p q = (coord_cmp (key_of bits p) (key_of bits q) ≡ Less) ⊎ ((key_of bits p ≡ key_of bits q) × IsBefore (place p) (place q))
+
+  -- the part comes after p, in another root block or outside the part around p
+  abbrev pub ComesAfter : {V L P : Type 0} → (List ℕ → List ℕ → Type 0) → Coord → Part V L P → Type 0
+  ComesAfter IsIn p part = (coord_cmp (key_of bits p) (key_of bits part.first) ≡ Less)
+      ⊎ ((key_of bits p ≡ key_of bits part.first) × IsBefore (place p) (place part.first) × (IsIn (place p) (place part.first) → ⊥))
+
+  -- q is p or comes after it
+  abbrev pub ComesFrom : Coord → Coord → Type 0
+  ComesFrom p q = (coord_cmp (key_of bits p) (key_of bits q) ≡ Less) ⊎ ((key_of bits q ≡ key_of bits p) × IsFrom (place p) (place q))
 
   -- q comes before the part; without one, each coordinate does
   abbrev pub IsEarlierIn : {V L P : Type 0} → Option (Part V L P) → Coord → Type 0

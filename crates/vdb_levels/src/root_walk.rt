@@ -3,7 +3,7 @@ ghost use Rattle.std.specs.Prelude.{◌≡◌, ◌⊎◌, ◌+◌, ◌≤◌, �
 ghost use Rattle.vdb_coord.specs.declared.Coord.{Coord};
 ghost use Rattle.vdb_node.specs.declared.Entry.TheVariants.{Child, Tile};
 ghost use Rattle.vdb_levels.specs.Places.{key_of};
-ghost use Rattle.vdb_levels.specs.RootWalks.{in_root, IsEarlierIn, IsInRoot, IsPassedIn, IsPassedOver, IsRootPart, LeadsTo};
+ghost use Rattle.vdb_levels.specs.RootWalks.{ComesAfter, ComesFrom, in_root, IsEarlierIn, IsInRoot, IsPassedIn, IsPassedOver, IsRootPart, LeadsTo};
 ghost use Rattle.vdb_levels.specs.Table.{entry_of_key, IsKey, IsPast};
 ghost use Rattle.vdb_levels.specs.Walks.{IsBefore, IsEarlier, IsFrom, Skips};
 
@@ -117,6 +117,28 @@ impl<V: Voxel, S: WalkStore<V>> Root<V, S> {
             past = Some(key);
         }
         None
+    }
+
+    /// Returns the first part after the one in which a path to `p` ends that the walk doesn't pass over: in p's root block, and then
+    /// in those of the entries after it.
+    pub fn next_part(
+        &self,
+        path: &Option<S::Path>,
+        p: Coord,
+        skip: &Skip<V>,
+        steps: &mut Steps,
+    ) -> Option<Part<V, &S::Leaf, Option<S::Path>>>
+        requires lives { LeadsTo S.bits S.place S.blocks self.now (S.Lives self.now.nodes) path.now p }
+        ensures part { IfSome result (λ part. IsRootPart S.bits S.place S.blocks self.now S.leaf_bits (λ leaf. S.seen leaf.now) (S.Lives self.now.nodes) part.first part) }
+        ensures after { IfSome result (ComesAfter S.bits S.place (IsInRoot S.IsIn path.now) p) }
+        ensures passed { (q : Coord) → ComesFrom S.bits S.place p q → IsEarlierIn S.bits S.place result q
+            → ((key_of S.bits q ≡ key_of S.bits p) × IsInRoot S.IsIn path.now (S.place p) (S.place q)) ⊎ IsPassedOver S.bits S.place S.blocks self.now skip.now q }
+    {
+        let part = self.part_after(path, p, skip, steps);
+        if part.is_some() {
+            return part;
+        }
+        self.part_past(Some(self.key(p)), skip, steps)
     }
 
     /// Returns the root block around `p` as a part, unless the walk passes over its tile.
