@@ -4,3 +4,8 @@ mod HeldGridValues
 mod HeldSceneValues
 mod NextActive
 pub mod Filled
+pub mod NextVoxels
+pub mod Places
+pub mod Laid
+pub mod PartsRead
+pub mod BoxReads

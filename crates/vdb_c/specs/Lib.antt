@@ -8,3 +8,6 @@ pub mod Reports
 pub mod Scenes
 pub mod Regions
 pub mod Many
+pub mod Elements
+pub mod BoxVoxels
+pub mod BoxArrays

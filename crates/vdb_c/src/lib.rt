@@ -10,13 +10,17 @@
 //! - `codes`, `values`: codes, types, values, states, accessors and boxes as they cross.
 //! - `grid_life`, `voxels`, `regions`: calls on one grid.
 //! - `arrays`, `many`: calls on many voxels, given by their coordinates.
+//! - `numbers`, `elements`, `box_voxels`, `reading`, `box_arrays`: calls on a box of voxels as arrays.
 //! - `pairs`: calls that combine two grids.
 //! - `scene_files`, `scene_grids`, `scene_moves`: calls on a scene and on its grids.
 //! - `reports`, `found`: calls that report on a grid.
 #![tactic(auto)]
 
 mod arrays;
+mod box_arrays;
+mod box_voxels;
 mod codes;
+mod elements;
 mod found;
 mod grid_life;
 mod handles;
@@ -24,7 +28,9 @@ mod held_grid;
 mod held_scene;
 mod kept;
 mod many;
+mod numbers;
 mod pairs;
+mod reading;
 mod regions;
 mod reports;
 mod scene_files;

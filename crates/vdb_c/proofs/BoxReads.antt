@@ -1,0 +1,33 @@
+-- Arrays of a box of a tree, with values of any type.
+use Rattle.std.proofs.Common.{◌≡◌, sym, ap, ◌∙◌, ℤ, IsTrue, List, ◌≤ℤ◌, arith}
+use Rattle.std.proofs.lemmas.Int.{ints}
+use Rattle.vdb_coord.specs.Boxes.{is_bounds}
+use Rattle.vdb_coord.specs.Space.{Box, everywhere, is_box, is_inside, is_within}
+use Rattle.vdb_coord.specs.declared.Coord.{Coord}
+use Rattle.vdb_coord.proofs.Boxes.{both}
+use Rattle.vdb_coord.proofs.Walk.{inside_from, inside_parts}
+use Rattle.vdb_c.specs.Elements.{IsLaid}
+use Rattle.vdb_c.specs.declared.elements.Strides.{Strides}
+use Rattle.vdb_c.proofs.Laid.{laid_same}
+use Rattle.vdb_tree.specs.Field.{Field, as_cell_of, as_field_of}
+use Rattle.vdb_tree.proofs.Fields.{cell_inside}
+use Rattle.vdb_value.specs.declared.Cell.{Cell}
+
+-- a box within the range has voxels in the range
+in_range : (b : Box) → IsTrue (is_bounds b) → (q : Coord) → IsTrue (is_inside b q) → IsTrue (is_inside everywhere q)
+in_range b h q i =
+    let ends = both (is_inside everywhere b.min) (is_inside everywhere b.max) (both (is_box b) (is_within b everywhere) h).1 in
+    let low = inside_parts everywhere b.min ends.0 in
+    let high = inside_parts everywhere b.max ends.1 in
+    let at = inside_parts b q i in
+    inside_from everywhere q (up low.0.0 at.0.0) (up at.0.1 high.0.1) (up low.1.0 at.1.0) (up at.1.1 high.1.1) (up low.2.0 at.2.0) (up at.2.1 high.2.1)
+  where
+    up : {x y z : ℤ} → x ≤ℤ y → y ≤ℤ z → x ≤ℤ z
+    up {x} {y} {z} a c = omega (arith, ints, a, c)
+
+module _ {V W X : Type 0} (make : V → W) (f : Field V) (of : Cell V → X) (by : Cell W → X) (same : (c : Cell V) → of c ≡ by (as_cell_of make c)) where
+  pub laid_as : (b : Box) (s : Strides) (xs ys : List X) → IsTrue (is_bounds b)
+      → IsLaid b s (is_inside b) (λ p. of (f.cell p)) xs ys → IsLaid b s (is_inside b) (λ p. by ((as_field_of make f).cell p)) xs ys
+  laid_as b s xs ys h laid =
+      laid_same b s (is_inside b) (λ p. of (f.cell p)) (λ p. by ((as_field_of make f).cell p)) xs ys
+      (λ p i. same (f.cell p) ∙ ap by (sym (cell_inside (make f.background) (λ q. as_cell_of make (f.cell q)) p (in_range b h p i)))) laid

@@ -1,0 +1,155 @@
+-- The elements of voxels in an array.
+use Rattle.std.proofs.Common.{◌≡◌, ◌+◌, ◌*◌, ◌^◌, ◌<◌, ◌≤◌, ℕ, ℤ, pos, negsuc, ◌+ℤ◌, refl, sym, ap, ◌∙◌, Bool, true, false, ◌&&◌, ◌||◌, IsTrue, SFits, w32, to_z, of_z, ◌-ℤ◌, unsigned_abs, arith, tests, rules, int_le}
+use Rattle.std.specs.Prelude.{nat_eq, nat_le, nat_lt}
+use Rattle.std.proofs.lemmas.Int.{ints, to_z-of_z}
+use Rattle.std.proofs.lemmas.Nat.{mul-le, row_fits, same_from_place}
+use Rattle.std.specs.Int.{int_gap}
+use Rattle.vdb_coord.specs.Boxes.{is_bounds}
+use Rattle.vdb_coord.specs.Space.{Box, everywhere, extent, is_between, is_box, is_inside, is_within}
+use Rattle.vdb_coord.specs.declared.Coord.{Coord}
+use Rattle.vdb_coord.proofs.Boxes.{both, three}
+use Rattle.vdb_c.specs.Elements.{are_apart, place}
+use Rattle.vdb_c.specs.declared.elements.Strides.{Strides}
+
+-- ---- along an axis
+
+reached : (low z : ℤ) → IsTrue (int_le low z) → low +ℤ pos (int_gap low z) ≡ z
+reached (pos a) (pos b) h = grind (arith, ints)
+reached (pos a) (negsuc b) h = grind (arith, ints)
+reached (negsuc a) (pos b) h = grind (arith, ints)
+reached (negsuc a) (negsuc b) h = grind (arith, ints)
+
+gap_within : (low high z : ℤ) → IsTrue (is_between low high z) → int_gap low z < extent low high
+gap_within (pos a) (pos b) (pos c) h = grind (arith, ints)
+gap_within (pos a) (pos b) (negsuc c) h = grind (arith, ints)
+gap_within (pos a) (negsuc b) (pos c) h = grind (arith, ints)
+gap_within (pos a) (negsuc b) (negsuc c) h = grind (arith, ints)
+gap_within (negsuc a) (pos b) (pos c) h = grind (arith, ints)
+gap_within (negsuc a) (pos b) (negsuc c) h = grind (arith, ints)
+gap_within (negsuc a) (negsuc b) (pos c) h = grind (arith, ints)
+gap_within (negsuc a) (negsuc b) (negsuc c) h = grind (arith, ints)
+
+gap_at_most : (low high z : ℤ) → IsTrue (is_between low high z) → int_gap low z ≤ int_gap low high
+gap_at_most (pos a) (pos b) (pos c) h = grind (arith, ints)
+gap_at_most (pos a) (pos b) (negsuc c) h = grind (arith, ints)
+gap_at_most (pos a) (negsuc b) (pos c) h = grind (arith, ints)
+gap_at_most (pos a) (negsuc b) (negsuc c) h = grind (arith, ints)
+gap_at_most (negsuc a) (pos b) (pos c) h = grind (arith, ints)
+gap_at_most (negsuc a) (pos b) (negsuc c) h = grind (arith, ints)
+gap_at_most (negsuc a) (negsuc b) (pos c) h = grind (arith, ints)
+gap_at_most (negsuc a) (negsuc b) (negsuc c) h = grind (arith, ints)
+
+same_gap : (low high m n : ℤ) → IsTrue (is_between low high m) → IsTrue (is_between low high n) → int_gap low m ≡ int_gap low n → m ≡ n
+same_gap low high m n h k e =
+    sym (reached low m (both (int_le low m) (int_le m high) h).0) ∙ ap (λ g. low +ℤ pos g) e ∙ reached low n (both (int_le low n) (int_le n high) k).0
+
+-- ---- in a box
+
+positive : (n : ℕ) → nat_lt 0 n ≡ true → 0 < n
+positive n h = search (rules, tests)
+
+at_most : (m n : ℕ) → nat_le m n ≡ true → m ≤ n
+at_most m n h = search (rules, tests)
+
+module _ (b : Box) (s : Strides) where
+  module _ (p : Coord) (inside : IsTrue (is_inside b p)) where
+    axes : IsTrue (is_between b.min.x b.max.x p.x) × IsTrue (is_between b.min.y b.max.y p.y) × IsTrue (is_between b.min.z b.max.z p.z)
+    axes = three (is_between b.min.x b.max.x p.x) (is_between b.min.y b.max.y p.y) (is_between b.min.z b.max.z p.z) inside
+
+    -- no component is below the least corner's
+    pub above : (int_le b.min.x p.x ≡ true) × (int_le b.min.y p.y ≡ true) × (int_le b.min.z p.z ≡ true)
+    above = ((both (int_le b.min.x p.x) (int_le p.x b.max.x) axes.0).0, (both (int_le b.min.y p.y) (int_le p.y b.max.y) axes.1).0, (both (int_le b.min.z p.z) (int_le p.z b.max.z) axes.2).0)
+
+    -- no voxel lies past the greatest corner
+    pub place_at_most : place b s p ≤ place b s b.max
+    place_at_most =
+        let x = mul-le (int_gap b.min.x p.x) s.x (int_gap b.min.x b.max.x) s.x (gap_at_most b.min.x b.max.x p.x axes.0) (omega arith) in
+        let y = mul-le (int_gap b.min.y p.y) s.y (int_gap b.min.y b.max.y) s.y (gap_at_most b.min.y b.max.y p.y axes.1) (omega arith) in
+        let z = mul-le (int_gap b.min.z p.z) s.z (int_gap b.min.z b.max.z) s.z (gap_at_most b.min.z b.max.z p.z axes.2) (omega arith) in
+        sums (int_gap b.min.x p.x * s.x) (int_gap b.min.x b.max.x * s.x) (int_gap b.min.y p.y * s.y) (int_gap b.min.y b.max.y * s.y) (int_gap b.min.z p.z * s.z) (int_gap b.min.z b.max.z * s.z) x y z
+      where
+        sums : (a a' c c' d d' : ℕ) → a ≤ a' → c ≤ c' → d ≤ d' → a + (c + d) ≤ a' + (c' + d')
+        sums a a' c c' d d' h k l = omega arith
+
+  module _ (apart : IsTrue (are_apart b s)) where
+    strides : (nat_lt 0 s.z ≡ true) × (nat_le (extent b.min.z b.max.z * s.z) s.y ≡ true) × (nat_le (extent b.min.y b.max.y * s.y) s.x ≡ true)
+    strides = three (nat_lt 0 s.z) (nat_le (extent b.min.z b.max.z * s.z) s.y) (nat_le (extent b.min.y b.max.y * s.y) s.x) apart
+
+    -- a row and a plane end before the next one begins
+    in_row : (p : Coord) → IsTrue (is_inside b p) → int_gap b.min.z p.z * s.z < s.y
+    in_row p i =
+        let fits = row_fits (int_gap b.min.z p.z) s.z (extent b.min.z b.max.z) s.z (gap_within b.min.z b.max.z p.z (axes p i).2) (omega arith) in
+        within (int_gap b.min.z p.z * s.z) s.z (extent b.min.z b.max.z * s.z) s.y fits (positive s.z strides.0) (at_most _ _ strides.1)
+      where
+        within : (a d e y : ℕ) → a + d ≤ e → 0 < d → e ≤ y → a < y
+        within a d e y h k l = omega arith
+
+    in_plane : (p : Coord) → IsTrue (is_inside b p) → int_gap b.min.y p.y * s.y + int_gap b.min.z p.z * s.z < s.x
+    in_plane p i =
+        let fits = row_fits (int_gap b.min.y p.y) s.y (extent b.min.y b.max.y) s.y (gap_within b.min.y b.max.y p.y (axes p i).1) (omega arith) in
+        within (int_gap b.min.y p.y * s.y) s.y (extent b.min.y b.max.y * s.y) s.x (int_gap b.min.z p.z * s.z) fits (in_row p i) (at_most _ _ strides.2)
+      where
+        within : (a d e x c : ℕ) → a + d ≤ e → c < d → e ≤ x → a + c < x
+        within a d e x c h k l = omega arith
+
+    -- no two voxels share an element
+    pub same_place : (p q : Coord) → IsTrue (is_inside b p) → IsTrue (is_inside b q) → place b s p ≡ place b s q → p ≡ q
+    same_place p q i j e =
+        let first = same_from_place (int_gap b.min.x p.x) (int_gap b.min.y p.y * s.y + int_gap b.min.z p.z * s.z) (int_gap b.min.x q.x) (int_gap b.min.y q.y * s.y + int_gap b.min.z q.z * s.z) s.x (in_plane p i) (in_plane q j) e in
+        let second = same_from_place (int_gap b.min.y p.y) (int_gap b.min.z p.z * s.z) (int_gap b.min.y q.y) (int_gap b.min.z q.z * s.z) s.y (in_row p i) (in_row q j) first.1 in
+        let third = same_from_place (int_gap b.min.z p.z) 0 (int_gap b.min.z q.z) 0 s.z (positive s.z strides.0) (positive s.z strides.0) (omega (arith, second.1)) in
+        let x = same_gap b.min.x b.max.x p.x q.x (axes p i).0 (axes q j).0 first.0 in
+        let y = same_gap b.min.y b.max.y p.y q.y (axes p i).1 (axes q j).1 second.0 in
+        let z = same_gap b.min.z b.max.z p.z q.z (axes p i).2 (axes q j).2 third.0 in
+        λ k. record { x = x k; y = y k; z = z k }
+
+-- what the parts of an element come to
+pub parts : (b : Box) (s : Strides) (p : Coord) → IsTrue (is_inside b p) → place b s b.max < 2 ^ 64
+    → (g h k : ℕ) → g ≡ int_gap b.min.x p.x → h ≡ int_gap b.min.y p.y → k ≡ int_gap b.min.z p.z
+    → (g * s.x < 2 ^ 64) × (h * s.y < 2 ^ 64) × (k * s.z < 2 ^ 64) × (h * s.y + k * s.z < 2 ^ 64) × (g * s.x + (h * s.y + k * s.z) < 2 ^ 64) × (g * s.x + (h * s.y + k * s.z) ≡ place b s p)
+parts b s p inside reach g h k x y z =
+    let same : g * s.x + (h * s.y + k * s.z) ≡ place b s p = rw x (rw y (rw z refl)) in
+    let most = place_at_most b s p inside in
+    each (g * s.x) (h * s.y) (k * s.z) (place b s p) (place b s b.max) same most reach
+  where
+    each : (a c d n m : ℕ) → a + (c + d) ≡ n → n ≤ m → m < 2 ^ 64
+        → (a < 2 ^ 64) × (c < 2 ^ 64) × (d < 2 ^ 64) × (c + d < 2 ^ 64) × (a + (c + d) < 2 ^ 64) × (a + (c + d) ≡ n)
+    each a c d n m e l h = (omega arith, omega arith, omega arith, omega arith, omega arith, e)
+
+-- the corners of a box are in order
+pub ordered : (b : Box) → IsTrue (is_bounds b) → (int_le b.min.x b.max.x ≡ true) × (int_le b.min.y b.max.y ≡ true) × (int_le b.min.z b.max.z ≡ true)
+ordered b h = three (int_le b.min.x b.max.x) (int_le b.min.y b.max.y) (int_le b.min.z b.max.z) (both (is_box b) (is_within b everywhere) h).0
+
+pub extent_is : (low high : ℤ) → int_le low high ≡ true → (g : ℕ) → g ≡ int_gap low high → g + 1 ≡ extent low high
+extent_is low high h g e = ap (λ (n : ℕ). n + 1) e ∙ sym (rw h refl)
+
+-- the test of strides, step by step
+module _ (r y p x : ℕ) where
+  pub no_stride : (z : ℕ) → z ≡ 0 → false ≡ (nat_lt 0 z && nat_le r y && nat_le p x)
+  no_stride z e = rw e refl
+
+  pub long_row : (z : ℕ) → y < r → false ≡ (nat_lt 0 z && nat_le r y && nat_le p x)
+  long_row z h = let no : nat_le r y ≡ false = search (rules, tests) in rw no (by (nat_lt 0 z))
+    where
+      by : (b : Bool) → false ≡ (b && false && nat_le p x)
+      by true = refl
+      by false = refl
+
+  pub by_plane : (z : ℕ) → (z ≡ 0 → ⊥) → r ≤ y → nat_le p x ≡ (nat_lt 0 z && nat_le r y && nat_le p x)
+  by_plane z h k =
+      let some : 0 < z = omega arith in
+      let first : nat_lt 0 z ≡ true = search (rules, tests) in
+      let second : nat_le r y ≡ true = search (rules, tests) in rw (first, second) refl
+
+-- how far numbers are apart, as the code finds it
+gap_is : (low n : ℤ) → int_le low n ≡ true → unsigned_abs (n -ℤ low) ≡ int_gap low n
+gap_is (pos a) (pos b) h = grind (arith, ints)
+gap_is (pos a) (negsuc b) h = grind (arith, ints)
+gap_is (negsuc a) (pos b) h = grind (arith, ints)
+gap_is (negsuc a) (negsuc b) h = grind (arith, ints)
+
+pub passed_gap : (low n : ℤ) → SFits w32 low → SFits w32 n → int_le low n ≡ true → unsigned_abs (to_z w32 (of_z w32 n) -ℤ to_z w32 (of_z w32 low)) ≡ int_gap low n
+passed_gap low n f g h = rw (to_z-of_z w32 n g, to_z-of_z w32 low f) (gap_is low n h)
+
+pub by_place : (len n m : ℕ) → (len ≡ 0 → ⊥) → n ≡ m → nat_lt n len ≡ (nat_eq len 0 || nat_lt m len)
+by_place len n m h e = let no : nat_eq len 0 ≡ false = search (rules, tests) in rw (no, e) refl

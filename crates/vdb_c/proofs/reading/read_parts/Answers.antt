@@ -1,0 +1,59 @@
+use Rattle.std.proofs.Common.{◌∙◌, ap, refl, subst, IsTrue}
+use Rattle.vdb_coord.specs.Space.{Box, is_inside}
+use Rattle.vdb_value.specs.declared.Cell.{Cell}
+use Rattle.vdb_c.specs.Values.{state_byte}
+use Rattle.vdb_c.proofs.PartsRead.{read_end, read_next, read_start}
+use Rattle.vdb_c.proofs.reading.read_parts.Goals as goal
+
+pub rest-init : goal.rest-init
+rest-init g c =
+    let t = c.args.tree.now in
+    let b = c.args.bounds in
+    let s = c.args.strides.now in
+    record {
+      walk = c.parts-walk.ensures.walk;
+      box = c.parts-walk.ensures.bounds;
+      skip = c.parts-walk.ensures.skip;
+      values = read_start t b s (λ (a : Cell g.row.V.Denot). g.V.Number.number_of a.value) _ _ _ _ c.parts-walk.ensures.at (λ p. ap g.V.Number.number_of c.background.ensures) c.lay_tile.ensures.values;
+      states = read_start t b s (λ (a : Cell g.row.V.Denot). state_byte a.on) _ _ _ _ c.parts-walk.ensures.at (λ p. refl) c.lay_tile.ensures.states;
+    }
+
+pub lay_part-requires : goal.lay_part-requires
+lay_part-requires g c = record {
+  within = λ q i. subst (λ (d : Box). IsTrue (is_inside d q)) c.rest.invariant.box (c.in-Some.ensures.part.inside q i);
+  apart = c.requires.apart;
+  reach = c.requires.reach;
+  tile = c.in-Some.ensures.tile;
+  leaf = c.in-Some.ensures.leaf;
+}
+
+pub rest-preserved : goal.rest-preserved
+rest-preserved g c =
+    let t = c.args.tree.now in
+    let b = c.args.bounds in
+    let s = c.args.strides.now in
+    let inv = c.rest.invariant in
+    let part = c.in-Some.ensures.part in
+    record {
+      walk = c.in-Some.ensures.walk;
+      box = part.passes.box ∙ inv.box;
+      skip = part.passes.skip ∙ inv.skip;
+      values =
+          read_next t b s (λ (a : Cell g.row.V.Denot). g.V.Number.number_of a.value) c.rest.walk c.next_part.new.walk inv.box inv.skip c.requires.apart c.in-Some.part.bounds _ _ _ _ part (λ q i. refl) inv.values
+          c.lay_part.ensures.values;
+      states =
+          read_next t b s (λ (a : Cell g.row.V.Denot). state_byte a.on) c.rest.walk c.next_part.new.walk inv.box inv.skip c.requires.apart c.in-Some.part.bounds _ _ _ _ part (λ q i. refl) inv.states
+          c.lay_part.ensures.states;
+    }
+
+pub returns-clause-values : goal.returns-clause-values
+returns-clause-values g c =
+    let inv = c.rest.invariant in
+    read_end c.args.tree.now c.args.bounds c.args.strides.now (λ (a : Cell g.row.V.Denot). g.V.Number.number_of a.value) c.rest.walk c.next_part.new.walk inv.box inv.skip _ _ c.in_default.ensures.end
+    c.in_default.ensures.none_left inv.values
+
+pub returns-clause-states : goal.returns-clause-states
+returns-clause-states g c =
+    let inv = c.rest.invariant in
+    read_end c.args.tree.now c.args.bounds c.args.strides.now (λ (a : Cell g.row.V.Denot). state_byte a.on) c.rest.walk c.next_part.new.walk inv.box inv.skip _ _ c.in_default.ensures.end
+    c.in_default.ensures.none_left inv.states

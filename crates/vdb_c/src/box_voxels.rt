@@ -1,0 +1,38 @@
+//! The voxels of a box, one after another.
+ghost use Rattle.std.specs.Prelude.{◌<◌, IfSome, IsTrue};
+ghost use Rattle.vdb_coord.specs.Space.{is_inside};
+ghost use Rattle.vdb_coord.specs.Walk.{coordinates_after};
+ghost use Rattle.vdb_c.specs.BoxVoxels.{IsNextVoxel};
+
+use vdb_coord::{Bounds, Coord};
+
+/// Returns the next voxel of a box, by x, then y, then z: `None` after the last one.
+pub(crate) fn next_voxel(bounds: Bounds, p: Coord) -> Option<Coord>
+    requires { IsTrue (is_inside bounds p) }
+    ensures next { IsNextVoxel bounds p result }
+    ensures nearer { IfSome result (λ next. coordinates_after next < coordinates_after p) }
+{
+    let (min, max) = (bounds.min(), bounds.max());
+    if p.z < max.z {
+        return Some(Coord {
+            x: p.x,
+            y: p.y,
+            z: p.z + 1,
+        });
+    }
+    if p.y < max.y {
+        return Some(Coord {
+            x: p.x,
+            y: p.y + 1,
+            z: min.z,
+        });
+    }
+    if p.x < max.x {
+        return Some(Coord {
+            x: p.x + 1,
+            y: min.y,
+            z: min.z,
+        });
+    }
+    None
+}
