@@ -249,18 +249,11 @@ public:
         set_by(VDB_NO_ACCESSOR, at, values, states, written);
     }
 
-    // Reads a box into arrays, or sets it from arrays: z fastest and without gaps, unless there are strides. An array that is left
-    // out is neither read nor set. A write that throws other than VDB_RANGE may have set voxels.
+    // Reads a box into arrays: z fastest and without gaps, unless there are strides. An array that is left out isn't read.
     void read_box(const Box &box, Span<int64_t> values, Span<uint8_t> states = {}) { read_box(box, strides_of(box), values, states); }
     void read_box(const Box &box, const Strides &strides, Span<int64_t> values, Span<uint8_t> states = {})
     {
         check(vdb_grid_read_box(&grid_, &box, &strides, detail::data_of(values), values.size(), detail::data_of(states), states.size()));
-    }
-    void write_box(const Box &box, Span<const int64_t> values, Span<const uint8_t> states = {}) { write_box(box, strides_of(box), values, states); }
-    void write_box(const Box &box, const Strides &strides, Span<const int64_t> values, Span<const uint8_t> states = {})
-    {
-        check(vdb_grid_write_box(&grid_, VDB_NO_ACCESSOR, &box, &strides, detail::data_of(values), values.size(), detail::data_of(states),
-                                 states.size()));
     }
 
     void unite(Grid &other) { combine(vdb_grid_unite, other); }

@@ -34,8 +34,6 @@ CALLS = {
     "C, gets from the root": "Tree::probeValue",
     "C, gets": "ValueAccessor::probeValue",
     "C, a box": "tools::copyToDense",
-    "C, an array": "tools::copyFromDense",
-    "C, copies": "Tree::cbeginLeaf, a copy of each leaf",
 }
 
 

@@ -63,12 +63,6 @@ public:
         check(vdb_grid_read_box(&grid, &box, &strides, values.data(), values.size(), &none, 0));
     }
 
-    void write_box(const std::vector<std::int64_t>& values, const std::vector<std::uint8_t>& states) {
-        const vdb_box box = {{0, 0, 0}, {SIDE - 1, SIDE - 1, SIDE - 1}};
-        const vdb_strides strides = {SIDE * SIDE, SIDE, 1};
-        check(vdb_grid_write_box(&grid, 0, &box, &strides, values.data(), values.size(), states.data(), states.size()));
-    }
-
 private:
     vdb_grid grid = VDB_GRID_INIT;
     std::uint8_t none = 0;
@@ -115,11 +109,6 @@ public:
         openvdb::tools::copyToDense(tree, dense, true);
     }
 
-    void write_box(const std::vector<std::int64_t>& values, const std::vector<std::uint8_t>&) {
-        openvdb::tools::Dense<std::int64_t> dense(openvdb::CoordBBox(0, 0, 0, SIDE - 1, SIDE - 1, SIDE - 1), const_cast<std::int64_t*>(values.data()));
-        openvdb::tools::copyFromDense(dense, tree, std::int64_t(0), true);
-    }
-
 private:
     openvdb::Int64Tree tree{0};
     openvdb::tree::ValueAccessor<openvdb::Int64Tree> accessor{tree};
@@ -158,7 +147,7 @@ void run() {
     std::vector<std::int64_t> values(VOXELS), read(VOXELS);
     std::vector<std::uint8_t> states(VOXELS, 1), seen(VOXELS);
     for (std::uint32_t number = 0; number < VOXELS; ++number) values[number] = number % 1000 + 1;
-    Sum probed = 0, rooted = 0, walked = 0, many = 0, boxed = 0, back = 0;
+    Sum probed = 0, rooted = 0, walked = 0, many = 0, boxed = 0;
     {
         Grid grid;
         report("C, sets by an accessor in order, new leaves", "voxel", VOXELS, [&] {
@@ -189,14 +178,7 @@ void run() {
         report("C, sets of many voxels in order", "voxel", VOXELS, [&] { grid.set_many(ordered, values, states); });
         report("C, sets of many voxels along a random walk", "voxel", VOXELS, [&] { grid.set_many(walk, values, states); });
     }
-    {
-        Grid grid;
-        report("C, an array to a box, new leaves", "voxel", VOXELS, [&] { grid.write_box(values, states); });
-        report("C, an array to a box", "voxel", VOXELS, [&] { grid.write_box(values, states); });
-        grid.read_box(read);
-        for (std::int64_t value : read) back += value;
-    }
-    std::printf("sums %lld %lld %lld %lld %lld %lld\n", probed, rooted, walked, many, boxed, back);
+    std::printf("sums %lld %lld %lld %lld %lld\n", probed, rooted, walked, many, boxed);
 }
 
 int main(int count, char** words) {

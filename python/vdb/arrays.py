@@ -11,7 +11,7 @@ from vdbs.grid import checked_arrays
 from .library import BUFFER, COORD, I64, LIBRARY, Box, Coord, GridHandle, Strides
 
 #: How many voxels of a dense array cross at a time, about; the accessor of calls on many voxels.
-SLAB, ACCESSOR = 2**24, 0
+SLAB, ACCESSOR = 2**21, 0
 
 
 def box_of(low: Sequence[int], high: Sequence[int]) -> Box:
@@ -81,8 +81,8 @@ def write_array(
         for first, end in slabs(low[0], values.shape) if values.size else ():
             part = values[first:end]
             states = part != background if active is None else active[first:end]
-            slab = np.ascontiguousarray(part, np.int64), np.ascontiguousarray(states, np.bool_)
-            LIBRARY.vdb_grid_write_box(grid, ACCESSOR, *arguments(low, first, *slab))
+            at = np.argwhere(part != background if active is None else states | (part != background))
+            write_voxels(grid, at + (low[0] + first, low[1], low[2]), part[tuple(at.T)], states[tuple(at.T)])
         LIBRARY.vdb_grid_prune(grid)
     except BaseException:
         LIBRARY.vdb_grid_free(grid)

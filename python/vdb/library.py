@@ -84,7 +84,6 @@ ARGUMENTS = {
     "vdb_grid_get_many": (GRID, c_int32, COORD, c_size_t, I64, c_size_t, BUFFER, c_size_t),
     "vdb_grid_write_many": (GRID, c_int32, COORD, c_size_t, I64, c_size_t, BUFFER, c_size_t, SIZE),
     "vdb_grid_read_box": (GRID, *DENSE),
-    "vdb_grid_write_box": (GRID, c_int32, *DENSE),
     "vdb_scene_new": (SCENE,),
     "vdb_scene_free": (SCENE,),
     "vdb_scene_load": (SCENE, BUFFER, c_size_t),

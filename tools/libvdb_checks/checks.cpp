@@ -221,11 +221,16 @@ static void arrays()
     CHECK(code_of([&] { grid.get_many(at, few); }) == VDB_RANGE);
 
     const vdb::Box box = {{6, 7, 6}, {7, 8, 8}};
-    std::vector<int64_t> dense(12);
+    std::vector<vdb::Coord> inside;
+    for (int32_t x = 6; x <= 7; x++)
+        for (int32_t y = 7; y <= 8; y++)
+            for (int32_t z = 6; z <= 8; z++)
+                inside.push_back({x, y, z});
+    std::vector<int64_t> dense(12), same(12);
     std::iota(dense.begin(), dense.end(), 100);
-    grid.write_box(box, dense, std::vector<uint8_t>(12, 1));
-    CHECK(grid.get({6, 7, 6}).value == 100 && grid.get({6, 7, 8}).value == 102 && grid.get({6, 8, 6}).value == 103 && grid.get({7, 8, 8}).value == 111);
-    CHECK(grid.count(box) == 12 && grid.count() == 12);
+    grid.set_many(inside, dense);
+    grid.read_box(box, same);
+    CHECK(same == dense);
     std::vector<int64_t> spread(40, -1);
     std::vector<uint8_t> none;
     grid.read_box({{5, 7, 7}, {6, 8, 8}}, vdb::Strides{20, 8, 3}, spread, none);

@@ -41,8 +41,8 @@ class Step:
     """A call of the library.
 
     `outs` are the results, with the values that they must have after the code 0, in the order of `results`. `refusals` are the
-    codes of which one must be returned, if there are any; otherwise `commit` changes the map and returns the code. `prefix` are the
-    places and the cells that the call writes in turn, if it writes some of them though it fails.
+    codes of which one must be returned, if there are any; otherwise `commit` changes the map and returns the code. `prefix` makes
+    in the map the writes before the one that failed, if the call writes in turn.
     """
 
     def __init__(self, name, arguments, outs=(), refusals=(), commit=None, results=None, grids=(), prefix=None):
@@ -256,28 +256,6 @@ class Session:
         states = (c_uint8 * max(1, lengths[1]))(*(self.chance.choice([0, 1, 1, 255]) for _ in range(lengths[1])))
         return values, states, lengths
 
-    def written(self, grid, at, values, states, lengths, index):
-        """The cell that a voxel gets from the elements at an index."""
-        value, on = grid.get(at)
-        return (values[index] if lengths[0] else value, states[index] != 0 if lengths[1] else on)
-
-    def write_in_turn(self, slot, name, arguments, wrong, outs, places, cell):
-        """A step that writes places in turn; `cell` gives the cell of a place by the map's grid and a number."""
-        turns = [(at, lambda grid, at=at, number=number: cell(grid, at, number)) for number, at in enumerate(places)]
-
-        def commit(grid):
-            for number, (at, made) in enumerate(turns):
-                code = grid.set(at, made(grid))
-                if code:
-                    for out in outs:
-                        need(out.value == number, f"{out.value} voxels are written, and not {number}")
-                    return code
-            return OK
-
-        step = self.on_grid(name, arguments, wrong, [slot], commit, outs, lambda grid: [len(turns)] * len(outs))
-        step.prefix = turns
-        return step
-
     def many(self):
         slot, accessor, at = self.grid(), self.accessor(), [self.place() for _ in range(self.chance.choice([0, 1, 2, 5, 9]))]
         coord, count = self.header.types["vdb_coord"], len(at)
@@ -293,11 +271,25 @@ class Session:
             return self.on_grid("vdb_grid_get_many", arguments, wrong, [slot], None, [values, states], results)
         grid, written = self.maps[slot], c_size_t(77)
         wrong = wrong or (count > 0 and lengths == [0, 0]) or (grid is not None and not all(grid.has(it) for it in values[: lengths[0]]))
-        cell = lambda grid, it, number: self.written(grid, it, values, states, lengths, number)  # noqa: E731
-        return self.write_in_turn(slot, "vdb_grid_write_many", [*arguments, byref(written)], wrong, [written], at, cell)
+
+        def cell(grid, number):
+            value, on = grid.get(at[number])
+            return (values[number] if lengths[0] else value, states[number] != 0 if lengths[1] else on)
+
+        def commit(grid):
+            for number, it in enumerate(at):
+                code = grid.set(it, cell(grid, number))
+                if code:
+                    need(written.value == number, f"{written.value} voxels are written, and not {number}")
+                    return code
+            return OK
+
+        step = self.on_grid("vdb_grid_write_many", [*arguments, byref(written)], wrong, [slot], commit, [written], lambda grid: [count])
+        step.prefix = lambda grid: [grid.set(it, cell(grid, number)) for number, it in enumerate(at[: written.value])]
+        return step
 
     def dense(self):
-        slot, accessor, box = self.grid(), self.accessor(), self.box(small=True)
+        slot, box = self.grid(), self.box(small=True)
         if any(self.lattice.sides[it] > 1 for a, b in zip(*box) for it in range(a, b + 1)):
             at = self.place()
             box = at, at
@@ -318,22 +310,16 @@ class Session:
         wrong = wrong or any(0 < it < count for it in lengths)
         strides = self.type("vdb_strides", step_x, step_y, step_z)
         arguments = [argument, byref(strides), values, lengths[0], states, lengths[1]]
-        if self.rarely(0.5):
 
-            def results(grid):
-                found = [list(values) if lengths[0] else [], list(states) if lengths[1] else []]
-                for at, element in zip(places, elements):
-                    for part, cell in zip(found, grid.get(at)):
-                        if part:
-                            part[element] = int(cell)
-                return [tuple(part or array) for part, array in zip(found, (values, states))]
+        def results(grid):
+            found = [list(values) if lengths[0] else [], list(states) if lengths[1] else []]
+            for at, element in zip(places, elements):
+                for part, cell in zip(found, grid.get(at)):
+                    if part:
+                        part[element] = int(cell)
+            return [tuple(part or array) for part, array in zip(found, (values, states))]
 
-            return self.on_grid("vdb_grid_read_box", arguments, wrong, [slot], None, [values, states], results)
-        grid = self.maps[slot]
-        wrong = wrong or not -1 <= accessor < 8 or lengths == [0, 0]
-        wrong = wrong or (grid is not None and lengths[0] > 0 and not all(grid.has(values[it]) for it in elements))
-        cell = lambda grid, it, number: self.written(grid, it, values, states, lengths, elements[number])  # noqa: E731
-        return self.write_in_turn(slot, "vdb_grid_write_box", [accessor, *arguments], wrong, [], places, cell)
+        return self.on_grid("vdb_grid_read_box", arguments, wrong, [slot], None, [values, states], results)
 
     # -- steps on two grids
 
@@ -568,7 +554,8 @@ class Session:
             if step.prefix is None or code not in (MEMORY, ROOT_LIMIT):
                 self.unchanged(step, before, f"allocation {number} failed")
             else:
-                self.takes_prefix(step)
+                need(not any(step.prefix(self.maps[step.grids[0]])), "a voxel was written past the root limit")
+                self.verify(step.grids[0], 10**6)
         else:
             code = getattr(self.library, step.name)(*step.arguments)
         self.compare(step, code, before)
@@ -591,19 +578,6 @@ class Session:
         if self.calls % VERIFY_EVERY == 0:
             for slot in range(GRIDS):
                 self.verify(slot, 10**6)
-
-    def takes_prefix(self, step):
-        """Makes in the map the writes of a call that failed: as many as the call says, or else as many as the library has."""
-        slot = step.grids[0]
-        grid, known = self.maps[slot], step.outs[0].value if step.outs else None
-        for number, (at, made) in enumerate(step.prefix):
-            cell = made(grid)
-            if number == known or (known is None and self.cell(slot, at) != cell):
-                break
-            need(grid.set(at, cell) == OK, f"voxel {number} was written past the root limit")
-        else:
-            raise Wrong("all voxels were written, though an allocation failed")
-        self.verify(slot, 10**6)
 
     def cell(self, slot, at):
         """The library's cell at some voxel of a place."""
