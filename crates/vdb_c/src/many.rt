@@ -167,12 +167,7 @@ fn missing_change(kind: Kind, count: usize, values: &[i64], states: &[u8]) -> Op
 }
 
 /// Returns the write of one element of each array.
-pub(crate) fn change_at(
-    kind: Kind,
-    values: &[i64],
-    states: &[u8],
-    k: usize,
-) -> Option<Write<Scalar>>
+fn change_at(kind: Kind, values: &[i64], states: &[u8], k: usize) -> Option<Write<Scalar>>
     ensures write { result ≡ change_of_element kind values.now states.now k }
     ensures fits { IsWriteFor kind result }
 {
