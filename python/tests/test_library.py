@@ -83,7 +83,7 @@ class Arrays(unittest.TestCase):
             vdb.Grid.from_array(cube, cube)
         with self.assertRaises(ValueError):
             vdb.Grid.from_array(cube, origin=(0, 0, MOST))
-        with self.assertRaisesRegex(vdb.RootLimitError, "needs 2 root blocks, and its limit is 1"):
+        with self.assertRaisesRegex(vdb.RootLimitError, "more root blocks than its root limit"):
             vdb.Grid.from_array(cube + 1, origin=(-1, 0, 0), limit=1)
         with self.assertRaises(vdb.ArrayTooLargeError):
             vdb.Grid("i64").to_array(((0, 0, 0), (4095, 4095, 4095)))
@@ -97,7 +97,8 @@ class Many(unittest.TestCase):
                 kind = dice.choice(list(EXTREMES))
                 grid, cells = vdb.Grid(kind, EXTREMES[kind][0]), {}
                 for _ in range(3):
-                    at = np.array([[dice.choice([-9, 0, 1, 7, 8, 4096, MOST]) for _ in range(3)] for _ in range(dice.randint(0, 40))]).reshape(-1, 3)
+                    places = [[dice.choice([-9, 0, 1, 7, 8, 4096, MOST]) for _ in range(3)] for _ in range(dice.randint(0, 40))]
+                    at = np.array(places, np.int64).reshape(-1, 3)
                     values = np.array([dice.choice(EXTREMES[kind]) for _ in at], DTYPES[kind])
                     active = np.array([dice.random() < 0.5 for _ in at], np.bool_)
                     grid.set_many(at, values, active)

@@ -74,7 +74,7 @@ def write_array(
 ) -> GridHandle:
     """Returns a new grid of dense arrays, as vdbs.Grid.from_array makes it."""
     kind, values, active, low = checked_arrays(values, active, origin)
-    background = kind.check(0 if background is None else background, "background")
+    background = 0 if background is None else kind.check(background, "background")
     grid = GridHandle()
     LIBRARY.vdb_grid_new(grid, kind.number, background, check_limit(limit))
     try:
