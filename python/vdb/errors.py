@@ -8,7 +8,7 @@ FIRST_FAULT = 20
 
 
 class VdbError(Exception):
-    """A call of libvdb failed, and changed nothing. `code` is its code in vdb.h, `reason` its text."""
+    """A call of libvdb failed, and changed nothing unless it was `Grid.set_many`. `code` is its code in vdb.h, `reason` its text."""
 
     def __init__(self, code: int, reason: str) -> None:
         super().__init__(code, reason)

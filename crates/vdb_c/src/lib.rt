@@ -1,8 +1,8 @@
 //! The engine for C: grids and scenes behind handles.
 //!
 //! A call takes handles, numbers and arrays, and returns a code. Code 0 means that it is done. With any other code no cell, no limit
-//! and nothing that the call writes to has changed. Each call tests its arguments, so none has a condition; what C owes is
-//! stated in the header.
+//! and nothing that the call writes to has changed, except that `vdb_grid_write_many` may have written its first voxels. Each call
+//! tests its arguments, so none has a condition; what C owes is stated in the header.
 //!
 //! The modules, from below:
 //! - `kept`: the pointer of a box, the one module that makes and follows it.
