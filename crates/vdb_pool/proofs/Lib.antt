@@ -8,3 +8,4 @@ pub mod Orderly
 pub mod Inserted
 pub mod Growth
 pub mod Lives
+pub mod Crossing

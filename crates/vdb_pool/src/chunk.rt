@@ -7,7 +7,7 @@ use crate::slot::Slot;
 use crate::storage::{Address, Block};
 use std::alloc::Global;
 
-/// Returns how many slots of this many bytes a chunk has: as many as fit 64 KiB, of the divisors of `u32::MAX` from 1 to 255. By
+/// Returns how many slots of this many bytes a chunk has: as many as fit 24 KiB, of the divisors of `u32::MAX` from 1 to 255. By
 /// a divisor the last chunk that a pool may have is whole too.
 pub(crate) fn slots_of(bytes: usize) -> u32
     ensures value { result ≡ slots_of bytes }
@@ -15,13 +15,13 @@ pub(crate) fn slots_of(bytes: usize) -> u32
     ensures divides { 4294967295 % result ≡ 0 }
 {
     match bytes {
-        0..=257 => 255,
-        258..=771 => 85,
-        772..=1285 => 51,
-        1286..=3855 => 17,
-        3856..=4369 => 15,
-        4370..=13107 => 5,
-        13108..=21845 => 3,
+        0..=96 => 255,
+        97..=289 => 85,
+        290..=481 => 51,
+        482..=1445 => 17,
+        1446..=1638 => 15,
+        1639..=4915 => 5,
+        4916..=8192 => 3,
         _ => 1,
     }
 }

@@ -19,7 +19,7 @@ use std_alloc::room::may_hold;
 /// Slots for nodes, at addresses that never change.
 ///
 /// Slots are numbered from 0, and a pool has at most 4,294,967,295. They come in chunks of 1 to 255, as many as fit
-/// 64 KiB, which are given back when the pool is dropped, so a pool never gets smaller. A slot takes at most 8 bytes
+/// 24 KiB, which are given back when the pool is dropped, so a pool never gets smaller. A slot takes at most 8 bytes
 /// beside its node, if the node has at least 4 bytes and is aligned to at most 8. Making an empty pool allocates nothing.
 ///
 /// Vacant slots are linked through themselves and used again last in, first out, as in Rust's crate `slab`.

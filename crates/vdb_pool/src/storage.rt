@@ -32,6 +32,11 @@ impl<T> Clone for Address<T> {
 
 impl<T> Copy for Address<T> {}
 
+// SAFETY: an address owns nothing, and only an owner reads through it.
+unsafe impl<T> Send for Address<T> {}
+
+unsafe impl<T> Sync for Address<T> {}
+
 /// The right to give the block of `len` places at `at`, each of `stride` bytes, back to `alloc`. It takes no space.
 pub struct Block<T, A: Allocator> {
     mark: PhantomData<*const (T, A)>,
@@ -47,6 +52,11 @@ impl<T, A: Allocator> Model for Block<T, A> {
     ghost also_shares = { λ b _ _. block_says T.row b.at b.len b.stride };
 }
 
+// SAFETY: a block is the right to give memory back, which its allocator takes from any thread. A `&` to it says only numbers.
+unsafe impl<T: Send, A: Allocator + Send> Send for Block<T, A> {}
+
+unsafe impl<T: Sync, A: Allocator + Sync> Sync for Block<T, A> {}
+
 /// The owner of the memory at `places`: the first places hold the `items` and the others are free. It takes no space.
 pub struct Storage<T> {
     mark: PhantomData<*const T>,
@@ -59,6 +69,11 @@ impl<T> Model for Storage<T> {
 
     ghost also_shares = { λ s _ κ. storage_lends T.row s.places s.items κ };
 }
+
+// SAFETY: a storage owns its items and their memory, as a `Vec` does. A `&` to it gives a `&` to each item.
+unsafe impl<T: Send> Send for Storage<T> {}
+
+unsafe impl<T: Sync> Sync for Storage<T> {}
 
 /// Returns the bytes of a place.
 pub(crate) fn place_bytes<T>() -> usize

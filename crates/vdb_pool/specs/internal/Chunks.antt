@@ -4,12 +4,12 @@ use denote.RawPtr.{Ptr}
 use Rattle.vdb_pool.specs.internal.Rows.{row_from}
 use Rattle.vdb_pool.specs.declared.chunk.Chunk.{Chunk}
 
--- how many slots of this many bytes a chunk has: as many as fit 64 KiB, of the divisors of 4,294,967,295 from 1 to 255
+-- how many slots of this many bytes a chunk has: as many as fit 24 KiB, of the divisors of 4,294,967,295 from 1 to 255
 abbrev pub slots_of : ℕ → ℕ
 slots_of bytes =
-    if nat_le bytes 257 then 255 else if nat_le bytes 771 then 85 else if nat_le bytes 1285 then 51
-    else if nat_le bytes 3855 then 17 else if nat_le bytes 4369 then 15 else if nat_le bytes 13107 then 5
-    else if nat_le bytes 21845 then 3 else 1
+    if nat_le bytes 96 then 255 else if nat_le bytes 289 then 85 else if nat_le bytes 481 then 51
+    else if nat_le bytes 1445 then 17 else if nat_le bytes 1638 then 15 else if nat_le bytes 4915 then 5
+    else if nat_le bytes 8192 then 3 else 1
 
 module _ {T : Type 0} (len : ℕ) where
   -- the addresses of the slots of the chunks, each of this many slots

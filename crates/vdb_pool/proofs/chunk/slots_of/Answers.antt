@@ -2,75 +2,75 @@ use Rattle.std.proofs.Common.{refl, arith}
 use Rattle.std.proofs.lemmas.Bool.{le-leb, lt-leb}
 use Rattle.vdb_pool.proofs.chunk.slots_of.Goals as goal
 
-pub returns-in-0-to-257-clause-value : goal.returns-in-0-to-257-clause-value
-returns-in-0-to-257-clause-value c =
-    rw (le-leb c.args.bytes 257 (omega (arith, c.in-0-to-257))) refl
+pub returns-in-0-to-96-clause-value : goal.returns-in-0-to-96-clause-value
+returns-in-0-to-96-clause-value c =
+    rw (le-leb c.args.bytes 96 (omega (arith, c.in-0-to-96))) refl
 
-pub returns-in-258-to-771-clause-value : goal.returns-in-258-to-771-clause-value
-returns-in-258-to-771-clause-value c =
+pub returns-in-97-to-289-clause-value : goal.returns-in-97-to-289-clause-value
+returns-in-97-to-289-clause-value c =
     rw (
-      lt-leb c.args.bytes 257 (omega (arith, c.in-258-to-771)),
-      le-leb c.args.bytes 771 (omega (arith, c.in-258-to-771)),
+      lt-leb c.args.bytes 96 (omega (arith, c.in-97-to-289)),
+      le-leb c.args.bytes 289 (omega (arith, c.in-97-to-289)),
     ) refl
 
-pub returns-in-772-to-1285-clause-value : goal.returns-in-772-to-1285-clause-value
-returns-in-772-to-1285-clause-value c =
+pub returns-in-290-to-481-clause-value : goal.returns-in-290-to-481-clause-value
+returns-in-290-to-481-clause-value c =
     rw (
-      lt-leb c.args.bytes 257 (omega (arith, c.in-772-to-1285)),
-      lt-leb c.args.bytes 771 (omega (arith, c.in-772-to-1285)),
-      le-leb c.args.bytes 1285 (omega (arith, c.in-772-to-1285)),
+      lt-leb c.args.bytes 96 (omega (arith, c.in-290-to-481)),
+      lt-leb c.args.bytes 289 (omega (arith, c.in-290-to-481)),
+      le-leb c.args.bytes 481 (omega (arith, c.in-290-to-481)),
     ) refl
 
-pub returns-in-1286-to-3855-clause-value : goal.returns-in-1286-to-3855-clause-value
-returns-in-1286-to-3855-clause-value c =
+pub returns-in-482-to-1445-clause-value : goal.returns-in-482-to-1445-clause-value
+returns-in-482-to-1445-clause-value c =
     rw (
-      lt-leb c.args.bytes 257 (omega (arith, c.in-1286-to-3855)),
-      lt-leb c.args.bytes 771 (omega (arith, c.in-1286-to-3855)),
-      lt-leb c.args.bytes 1285 (omega (arith, c.in-1286-to-3855)),
-      le-leb c.args.bytes 3855 (omega (arith, c.in-1286-to-3855)),
+      lt-leb c.args.bytes 96 (omega (arith, c.in-482-to-1445)),
+      lt-leb c.args.bytes 289 (omega (arith, c.in-482-to-1445)),
+      lt-leb c.args.bytes 481 (omega (arith, c.in-482-to-1445)),
+      le-leb c.args.bytes 1445 (omega (arith, c.in-482-to-1445)),
     ) refl
 
-pub returns-in-3856-to-4369-clause-value : goal.returns-in-3856-to-4369-clause-value
-returns-in-3856-to-4369-clause-value c =
+pub returns-in-1446-to-1638-clause-value : goal.returns-in-1446-to-1638-clause-value
+returns-in-1446-to-1638-clause-value c =
     rw (
-      lt-leb c.args.bytes 257 (omega (arith, c.in-3856-to-4369)),
-      lt-leb c.args.bytes 771 (omega (arith, c.in-3856-to-4369)),
-      lt-leb c.args.bytes 1285 (omega (arith, c.in-3856-to-4369)),
-      lt-leb c.args.bytes 3855 (omega (arith, c.in-3856-to-4369)),
-      le-leb c.args.bytes 4369 (omega (arith, c.in-3856-to-4369)),
+      lt-leb c.args.bytes 96 (omega (arith, c.in-1446-to-1638)),
+      lt-leb c.args.bytes 289 (omega (arith, c.in-1446-to-1638)),
+      lt-leb c.args.bytes 481 (omega (arith, c.in-1446-to-1638)),
+      lt-leb c.args.bytes 1445 (omega (arith, c.in-1446-to-1638)),
+      le-leb c.args.bytes 1638 (omega (arith, c.in-1446-to-1638)),
     ) refl
 
-pub returns-in-4370-to-13107-clause-value : goal.returns-in-4370-to-13107-clause-value
-returns-in-4370-to-13107-clause-value c =
+pub returns-in-1639-to-4915-clause-value : goal.returns-in-1639-to-4915-clause-value
+returns-in-1639-to-4915-clause-value c =
     rw (
-      lt-leb c.args.bytes 257 (omega (arith, c.in-4370-to-13107)),
-      lt-leb c.args.bytes 771 (omega (arith, c.in-4370-to-13107)),
-      lt-leb c.args.bytes 1285 (omega (arith, c.in-4370-to-13107)),
-      lt-leb c.args.bytes 3855 (omega (arith, c.in-4370-to-13107)),
-      lt-leb c.args.bytes 4369 (omega (arith, c.in-4370-to-13107)),
-      le-leb c.args.bytes 13107 (omega (arith, c.in-4370-to-13107)),
+      lt-leb c.args.bytes 96 (omega (arith, c.in-1639-to-4915)),
+      lt-leb c.args.bytes 289 (omega (arith, c.in-1639-to-4915)),
+      lt-leb c.args.bytes 481 (omega (arith, c.in-1639-to-4915)),
+      lt-leb c.args.bytes 1445 (omega (arith, c.in-1639-to-4915)),
+      lt-leb c.args.bytes 1638 (omega (arith, c.in-1639-to-4915)),
+      le-leb c.args.bytes 4915 (omega (arith, c.in-1639-to-4915)),
     ) refl
 
-pub returns-in-13108-to-21845-clause-value : goal.returns-in-13108-to-21845-clause-value
-returns-in-13108-to-21845-clause-value c =
+pub returns-in-4916-to-8192-clause-value : goal.returns-in-4916-to-8192-clause-value
+returns-in-4916-to-8192-clause-value c =
     rw (
-      lt-leb c.args.bytes 257 (omega (arith, c.in-13108-to-21845)),
-      lt-leb c.args.bytes 771 (omega (arith, c.in-13108-to-21845)),
-      lt-leb c.args.bytes 1285 (omega (arith, c.in-13108-to-21845)),
-      lt-leb c.args.bytes 3855 (omega (arith, c.in-13108-to-21845)),
-      lt-leb c.args.bytes 4369 (omega (arith, c.in-13108-to-21845)),
-      lt-leb c.args.bytes 13107 (omega (arith, c.in-13108-to-21845)),
-      le-leb c.args.bytes 21845 (omega (arith, c.in-13108-to-21845)),
+      lt-leb c.args.bytes 96 (omega (arith, c.in-4916-to-8192)),
+      lt-leb c.args.bytes 289 (omega (arith, c.in-4916-to-8192)),
+      lt-leb c.args.bytes 481 (omega (arith, c.in-4916-to-8192)),
+      lt-leb c.args.bytes 1445 (omega (arith, c.in-4916-to-8192)),
+      lt-leb c.args.bytes 1638 (omega (arith, c.in-4916-to-8192)),
+      lt-leb c.args.bytes 4915 (omega (arith, c.in-4916-to-8192)),
+      le-leb c.args.bytes 8192 (omega (arith, c.in-4916-to-8192)),
     ) refl
 
 pub returns-in_default-clause-value : goal.returns-in_default-clause-value
 returns-in_default-clause-value c =
     rw (
-      lt-leb c.args.bytes 257 (omega (arith, c.in_default)),
-      lt-leb c.args.bytes 771 (omega (arith, c.in_default)),
-      lt-leb c.args.bytes 1285 (omega (arith, c.in_default)),
-      lt-leb c.args.bytes 3855 (omega (arith, c.in_default)),
-      lt-leb c.args.bytes 4369 (omega (arith, c.in_default)),
-      lt-leb c.args.bytes 13107 (omega (arith, c.in_default)),
-      lt-leb c.args.bytes 21845 (omega (arith, c.in_default)),
+      lt-leb c.args.bytes 96 (omega (arith, c.in_default)),
+      lt-leb c.args.bytes 289 (omega (arith, c.in_default)),
+      lt-leb c.args.bytes 481 (omega (arith, c.in_default)),
+      lt-leb c.args.bytes 1445 (omega (arith, c.in_default)),
+      lt-leb c.args.bytes 1638 (omega (arith, c.in_default)),
+      lt-leb c.args.bytes 4915 (omega (arith, c.in_default)),
+      lt-leb c.args.bytes 8192 (omega (arith, c.in_default)),
     ) refl
