@@ -1,5 +1,5 @@
 -- Splitting a tile into a node with its cell all over: no cell changes.
-use Rattle.std.proofs.Common.{ap, arith, ◌≡◌, ◌≤◌, ◌<◌, ℕ, List, refl, sym, ◌∙◌, length, inl, inr, IsTrue}
+use Rattle.std.proofs.Common.{ap, arith, ◌≡◌, ◌≢◌, ◌≤◌, ◌<◌, ℕ, List, refl, sym, ◌∙◌, length, inl, inr, IsTrue}
 use Rattle.std.specs.Prelude.{Some, None, IsSome, slice_index_or, if◌then◌else◌}
 use Rattle.std.specs.List.{IsDistinct}
 use Rattle.std.specs.Map.{keys_of}
@@ -19,13 +19,16 @@ use Rattle.vdb_node.specs.declared.Entry.TheVariants.{Child, Tile}
 use Rattle.vdb_pool.specs.Contents.{Contents, node_at}
 use Rattle.vdb_value.specs.declared.Cell.{Cell}
 use Rattle.vdb_tree.specs.Changes.{AddsNodes, Keeps, SameDescent, Turns}
-use Rattle.vdb_tree.specs.Layout.{Layout, cell_at, entry_over, lower_entry, background_cell, root_at, root_entry, upper_entry}
+use Rattle.vdb_tree.specs.Layout.{Layout, cell_at, entry_over, field_of, lower_entry, background_cell, root_at, root_entry, upper_entry}
+use Rattle.vdb_tree.specs.Leaves.{with_leaf as with_leaf_cells}
 use Rattle.vdb_tree.specs.Nodes.{IsSameTree, KeepsAllBut}
 use Rattle.vdb_tree.specs.Paths.{in_leaf, is_child}
 use Rattle.vdb_tree.specs.Sound.{IsSound}
 use Rattle.vdb_tree.proofs.Blocks.{never}
-use Rattle.vdb_tree.proofs.Descents.{lower_by_block, root_by_block, upper_by_block}
-use Rattle.vdb_tree.proofs.Levels.{Puts, bool_cases, coord_cases, like_coords, node_turns, owned_after, owned_as, owned_nodes, split_below, split_owned, tile_no_child, tile_or_child, unlike_coords}
+use Rattle.vdb_tree.proofs.Descents.{leaf_cell, lower_by_block, root_by_block, upper_by_block}
+use Rattle.vdb_tree.proofs.Equations.{same_field}
+use Rattle.vdb_tree.proofs.Fields.{cell_inside}
+use Rattle.vdb_tree.proofs.Levels.{Puts, bool_cases, coord_cases, like_coords, node_turns, not_vacant, owned_after, owned_as, owned_nodes, split_below, split_owned, tile_no_child, tile_or_child, unlike_coords, within_same}
 
 -- an offset is an index of the node
 pub index_below : (bits : Bits) (level : Level) (p : Coord) → offset bits level p < entry_count (node_bits bits level)
@@ -209,7 +212,7 @@ module _ {V : Type 0} (bits : Bits) where
   module _ (t : Layout V) (sound : IsSound bits t) (p : Coord) (u s : ℕ) (c : Cell V) (n m : List (Entry V)) (k : LeafOf V) (lowers : Contents (List (Entry V))) (leaves : Contents (LeafOf V))
       (at_upper : upper_entry bits t p ≡ Child u) (tiled : lower_entry bits t p ≡ Tile c)
       (was : node_at t.lowers u ≡ Some n) (sets : SetsEntry n m (offset bits Lower p) (Child s)) (changed : Puts t.lowers lowers u (Some m))
-      (free : node_at t.leaves s ≡ None) (const : IsConstantLeaf k (entry_count bits.leaf) c) (put : Puts t.leaves leaves s (Some k)) where
+      (free : node_at t.leaves s ≡ None) (put : Puts t.leaves leaves s (Some k)) where
     abbrev pub with_leaf : Layout V
     with_leaf = record t { lowers = lowers; leaves = leaves }
 
@@ -217,15 +220,6 @@ module _ {V : Type 0} (bits : Bits) where
     leaf_turns =
         node_turns (λ node i. slice_index_or node i (Tile (background_cell t))) Tile (Tile (background_cell t)) bits Lower (upper_entry bits t) t.lowers lowers p u n m (Child s) (upper_by_block bits t) sound.lowers at_upper was changed
         (sets.changed _) (sets.others _)
-
-    cells_stay : (q : Coord) → cell_at bits with_leaf q ≡ cell_at bits t q
-    unfolding cell_at
-    cells_stay =
-        split_below (cell_in (background_cell t)) (λ cell. cell) (background_cell t) bits Leaf (lower_entry bits t) (lower_entry bits with_leaf) t.leaves leaves p s k c sound.leaves free
-        (λ r e. lower_by_block bits t r p e ∙ tiled) leaf_turns put (λ q. const (background_cell t) _ (index_below bits Leaf q))
-
-    pub with_leaf_keeps : Keeps bits t with_leaf
-    with_leaf_keeps = record { head = record { background = refl; limit = refl }; cells = cells_stay }
 
     pub with_leaf_adds : AddsNodes bits t with_leaf
     with_leaf_adds = adds t with_leaf (λ q cell e. e) (λ q cell e. e) (turned_tiles (block_number bits Leaf) p s _ _ leaf_turns) (λ k h. h)
@@ -247,6 +241,37 @@ module _ {V : Type 0} (bits : Bits) where
     with_leaf_but Upper q h = refl
     with_leaf_but Lower q h = refl
     with_leaf_but Leaf q h = elim h [ inl d ↦ absurd (d refl) | inr d ↦ leaf_turns.there q d ]
+
+    -- the cells outside p's leaf extent stay
+    pub with_leaf_elsewhere : (q : Coord) → block_number bits Leaf q ≢ block_number bits Leaf p → cell_at bits with_leaf q ≡ cell_at bits t q
+    unfolding cell_at
+    with_leaf_elsewhere q d =
+        let same = leaf_turns.there q d in
+        rw same (within_same (cell_in (background_cell t)) (λ cell. cell) (background_cell t) t.leaves leaves (lower_entry bits t q) (offset bits Leaf q) (λ r e. put.others r (not_vacant t.leaves leaves s r (sound.leaves.held q r e) free)))
+
+    -- p's leaf extent gets the leaf's cells
+    pub with_leaf_field : field_of bits with_leaf ≡ with_leaf_cells bits p k (field_of bits t)
+    with_leaf_field = same_field bits with_leaf t.background _ refl (λ q inside.
+        elim (coord_cases (block_number bits Leaf p) (block_number bits Leaf q)) [
+          | inl e ↦
+              let yes = like_coords (block_number bits Leaf p) (block_number bits Leaf q) e in
+              rw yes (leaf_cell bits with_leaf p s k with_leaf_at put.here q (sym e))
+          | inr d ↦
+              let at = cell_inside t.background (cell_at bits t) q inside in
+              let no = unlike_coords (block_number bits Leaf p) (block_number bits Leaf q) d in
+              rw (no, at) (with_leaf_elsewhere q (λ e. d (sym e)))
+        ])
+
+    -- a leaf with the tile's cell all over
+    module _ (const : IsConstantLeaf k (entry_count bits.leaf) c) where
+      cells_stay : (q : Coord) → cell_at bits with_leaf q ≡ cell_at bits t q
+      unfolding cell_at
+      cells_stay =
+          split_below (cell_in (background_cell t)) (λ cell. cell) (background_cell t) bits Leaf (lower_entry bits t) (lower_entry bits with_leaf) t.leaves leaves p s k c sound.leaves free
+          (λ r e. lower_by_block bits t r p e ∙ tiled) leaf_turns put (λ q. const (background_cell t) _ (index_below bits Leaf q))
+
+      pub with_leaf_keeps : Keeps bits t with_leaf
+      with_leaf_keeps = record { head = record { background = refl; limit = refl }; cells = cells_stay }
 
   -- an upper extent without an entry gets the tile that its absence stands for
   module _ (t : Layout V) (sound : IsSound bits t) (p : Coord) (c : Cell V) (root : List (Coord × Entry V))

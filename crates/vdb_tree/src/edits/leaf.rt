@@ -1,18 +1,21 @@
 //! Writes of a whole leaf at once.
 
-ghost use Rattle.std.specs.Prelude.{◌≡◌, ◌+◌, ◌≤◌, IsOk, IsTrue};
-ghost use Rattle.vdb_coord.specs.Blocks.{block_around};
+ghost use Rattle.std.specs.Prelude.{◌≡◌, ◌+◌, ◌≤◌, IfErr, IsErr, IsOk, IsTrue, OnOk};
+ghost use Rattle.vdb_coord.specs.Blocks.{block_around, key};
 ghost use Rattle.vdb_coord.specs.declared.Level.TheVariants.{Leaf as leaf_level};
-ghost use Rattle.vdb_node.specs.declared.Entry.TheVariants.{Child};
+ghost use Rattle.vdb_node.specs.declared.Entry.TheVariants.{Child, Tile};
+ghost use Rattle.vdb_tree.specs.Table.{HasCapacity};
+ghost use Rattle.vdb_tree.specs.Changes.{Keeps};
 ghost use Rattle.vdb_tree.specs.Field.{fill};
-ghost use Rattle.vdb_tree.specs.Layout.{bits_of, field_of, lower_entry};
+ghost use Rattle.vdb_tree.specs.Layout.{bits_of, field_of, lower_entry, upper_entry};
 ghost use Rattle.vdb_tree.specs.Leaves.{with_leaf};
 ghost use Rattle.vdb_tree.specs.Outcome.{IsOutcome};
 ghost use Rattle.vdb_tree.specs.Paths.{in_leaf};
 ghost use Rattle.vdb_tree.specs.SplitBox.{IsSplit};
+ghost use Rattle.vdb_tree.specs.declared.refusal.TreeRefusal.TheVariants.{Memory};
 ghost use Rattle.vdb_value.specs.declared.Cell.{Cell};
 
-use crate::nodes::held_place;
+use crate::nodes::{held_place, insert_node};
 use crate::{TreeOf, TreeRefusal};
 use vdb_coord::{Bounds, Coord, Level};
 use vdb_node::{Entry, Leaf, Stored};
@@ -51,8 +54,57 @@ impl<
         let _ = leaf.states(); // the proof learns from it that the leaf has a value for each entry
         let _ = self.bits(); // the proof learns from it how many bits there are
         self.make_capacity(p, steps)?;
-        let slot = self.leaf_around(p, steps)?;
-        self.copy_leaf(slot, p, leaf, steps);
+        self.put_leaf(p, leaf, steps)?;
+        Ok(())
+    }
+
+    /// Gives the leaf extent around p the cells of a leaf. If p has no leaf, a copy of this one becomes p's.
+    fn put_leaf(
+        &mut self,
+        p: Coord,
+        leaf: &Leaf<V, F, WF>,
+        steps: &mut Steps,
+    ) -> Result<(), TreeRefusal>
+        requires capacity { HasCapacity self.old (key (bits_of U L F) p) }
+        ensures field { OnOk result (field_of (bits_of U L F) self.new ≡ with_leaf (bits_of U L F) p leaf.now (field_of (bits_of U L F) self.old)) }
+        ensures kept { IsErr result → Keeps (bits_of U L F) self.old self.new }
+        ensures memory { IfErr result (λ refusal. refusal ≡ Memory) }
+        ensures limit { self.new.limit ≡ self.old.limit }
+        ensures there { IsTrue (in_leaf (bits_of U L F) self.old p) → IsOk result }
+    {
+        let upper = self.upper_around(p)?;
+        let lower = self.lower_in(upper, p, steps)?;
+        match self.lower_entry(lower, p, steps) {
+            Entry::Child(slot) => {
+                self.copy_leaf(slot, p, leaf, steps);
+                Ok(())
+            }
+            Entry::Tile(cell) => self.add_leaf(lower, p, cell, leaf, steps),
+        }
+    }
+
+    /// Puts a copy of the leaf in the place of p's tile in a lower node.
+    fn add_leaf(
+        &mut self,
+        lower: u32,
+        p: Coord,
+        cell: Cell<V>,
+        leaf: &Leaf<V, F, WF>,
+        steps: &mut Steps,
+    ) -> Result<(), TreeRefusal>
+        requires node { upper_entry (bits_of U L F) self.old p ≡ Child lower }
+        requires tiled { lower_entry (bits_of U L F) self.old p ≡ Tile cell }
+        ensures field { OnOk result (field_of (bits_of U L F) self.new ≡ with_leaf (bits_of U L F) p leaf.now (field_of (bits_of U L F) self.old)) }
+        ensures kept { IsErr result → Keeps (bits_of U L F) self.old self.new }
+        ensures memory { IfErr result (λ refusal. refusal ≡ Memory) }
+        ensures limit { self.new.limit ≡ self.old.limit }
+    {
+        let offset = self.offset(p, Level::Lower);
+        let node = leaf.try_copy(self.alloc)?;
+        let slot = insert_node(&mut self.leaves, node)?;
+        let place = held_place(&self.lowers, lower);
+        self.swept = false;
+        self.lowers.at_mut(place, steps).set_child(offset, slot);
         Ok(())
     }
 

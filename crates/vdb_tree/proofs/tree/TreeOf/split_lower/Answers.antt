@@ -20,12 +20,12 @@ invariant_of-self-2 g c = (
   with_leaf_sound _ _ c.self.invariant.1 c.args.p _ _ _ _ _ _ _ _
       ((rw (← c.self.view_is) at c.requires.node) ∙ ap Child (sym c.held_place-place.ensures.slot)) (rw (← c.self.view_is) at c.requires.tiled)
       c.at_mut.ensures.node (rw c.offset-offset.ensures.value at c.set_child.ensures) (node_puts _ _ _ _ c.at_mut.ensures.node)
-      c.in_ok-slot.ensures.vacant c.in_ok-node.ensures.cells (record { here = c.in_ok-slot.ensures.node; others = c.in_ok-slot.ensures.others }),
+      c.in_ok-slot.ensures.vacant (record { here = c.in_ok-slot.ensures.node; others = c.in_ok-slot.ensures.others }),
   λ known. kept_swept _ _ _ (λ k h. h)
       (with_leaf_keeps _ _ c.self.invariant.1 c.args.p _ _ _ _ _ _ _ _
       ((rw (← c.self.view_is) at c.requires.node) ∙ ap Child (sym c.held_place-place.ensures.slot)) (rw (← c.self.view_is) at c.requires.tiled)
       c.at_mut.ensures.node (rw c.offset-offset.ensures.value at c.set_child.ensures) (node_puts _ _ _ _ c.at_mut.ensures.node)
-      c.in_ok-slot.ensures.vacant c.in_ok-node.ensures.cells (record { here = c.in_ok-slot.ensures.node; others = c.in_ok-slot.ensures.others }))
+      c.in_ok-slot.ensures.vacant (record { here = c.in_ok-slot.ensures.node; others = c.in_ok-slot.ensures.others }) c.in_ok-node.ensures.cells)
       (c.self.invariant.2 known),
 )
 
@@ -35,14 +35,14 @@ returns-clause-keeps g c =
     (with_leaf_keeps _ _ c.self.invariant.1 c.args.p _ _ _ _ _ _ _ _
     ((rw (← c.self.view_is) at c.requires.node) ∙ ap Child (sym c.held_place-place.ensures.slot)) (rw (← c.self.view_is) at c.requires.tiled)
     c.at_mut.ensures.node (rw c.offset-offset.ensures.value at c.set_child.ensures) (node_puts _ _ _ _ c.at_mut.ensures.node)
-    c.in_ok-slot.ensures.vacant c.in_ok-node.ensures.cells (record { here = c.in_ok-slot.ensures.node; others = c.in_ok-slot.ensures.others }))
+    c.in_ok-slot.ensures.vacant (record { here = c.in_ok-slot.ensures.node; others = c.in_ok-slot.ensures.others }) c.in_ok-node.ensures.cells)
 
 pub returns-clause-ok : goal.returns-clause-ok
 returns-clause-ok g c =
     with_leaf_at _ _ c.self.invariant.1 c.args.p _ _ _ _ _ _ _ c.insert_node.new.pool
     ((rw (← c.self.view_is) at c.requires.node) ∙ ap Child (sym c.held_place-place.ensures.slot)) (rw (← c.self.view_is) at c.requires.tiled)
     c.at_mut.ensures.node (rw c.offset-offset.ensures.value at c.set_child.ensures) (node_puts _ _ _ _ c.at_mut.ensures.node)
-    c.in_ok-slot.ensures.vacant c.in_ok-node.ensures.cells (record { here = c.in_ok-slot.ensures.node; others = c.in_ok-slot.ensures.others })
+    c.in_ok-slot.ensures.vacant (record { here = c.in_ok-slot.ensures.node; others = c.in_ok-slot.ensures.others })
 
 pub held_place-place-requires : goal.held_place-place-requires
 held_place-place-requires g c = c.self.invariant.1.lowers.held c.args.p c.args.lower (rw (← c.self.view_is) at c.requires.node)
@@ -57,7 +57,7 @@ returns-clause-adds g c =
     (with_leaf_adds _ _ c.self.invariant.1 c.args.p _ _ _ _ _ _ _ _
     ((rw (← c.self.view_is) at c.requires.node) ∙ ap Child (sym c.held_place-place.ensures.slot)) (rw (← c.self.view_is) at c.requires.tiled)
     c.at_mut.ensures.node (rw c.offset-offset.ensures.value at c.set_child.ensures) (node_puts _ _ _ _ c.at_mut.ensures.node)
-    c.in_ok-slot.ensures.vacant c.in_ok-node.ensures.cells (record { here = c.in_ok-slot.ensures.node; others = c.in_ok-slot.ensures.others }))
+    c.in_ok-slot.ensures.vacant (record { here = c.in_ok-slot.ensures.node; others = c.in_ok-slot.ensures.others }))
 
 pub returns-in_err-slot-clause-but : goal.returns-in_err-slot-clause-but
 returns-in_err-slot-clause-but g c =
@@ -69,4 +69,4 @@ returns-clause-but g c =
     (with_leaf_but _ _ c.self.invariant.1 c.args.p _ _ _ _ _ _ _ _
     ((rw (← c.self.view_is) at c.requires.node) ∙ ap Child (sym c.held_place-place.ensures.slot)) (rw (← c.self.view_is) at c.requires.tiled)
     c.at_mut.ensures.node (rw c.offset-offset.ensures.value at c.set_child.ensures) (node_puts _ _ _ _ c.at_mut.ensures.node)
-    c.in_ok-slot.ensures.vacant c.in_ok-node.ensures.cells (record { here = c.in_ok-slot.ensures.node; others = c.in_ok-slot.ensures.others }))
+    c.in_ok-slot.ensures.vacant (record { here = c.in_ok-slot.ensures.node; others = c.in_ok-slot.ensures.others }))

@@ -57,29 +57,28 @@ returns-in_err-make_capacity-clause-there g c = λ h.
     let over = child_of (lower_entry bits t c.args.p) h in
     absurd (never refl (c.in_err-make_capacity.ensures.there (leaf_has_capacity bits t c.args.p over.0 over.1)).0)
 
-pub returns-in_err-slot-clause-outcome : goal.returns-in_err-slot-clause-outcome
-returns-in_err-slot-clause-outcome g c =
+pub returns-in_err-put_leaf-clause-outcome : goal.returns-in_err-put_leaf-clause-outcome
+returns-in_err-put_leaf-clause-outcome g c =
     let bits = bits_of g.row.U g.row.L g.row.F in
     let t = c.args.self.now in
     let changed = with_leaf bits c.args.p c.args.leaf.now (field_of bits t) in
-    let keeps = keeps_twice bits t c.make_capacity.new.self c.leaf_around.new.self c.make_capacity.ensures.keeps c.leaf_around.ensures.keeps in
-    let memory : c.from_residual-in_err-slot.result ≡ Err Memory = grind (arith, common_steps, c.from_residual-in_err-slot.ensures, c.in_err-slot.ensures.memory) in
-    kept_outcome bits g.V.PartialEq.eq t c.leaf_around.new.self changed _ memory keeps
+    let keeps = keeps_twice bits t c.make_capacity.new.self c.put_leaf.new.self c.make_capacity.ensures.keeps (c.in_err-put_leaf.ensures.kept tt) in
+    let memory : c.from_residual-in_err-put_leaf.result ≡ Err Memory = grind (arith, common_steps, c.from_residual-in_err-put_leaf.ensures, c.in_err-put_leaf.ensures.memory) in
+    kept_outcome bits g.V.PartialEq.eq t c.put_leaf.new.self changed _ memory keeps
     (c.in_ok-make_capacity.ensures.within changed (leaf_altered bits c.args.p c.args.leaf.now (field_of bits t)))
 
-pub returns-in_err-slot-clause-there : goal.returns-in_err-slot-clause-there
-returns-in_err-slot-clause-there g c = λ h.
+pub returns-in_err-put_leaf-clause-there : goal.returns-in_err-put_leaf-clause-there
+returns-in_err-put_leaf-clause-there g c = λ h.
     let bits = bits_of g.row.U g.row.L g.row.F in
     let t = c.args.self.now in
     let over = child_of (lower_entry bits t c.args.p) h in
     let same = (c.make_capacity.ensures.there (leaf_has_capacity bits t c.args.p over.0 over.1)).1 in
-    absurd (never refl (c.in_err-slot.ensures.there (subst (λ (s : Layout g.row.V.Denot). IsTrue (in_leaf bits s c.args.p)) (sym same) h)))
+    absurd (never refl (c.in_err-put_leaf.ensures.there (subst (λ (s : Layout g.row.V.Denot). IsTrue (in_leaf bits s c.args.p)) (sym same) h)))
 
 pub returns-clause-outcome : goal.returns-clause-outcome
 returns-clause-outcome g c =
     let bits = bits_of g.row.U g.row.L g.row.F in
-    let t = c.args.self.now in
-    let keeps = keeps_twice bits t c.make_capacity.new.self c.leaf_around.new.self c.make_capacity.ensures.keeps c.leaf_around.ensures.keeps in (
-      c.copy_leaf.ensures.field ∙ ap (with_leaf bits c.args.p c.args.leaf.now) (keeps_field bits t c.leaf_around.new.self keeps),
+    let t = c.args.self.now in (
+      c.in_ok-put_leaf.ensures.field ∙ ap (with_leaf bits c.args.p c.args.leaf.now) (keeps_field bits t c.make_capacity.new.self c.make_capacity.ensures.keeps),
       c.in_ok-make_capacity.ensures.within (with_leaf bits c.args.p c.args.leaf.now (field_of bits t)) (leaf_altered bits c.args.p c.args.leaf.now (field_of bits t)),
     )
