@@ -19,6 +19,7 @@
 #include "vdb.h"
 
 #include <algorithm>
+#include <array>
 #include <cerrno>
 #include <cstddef>
 #include <cstdio>
@@ -179,6 +180,7 @@ inline void replace(const std::string &path, const std::vector<uint8_t> &bytes)
 
 class Accessor;
 class ActiveVoxels;
+class Leaves;
 
 // A grid. The comments of vdb.h describe each call.
 class Grid {
@@ -257,6 +259,23 @@ public:
         check(vdb_grid_read_box(&grid_, &box, &strides, detail::data_of(values), values.size(), detail::data_of(states), states.size()));
     }
 
+    // Sets each voxel of a box from arrays: z fastest and without gaps, unless there are strides. Of an array that is left out,
+    // the voxels keep their own part. If a write throws other than VDB_RANGE, the first *written voxels are set.
+    void write_box(const Box &box, Span<const int64_t> values, Span<const uint8_t> states = {}, std::size_t *written = nullptr)
+    {
+        write_box(box, strides_of(box), values, states, written);
+    }
+    void write_box(const Box &box, const Strides &strides, Span<const int64_t> values, Span<const uint8_t> states = {},
+                   std::size_t *written = nullptr)
+    {
+        std::size_t done = 0;
+        const int32_t code = vdb_grid_write_box(&grid_, VDB_NO_ACCESSOR, &box, &strides, detail::data_of(values), values.size(),
+                                                detail::data_of(states), states.size(), &done);
+        if (written)
+            *written = done;
+        check(code);
+    }
+
     void unite(Grid &other) { combine(vdb_grid_unite, other); }
     void subtract(Grid &other) { combine(vdb_grid_subtract, other); }
     void intersect(Grid &other) { combine(vdb_grid_intersect, other); }
@@ -290,6 +309,17 @@ public:
         check(vdb_grid_census(&grid_, &census));
         return census;
     }
+
+    // The number of leaves of the tree. It depends on how the cells were written.
+    uint64_t leaf_count()
+    {
+        uint64_t count = 0;
+        check(vdb_grid_leaf_count(&grid_, &count));
+        return count;
+    }
+
+    // The leaves of the tree in block order, for a range-based for. Tiles aren't among them.
+    Leaves leaves();
 
     // The active voxels of a box in block order, for a range-based for. They may change during the loop: each step finds the
     // first active voxel after the last one.
@@ -411,6 +441,92 @@ private:
 };
 
 inline ActiveVoxels Grid::active(const Box &box) { return ActiveVoxels(*this, box); }
+
+// A leaf: a cube of 8 x 8 x 8 voxels, as it was when the loop read it.
+struct Leaf {
+    // The least corner.
+    Coord origin;
+    // The values: z fastest, then y, then x.
+    Span<const int64_t> values;
+    // The states: bit 8 y + z of word x.
+    Span<const uint64_t> states;
+
+    // The cell of a voxel, by its distance of 0 to 7 from the least corner along each axis.
+    Cell at(int x, int y, int z) const { return {values.data()[64 * x + 8 * y + z], (states.data()[x] >> (8 * y + z) & 1) != 0}; }
+};
+
+// The leaves of a grid, in block order. The grid must outlive it. It reads 16 leaves at a time, so a change of the grid shows in
+// later leaves.
+class Leaves {
+public:
+    class Iterator {
+    public:
+        using iterator_category = std::input_iterator_tag;
+        using value_type = Leaf;
+        using difference_type = std::ptrdiff_t;
+        using pointer = const Leaf *;
+        using reference = const Leaf &;
+
+        Iterator() = default;
+        explicit Iterator(Grid &grid) : read_(std::make_shared<Read>(grid))
+        {
+            check(vdb_grid_first_leaves(read_->grid.handle(), read_->origins.data(), MOST, read_->values.data(), read_->values.size(),
+                                        read_->states.data(), read_->states.size(), &read_->count));
+            show();
+        }
+
+        reference operator*() const { return read_->leaf; }
+        pointer operator->() const { return &read_->leaf; }
+        Iterator &operator++()
+        {
+            if (++read_->index == read_->count) {
+                const Coord last = read_->origins[read_->count - 1];
+                read_->index = 0;
+                check(vdb_grid_next_leaves(read_->grid.handle(), last.x, last.y, last.z, read_->origins.data(), MOST, read_->values.data(),
+                                           read_->values.size(), read_->states.data(), read_->states.size(), &read_->count));
+            }
+            show();
+            return *this;
+        }
+        void operator++(int) { ++*this; }
+        friend bool operator==(const Iterator &a, const Iterator &b) { return a.read_ == b.read_; }
+        friend bool operator!=(const Iterator &a, const Iterator &b) { return a.read_ != b.read_; }
+
+    private:
+        static constexpr std::size_t MOST = 16;
+
+        struct Read {
+            explicit Read(Grid &from) : grid(from) {}
+            Grid &grid;
+            std::array<Coord, MOST> origins;
+            std::array<int64_t, MOST * 512> values;
+            std::array<uint64_t, MOST * 8> states;
+            std::size_t count = 0, index = 0;
+            Leaf leaf{};
+        };
+
+        void show()
+        {
+            if (read_->count == 0) {
+                read_.reset();
+                return;
+            }
+            const std::size_t i = read_->index;
+            read_->leaf = {read_->origins[i], {read_->values.data() + 512 * i, 512}, {read_->states.data() + 8 * i, 8}};
+        }
+
+        std::shared_ptr<Read> read_;
+    };
+
+    explicit Leaves(Grid &grid) : grid_(grid) {}
+    Iterator begin() { return Iterator(grid_); }
+    Iterator end() { return Iterator(); }
+
+private:
+    Grid &grid_;
+};
+
+inline Leaves Grid::leaves() { return Leaves(*this); }
 
 // A scene. The comments of vdb.h describe each call.
 class Scene {

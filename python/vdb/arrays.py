@@ -8,10 +8,10 @@ import numpy as np
 from vdbs.forms import COORDINATE_SPAN, check_limit
 from vdbs.grid import checked_arrays
 
-from .library import BUFFER, COORD, I64, LIBRARY, Box, Coord, GridHandle, Strides
+from .library import BUFFER, COORD, I64, LIBRARY, U64, Box, Coord, GridHandle, Strides
 
-#: How many voxels of a dense array cross at a time, about; the accessor of calls on many voxels.
-SLAB, ACCESSOR = 2**21, 0
+#: How many voxels of a dense array cross at a time, about; how many leaves do; the accessor of calls on many voxels.
+SLAB, LEAVES, ACCESSOR = 2**21, 256, 0
 
 
 def box_of(low: Sequence[int], high: Sequence[int]) -> Box:
@@ -59,6 +59,31 @@ def write_voxels(grid: GridHandle, at: np.ndarray, values: "np.ndarray | bool | 
     at = voxels_of(at)
     numbers, states = (np.ascontiguousarray(np.broadcast_to(part, len(at)), dtype) for part, dtype in ((values, np.int64), (active, np.bool_)))
     LIBRARY.vdb_grid_write_many(grid, ACCESSOR, at.ctypes.data_as(COORD), len(at), *given(numbers, states), byref(c_size_t()))
+
+
+def read_leaves(grid: GridHandle, dtype: np.dtype) -> "Iterator[tuple[tuple[int, int, int], np.ndarray, np.ndarray]]":
+    """Yields the least corner of each leaf, in block order, with its values and its states, both of shape (8, 8, 8)."""
+    origins, words, copied = np.empty((LEAVES, 3), np.int32), np.empty((LEAVES, 8), np.uint64), c_size_t()
+    call, after = LIBRARY.vdb_grid_first_leaves, ()
+    while True:
+        numbers = np.empty((LEAVES, 8, 8, 8), np.int64)
+        room = origins.ctypes.data_as(COORD), LEAVES, numbers.ctypes.data_as(I64), numbers.size, words.ctypes.data_as(U64), words.size
+        call(grid, *after, *room, byref(copied))
+        if not copied.value:
+            return
+        found = [tuple(at) for at in origins[: copied.value].tolist()]
+        values = numbers[: copied.value].astype(dtype, copy=False)
+        states = np.unpackbits(words[: copied.value].astype("<u8").view(np.uint8), bitorder="little").view(np.bool_).reshape(-1, 8, 8, 8)
+        yield from zip(found, values, states)
+        call, after = LIBRARY.vdb_grid_next_leaves, found[-1]
+
+
+def write_box(grid: GridHandle, low: Sequence[int], values: np.ndarray, active: "np.ndarray | bool") -> None:
+    """Sets the values and the states of a box of voxels, slab by slab."""
+    states = np.broadcast_to(np.asarray(active, np.bool_), values.shape)
+    for first, end in slabs(low[0], values.shape) if values.size else ():
+        part, on = np.ascontiguousarray(values[first:end], np.int64), np.ascontiguousarray(states[first:end])
+        LIBRARY.vdb_grid_write_box(grid, ACCESSOR, *arguments(low, first, part, on), byref(c_size_t()))
 
 
 def arguments(low: Sequence[int], first: int, numbers: np.ndarray, states: np.ndarray) -> tuple:

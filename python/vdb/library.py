@@ -48,6 +48,7 @@ BYTES, BUFFER = c_char_p, POINTER(c_uint8)
 PLACE = (c_int32, c_int32, c_int32)
 NAMED = (SCENE, BYTES, c_size_t)
 DENSE = (BOX, POINTER(Strides), I64, c_size_t, BUFFER, c_size_t)
+LEAVES = (COORD, c_size_t, I64, c_size_t, U64, c_size_t, SIZE)
 
 #: The types of the arguments of each call.
 ARGUMENTS = {
@@ -81,9 +82,13 @@ ARGUMENTS = {
     "vdb_grid_census": (GRID, POINTER(CensusCounts)),
     "vdb_grid_first_active": (GRID, BOX, COORD, I64, I32),
     "vdb_grid_next_active": (GRID, BOX, COORD, I64, I32),
+    "vdb_grid_leaf_count": (GRID, U64),
+    "vdb_grid_first_leaves": (GRID, *LEAVES),
+    "vdb_grid_next_leaves": (GRID, *PLACE, *LEAVES),
     "vdb_grid_get_many": (GRID, c_int32, COORD, c_size_t, I64, c_size_t, BUFFER, c_size_t),
     "vdb_grid_write_many": (GRID, c_int32, COORD, c_size_t, I64, c_size_t, BUFFER, c_size_t, SIZE),
     "vdb_grid_read_box": (GRID, *DENSE),
+    "vdb_grid_write_box": (GRID, c_int32, *DENSE, SIZE),
     "vdb_scene_new": (SCENE,),
     "vdb_scene_free": (SCENE,),
     "vdb_scene_load": (SCENE, BUFFER, c_size_t),

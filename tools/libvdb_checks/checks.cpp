@@ -237,12 +237,39 @@ static void arrays()
     CHECK(spread[0] == 9 && spread[11] == 9 && spread[20] == 101 && spread[23] == 102 && spread[28] == 104 && spread[31] == 105 && spread[1] == -1);
     CHECK(code_of([&] { grid.read_box(box, vdb::Strides{6, 2, 1}, spread); }) == VDB_RANGE);
     CHECK(code_of([&] { grid.read_box(box, few); }) == VDB_RANGE);
+
+    vdb::Grid boxed(vdb::Kind::i32, 9);
+    boxed.write_box(box, dense, {}, &written);
+    boxed.read_box(box, same);
+    CHECK(written == 12 && same == dense && boxed.count() == 0);
+    boxed.write_box(box, vdb::Strides{6, 3, 1}, {}, std::vector<uint8_t>(12, 1));
+    CHECK(boxed.count() == 12 && boxed.get({7, 8, 8}).value == 111);
+    CHECK(code_of([&] { boxed.write_box(box, few); }) == VDB_RANGE && code_of([&] { boxed.write_box(box, {}); }) == VDB_RANGE);
+}
+
+static void leaves()
+{
+    vdb::Grid grid(vdb::Kind::i64, -1);
+    CHECK(grid.leaf_count() == 0 && grid.leaves().begin() == grid.leaves().end());
+    for (int32_t at = 0; at < 40; at++)
+        grid.set({8 * at, 3, -9}, at, at % 2 == 0);
+    grid.fill({{-8, -8, -8}, {-1, -1, -1}}, 5);
+    CHECK(grid.leaf_count() == 40);
+    int64_t met = 0;
+    for (const vdb::Leaf &leaf : grid.leaves()) {
+        CHECK(leaf.origin.x == 8 * met && leaf.origin.y == 0 && leaf.origin.z == -16);
+        CHECK(leaf.at(0, 3, 7).value == met && leaf.at(0, 3, 7).active == (met % 2 == 0));
+        CHECK(leaf.at(7, 3, 7).value == -1 && !leaf.at(7, 3, 7).active && leaf.values.size() == 512 && leaf.states.size() == 8);
+        met++;
+    }
+    CHECK(met == 40);
 }
 
 int main(int, char **argv)
 {
     voxels();
     arrays();
+    leaves();
     boxes();
     pairs();
     same();

@@ -269,23 +269,30 @@ class Session:
                 tuple(int(grid.get(it)[1]) for it in at) if lengths[1] else tuple(states),
             ]
             return self.on_grid("vdb_grid_get_many", arguments, wrong, [slot], None, [values, states], results)
-        grid, written = self.maps[slot], c_size_t(77)
-        wrong = wrong or (count > 0 and lengths == [0, 0]) or (grid is not None and not all(grid.has(it) for it in values[: lengths[0]]))
+        return self.writes("vdb_grid_write_many", arguments, wrong, slot, at, range(count), (values, states, lengths))
+
+    def writes(self, name, arguments, wrong, slot, places, elements, arrays):
+        """A call that sets places one after another to elements of arrays, and says how many it set."""
+        grid, written, (values, states, lengths) = self.maps[slot], c_size_t(77), arrays
+        wrong = wrong or (len(places) > 0 and lengths == [0, 0])
+        if lengths[0] and not wrong:
+            wrong = grid is not None and not all(grid.has(values[it]) for it in elements)
 
         def cell(grid, number):
-            value, on = grid.get(at[number])
-            return (values[number] if lengths[0] else value, states[number] != 0 if lengths[1] else on)
+            value, on = grid.get(places[number])
+            element = elements[number]
+            return (values[element] if lengths[0] else value, states[element] != 0 if lengths[1] else on)
 
         def commit(grid):
-            for number, it in enumerate(at):
+            for number, it in enumerate(places):
                 code = grid.set(it, cell(grid, number))
                 if code:
                     need(written.value == number, f"{written.value} voxels are written, and not {number}")
                     return code
             return OK
 
-        step = self.on_grid("vdb_grid_write_many", [*arguments, byref(written)], wrong, [slot], commit, [written], lambda grid: [count])
-        step.prefix = lambda grid: [grid.set(it, cell(grid, number)) for number, it in enumerate(at[: written.value])]
+        step = self.on_grid(name, [*arguments, byref(written)], wrong, [slot], commit, [written], lambda grid: [len(places)])
+        step.prefix = lambda grid: [grid.set(it, cell(grid, number)) for number, it in enumerate(places[: written.value])]
         return step
 
     def dense(self):
@@ -310,6 +317,10 @@ class Session:
         wrong = wrong or any(0 < it < count for it in lengths)
         strides = self.type("vdb_strides", step_x, step_y, step_z)
         arguments = [argument, byref(strides), values, lengths[0], states, lengths[1]]
+        if self.rarely(0.5):
+            accessor = self.accessor()
+            wrong = wrong or not -1 <= accessor < 8
+            return self.writes("vdb_grid_write_box", [accessor, *arguments], wrong, slot, places, elements, (values, states, lengths))
 
         def results(grid):
             found = [list(values) if lengths[0] else [], list(states) if lengths[1] else []]
@@ -320,6 +331,52 @@ class Session:
             return [tuple(part or array) for part, array in zip(found, (values, states))]
 
         return self.on_grid("vdb_grid_read_box", arguments, wrong, [slot], None, [values, states], results)
+
+    # -- leaves
+
+    def leaf_count(self):
+        """The number of leaves, which must be at least that of the smallest tree."""
+        count, census = c_uint64(77), self.type("vdb_census")
+
+        def commit(grid):
+            self.library.vdb_grid_census(self.grids[slot], byref(census))
+            need(count.value >= census.leaf, f"{count.value} leaves, and {census.leaf} in the smallest tree")
+            return OK
+
+        slot = self.grid()
+        return self.on_grid("vdb_grid_leaf_count", [byref(count)], False, [slot], commit, [count], lambda grid: [count.value])
+
+    def leaves(self):
+        """Some leaves from the first on, or past a voxel. They must be all leaves there, and have the cells of the map."""
+        slot, is_first, most = self.grid(), self.rarely(0.5), self.chance.choice([0, 1, 1, 2, 3, 5])
+        after = self.voxel(self.place())
+        lengths = [0 if self.rarely(0.2) else most * side + (1 if self.rarely() else 0) for side in (512, 8)]
+        origins, copied = (self.header.types["vdb_coord"] * max(1, most))(), c_size_t(77)
+        values, states = (c_int64 * max(1, lengths[0]))(), (c_uint64 * max(1, lengths[1]))()
+        arguments = [origins, most, values, lengths[0], states, lengths[1], byref(copied)]
+        wrong = most == 0 or lengths[0] not in (0, most * 512) or lengths[1] not in (0, most * 8)
+
+        def commit(grid):
+            last = None if is_first else order_of(after)
+            for number in range(copied.value):
+                at = text_of(origins[number])
+                need(not any(it % 8 for it in at), f"no leaf is at {at}")
+                need(last is None or last < order_of(at), f"the leaf at {at} is out of order")
+                last = order_of(at)
+                for index in self.chance.sample(range(512), 40):
+                    x, y, z = index >> 6, index >> 3 & 7, index & 7
+                    cell = grid.get(tuple(self.lattice.at(a + b) for a, b in zip(at, (x, y, z))))
+                    need(not lengths[0] or values[512 * number + index] == cell[0], f"the value {x} {y} {z} of the leaf at {at}")
+                    need(not lengths[1] or (states[8 * number + x] >> (8 * y + z) & 1) == cell[1], f"the state {x} {y} {z} of the leaf at {at}")
+            if is_first and copied.value < most:
+                count = c_uint64()
+                self.library.vdb_grid_leaf_count(self.grids[slot], byref(count))
+                need(copied.value == count.value, f"{copied.value} leaves of {count.value}")
+            return OK
+
+        outs = [origins, values, states, copied]
+        name, given = ("first", arguments) if is_first else ("next", [*after, *arguments])
+        return self.on_grid(f"vdb_grid_{name}_leaves", given, wrong, [slot], commit, outs, lambda grid: [text_of(it) for it in outs])
 
     # -- steps on two grids
 
@@ -519,7 +576,7 @@ class Session:
 
     KINDS_OF_STEP = [
         (set, 30), (get, 25), (fill, 8), (clip, 3), (nodes, 3), (iterate, 2), (combine, 5), (new, 3), (free, 0.5), (copy, 2), (facts, 2),
-        (count, 2), (bounds, 2), (census, 1), (active, 5), (many, 6), (dense, 6), (scene_new, 0.5), (scene_load, 0.3), (scene_save, 0.5),
+        (count, 2), (bounds, 2), (census, 1), (active, 5), (many, 6), (dense, 6), (leaf_count, 1), (leaves, 3), (scene_new, 0.5), (scene_load, 0.3), (scene_save, 0.5),
         (scene_names, 1), (scene_put, 0.8), (scene_take, 0.8), (scene_meta, 2),
     ]  # fmt: skip
 
@@ -621,12 +678,17 @@ def count_of(grid, box):
     return count & 2**64 - 1, count >> 64
 
 
+def order_of(at):
+    """A voxel's place in block order, as something to compare."""
+    return [[it >> bits for it in at] for bits in (12, 7, 3, 0)]
+
+
 def text_of(out):
     """Returns a result as a number, or as tuples of numbers, or as bytes."""
     if isinstance(out, ctypes.Structure):
         return tuple(text_of(getattr(out, name)) for name, _ in out._fields_)
     if isinstance(out, ctypes.Array):
-        return out.value if out._type_ is ctypes.c_char else tuple(out)
+        return out.value if out._type_ is ctypes.c_char else tuple(text_of(it) for it in out)
     return getattr(out, "value", out)
 
 

@@ -6,6 +6,7 @@ cuts may be as large as the whole space. A cell of the lattice that the map does
 from __future__ import annotations
 
 import itertools
+from bisect import bisect_right
 from collections import Counter
 
 LOW, HIGH = -(2**31), 2**31
@@ -27,6 +28,10 @@ class Lattice:
 
     def __len__(self):
         return len(self.intervals)
+
+    def at(self, coordinate):
+        """Returns the index of the interval that has a coordinate."""
+        return bisect_right(self.cuts, coordinate) - 1
 
     def volume(self, at):
         return self.sides[at[0]] * self.sides[at[1]] * self.sides[at[2]]
