@@ -13,12 +13,12 @@
  *         fprintf(stderr, "labels: %s\n", vdb_message(code));
  *     vdb_grid_free(&grid);
  *
- * Handles. A vdb_grid or vdb_scene is a struct in the memory of the caller. It starts empty: VDB_GRID_INIT,
- * VDB_SCENE_INIT, or all bytes 0. Calls create a grid or scene in it; vdb_grid_free and vdb_scene_free end that and leave
- * the handle empty. Never change a field. Never copy a handle by assignment, unless the old one isn't used again:
+ * Handles. A vdb_grid, vdb_view or vdb_scene is a struct in the memory of the caller. It starts empty: VDB_GRID_INIT,
+ * VDB_VIEW_INIT, VDB_SCENE_INIT, or all bytes 0. Calls create a grid, view or scene in it. vdb_grid_free, vdb_view_free and
+ * vdb_scene_free end that and leave the handle empty. Never change a field. Never copy a handle by assignment, unless the old one isn't used again:
  * vdb_grid_copy makes a second grid.
  *
- * Codes. Each call except the two that free returns a code. VDB_OK is 0: done. After any other code nothing has changed,
+ * Codes. Each call except the three that free returns a code. VDB_OK is 0: done. After any other code nothing has changed,
  * neither a grid or scene nor what a pointer argument points to. A call whose
  * comment names no code returns VDB_OK or VDB_EMPTY alone; every call returns VDB_EMPTY if a handle that it needs is empty.
  * vdb_message returns the text of a code. vdb_grid_write_many says what else it may have done.
@@ -35,7 +35,8 @@
  * VDB_MEMORY and the program goes on.
  *
  * Threads. One call at a time may use a handle, also for look-ups. Threads may use different handles at the same time, and
- * a handle may pass from one thread to another. The library keeps nothing outside its handles. Make no call in a signal handler.
+ * a handle may pass from one thread to another. To read one grid in several threads, give each a vdb_view of it. The library
+ * keeps nothing outside its handles. Make no call in a signal handler.
  *
  * The caller owes what no code can tell. Each pointer points to an initialised object of its type, or to as many as the
  * length beside it says. It isn't null, not even beside a length of 0. No two arguments of a call overlap, so a call on two
@@ -63,7 +64,14 @@ typedef struct vdb_scene {
     uint64_t visits;
 } vdb_scene;
 
+/* A handle of a view: a grid that several threads read. The fields belong to the library. */
+typedef struct vdb_view {
+    void *at;
+    uint64_t visits;
+} vdb_view;
+
 #define VDB_GRID_INIT { 0, 0 }
+#define VDB_VIEW_INIT { 0, 0 }
 #define VDB_SCENE_INIT { 0, 0 }
 
 /* A voxel. */
@@ -315,6 +323,22 @@ int32_t vdb_grid_write_many(vdb_grid *grid, int32_t accessor, const vdb_coord *a
  * VDB_RANGE: corners out of order, rows that overlap by their strides, or an array that is neither of length 0 nor long enough. */
 int32_t vdb_grid_read_box(vdb_grid *grid, const vdb_box *box, const vdb_strides *strides, int64_t *values, size_t values_len,
                           uint8_t *states, size_t states_len);
+
+/* ---- A view ---------------------------------------------------------------------------------------------------------- */
+
+/* A view is a grid that several threads read at the same time, each through a handle of its own. No call changes the grid. */
+
+/* Moves the grid out of its handle into a view, which replaces that of the other handle. No cell is copied. VDB_MEMORY. */
+int32_t vdb_view_new(vdb_grid *grid, vdb_view *view);
+
+/* Makes another view of the same grid, which replaces that of the other handle: give it to another thread. VDB_MEMORY. */
+int32_t vdb_view_share(vdb_view *from, vdb_view *to);
+
+/* Frees the handle's view, if it has one, and leaves the handle empty. The last view of a grid frees the grid. */
+void vdb_view_free(vdb_view *view);
+
+/* Returns the value and the state of a voxel, from the root. */
+int32_t vdb_view_get(vdb_view *view, int32_t x, int32_t y, int32_t z, int64_t *value, int32_t *active);
 
 /* ---- A scene -------------------------------------------------------------------------------------------------------- */
 

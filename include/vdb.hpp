@@ -12,7 +12,8 @@
 // unless the call is set_many.
 //
 // Owners move and don't copy; copy() makes a second grid. A moved-from grid or scene is empty, and its calls throw VDB_EMPTY.
-// No call may run on an owner that another thread uses. Look-ups change an owner too, so they aren't const.
+// No call may run on an owner that another thread uses. Look-ups change an owner too, so they aren't const. To read one grid in
+// several threads, give each a View of it.
 #ifndef VDB_HPP
 #define VDB_HPP
 
@@ -527,6 +528,47 @@ private:
 };
 
 inline Leaves Grid::leaves() { return Leaves(*this); }
+
+// A grid that several threads read, each through a view of its own.
+class View {
+public:
+    // Moves a grid into a view, which leaves `grid` empty.
+    explicit View(Grid &&grid) { check(vdb_view_new(grid.handle(), &view_)); }
+    View(View &&other) noexcept : view_(std::exchange(other.view_, vdb_view VDB_VIEW_INIT)) {}
+    View &operator=(View &&other) noexcept
+    {
+        if (this != &other) {
+            vdb_view_free(&view_);
+            view_ = std::exchange(other.view_, vdb_view VDB_VIEW_INIT);
+        }
+        return *this;
+    }
+    ~View() { vdb_view_free(&view_); }
+
+    // Another view of the same grid, for another thread. The grid ends with its last view.
+    View share()
+    {
+        View made;
+        check(vdb_view_share(&view_, &made.view_));
+        return made;
+    }
+
+    // The handle, for calls of vdb.h. It stays this object's.
+    vdb_view *handle() { return &view_; }
+
+    Cell get(Coord at)
+    {
+        int64_t value = 0;
+        int32_t active = 0;
+        check(vdb_view_get(&view_, at.x, at.y, at.z, &value, &active));
+        return {value, active != 0};
+    }
+
+private:
+    View() = default;
+
+    vdb_view view_ = VDB_VIEW_INIT;
+};
 
 // A scene. The comments of vdb.h describe each call.
 class Scene {

@@ -213,6 +213,7 @@ PYTHON_TYPES = {
     "U32": ["c_uint *"], "U64": ["c_ulong *"], "SIZE": ["c_ulong *"], "BYTES": ["char *"], "BUFFER": ["c_ubyte *"],
     "*PLACE": ["c_int"] * 3, "*NAMED": ["vdb_scene *", "char *", "c_ulong"], "POINTER(Count)": ["vdb_count *"],
     "*DENSE": ["vdb_box *", "vdb_strides *", "c_long *", "c_ulong", "c_ubyte *", "c_ulong"],
+    "*LEAVES": ["vdb_coord *", "c_ulong", "c_long *", "c_ulong", "c_ulong *", "c_ulong", "c_ulong *"],
     "POINTER(CensusCounts)": ["vdb_census *"], "c_int32": ["c_int"], "c_int64": ["c_long"], "c_uint32": ["c_uint"], "c_size_t": ["c_ulong"],
 }  # fmt: skip
 
