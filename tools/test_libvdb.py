@@ -281,6 +281,12 @@ class Programs(unittest.TestCase):
         ran = run([*words, folder])
         self.assertEqual((ran.returncode, ran.stdout, ran.stderr), (0, "", ""))
 
+    @needs("valgrind")
+    def test_no_race_between_views(self):
+        checks = program(CHECKS / "checks.cpp", "checks", compiler="g++", standard="c++17")
+        ran = run(["valgrind", "--quiet", "--tool=helgrind", "--error-exitcode=99", checks, work()])
+        self.assertEqual((ran.returncode, ran.stdout, ran.stderr), (0, "", ""))
+
 
 class Documents(unittest.TestCase):
     """The programs in docs/LIBRARY.md."""

@@ -1,8 +1,11 @@
 // Calls of vdb.hpp with their results, worked out by hand. Each check that fails prints its line; the status is 1 then.
 #include "vdb.hpp"
 
+#include <array>
 #include <cstdio>
 #include <numeric>
+#include <thread>
+#include <vector>
 
 static int failed = 0;
 
@@ -265,11 +268,37 @@ static void leaves()
     CHECK(met == 40);
 }
 
+static void views()
+{
+    vdb::Grid grid(vdb::Kind::i64, 3);
+    for (int32_t at = 0; at < 100; at++)
+        grid.set({17 * at, at, -5 * at}, at, at % 2 == 0);
+    vdb::View view(std::move(grid));
+    CHECK(code_of([&] { grid.count(); }) == VDB_EMPTY);
+    std::array<int, 4> wrong = {};
+    std::vector<std::thread> threads;
+    for (int &count : wrong)
+        threads.emplace_back([&count, own = view.share()]() mutable {
+            for (int32_t turn = 0; turn < 20; turn++)
+                for (int32_t at = 0; at < 100; at++) {
+                    const vdb::Cell cell = own.get({17 * at, at, -5 * at}), other = own.get({17 * at + 1, at, -5 * at});
+                    count += cell.value != at || cell.active != (at % 2 == 0) || other.value != 3 || other.active;
+                }
+        });
+    for (std::thread &thread : threads)
+        thread.join();
+    CHECK(wrong == (std::array<int, 4>{}));
+    vdb::View moved = std::move(view);
+    CHECK(moved.get({17, 1, -5}).value == 1 && code_of([&] { view.get({0, 0, 0}); }) == VDB_EMPTY);
+    CHECK(code_of([&] { vdb::View(std::move(grid)); }) == VDB_EMPTY);
+}
+
 int main(int, char **argv)
 {
     voxels();
     arrays();
     leaves();
+    views();
     boxes();
     pairs();
     same();
