@@ -2,6 +2,7 @@ mod Pointers
 mod KeptValues
 mod HeldGridValues
 mod HeldSceneValues
+mod HeldViewValues
 mod NextActive
 pub mod Filled
 pub mod NextVoxels

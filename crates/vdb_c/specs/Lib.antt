@@ -11,3 +11,5 @@ pub mod Many
 pub mod Elements
 pub mod BoxVoxels
 pub mod BoxArrays
+pub mod HeldView
+pub mod Views

@@ -6,7 +6,7 @@
 //!
 //! The modules, from below:
 //! - `kept`: the pointer of a box, the one module that makes and follows it.
-//! - `held_grid`, `held_scene`, `handles`: what C holds.
+//! - `view`, `held_grid`, `held_scene`, `held_view`, `handles`: what C holds.
 //! - `codes`, `values`: codes, types, values, states, accessors and boxes as they cross.
 //! - `grid_life`, `voxels`, `regions`: calls on one grid.
 //! - `arrays`, `many`: calls on many voxels, given by their coordinates.
@@ -14,6 +14,7 @@
 //! - `pairs`: calls that combine two grids.
 //! - `scene_files`, `scene_grids`, `scene_moves`: calls on a scene and on its grids.
 //! - `reports`, `found`: calls that report on a grid.
+//! - `views`: calls on a grid that several threads read.
 #![tactic(auto)]
 
 mod arrays;
@@ -26,6 +27,7 @@ mod grid_life;
 mod handles;
 mod held_grid;
 mod held_scene;
+mod held_view;
 mod kept;
 mod many;
 mod numbers;
@@ -37,4 +39,6 @@ mod scene_files;
 mod scene_grids;
 mod scene_moves;
 mod values;
+mod view;
+mod views;
 mod voxels;

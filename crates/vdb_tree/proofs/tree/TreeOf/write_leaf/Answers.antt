@@ -62,7 +62,7 @@ returns-in_err-put_leaf-clause-outcome g c =
     let bits = bits_of g.row.U g.row.L g.row.F in
     let t = c.args.self.now in
     let changed = with_leaf bits c.args.p c.args.leaf.now (field_of bits t) in
-    let keeps = keeps_twice bits t c.make_capacity.new.self c.put_leaf.new.self c.make_capacity.ensures.keeps (c.in_err-put_leaf.ensures.kept tt) in
+    let keeps = keeps_twice bits t c.make_capacity.new.self c.put_leaf.new.self c.make_capacity.ensures.keeps (c.in_err-put_leaf.ensures.kept refl) in
     let memory : c.from_residual-in_err-put_leaf.result ≡ Err Memory = grind (arith, common_steps, c.from_residual-in_err-put_leaf.ensures, c.in_err-put_leaf.ensures.memory) in
     kept_outcome bits g.V.PartialEq.eq t c.put_leaf.new.self changed _ memory keeps
     (c.in_ok-make_capacity.ensures.within changed (leaf_altered bits c.args.p c.args.leaf.now (field_of bits t)))

@@ -1,0 +1,29 @@
+-- Views: grids that several handles share.
+use Rattle.std.specs.Prelude.{◌≡◌, ◌⊎◌, ℤ, Box, Option, Some, None}
+use Rattle.std.specs.Option.{option_and_then, option_map}
+use Rattle.std.specs.Arc.{arc_value}
+use Rattle.vdb_scene.specs.declared.any_grid.AnyGrid.{AnyGrid}
+use Rattle.vdb_c.specs.Codes.{done, empty, memory}
+use Rattle.vdb_c.specs.declared.view.View.{View}
+
+abbrev boxed : {A : Type 0} → Box AnyGrid A → AnyGrid
+boxed b = b.value
+
+-- the grid that a view shows, if it has one
+abbrev pub shown : Option View → Option AnyGrid
+shown = option_and_then (λ (v : View). option_map (λ a. boxed (arc_value a)) v.grid)
+
+-- the grid of a handle became a view's, or memory ran out, or the handle is empty
+abbrev pub IsShown : Option AnyGrid → Option AnyGrid → Option View → Option View → ℤ → Type 0
+IsShown None kept old new code = (code ≡ empty) × (kept ≡ None) × (new ≡ old)
+IsShown (Some g) kept old new code = ((code ≡ done) × (kept ≡ None) × (shown new ≡ Some g)) ⊎ ((code ≡ memory) × (kept ≡ Some g) × (new ≡ old))
+
+-- a second view of the same grid, or memory ran out, or there is no grid
+abbrev pub IsShared : Option AnyGrid → Option View → Option View → ℤ → Type 0
+IsShared None old new code = (code ≡ empty) × (new ≡ old)
+IsShared (Some g) old new code = ((code ≡ done) × (shown new ≡ Some g)) ⊎ ((code ≡ memory) × (new ≡ old))
+
+-- a call that reads the grid of a view: an empty view changes nothing
+abbrev pub OnShown : Option AnyGrid → ℤ → Type 0 → (AnyGrid → Type 0) → Type 0
+OnShown None code kept answer = (code ≡ empty) × kept
+OnShown (Some g) code kept answer = (code ≡ done) × answer g

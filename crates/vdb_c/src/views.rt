@@ -1,0 +1,111 @@
+//! Calls on views: a grid that several threads read, each through a handle of its own.
+ghost use Rattle.std.specs.Prelude.{◌≡◌, None};
+ghost use Rattle.vdb_coord.specs.Space.{coord};
+ghost use Rattle.vdb_scene.specs.Grids.{grid_field};
+ghost use Rattle.vdb_c.specs.Values.{state_number as number_of_state, value_number as number_of_value};
+ghost use Rattle.vdb_c.specs.Views.{IsShared, IsShown, OnShown, shown};
+
+use crate::codes::{DONE, EMPTY, MEMORY};
+use crate::handles::GridHandle;
+use crate::held_view::ViewHandle;
+use crate::values::{state_number, value_number};
+use crate::view::View;
+use std::alloc::Global;
+use std::sync::Arc;
+use vdb_coord::Coord;
+
+/// Moves the grid of a handle into a view, which replaces that of `to`. The grid stays where it is if memory runs out.
+#[unsafe(no_mangle)]
+pub extern "C" fn vdb_view_new(alloc: Global, from: &mut GridHandle, to: &mut ViewHandle) -> i32
+    ensures { IsShown from.old.grid.held from.new.grid.held to.old.view.held to.new.view.held result }
+{
+    let Some(grid) = from.grid.take(alloc) else {
+        return EMPTY;
+    };
+    let Ok(mut view) = Box::new(alloc, View { grid: None }) else {
+        from.grid.put(alloc, grid);
+        return MEMORY;
+    };
+    match Arc::new(alloc, for_threads(grid)) {
+        Ok(grid) => view.grid = Some(grid),
+        Err(refused) => {
+            from.grid.put(alloc, refused.value);
+            return MEMORY;
+        }
+    }
+    to.view.put(alloc, view);
+    DONE
+}
+
+/// Returns the same value. Its type says that several threads may read it, and that any of them may free it.
+fn for_threads<T: Send + Sync>(value: T) -> T
+    ensures { result ≡ value }
+{
+    value
+}
+
+/// Makes another view of the same grid, for another thread. It replaces that of `to`.
+#[unsafe(no_mangle)]
+pub extern "C" fn vdb_view_share(alloc: Global, from: &mut ViewHandle, to: &mut ViewHandle) -> i32
+    ensures same { from.new.view.held ≡ from.old.view.held }
+    ensures shared { IsShared (shown from.old.view.held) to.old.view.held to.new.view.held result }
+{
+    let Some(view) = from.view.take(alloc) else {
+        return EMPTY;
+    };
+    let other = match &view.grid {
+        Some(grid) => Arc::try_clone(grid).ok(),
+        None => {
+            from.view.put(alloc, view);
+            return EMPTY;
+        }
+    };
+    from.view.put(alloc, view);
+    if other.is_none() {
+        return MEMORY;
+    }
+    let Ok(copy) = Box::new(alloc, View { grid: other }) else {
+        return MEMORY;
+    };
+    to.view.put(alloc, copy);
+    DONE
+}
+
+/// Frees the handle's view, if it has one, and the grid with its last view. The handle is empty then.
+#[unsafe(no_mangle)]
+pub extern "C" fn vdb_view_free(alloc: Global, handle: &mut ViewHandle)
+    ensures { handle.new.view.held ≡ None }
+{
+    let _ = handle.view.take(alloc);
+}
+
+/// Writes the value and the state of a voxel to `value` and `active`, by the descent from the root.
+#[unsafe(no_mangle)]
+pub extern "C" fn vdb_view_get(
+    alloc: Global,
+    handle: &mut ViewHandle,
+    x: i32,
+    y: i32,
+    z: i32,
+    value: &mut i64,
+    active: &mut i32,
+) -> i32
+    ensures same { handle.new.view.held ≡ handle.old.view.held }
+    ensures read { OnShown (shown handle.old.view.held) result ((value.new ≡ value.old) × (active.new ≡ active.old)) (λ g.
+        (value.new ≡ number_of_value ((grid_field g).cell (coord x y z)).value) × (active.new ≡ number_of_state ((grid_field g).cell (coord x y z)).on)) }
+{
+    let Some(view) = handle.view.take(alloc) else {
+        return EMPTY;
+    };
+    let code = match &view.grid {
+        Some(grid) => {
+            let cell = grid.get(Coord { x, y, z }, &mut handle.steps);
+            *value = value_number(cell.value);
+            *active = state_number(cell.on);
+            DONE
+        }
+        None => EMPTY,
+    };
+    handle.view.put(alloc, view);
+    code
+}
