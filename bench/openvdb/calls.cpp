@@ -63,6 +63,30 @@ public:
         check(vdb_grid_read_box(&grid, &box, &strides, values.data(), values.size(), &none, 0));
     }
 
+    void write_box(const std::vector<std::int64_t>& values, const std::vector<std::uint8_t>& states) {
+        const vdb_box box = {{0, 0, 0}, {SIDE - 1, SIDE - 1, SIDE - 1}};
+        const vdb_strides strides = {SIDE * SIDE, SIDE, 1};
+        std::size_t written;
+        check(vdb_grid_write_box(&grid, 0, &box, &strides, values.data(), values.size(), states.data(), states.size(), &written));
+    }
+
+    Sum leaves() {
+        constexpr std::size_t MOST = 16;
+        vdb_coord at[MOST];
+        static std::int64_t values[MOST * 512];
+        std::uint64_t states[MOST * 8];
+        std::size_t copied;
+        Sum sum = 0;
+        check(vdb_grid_first_leaves(&grid, at, MOST, values, MOST * 512, states, MOST * 8, &copied));
+        while (copied) {
+            for (std::size_t k = 0; k < copied * 512; ++k) sum += values[k];
+            for (std::size_t k = 0; k < copied * 8; ++k) sum += __builtin_popcountll(states[k]);
+            const vdb_coord last = at[copied - 1];
+            check(vdb_grid_next_leaves(&grid, last.x, last.y, last.z, at, MOST, values, MOST * 512, states, MOST * 8, &copied));
+        }
+        return sum;
+    }
+
 private:
     vdb_grid grid = VDB_GRID_INIT;
     std::uint8_t none = 0;
@@ -109,6 +133,22 @@ public:
         openvdb::tools::copyToDense(tree, dense, true);
     }
 
+    void write_box(const std::vector<std::int64_t>& values, const std::vector<std::uint8_t>&) {
+        const openvdb::CoordBBox box(0, 0, 0, SIDE - 1, SIDE - 1, SIDE - 1);
+        const openvdb::tools::Dense<std::int64_t> dense(box, const_cast<std::int64_t*>(values.data()));
+        openvdb::tools::copyFromDense(dense, tree, std::int64_t(0), true);
+    }
+
+    Sum leaves() {
+        Sum sum = 0;
+        for (auto leaf = tree.cbeginLeaf(); leaf; ++leaf) {
+            const std::int64_t* values = leaf->buffer().data();
+            for (std::size_t k = 0; k < 512; ++k) sum += values[k];
+            sum += leaf->onVoxelCount();
+        }
+        return sum;
+    }
+
 private:
     openvdb::Int64Tree tree{0};
     openvdb::tree::ValueAccessor<openvdb::Int64Tree> accessor{tree};
@@ -147,7 +187,7 @@ void run() {
     std::vector<std::int64_t> values(VOXELS), read(VOXELS);
     std::vector<std::uint8_t> states(VOXELS, 1), seen(VOXELS);
     for (std::uint32_t number = 0; number < VOXELS; ++number) values[number] = number % 1000 + 1;
-    Sum probed = 0, rooted = 0, walked = 0, many = 0, boxed = 0;
+    Sum probed = 0, rooted = 0, walked = 0, many = 0, boxed = 0, leaves = 0;
     {
         Grid grid;
         report("C, sets by an accessor in order, new leaves", "voxel", VOXELS, [&] {
@@ -171,6 +211,13 @@ void run() {
         for (std::uint32_t number = 0; number < VOXELS; ++number) many += read[number] + seen[number];
         report("C, a box to an array", "voxel", VOXELS, [&] { grid.read_box(read); });
         for (std::int64_t value : read) boxed += value;
+        report("C, leaves with their values summed", "leaf", LEAVES, [&] { leaves += grid.leaves(); });
+    }
+    {
+        Grid grid;
+        report("C, an array to a box, new leaves", "voxel", VOXELS, [&] { grid.write_box(values, states); });
+        report("C, an array to a box", "voxel", VOXELS, [&] { grid.write_box(values, states); });
+        leaves += grid.leaves();
     }
     {
         Grid grid;
@@ -178,7 +225,7 @@ void run() {
         report("C, sets of many voxels in order", "voxel", VOXELS, [&] { grid.set_many(ordered, values, states); });
         report("C, sets of many voxels along a random walk", "voxel", VOXELS, [&] { grid.set_many(walk, values, states); });
     }
-    std::printf("sums %lld %lld %lld %lld %lld\n", probed, rooted, walked, many, boxed);
+    std::printf("sums %lld %lld %lld %lld %lld %lld\n", probed, rooted, walked, many, boxed, leaves);
 }
 
 int main(int count, char** words) {
