@@ -2,6 +2,7 @@
 ghost use Rattle.std.specs.Prelude.{◌≡◌, None};
 ghost use Rattle.vdb_coord.specs.Space.{coord};
 ghost use Rattle.vdb_scene.specs.Grids.{grid_field};
+ghost use Rattle.vdb_c.specs.Calls.{IsCopied};
 ghost use Rattle.vdb_c.specs.Values.{state_number as number_of_state, value_number as number_of_value};
 ghost use Rattle.vdb_c.specs.Views.{IsShared, IsShown, OnShown, shown};
 
@@ -68,6 +69,33 @@ pub extern "C" fn vdb_view_share(alloc: Global, from: &mut ViewHandle, to: &mut 
         return MEMORY;
     };
     to.view.put(alloc, copy);
+    DONE
+}
+
+/// Copies the grid of a view: cells, nodes, background and limit. The copy replaces the grid of `to`.
+#[unsafe(no_mangle)]
+pub extern "C" fn vdb_view_copy(alloc: Global, from: &mut ViewHandle, to: &mut GridHandle) -> i32
+    ensures same { from.new.view.held ≡ from.old.view.held }
+    ensures copied { IsCopied (shown from.old.view.held) to.old.grid.held to.new.grid.held result }
+{
+    let Some(view) = from.view.take(alloc) else {
+        return EMPTY;
+    };
+    let copy = match &view.grid {
+        Some(grid) => grid.try_copy(),
+        None => {
+            from.view.put(alloc, view);
+            return EMPTY;
+        }
+    };
+    from.view.put(alloc, view);
+    let Ok(copy) = copy else {
+        return MEMORY;
+    };
+    let Ok(copy) = Box::new(alloc, copy) else {
+        return MEMORY;
+    };
+    to.grid.put(alloc, copy);
     DONE
 }
 
