@@ -334,6 +334,9 @@ int32_t vdb_view_new(vdb_grid *grid, vdb_view *view);
 /* Makes another view of the same grid, which replaces that of the other handle: give it to another thread. VDB_MEMORY. */
 int32_t vdb_view_share(vdb_view *from, vdb_view *to);
 
+/* Copies the grid of a view, which replaces the grid of the other handle. The accessors of the copy are empty. VDB_MEMORY. */
+int32_t vdb_view_copy(vdb_view *from, vdb_grid *to);
+
 /* Frees the handle's view, if it has one, and leaves the handle empty. The last view of a grid frees the grid. */
 void vdb_view_free(vdb_view *view);
 

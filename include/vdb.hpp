@@ -329,6 +329,7 @@ public:
 private:
     friend class Accessor;
     friend class Scene;
+    friend class View;
 
     Grid() = default;
 
@@ -550,6 +551,14 @@ public:
     {
         View made;
         check(vdb_view_share(&view_, &made.view_));
+        return made;
+    }
+
+    // A copy of the grid, which may change.
+    Grid copy()
+    {
+        Grid made;
+        check(vdb_view_copy(&view_, &made.grid_));
         return made;
     }
 

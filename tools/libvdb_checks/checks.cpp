@@ -289,6 +289,9 @@ static void views()
         thread.join();
     CHECK(wrong == (std::array<int, 4>{}));
     vdb::View moved = std::move(view);
+    vdb::Grid copied = moved.copy();
+    copied.set({17, 1, -5}, 8);
+    CHECK(copied.get({17, 1, -5}).value == 8 && copied.count() == 51);
     CHECK(moved.get({17, 1, -5}).value == 1 && code_of([&] { view.get({0, 0, 0}); }) == VDB_EMPTY);
     CHECK(code_of([&] { vdb::View(std::move(grid)); }) == VDB_EMPTY);
 }
