@@ -1,6 +1,7 @@
 """The shared library: where it is, its structs, and the types of its calls. include/vdb.h describes them.
 
 Each call raises the exception of its code. Calls keep the interpreter's lock, so no two threads are in the library at the same time.
+Views are for threads that are, so no class of the package uses them.
 """
 from __future__ import annotations
 
@@ -15,6 +16,10 @@ from .errors import error_of
 
 
 class GridHandle(Structure):
+    _fields_ = [("at", c_void_p), ("visits", c_uint64)]
+
+
+class ViewHandle(Structure):
     _fields_ = [("at", c_void_p), ("visits", c_uint64)]
 
 
@@ -42,7 +47,8 @@ class CensusCounts(Structure):
     _fields_ = [("roots", c_uint64), ("upper", c_uint64), ("lower", c_uint64), ("leaf", c_uint64)]
 
 
-GRID, SCENE, BOX, COORD = POINTER(GridHandle), POINTER(SceneHandle), POINTER(Box), POINTER(Coord)
+GRID, VIEW, SCENE = POINTER(GridHandle), POINTER(ViewHandle), POINTER(SceneHandle)
+BOX, COORD = POINTER(Box), POINTER(Coord)
 I32, I64, U32, U64, SIZE = (POINTER(it) for it in (c_int32, c_int64, c_uint32, c_uint64, c_size_t))
 BYTES, BUFFER = c_char_p, POINTER(c_uint8)
 PLACE = (c_int32, c_int32, c_int32)
@@ -89,6 +95,11 @@ ARGUMENTS = {
     "vdb_grid_write_many": (GRID, c_int32, COORD, c_size_t, I64, c_size_t, BUFFER, c_size_t, SIZE),
     "vdb_grid_read_box": (GRID, *DENSE),
     "vdb_grid_write_box": (GRID, c_int32, *DENSE, SIZE),
+    "vdb_view_new": (GRID, VIEW),
+    "vdb_view_share": (VIEW, VIEW),
+    "vdb_view_copy": (VIEW, GRID),
+    "vdb_view_free": (VIEW,),
+    "vdb_view_get": (VIEW, *PLACE, I64, I32),
     "vdb_scene_new": (SCENE,),
     "vdb_scene_free": (SCENE,),
     "vdb_scene_load": (SCENE, BUFFER, c_size_t),
