@@ -209,8 +209,8 @@ def form_of(kind):
 
 #: The names of types in python/vdb/library.py.
 PYTHON_TYPES = {
-    "GRID": ["vdb_grid *"], "VIEW": ["vdb_view *"], "SCENE": ["vdb_scene *"], "BOX": ["vdb_box *"], "COORD": ["vdb_coord *"], "I32": ["c_int *"], "I64": ["c_long *"],
-    "U32": ["c_uint *"], "U64": ["c_ulong *"], "SIZE": ["c_ulong *"], "BYTES": ["char *"], "BUFFER": ["c_ubyte *"],
+    "GRID": ["vdb_grid *"], "VIEW": ["vdb_view *"], "SCENE": ["vdb_scene *"], "BOX": ["vdb_box *"], "COORD": ["vdb_coord *"],
+    "I32": ["c_int *"], "I64": ["c_long *"], "U32": ["c_uint *"], "U64": ["c_ulong *"], "SIZE": ["c_ulong *"], "BYTES": ["char *"], "BUFFER": ["c_ubyte *"],
     "*PLACE": ["c_int"] * 3, "*NAMED": ["vdb_scene *", "char *", "c_ulong"], "POINTER(Count)": ["vdb_count *"],
     "*DENSE": ["vdb_box *", "vdb_strides *", "c_long *", "c_ulong", "c_ubyte *", "c_ulong"],
     "*LEAVES": ["vdb_coord *", "c_ulong", "c_long *", "c_ulong", "c_ulong *", "c_ulong", "c_ulong *"],

@@ -19,7 +19,7 @@ from header import Header
 OK, EMPTY, MEMORY, ROOT_LIMIT, RANGE, KINDS, NO_SUM = 0, 1, 2, 3, 4, 6, 7
 NO_GRID, NAME, NAME_TAKEN, GRID_LIMIT, META_LIMIT, NO_META, TEXT, BUFFER = 8, 9, 10, 11, 12, 13, 14, 15
 FAULTS = range(20, 36)
-GRIDS, VERIFY_EVERY, FAIL_EVERY, FAILURES = 4, 400, 100, 60
+GRIDS, VIEWS, VERIFY_EVERY, FAIL_EVERY, FAILURES = 4, 2, 400, 100, 60
 
 #: Voxels near 0 with a cell each, among them the borders of leaf extents; everything else is far away.
 VOXELS = model.Lattice(range(-10, 16))
@@ -59,6 +59,7 @@ class Session:
         self.grids = [header.types["vdb_grid"]() for _ in range(GRIDS)]
         self.maps = [None] * GRIDS
         self.scene, self.scene_map = header.types["vdb_scene"](), None
+        self.views, self.view_maps = [header.types["vdb_view"]() for _ in range(VIEWS)], [None] * VIEWS
         self.saved = []
         self.voxels = [it for it, side in enumerate(lattice.sides) if side == 1]
         self.near = [it for it, (a, b) in enumerate(lattice.intervals) if -16 <= a and b <= 16]
@@ -378,6 +379,38 @@ class Session:
         name, given = ("first", arguments) if is_first else ("next", [*after, *arguments])
         return self.on_grid(f"vdb_grid_{name}_leaves", given, wrong, [slot], commit, outs, lambda grid: [text_of(it) for it in outs])
 
+    # -- views
+
+    def view(self):
+        """A grid becomes a view, a view is shared, copied to a grid or freed, or a voxel is read."""
+        slot, number = self.grid(), self.chance.randrange(VIEWS)
+        grid, shown = self.maps[slot], self.view_maps[number]
+        handle, refusals = self.views[number], [] if shown else [EMPTY]
+        form = self.chance.choice(["new", "share", "copy", "free", *["get"] * 6])
+
+        def commit():
+            if form == "new":
+                self.view_maps[number], self.maps[slot] = grid, None
+            elif form == "share":
+                self.view_maps[1 - number] = shown
+            elif form == "copy":
+                self.maps[slot] = shown.copy()
+            elif form == "free":
+                self.view_maps[number] = None
+            return OK
+
+        if form == "new":
+            return Step("vdb_view_new", [self.grids[slot], handle], (), [] if grid else [EMPTY], commit, None, [slot])
+        if form == "share":
+            return Step("vdb_view_share", [handle, self.views[1 - number]], (), refusals, commit)
+        if form == "copy":
+            return Step("vdb_view_copy", [handle, self.grids[slot]], (), refusals, commit, None, [slot])
+        if form == "free":
+            return Step("vdb_view_free", [handle], (), (), commit)
+        at, value, on = self.place(), c_int64(77), c_int32(77)
+        results = lambda: [shown.get(at)[0], int(shown.get(at)[1])]  # noqa: E731
+        return Step("vdb_view_get", [handle, *self.voxel(at), byref(value), byref(on)], [value, on], refusals, commit, results)
+
     # -- steps on two grids
 
     def combine(self):
@@ -576,7 +609,7 @@ class Session:
 
     KINDS_OF_STEP = [
         (set, 30), (get, 25), (fill, 8), (clip, 3), (nodes, 3), (iterate, 2), (combine, 5), (new, 3), (free, 0.5), (copy, 2), (facts, 2),
-        (count, 2), (bounds, 2), (census, 1), (active, 5), (many, 6), (dense, 6), (leaf_count, 1), (leaves, 3), (scene_new, 0.5), (scene_load, 0.3), (scene_save, 0.5),
+        (count, 2), (bounds, 2), (census, 1), (active, 5), (many, 6), (dense, 6), (leaf_count, 1), (leaves, 3), (view, 3), (scene_new, 0.5), (scene_load, 0.3), (scene_save, 0.5),
         (scene_names, 1), (scene_put, 0.8), (scene_take, 0.8), (scene_meta, 2),
     ]  # fmt: skip
 
@@ -592,6 +625,8 @@ class Session:
                 raise Wrong(f"call {self.calls}, {step.name}: {wrong}") from None
         for slot in range(GRIDS):
             self.library.vdb_grid_free(self.grids[slot])
+        for handle in self.views:
+            self.library.vdb_view_free(handle)
         self.library.vdb_scene_free(self.scene)
         need(self.held.value == 0, f"{self.held.value} blocks are held at the end")
 
