@@ -12,3 +12,5 @@ pub mod SameFacts
 pub mod Walks
 pub mod WalkFacts
 pub mod RootWalks
+pub mod Spans
+pub mod Boxes
