@@ -50,6 +50,7 @@ impl AnyGrid {
     }
 
     /// Returns the type of its values.
+    #[inline(always)]
     pub fn kind(&self) -> Kind
         ensures { result ≡ kind_of (grid_field self.now).background }
     {
@@ -83,6 +84,7 @@ impl AnyGrid {
     }
 
     /// Returns the cell of a voxel by the descent from the root, by at most three node visits.
+    #[inline(always)]
     pub fn get(&self, at: Coord, steps: &mut Steps) -> Cell<Scalar>
         ensures cell { result ≡ (grid_field self.now).cell at }
         ensures steps { steps.new ≤ steps.old + 3 }
@@ -96,6 +98,7 @@ impl AnyGrid {
 
     /// Returns the cell of a voxel through an accessor, or from the root if none is named. The accessor then caches the path to
     /// the voxel.
+    #[inline(always)]
     pub fn probe(&mut self, accessor: Option<usize>, at: Coord, steps: &mut Steps) -> Cell<Scalar>
         requires { (k : ℕ) → accessor ≡ Some k → k < ACCESSORS }
         ensures cell { result ≡ (grid_field self.old).cell at }
@@ -116,6 +119,7 @@ impl AnyGrid {
     /// Fails with `RootLimit` if more root blocks than the limit would have a cell other than the inactive background, and with
     /// `Memory` if an allocation fails. Both leave every cell unchanged. `Memory` is only possible if the cell changes and all
     /// cells of its leaf extent are equal.
+    #[inline(always)]
     pub fn write(
         &mut self,
         accessor: Option<usize>,

@@ -27,6 +27,7 @@ use vdb_value::Cell;
 use vdb_walk::Census;
 
 /// Returns the cell of a voxel, by at most three node visits.
+#[inline(always)]
 pub fn get<V: GridValue>(tree: &Tree<V>, at: Coord, steps: &mut Steps) -> Cell<Scalar>
     ensures cell { result ≡ (as_field_of V.as_scalar (field_of vdb tree.now)).cell at }
     ensures steps { steps.new ≤ steps.old + 3 }
@@ -35,6 +36,7 @@ pub fn get<V: GridValue>(tree: &Tree<V>, at: Coord, steps: &mut Steps) -> Cell<S
 }
 
 /// Returns the cell of a voxel through an accessor, or from the root if none is named.
+#[inline(always)]
 pub fn probe<V: GridValue>(
     grid: &mut Grid<V, ACCESSORS>,
     accessor: Option<usize>,
@@ -54,6 +56,7 @@ pub fn probe<V: GridValue>(
 }
 
 /// Writes a voxel, with a value of the grid's type, through an accessor or without one.
+#[inline(always)]
 pub fn write<V: GridValue>(
     grid: &mut Grid<V, ACCESSORS>,
     accessor: Option<usize>,
@@ -163,6 +166,7 @@ pub fn census<V: GridValue>(tree: &Tree<V>, steps: &mut Steps) -> Census
 }
 
 /// Returns a cell with its value as one of any type.
+#[inline(always)]
 pub fn of_any_kind<V: GridValue>(cell: Cell<V>) -> Cell<Scalar>
     ensures { result ≡ as_cell_of V.as_scalar cell }
 {
@@ -184,6 +188,7 @@ fn cell_of_kind<V: GridValue>(cell: Cell<Scalar>) -> Cell<V>
 }
 
 /// Returns the write of a value of one type that a write of any type holds.
+#[inline(always)]
 fn of_kind<V: GridValue>(change: Write<Scalar>) -> Write<V>
     requires { IsTrue (passes (is_of V.KIND) change) }
     ensures { as_write_of V.as_scalar result ≡ change }
