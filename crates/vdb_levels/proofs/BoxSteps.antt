@@ -1,6 +1,6 @@
 -- Boxes that are split and painted, entry by entry.
-use Rattle.std.proofs.Common.{◌≡◌, ◌≢◌, ◌⊎◌, inl, inr, ◌<◌, ◌≤◌, ◌+◌, ℕ, Bool, true, false, if◌then◌else◌, List, [], ◌∷◌, refl, sym, ap, subst, ◌∙◌, arith}
-use Rattle.std.specs.Prelude.{◌++◌, Some}
+use Rattle.std.proofs.Common.{◌≡◌, ◌⊎◌, inl, inr, ◌<◌, ◌≤◌, ◌+◌, ℕ, Bool, true, false, if◌then◌else◌, List, [], ◌∷◌, refl, sym, ap, subst, ◌∙◌, arith}
+use Rattle.std.specs.Prelude.{◌++◌}
 use Rattle.vdb_coord.specs.Space.{Box, is_inside}
 use Rattle.vdb_coord.specs.declared.Coord.{Coord}
 use Rattle.vdb_node.specs.Nodes.{entry_count}
@@ -9,13 +9,12 @@ use Rattle.vdb_node.specs.declared.Entry.TheVariants.{Child, Tile}
 use Rattle.vdb_pool.specs.Contents.{Contents}
 use Rattle.vdb_value.specs.declared.Cell.{Cell}
 use Rattle.vdb_levels.specs.Blocks.{Blocks, IsSameBlock, below_entry, entry_in, node_blocks, part_below}
-use Rattle.vdb_levels.specs.Boxes.{IsCovered, IsCoveredPart, IsSplitAt, IsSplitBlock, MissesBox, PaintsAt}
+use Rattle.vdb_levels.specs.Boxes.{IsCovered, IsCoveredPart, IsSplitAt, MissesBox, PaintsAt}
 use Rattle.vdb_levels.specs.EntryFacts.{same_tile, tile_no_child, true_false}
 use Rattle.vdb_levels.specs.HasPlaces.{key_up, offset_below, same_below, same_offset}
 use Rattle.vdb_levels.specs.Places.{IsPrefix, IsPrefixOf, key_of, offset_of}
 use Rattle.vdb_levels.specs.Same.{ChangesEntry, IsSameEntry}
 use Rattle.vdb_levels.specs.SameFacts.{entry_twice, same_cell, same_part}
-use Rattle.vdb_levels.specs.Sound.{IsChildAt}
 
 pub or_less : (a b : ℕ) → (a < b) ⊎ (b ≤ a)
 or_less a b = grind arith
@@ -33,7 +32,7 @@ rest_of [] at h = (at, refl)
 rest_of (i ∷ prefix) [] h = absurd h
 rest_of (i ∷ prefix) (j ∷ at) h = let r = rest_of prefix at h.1 in (r.0, rw (h.0, r.1) refl)
 
-has_prefix : (P : List ℕ → Type 0) (prefix at : List ℕ) → IsPrefixOf prefix at → P at → IsPrefix P prefix
+pub has_prefix : (P : List ℕ → Type 0) (prefix at : List ℕ) → IsPrefixOf prefix at → P at → IsPrefix P prefix
 has_prefix P prefix at h p = let r = rest_of prefix at h in (r.0, subst P (sym r.1) p)
 
 -- ---- what stays over one coordinate

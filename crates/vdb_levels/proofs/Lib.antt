@@ -15,3 +15,4 @@ pub mod KeysPast
 pub mod Spans
 pub mod BoxSteps
 pub mod BoxLeaves
+pub mod BoxRootSteps

@@ -1,5 +1,5 @@
 -- The positions of a box in a node, and blocks within a box.
-use Rattle.std.proofs.Common.{◌≡◌, ◌<◌, ◌≤◌, ◌+◌, ◌*◌, ◌^◌, ◌+ℤ◌, ◌*ℤ◌, ℕ, ℤ, suc, pos, Bool, true, false, ◌&&◌, int_le, refl, sym, ap, subst, ◌∙◌, arith}
+use Rattle.std.proofs.Common.{◌≡◌, ◌<◌, ◌≤◌, ◌+◌, ◌*◌, ◌^◌, ◌+ℤ◌, ◌*ℤ◌, ℕ, ℤ, suc, pos, Bool, true, false, ◌&&◌, ◌||◌, ◌⊎◌, inl, inr, int_le, refl, sym, ap, subst, ◌∙◌, arith}
 use Rattle.std.specs.Prelude.{◌↔◌, IsTrue, IfNone, IfSome, Option, None, Some, int_lt}
 use Rattle.std.proofs.Math.Nat.{mul-le-mul_right}
 use Rattle.std.proofs.lemmas.Int.{ints}
@@ -7,7 +7,7 @@ use Rattle.vdb_coord.specs.Components.{digit, first_of, last_of, number_at}
 use Rattle.vdb_coord.specs.Space.{Box, is_between, is_inside}
 use Rattle.vdb_coord.specs.declared.Coord.{Coord}
 use Rattle.vdb_coord.proofs.Boxes.{and_true, both, le_through, not_true, three, together}
-use Rattle.vdb_coord.proofs.Digits.{digit_below, inside_own, number_split}
+use Rattle.vdb_coord.proofs.Digits.{inside_own, number_split}
 use Rattle.vdb_coord.proofs.Meeting.{number_le, number_of_first, number_of_last}
 use Rattle.vdb_levels.specs.Boxes.{IsCovered, MissesBox}
 use Rattle.vdb_levels.specs.HasPlaces.{same_coord}
@@ -97,3 +97,27 @@ unfolding offset_of
 before_next low bits box p x y z from to hx hy hz w is none q e on less = not_true (is_inside box q) (λ inside.
     let hs = three (is_between box.min.x box.max.x q.x) (is_between box.min.y box.max.y q.y) (is_between box.min.z box.max.z q.z) inside in
     none (digit low bits q.x) (digit low bits q.y) (digit low bits q.z) (hx q.x (ap (λ (c : Coord). c.x) e) hs.0) (hy q.y (ap (λ (c : Coord). c.y) e) hs.1) (hz q.z (ap (λ (c : Coord). c.z) e) hs.2) (rw is on) (rw is less))
+
+-- ---- blocks apart from a box
+
+or_true : (a b : Bool) → (a || b) ≡ true → (a ≡ true) ⊎ (b ≡ true)
+or_true true b h = inl refl
+or_true false b h = inr h
+
+pub apart_of : (bits : ℕ) (least greatest p : ℤ) → (int_lt (number_at bits greatest) (number_at bits p) || int_lt (number_at bits p) (number_at bits least)) ≡ true → (x : ℤ) → number_at bits x ≡ number_at bits p → is_between least greatest x ≡ true → ⊥
+apart_of bits least greatest p h x e between =
+    let hs = both (int_le least x) (int_le x greatest) between in
+    elim (or_true (int_lt (number_at bits greatest) (number_at bits p)) (int_lt (number_at bits p) (number_at bits least)) h) [
+      | inl before ↦ le_not_lt (number_at bits p) (number_at bits greatest) (subst (λ t. int_le t (number_at bits greatest) ≡ true) e (number_le bits x greatest hs.1)) before
+      | inr after ↦ le_not_lt (number_at bits least) (number_at bits p) (subst (λ t. int_le (number_at bits least) t ≡ true) e (number_le bits least x hs.0)) after
+    ]
+
+pub misses_of : (bits : ℕ) (box : Box) (p : Coord) (x y z : Bool) → (x ≡ true → (t : ℤ) → number_at bits t ≡ number_at bits p.x → is_between box.min.x box.max.x t ≡ true → ⊥)
+    → (y ≡ true → (t : ℤ) → number_at bits t ≡ number_at bits p.y → is_between box.min.y box.max.y t ≡ true → ⊥) → (z ≡ true → (t : ℤ) → number_at bits t ≡ number_at bits p.z → is_between box.min.z box.max.z t ≡ true → ⊥)
+    → (x || y || z) ≡ true → (q : Coord) → key_of bits q ≡ key_of bits p → is_inside box q ≡ false
+misses_of bits box p x y z hx hy hz h q e = not_true (is_inside box q) (λ inside.
+    let hs = three (is_between box.min.x box.max.x q.x) (is_between box.min.y box.max.y q.y) (is_between box.min.z box.max.z q.z) inside in
+    elim (or_true (x || y) z h) [
+      | inr k ↦ hz k q.z (ap (λ (c : Coord). c.z) e) hs.2
+      | inl l ↦ elim (or_true x y l) [ inl k ↦ hx k q.x (ap (λ (c : Coord). c.x) e) hs.0 | inr k ↦ hy k q.y (ap (λ (c : Coord). c.y) e) hs.1 ]
+    ])

@@ -14,3 +14,4 @@ pub mod WalkFacts
 pub mod RootWalks
 pub mod Spans
 pub mod Boxes
+pub mod BoxRoots

@@ -83,7 +83,7 @@ impl<V: Stored<W>, const LOG2: u32, const W: usize> BoxStore<V> for LeafStore<V,
     }
 }
 
-fn are_same<V: Voxel>(a: &Cell<V>, b: &Cell<V>) -> bool
+pub(crate) fn are_same<V: Voxel>(a: &Cell<V>, b: &Cell<V>) -> bool
     ensures { IsTrue result ↔ (a.now ≡ b.now) }
 {
     *a == *b

@@ -1,10 +1,11 @@
 //! The entries of a node that meet a box, and blocks within it.
-ghost use Rattle.std.specs.Prelude.{◌≡◌, ◌+◌, ◌*◌, ◌<◌, ◌≤◌, ◌^◌, ◌&&◌, ◌↔◌, ℕ, ℤ, pos, ◌-◌, int_le, IfNone, IfSome, IsTrue, true};
+ghost use Rattle.std.specs.Prelude.{◌≡◌, ◌+◌, ◌*◌, ◌<◌, ◌≤◌, ◌^◌, ◌&&◌, ◌↔◌, ℕ, ℤ, pos, ◌-◌, int_le, IfNone, IfSome, IsTrue, true, false};
 ghost use Rattle.vdb_coord.specs.Components.{digit, first_of, last_of, number_at};
-ghost use Rattle.vdb_coord.specs.Space.{is_between};
+ghost use Rattle.vdb_coord.specs.Space.{is_between, is_inside};
+ghost use Rattle.vdb_coord.specs.declared.Coord.{Coord};
 ghost use Rattle.vdb_node.specs.Nodes.{entry_count};
 ghost use Rattle.vdb_levels.specs.Boxes.{IsCovered, MissesBox};
-ghost use Rattle.vdb_levels.specs.Places.{joined};
+ghost use Rattle.vdb_levels.specs.Places.{joined, key_of};
 ghost use Rattle.vdb_levels.specs.Spans.{IsInSpan};
 
 use crate::corners::{first_around, width};
@@ -155,4 +156,25 @@ pub(crate) fn next_met(bounds: Bounds, p: Coord, from: u32, low: u32, bits: u32)
     let y = span_in(min.y, max.y, p.y, low, bits);
     let z = span_in(min.z, max.z, p.z, low, bits);
     next_index(from, width(bits), x, y, z)
+}
+
+/// Whether no number from `least` to `greatest` lies in p's block.
+fn is_apart(least: i32, greatest: i32, p: i32, bits: u32) -> bool
+    requires { bits ≤ 15 }
+    ensures { IsTrue result → (x : ℤ) → number_at bits x ≡ number_at bits p → IsTrue (is_between least greatest x) → ⊥ }
+{
+    let own = number_at(p, bits);
+    (number_at(greatest, bits) < own) | (own < number_at(least, bits))
+}
+
+/// Whether the box holds no coordinate of p's block of 2 to the power `bits` along each axis.
+pub(crate) fn misses(bounds: Bounds, p: Coord, bits: u32) -> bool
+    requires { bits ≤ 15 }
+    ensures { IsTrue result → (q : Coord) → key_of bits q ≡ key_of bits p → is_inside bounds q ≡ false }
+{
+    let (min, max) = (bounds.min(), bounds.max());
+    let x = is_apart(min.x, max.x, p.x, bits);
+    let y = is_apart(min.y, max.y, p.y, bits);
+    let z = is_apart(min.z, max.z, p.z, bits);
+    x | y | z
 }

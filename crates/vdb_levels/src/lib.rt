@@ -13,6 +13,7 @@ mod part;
 mod pools;
 mod refusal;
 mod root;
+mod root_boxes;
 mod root_walk;
 mod table;
 mod walk;
