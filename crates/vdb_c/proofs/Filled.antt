@@ -4,8 +4,14 @@ use mir.Val.{bool_byte}
 use Rattle.std.proofs.lemmas.Bool.{cases_eq}
 use Rattle.std.proofs.lemmas.Bool.Decides.{nat_tests}
 use Rattle.std.proofs.lemmas.List.{length-map, length-set, length-take-le, same_lists, get_or-map, get_or-take, get_or_default}
-use Rattle.vdb_c.specs.Many.{is_beside}
+use Rattle.std.proofs.Math.Path.{fun_ext}
+use Rattle.vdb_coord.specs.declared.Coord.{Coord}
+use Rattle.vdb_value.specs.declared.Cell.{Cell}
+use Rattle.vdb_tree.specs.Field.{as_cell_of, as_field_of, field}
+use Rattle.vdb_tree.proofs.AsFieldOf.{as_field_of_cell}
+use Rattle.vdb_c.specs.Many.{IsReadAt, is_beside}
 use Rattle.vdb_c.specs.Values.{state_byte}
+use Rattle.vdb_c.specs.declared.values.Corner.{Corner}
 
 module _ {A X : Type 0} (f : A → X) where
   -- the first k elements of an array have what f makes of those of another one
@@ -45,3 +51,9 @@ beside_fits count len h = grind (arith, nat_tests)
 pub byte_is : (on : Bool) → bool_byte on ≡ state_byte on
 byte_is true = refl
 byte_is false = refl
+
+-- what arrays have of a field, and of the field with its values mapped
+module _ {V W X : Type 0} (make : V → W) (background : V) (cells : Coord → Cell V) (of : Cell V → X) (by : Cell W → X) (same : (c : Cell V) → of c ≡ by (as_cell_of make c)) where
+  pub read_as : (at : List Corner) (old new : List X) → IsReadAt (λ p. of ((field background cells).cell p)) at old new → IsReadAt (λ p. by ((as_field_of make (field background cells)).cell p)) at old new
+  read_as at old new h =
+      subst (λ (f : Coord → X). IsReadAt f at old new) (fun_ext (λ p. same ((field background cells).cell p) ∙ ap by (sym (as_field_of_cell make background cells p)))) h

@@ -27,6 +27,25 @@ module _ {X : Type 0} (b : Box) (s : Strides) where
     others = λ i d h. refl;
   }
 
+  -- an empty array
+  pub laid_empty : (within : Coord → Bool) (of : Coord → X) (xs : List X) → length xs ≡ 0 → IsLaid b s within of xs xs
+  laid_empty within of xs e = record {
+    size = refl;
+    voxels = λ p d i l. absurd (none_below (place b s p) (length xs) l e);
+    others = λ i d h. refl;
+  }
+    where
+      none_below : (i n : ℕ) → i < n → n ≡ 0 → ⊥
+      none_below i n l z = omega (arith, l, z)
+
+  -- the voxels of an equal set
+  pub laid_within : (R S : Coord → Bool) (of : Coord → X) (xs ys : List X) → ((p : Coord) → R p ≡ S p) → IsLaid b s R of xs ys → IsLaid b s S of xs ys
+  laid_within R S of xs ys same h = record {
+    size = h.size;
+    voxels = λ p d i l. h.voxels p d (same p ∙ i) l;
+    others = λ i d out. h.others i d (λ p r. out p (sym (same p) ∙ r));
+  }
+
   -- one voxel
   pub laid_one : (q : Coord) (of : Coord → X) (xs : List X) (x : X) → x ≡ of q → IsLaid b s (coord_eq q) of xs (set xs (place b s q) x)
   laid_one q of xs x e = record {

@@ -1,13 +1,16 @@
 -- The elements of voxels in an array.
-use Rattle.std.proofs.Common.{◌≡◌, ◌+◌, ◌*◌, ◌^◌, ◌<◌, ◌≤◌, ℕ, ℤ, pos, negsuc, ◌+ℤ◌, refl, sym, ap, ◌∙◌, Bool, true, false, ◌&&◌, ◌||◌, IsTrue, SFits, w32, to_z, of_z, ◌-ℤ◌, unsigned_abs, arith, tests, rules, int_le}
+use Rattle.std.proofs.Common.{◌≡◌, suc, ◌+◌, ◌*◌, ◌^◌, ◌<◌, ◌≤◌, ◌<ℤ◌, ℕ, ℤ, pos, negsuc, ◌+ℤ◌, refl, sym, ap, ◌∙◌, Bool, true, false, ◌&&◌, ◌||◌, IsTrue, SFits, w32, to_z, of_z, ◌-ℤ◌, unsigned_abs, arith, tests, rules, int_le}
 use Rattle.std.specs.Prelude.{nat_eq, nat_le, nat_lt}
 use Rattle.std.proofs.lemmas.Int.{ints, to_z-of_z}
 use Rattle.std.proofs.lemmas.Nat.{mul-le, row_fits, same_from_place}
 use Rattle.std.specs.Int.{int_gap}
 use Rattle.vdb_coord.specs.Boxes.{is_bounds}
-use Rattle.vdb_coord.specs.Space.{Box, everywhere, extent, is_between, is_box, is_inside, is_within}
+use Rattle.std.proofs.Math.Nat.{suc-mul}
+use Rattle.std.proofs.Math.Numerals.{suc-eq-add-one}
+use Rattle.vdb_coord.specs.Space.{Box, coord, everywhere, extent, is_between, is_box, is_inside, is_within}
 use Rattle.vdb_coord.specs.declared.Coord.{Coord}
 use Rattle.vdb_coord.proofs.Boxes.{both, three}
+use Rattle.vdb_c.proofs.NextVoxels.{next_along_z}
 use Rattle.vdb_c.specs.Elements.{are_apart, place}
 use Rattle.vdb_c.specs.declared.elements.Strides.{Strides}
 
@@ -51,7 +54,22 @@ positive n h = search (rules, tests)
 at_most : (m n : ℕ) → nat_le m n ≡ true → m ≤ n
 at_most m n h = search (rules, tests)
 
+next_gap : (low z : ℤ) → int_le low z ≡ true → int_gap low (z +ℤ pos 1) ≡ int_gap low z + 1
+next_gap (pos a) (pos b) h = grind (arith, ints)
+next_gap (pos a) (negsuc b) h = grind (arith, ints)
+next_gap (negsuc a) (pos b) h = grind (arith, ints)
+next_gap (negsuc a) (negsuc b) h = grind (arith, ints)
+
 module _ (b : Box) (s : Strides) where
+  -- the element of the next voxel along z
+  pub place_along_z : (p : Coord) → int_le b.min.z p.z ≡ true → place b s (coord p.x p.y (p.z +ℤ pos 1)) ≡ place b s p + s.z
+  place_along_z p h =
+      ap (λ (g : ℕ). int_gap b.min.x p.x * s.x + (int_gap b.min.y p.y * s.y + g * s.z)) (next_gap b.min.z p.z h ∙ sym (suc-eq-add-one (int_gap b.min.z p.z)))
+      ∙ more (int_gap b.min.x p.x * s.x) (int_gap b.min.y p.y * s.y) (int_gap b.min.z p.z * s.z) s.z (suc (int_gap b.min.z p.z) * s.z) (suc-mul (int_gap b.min.z p.z) s.z)
+    where
+      more : (a c g n m : ℕ) → m ≡ g + n → a + (c + m) ≡ a + (c + g) + n
+      more a c g n m e = omega (arith, e)
+
   module _ (p : Coord) (inside : IsTrue (is_inside b p)) where
     axes : IsTrue (is_between b.min.x b.max.x p.x) × IsTrue (is_between b.min.y b.max.y p.y) × IsTrue (is_between b.min.z b.max.z p.z)
     axes = three (is_between b.min.x b.max.x p.x) (is_between b.min.y b.max.y p.y) (is_between b.min.z b.max.z p.z) inside
@@ -153,3 +171,15 @@ passed_gap low n f g h = rw (to_z-of_z w32 n g, to_z-of_z w32 low f) (gap_is low
 
 pub by_place : (len n m : ℕ) → (len ≡ 0 → ⊥) → n ≡ m → nat_lt n len ≡ (nat_eq len 0 || nat_lt m len)
 by_place len n m h e = let no : nat_eq len 0 ≡ false = search (rules, tests) in rw (no, e) refl
+
+-- along z the next voxel of a part of the box has the element one stride past that of the last
+pub next_along : (b : Box) (s : Strides) (part : Box) → ((q : Coord) → IsTrue (is_inside part q) → IsTrue (is_inside b q)) → (p : Coord) → IsTrue (is_inside part p) → p.z <ℤ part.max.z
+    → place b s b.max < 2 ^ 64 → (index : ℕ) → index ≡ place b s p → (index + s.z < 2 ^ 64) × (index + s.z ≡ place b s (coord p.x p.y (p.z +ℤ pos 1)))
+next_along b s part within p inside below reach index e =
+    let along = place_along_z b s p (above b s p (within p inside)).2 in
+    let next : IsTrue (is_inside part (coord p.x p.y (p.z +ℤ pos 1))) = (next_along_z part p inside below).0 in
+    let most = place_at_most b s (coord p.x p.y (p.z +ℤ pos 1)) (within (coord p.x p.y (p.z +ℤ pos 1)) next) in
+    sums index (place b s p) s.z (place b s (coord p.x p.y (p.z +ℤ pos 1))) (place b s b.max) e along most reach
+  where
+    sums : (i n z m top : ℕ) → i ≡ n → m ≡ n + z → m ≤ top → top < 2 ^ 64 → (i + z < 2 ^ 64) × (i + z ≡ m)
+    sums i n z m top e along most reach = (omega (arith, e, along, most, reach), omega (arith, e, along))

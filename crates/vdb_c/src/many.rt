@@ -1,18 +1,23 @@
 //! Calls on many voxels, given by their coordinates.
 ghost use Rattle.std.specs.Prelude.{◌≡◌, ◌<◌, ◌↔◌, ◌⊎◌, ℕ, IfSome, IsSome, IsTrue, None, Some, ⊤, false, length};
+ghost use Rattle.vdb_coord.specs.Blocks.{vdb};
 ghost use Rattle.vdb_scene.specs.Grids.{grid_field, grid_root_limit};
+ghost use Rattle.vdb_tree.specs.Layout.{field_of};
+ghost use Rattle.vdb_tree.specs.Paths.{Lives};
 ghost use Rattle.vdb_c.specs.Calls.{IsWriteFor, OnHeld, OnValid, Reads, grid_kind};
 ghost use Rattle.vdb_c.specs.Many.{IsReadAt, WritesFirst, WritesMany, accessor_beside, byte_at, change_at as change_of_element, change_of as change_of_parts, is_beside, number_at, voxel_at};
+ghost use Rattle.vdb_c.specs.Values.{state_byte};
 
 use crate::arrays::store;
 use crate::codes::{DONE, EMPTY, OUT_OF_RANGE, tree_code};
 use crate::handles::GridHandle;
+use crate::numbers::Number;
 use crate::values::{Corner, accessor, coord, is_byte_on, value, value_number};
 use std::alloc::Global;
 use vdb_coord::Coord;
 use vdb_pool::Steps;
 use vdb_scene::{ACCESSORS, AnyGrid, Scalar};
-use vdb_tree::Write;
+use vdb_tree::{Path, Tree, Write};
 use vdb_value::{Cell, Kind};
 
 /// Writes the value and the state of each voxel of `at` to `values` and `states`, through an accessor or, with -1, from the root.
@@ -64,7 +69,7 @@ fn is_beside_voxels(count: usize, len: usize) -> bool
     len == count || len == 0
 }
 
-/// Writes the value and the state of each voxel to arrays that fit the voxels.
+/// Writes the value and the state of each voxel to arrays that fit the voxels. No cell changes.
 fn read_many(
     grid: &mut AnyGrid,
     accessor: Option<usize>,
@@ -81,10 +86,10 @@ fn read_many(
     ensures values { IsReadAt (number_at (grid_field grid.old)) at.now values.old values.new }
     ensures states { IsReadAt (byte_at (grid_field grid.old)) at.now states.old states.new }
 {
-    for k in 0..at.len() {
-        let cell = probe(grid, accessor, coord(&at[k]), steps);
-        store(values, k, value_number(cell.value));
-        store(states, k, u8::from(cell.on));
+    read_cells(grid, at, values, states, steps);
+    if at.len() > 0 {
+        let last = coord(&at[at.len() - 1]);
+        let _ = probe(grid, accessor, last, steps); // the accessor caches the path to it
     }
 }
 
@@ -96,6 +101,72 @@ fn probe(grid: &mut AnyGrid, accessor: Option<usize>, at: Coord, steps: &mut Ste
     ensures limit { grid_root_limit grid.new ≡ grid_root_limit grid.old }
 {
     grid.probe(accessor, at, steps)
+}
+
+/// Writes the value and the state of each voxel to arrays that fit the voxels.
+fn read_cells(
+    grid: &AnyGrid,
+    at: &[Corner],
+    values: &mut [i64],
+    states: &mut [u8],
+    steps: &mut Steps,
+)
+    requires values { IsTrue (is_beside (length at.now) (length values.old)) }
+    requires states { IsTrue (is_beside (length at.now) (length states.old)) }
+    ensures values { IsReadAt (number_at (grid_field grid.now)) at.now values.old values.new }
+    ensures states { IsReadAt (byte_at (grid_field grid.now)) at.now states.old states.new }
+{
+    match grid {
+        AnyGrid::Bool(held) => read_voxels(held.tree(), at, values, states, steps),
+        AnyGrid::I32(held) => read_voxels(held.tree(), at, values, states, steps),
+        AnyGrid::I64(held) => read_voxels(held.tree(), at, values, states, steps),
+    }
+}
+
+/// Writes the value and the state of each voxel of a tree to arrays that fit the voxels. It keeps the path to the last leaf, so that
+/// the next voxel in it needs no descent (OpenVDB's `ValueAccessor::probeValue`).
+fn read_voxels<V: Number>(
+    tree: &Tree<V>,
+    at: &[Corner],
+    values: &mut [i64],
+    states: &mut [u8],
+    steps: &mut Steps,
+)
+    requires values { IsTrue (is_beside (length at.now) (length values.old)) }
+    requires states { IsTrue (is_beside (length at.now) (length states.old)) }
+    ensures values { IsReadAt (λ p. V.number_of ((field_of vdb tree.now).cell p).value) at.now values.old values.new }
+    ensures states { IsReadAt (λ p. state_byte ((field_of vdb tree.now).cell p).on) at.now states.old states.new }
+{
+    let mut near = Coord { x: 0, y: 0, z: 0 };
+    let mut path = Path::Empty;
+    for k in 0..at.len() {
+        let cell = read_near(tree, &mut path, &mut near, coord(&at[k]), steps);
+        store(values, k, cell.value.number());
+        store(states, k, u8::from(cell.on));
+    }
+}
+
+/// Returns the cell of a voxel by the path to `near`. If the path ends in no leaf that holds the voxel, it then leads to the voxel.
+#[inline(always)]
+fn read_near<V: Number>(
+    tree: &Tree<V>,
+    path: &mut Path<V>,
+    near: &mut Coord,
+    p: Coord,
+    steps: &mut Steps,
+) -> Cell<V>
+    requires { Lives vdb tree.now path.old near.old }
+    ensures cell { result ≡ (field_of vdb tree.now).cell p }
+    ensures lives { Lives vdb tree.now path.new near.new }
+{
+    match tree.cell_near(path, *near, p, steps) {
+        Some(cell) => cell,
+        None => {
+            let cell = tree.descend(path, *near, p, steps);
+            *near = p;
+            cell
+        }
+    }
 }
 
 /// Sets the voxels of `at`, one after another, through an accessor or, with -1, from the root: to the numbers of `values` and the

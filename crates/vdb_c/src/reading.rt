@@ -1,13 +1,16 @@
 //! A box of a tree read into arrays.
-ghost use Rattle.std.specs.Prelude.{◌≡◌, ◌<◌, ◌^◌, IsTrue, length};
-ghost use Rattle.vdb_coord.specs.Blocks.{offset, vdb};
+ghost use Rattle.std.specs.Option.{option_map};
+ghost use Rattle.std.specs.Prelude.{◌≡◌, ◌<◌, ◌^◌, ◌&&◌, IfSome, IsSome, IsTrue, length, not};
+ghost use Rattle.vdb_coord.specs.Blocks.{key, offset, vdb};
 ghost use Rattle.vdb_coord.specs.Space.{is_inside};
+ghost use Rattle.vdb_coord.specs.Walk.{coordinates_after};
 ghost use Rattle.vdb_coord.specs.declared.Coord.{Coord};
 ghost use Rattle.vdb_coord.specs.declared.Level.TheVariants.{Leaf as leaf_level};
 ghost use Rattle.vdb_node.specs.Leaf.{cell_in};
-ghost use Rattle.vdb_tree.specs.Layout.{field_of};
+ghost use Rattle.vdb_tree.specs.Layout.{field_of, root_at};
 ghost use Rattle.vdb_tree.specs.Parts.{IsPartOfLeaf, OnLeaf, OnTile};
 ghost use Rattle.vdb_value.specs.declared.Cell.{Cell};
+ghost use Rattle.vdb_c.specs.BoxVoxels.{IsNextVoxel};
 ghost use Rattle.vdb_c.specs.Elements.{IsLaid, are_apart, has_places, place as place_of};
 ghost use Rattle.vdb_c.specs.Values.{state_byte};
 
@@ -19,59 +22,122 @@ use vdb_coord::{Bounds, Coord, Level};
 use vdb_node::Leaf;
 use vdb_pool::Steps;
 use vdb_tree::{Content, Skip, Tree};
-use vdb_value::Cell;
 
-/// Writes one cell to the elements of a part of a box.
-fn lay_tile<V: Number>(
-    cell: Cell<V>,
+/// Returns the next voxel of a part of a box, by x, then y, then z, with its element: `None` after the last one. Along z the element
+/// is one stride past that of `p`, which is `index`.
+#[inline(always)]
+fn next_place(
     bounds: Bounds,
     strides: &Strides,
     part: Bounds,
-    values: &mut [i64],
-    states: &mut [u8],
-)
+    p: Coord,
+    index: usize,
+) -> Option<(Coord, usize)>
+    requires inside { IsTrue (is_inside part p) }
+    requires within { (q : Coord) → IsTrue (is_inside part q) → IsTrue (is_inside bounds q) }
+    requires reach { place_of bounds strides.now bounds.max < 2 ^ 64 }
+    requires index { index ≡ place_of bounds strides.now p }
+    ensures next { IsNextVoxel part p (option_map (λ r. r.0) result) }
+    ensures place { IfSome result (λ r. r.1 ≡ place_of bounds strides.now r.0) }
+    ensures nearer { IfSome result (λ r. coordinates_after r.0 < coordinates_after p) }
+{
+    let max = part.max();
+    if p.z < max.z {
+        let next = Coord {
+            x: p.x,
+            y: p.y,
+            z: p.z + 1,
+        };
+        let following = index + strides.z;
+        return Some((next, following));
+    }
+    match next_voxel(part, p) {
+        Some(next) => Some((next, place(bounds, strides, next))),
+        None => None,
+    }
+}
+
+/// Writes one value to the elements of a part of a box.
+fn lay_tile<T: Copy>(value: T, bounds: Bounds, strides: &Strides, part: Bounds, out: &mut [T])
     requires within { (q : Coord) → IsTrue (is_inside part q) → IsTrue (is_inside bounds q) }
     requires apart { IsTrue (are_apart bounds strides.now) }
     requires reach { place_of bounds strides.now bounds.max < 2 ^ 64 }
-    ensures values { IsLaid bounds strides.now (is_inside part) (λ p. V.number_of cell.value) values.old values.new }
-    ensures states { IsLaid bounds strides.now (is_inside part) (λ p. state_byte cell.on) states.old states.new }
+    ensures { IsLaid bounds strides.now (is_inside part) (λ p. value) out.old out.new }
 {
-    let (value, state) = (cell.value.number(), u8::from(cell.on));
+    if out.len() == 0 {
+        return;
+    }
     let mut p = part.min();
+    let mut index = place(bounds, strides, p);
     'voxels: loop {
-        let index = place(bounds, strides, p);
-        store(values, index, value);
-        store(states, index, state);
-        match next_voxel(part, p) {
-            Some(next) => p = next,
+        store(out, index, value);
+        match next_place(bounds, strides, part, p, index) {
+            Some((next, following)) => {
+                p = next;
+                index = following;
+            }
             None => return,
         }
     }
 }
 
-/// Writes the cells that a leaf has in its part of a box to the part's elements.
-fn lay_leaf<V: Number>(
+/// Writes the values that a leaf has in its part of a box to the part's elements.
+fn lay_values<V: Number>(
     leaf: &Leaf<V, 3, 8>,
     bounds: Bounds,
     strides: &Strides,
     part: Bounds,
-    values: &mut [i64],
-    states: &mut [u8],
+    out: &mut [i64],
 )
     requires within { (q : Coord) → IsTrue (is_inside part q) → IsTrue (is_inside bounds q) }
     requires apart { IsTrue (are_apart bounds strides.now) }
     requires reach { place_of bounds strides.now bounds.max < 2 ^ 64 }
-    ensures values { (d : Cell V) → IsLaid bounds strides.now (is_inside part) (λ p. V.number_of (cell_in d leaf.now (offset vdb leaf_level p)).value) values.old values.new }
-    ensures states { (d : Cell V) → IsLaid bounds strides.now (is_inside part) (λ p. state_byte (cell_in d leaf.now (offset vdb leaf_level p)).on) states.old states.new }
+    ensures { (d : Cell V) → IsLaid bounds strides.now (is_inside part) (λ p. V.number_of (cell_in d leaf.now (offset vdb leaf_level p)).value) out.old out.new }
 {
+    if out.len() == 0 {
+        return;
+    }
     let mut p = part.min();
+    let mut index = place(bounds, strides, p);
     'voxels: loop {
         let cell = leaf.entry(p.offset(Level::Leaf) as u32);
-        let index = place(bounds, strides, p);
-        store(values, index, cell.value.number());
-        store(states, index, u8::from(cell.on));
-        match next_voxel(part, p) {
-            Some(next) => p = next,
+        store(out, index, cell.value.number());
+        match next_place(bounds, strides, part, p, index) {
+            Some((next, following)) => {
+                p = next;
+                index = following;
+            }
+            None => return,
+        }
+    }
+}
+
+/// Writes the states that a leaf has in its part of a box to the part's elements.
+fn lay_states<V: Number>(
+    leaf: &Leaf<V, 3, 8>,
+    bounds: Bounds,
+    strides: &Strides,
+    part: Bounds,
+    out: &mut [u8],
+)
+    requires within { (q : Coord) → IsTrue (is_inside part q) → IsTrue (is_inside bounds q) }
+    requires apart { IsTrue (are_apart bounds strides.now) }
+    requires reach { place_of bounds strides.now bounds.max < 2 ^ 64 }
+    ensures { (d : Cell V) → IsLaid bounds strides.now (is_inside part) (λ p. state_byte (cell_in d leaf.now (offset vdb leaf_level p)).on) out.old out.new }
+{
+    if out.len() == 0 {
+        return;
+    }
+    let mut p = part.min();
+    let mut index = place(bounds, strides, p);
+    'voxels: loop {
+        let cell = leaf.entry(p.offset(Level::Leaf) as u32);
+        store(out, index, u8::from(cell.on));
+        match next_place(bounds, strides, part, p, index) {
+            Some((next, following)) => {
+                p = next;
+                index = following;
+            }
             None => return,
         }
     }
@@ -97,8 +163,14 @@ fn lay_part<V: Number>(
 {
     let _ = tree;
     match content {
-        Content::Tile(cell) => lay_tile(cell, bounds, strides, part, values, states),
-        Content::Leaf(leaf) => lay_leaf(leaf, bounds, strides, part, values, states),
+        Content::Tile(cell) => {
+            lay_tile(cell.value.number(), bounds, strides, part, values);
+            lay_tile(u8::from(cell.on), bounds, strides, part, states);
+        }
+        Content::Leaf(leaf) => {
+            lay_values(leaf, bounds, strides, part, values);
+            lay_states(leaf, bounds, strides, part, states);
+        }
     }
 }
 
@@ -124,8 +196,47 @@ pub(crate) fn read_box<V: Number>(
     read_parts(tree, bounds, strides, values, states, steps);
 }
 
-/// Writes the cells that a tree has in a box to the box's elements: first the inactive background, then tile by tile and leaf by leaf
-/// what the tree has.
+/// Returns whether a box lies in one upper extent, for which the root table has an entry.
+fn is_in_root_block<V: Number>(tree: &Tree<V>, bounds: Bounds) -> bool
+    ensures { IsTrue result → (q : Coord) → IsTrue (is_inside bounds q) → IsSome (root_at tree.now.root (key vdb q)) }
+{
+    let key = bounds.min().key();
+    let before = Coord {
+        x: key.x,
+        y: key.y,
+        z: key.z.wrapping_sub(1),
+    };
+    let Some(next) = tree.next_key(Some(before)) else {
+        return false;
+    };
+    next.numbered_block_in(tree.bits(), Level::Upper)
+        .covers(bounds)
+}
+
+/// Writes the inactive background to the elements of a box, unless the root table has an entry for all of it. Returns whether it has.
+fn lay_start<V: Number>(
+    tree: &Tree<V>,
+    bounds: Bounds,
+    strides: &Strides,
+    values: &mut [i64],
+    states: &mut [u8],
+) -> bool
+    requires apart { IsTrue (are_apart bounds strides.now) }
+    requires reach { place_of bounds strides.now bounds.max < 2 ^ 64 }
+    ensures there { IsTrue result → (q : Coord) → IsTrue (is_inside bounds q) → IsSome (root_at tree.now.root (key vdb q)) }
+    ensures values { IsLaid bounds strides.now (λ p. is_inside bounds p && not result) (λ p. V.number_of tree.now.background) values.old values.new }
+    ensures states { IsLaid bounds strides.now (λ p. is_inside bounds p && not result) (λ p. 0) states.old states.new }
+{
+    if is_in_root_block(tree, bounds) {
+        return true;
+    }
+    lay_tile(tree.background().number(), bounds, strides, bounds, values);
+    lay_tile(0, bounds, strides, bounds, states);
+    false
+}
+
+/// Writes the cells that a tree has in a box to the box's elements: first the inactive background where the table may lack an entry,
+/// then tile by tile and leaf by leaf what the tree has.
 fn read_parts<V: Number>(
     tree: &Tree<V>,
     bounds: Bounds,
@@ -139,11 +250,7 @@ fn read_parts<V: Number>(
     ensures values { IsLaid bounds strides.now (is_inside bounds) (λ p. V.number_of ((field_of vdb tree.now).cell p).value) values.old values.new }
     ensures states { IsLaid bounds strides.now (is_inside bounds) (λ p. state_byte ((field_of vdb tree.now).cell p).on) states.old states.new }
 {
-    let background = Cell {
-        value: tree.background(),
-        on: false,
-    };
-    lay_tile(background, bounds, strides, bounds, values, states);
+    let there = lay_start(tree, bounds, strides, values, states);
     let mut walk = tree.parts(bounds, Skip::Absent);
     'rest: while let Some(part) = tree.next_part(&mut walk, steps) {
         lay_part(

@@ -12,3 +12,7 @@ pub mod WalkSteps
 pub mod OneNode
 pub mod RootWalkSteps
 pub mod KeysPast
+pub mod Spans
+pub mod BoxSteps
+pub mod BoxLeaves
+pub mod BoxRootSteps

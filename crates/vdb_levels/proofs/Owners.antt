@@ -161,3 +161,23 @@ module _ {V : Type 0} (n : ℕ) where
         not_gone s i c a h e =
             let same = owns.own s i slot o c h (within, λ d. child d ∙ ap Child (sym e)) in
             elim a [ inl f ↦ f same.0 | inr f ↦ f same.1 ]
+
+  -- a tile became another tile
+  pub tile_owns : (old new : Contents (List (Entry V))) (slot o : ℕ) (was cell : Cell V) → SameEntriesBut n old new slot o → (holds : ℕ → Bool) → ((d : Entry V) → entry_in d old slot o ≡ Tile was) → ((d : Entry V) → entry_in d new slot o ≡ Tile cell)
+      → OwnsBelow n old holds → OwnsBelow n new holds
+  tile_owns old new slot o was cell rest holds tiled here owns = record {
+    held = λ s i c h. owns.held s i c (back s i c h);
+    own = λ s i t j c h k. owns.own s i t j c (back s i c h) (back t j c k);
+    met = λ c h. let m = owns.met c h in (m.0, m.1, forth m.0 m.1 c m.2);
+  }
+    where
+      no_child : (pool : Contents (List (Entry V))) (x : Cell V) (s i c : ℕ) → ((d : Entry V) → entry_in d pool slot o ≡ Tile x) → (s ≡ slot) × (i ≡ o) → IsChildAt n pool s i c → ⊥
+      no_child pool x s i c there e h =
+          let moved : entry_in (Tile x) pool slot o ≡ entry_in (Tile x) pool s i = rw (e.0, e.1) refl in
+          tile_no_child x c (sym (there (Tile x)) ∙ moved ∙ h.1 (Tile x))
+
+      back : (s i c : ℕ) → IsChildAt n new s i c → IsChildAt n old s i c
+      back s i c h = elim (at_or s i slot o) [ inl e ↦ absurd (no_child new cell s i c here e h) | inr a ↦ same_child n new old s i c (λ d. sym (rest s i h.0 a d)) h ]
+
+      forth : (s i c : ℕ) → IsChildAt n old s i c → IsChildAt n new s i c
+      forth s i c h = elim (at_or s i slot o) [ inl e ↦ absurd (no_child old was s i c tiled e h) | inr a ↦ same_child n old new s i c (λ d. rest s i h.0 a d) h ]

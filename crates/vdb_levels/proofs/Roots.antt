@@ -56,7 +56,7 @@ module _ {V : Type 0} where
     pub put_here : root_at new key ≡ Some x
     put_here = let e = like_coords key key refl in puts key ∙ rw e refl
 
-    put_there : (k : Coord) → coord_eq key k ≡ false → root_at new k ≡ root_at old k
+    pub put_there : (k : Coord) → coord_eq key k ≡ false → root_at new k ≡ root_at old k
     put_there k e = puts k ∙ rw e refl
 
   -- keys that hold before an entry was put hold after it

@@ -12,3 +12,6 @@ pub mod SameFacts
 pub mod Walks
 pub mod WalkFacts
 pub mod RootWalks
+pub mod Spans
+pub mod Boxes
+pub mod BoxRoots

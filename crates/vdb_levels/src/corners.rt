@@ -10,7 +10,7 @@ ghost use Rattle.vdb_levels.specs.Walks.{IsCorner};
 use crate::offsets::{number_at, power};
 use vdb_coord::Coord;
 
-fn first_around(component: i32, bits: u32) -> i32
+pub(crate) fn first_around(component: i32, bits: u32) -> i32
     requires { bits ≤ 15 }
     ensures { result ≡ first_of bits (number_at bits component) }
 {
@@ -77,7 +77,7 @@ pub(crate) fn entry_corner(p: Coord, index: u32, low: u32, bits: u32) -> Coord
     Coord { x, y, z }
 }
 
-fn width(bits: u32) -> u32
+pub(crate) fn width(bits: u32) -> u32
     requires { bits ≤ 5 }
     ensures value { result ≡ 2 ^ bits }
     ensures positive { 0 < result }

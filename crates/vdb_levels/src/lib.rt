@@ -1,7 +1,9 @@
 //! The nodes of a sparse grid, level by level: a store of leaves, and stores of internal nodes over the store below.
 #![tactic(auto)]
 
+mod boxes;
 mod corners;
+mod in_box;
 mod internal_store;
 mod leaf_store;
 mod node_store;
@@ -11,11 +13,13 @@ mod part;
 mod pools;
 mod refusal;
 mod root;
+mod root_boxes;
 mod root_walk;
 mod table;
 mod walk;
 mod write;
 
+pub use boxes::BoxStore;
 pub use internal_store::InternalStore;
 pub use leaf_store::LeafStore;
 pub use node_store::NodeStore;

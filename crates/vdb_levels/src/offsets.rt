@@ -20,7 +20,7 @@ pub(crate) fn number_at(component: i32, bits: u32) -> i32
     component >> bits
 }
 
-fn digit(component: i32, low: u32, bits: u32) -> u32
+pub(crate) fn digit(component: i32, low: u32, bits: u32) -> u32
     requires low_fits { low ≤ 10 }
     requires bits_fit { bits ≤ 5 }
     ensures value { result ≡ digit low bits component }

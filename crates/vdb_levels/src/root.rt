@@ -2,6 +2,7 @@
 ghost use Rattle.std.specs.Prelude.{◌≡◌, ◌+◌, ◌*◌, ◌≤◌, ◌<◌, [], IfOk, IfErr, IfSome, OnOk, OnErr, IsOk, Some, None, length};
 ghost use Rattle.vdb_node.specs.declared.Entry.TheVariants.{Child, Tile};
 ghost use Rattle.vdb_value.specs.declared.Cell.{Cell};
+ghost use Rattle.vdb_levels.specs.BoxRoots.{ChangesKey};
 ghost use Rattle.vdb_levels.specs.Field.{written};
 ghost use Rattle.vdb_levels.specs.Places.{key_of};
 ghost use Rattle.vdb_levels.specs.Table.{entry_of_key, field_of, HasCapacity, IsKey, IsNextKey, KeepsField, off, root_at, write};
@@ -21,10 +22,10 @@ use vdb_value::{Cell, Voxel};
 /// A sparse grid over the nodes of a store.
 #[derive(Drop)]
 pub struct Root<V: Voxel, S: NodeStore<V>> {
-    alloc: Global,
-    background: V,
+    pub(crate) alloc: Global,
+    pub(crate) background: V,
     limit: u32,
-    table: RootTable<V>,
+    pub(crate) table: RootTable<V>,
     pub(crate) nodes: S,
 }
 
@@ -185,9 +186,10 @@ impl<V: Voxel, S: NodeStore<V>> Root<V, S> {
     }
 
     /// A node in place of a tile of the table.
-    fn split(&mut self, key: Coord, cell: Cell<V>) -> Result<u32, Refusal>
+    pub(crate) fn split(&mut self, key: Coord, cell: Cell<V>) -> Result<u32, Refusal>
         requires { root_at self.old.table key ≡ Some (Tile cell) }
         ensures keeps { KeepsField S.bits S.place S.blocks self.old self.new }
+        ensures changes { ChangesKey S.bits S.place S.IsPlace S.blocks self.old self.new key }
         ensures child { IfOk result (λ slot. entry_of_key self.new.background self.new.table key ≡ Child slot) }
         ensures memory { IfErr result (λ refusal. refusal ≡ Memory) }
     {

@@ -1,4 +1,5 @@
-use Rattle.std.proofs.Common.{◌≡◌, ap, sym, subst}
+use Rattle.std.proofs.Common.{◌≡◌, ◌∙◌, ap, sym, subst, rules, SFits, w64}
+use Rattle.std.proofs.lemmas.Int.{to_z-of_z}
 use Rattle.vdb_coord.specs.Blocks.{vdb}
 use Rattle.vdb_tree.specs.Field.{off}
 use Rattle.vdb_tree.specs.Layout.{field_of}
@@ -7,6 +8,7 @@ use Rattle.vdb_tree.specs.declared.queries.parts.Content.{Content}
 use Rattle.vdb_tree.specs.declared.queries.parts.Content.TheVariants.{Leaf, Tile}
 use Rattle.vdb_value.specs.declared.Cell.{Cell}
 use Rattle.vdb_c.specs.Values.{state_byte}
+use Rattle.vdb_c.proofs.Filled.{byte_is}
 use Rattle.vdb_c.proofs.Laid.{laid_same}
 use Rattle.vdb_c.proofs.reading.lay_part.Goals as goal
 
@@ -18,18 +20,19 @@ on_leaf P content leaf e h = subst (λ k. OnLeaf k P) e h
 
 pub returns-in-Tile-clause-values : goal.returns-in-Tile-clause-values
 returns-in-Tile-clause-values g c =
-    laid_same _ _ _ _ _ _ _ (λ p i. ap g.V.Number.number_of (ap (λ (a : Cell g.row.V.Denot). a.value) (sym (on_tile _ _ _ c.in-Tile.is c.requires.tile p i)))) c.lay_tile.ensures.values
+    let fits : SFits w64 c.number.result = search rules in
+    laid_same _ _ _ _ _ _ _ (λ p i. to_z-of_z w64 c.number.result fits ∙ c.number.ensures ∙ ap (λ (a : Cell g.row.V.Denot). g.V.Number.number_of a.value) (sym (on_tile _ _ _ c.in-Tile.is c.requires.tile p i))) c.lay_tile.ensures
 
 pub returns-in-Tile-clause-states : goal.returns-in-Tile-clause-states
 returns-in-Tile-clause-states g c =
-    laid_same _ _ _ _ _ _ _ (λ p i. ap (λ (a : Cell g.row.V.Denot). state_byte a.on) (sym (on_tile _ _ _ c.in-Tile.is c.requires.tile p i))) c.lay_tile.ensures.states
+    laid_same _ _ _ _ _ _ _ (λ p i. c.from.ensures ∙ byte_is _ ∙ ap (λ (a : Cell g.row.V.Denot). state_byte a.on) (sym (on_tile _ _ _ c.in-Tile.is c.requires.tile p i))) c.lay_tile-in-Tile.ensures
 
 pub returns-in-Leaf-clause-values : goal.returns-in-Leaf-clause-values
 returns-in-Leaf-clause-values g c =
     let d = off (field_of vdb c.args.tree.now).background in
-    laid_same _ _ _ _ _ _ _ (λ p i. ap (λ (a : Cell g.row.V.Denot). g.V.Number.number_of a.value) (sym ((on_leaf _ _ _ c.in-Leaf.is c.requires.leaf).cells p i))) (c.lay_leaf.ensures.values d)
+    laid_same _ _ _ _ _ _ _ (λ p i. ap (λ (a : Cell g.row.V.Denot). g.V.Number.number_of a.value) (sym ((on_leaf _ _ _ c.in-Leaf.is c.requires.leaf).cells p i))) (c.lay_values.ensures d)
 
 pub returns-in-Leaf-clause-states : goal.returns-in-Leaf-clause-states
 returns-in-Leaf-clause-states g c =
     let d = off (field_of vdb c.args.tree.now).background in
-    laid_same _ _ _ _ _ _ _ (λ p i. ap (λ (a : Cell g.row.V.Denot). state_byte a.on) (sym ((on_leaf _ _ _ c.in-Leaf.is c.requires.leaf).cells p i))) (c.lay_leaf.ensures.states d)
+    laid_same _ _ _ _ _ _ _ (λ p i. ap (λ (a : Cell g.row.V.Denot). state_byte a.on) (sym ((on_leaf _ _ _ c.in-Leaf.is c.requires.leaf).cells p i))) (c.lay_states.ensures d)

@@ -1,18 +1,15 @@
-use Rattle.std.proofs.Common.{Bool, IsTrue}
+use Rattle.std.proofs.Common.{◌≡◌, Bool, IsTrue}
 use Rattle.vdb_coord.specs.Space.{is_inside}
 use Rattle.vdb_coord.specs.Walk.{coordinates_after}
 use Rattle.vdb_coord.specs.declared.Coord.{Coord}
-use Rattle.vdb_c.specs.Elements.{IsLaid}
-use Rattle.vdb_c.specs.Values.{state_byte}
+use Rattle.vdb_c.specs.Elements.{IsLaid, place}
 use Rattle.vdb_c.specs.BoxVoxels.{IsUpTo}
 use Rattle.vdb_c.proofs.reading.lay_tile.Given as goal
 
 abbrev pub invariant-voxels : goal.invariant-voxels
 invariant-voxels g l =
-    IsTrue (is_inside l.part l.p)
-    × ((passed : Coord → Bool) × IsUpTo l.part l.p passed
-    × IsLaid l.bounds l.strides passed (λ p. g.V.Number.number_of l.fn.cell.value) l.fn.values l.values
-    × IsLaid l.bounds l.strides passed (λ p. state_byte l.fn.cell.on) l.fn.states l.states)
+    IsTrue (is_inside l.part l.p) × (l.index ≡ place l.bounds l.strides l.p)
+    × ((passed : Coord → Bool) × IsUpTo l.part l.p passed × IsLaid l.bounds l.strides passed (λ p. l.fn.value) l.fn.out l.out)
 
 abbrev pub decreases-voxels : goal.decreases-voxels
 decreases-voxels g l = coordinates_after l.p

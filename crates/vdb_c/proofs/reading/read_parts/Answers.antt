@@ -10,12 +10,13 @@ rest-init g c =
     let t = c.args.tree.now in
     let b = c.args.bounds in
     let s = c.args.strides.now in
+    let there = c.lay_start-there in
     record {
       walk = c.parts-walk.ensures.walk;
       box = c.parts-walk.ensures.bounds;
       skip = c.parts-walk.ensures.skip;
-      values = read_start t b s (λ (a : Cell g.row.V.Denot). g.V.Number.number_of a.value) _ _ _ _ c.parts-walk.ensures.at (λ p. ap g.V.Number.number_of c.background.ensures) c.lay_tile.ensures.values;
-      states = read_start t b s (λ (a : Cell g.row.V.Denot). state_byte a.on) _ _ _ _ c.parts-walk.ensures.at (λ p. refl) c.lay_tile.ensures.states;
+      values = read_start t b s (λ (a : Cell g.row.V.Denot). g.V.Number.number_of a.value) there.result there.ensures.there _ _ _ _ c.parts-walk.ensures.at (λ p. refl) there.ensures.values;
+      states = read_start t b s (λ (a : Cell g.row.V.Denot). state_byte a.on) there.result there.ensures.there _ _ _ _ c.parts-walk.ensures.at (λ p. refl) there.ensures.states;
     }
 
 pub lay_part-requires : goal.lay_part-requires
@@ -32,6 +33,7 @@ rest-preserved g c =
     let t = c.args.tree.now in
     let b = c.args.bounds in
     let s = c.args.strides.now in
+    let there = c.lay_start-there in
     let inv = c.rest.invariant in
     let part = c.in-Some.ensures.part in
     record {
@@ -39,21 +41,23 @@ rest-preserved g c =
       box = part.passes.box ∙ inv.box;
       skip = part.passes.skip ∙ inv.skip;
       values =
-          read_next t b s (λ (a : Cell g.row.V.Denot). g.V.Number.number_of a.value) c.rest.walk c.next_part.new.walk inv.box inv.skip c.requires.apart c.in-Some.part.bounds _ _ _ _ part (λ q i. refl) inv.values
-          c.lay_part.ensures.values;
+          read_next t b s (λ (a : Cell g.row.V.Denot). g.V.Number.number_of a.value) there.result there.ensures.there c.rest.walk c.next_part.new.walk inv.box inv.skip c.requires.apart c.in-Some.part.bounds _ _ _ _ part
+          (λ q i. refl) inv.values c.lay_part.ensures.values;
       states =
-          read_next t b s (λ (a : Cell g.row.V.Denot). state_byte a.on) c.rest.walk c.next_part.new.walk inv.box inv.skip c.requires.apart c.in-Some.part.bounds _ _ _ _ part (λ q i. refl) inv.states
-          c.lay_part.ensures.states;
+          read_next t b s (λ (a : Cell g.row.V.Denot). state_byte a.on) there.result there.ensures.there c.rest.walk c.next_part.new.walk inv.box inv.skip c.requires.apart c.in-Some.part.bounds _ _ _ _ part
+          (λ q i. refl) inv.states c.lay_part.ensures.states;
     }
 
 pub returns-clause-values : goal.returns-clause-values
 returns-clause-values g c =
     let inv = c.rest.invariant in
-    read_end c.args.tree.now c.args.bounds c.args.strides.now (λ (a : Cell g.row.V.Denot). g.V.Number.number_of a.value) c.rest.walk c.next_part.new.walk inv.box inv.skip _ _ c.in_default.ensures.end
+    let there = c.lay_start-there in
+    read_end c.args.tree.now c.args.bounds c.args.strides.now (λ (a : Cell g.row.V.Denot). g.V.Number.number_of a.value) there.result there.ensures.there c.rest.walk c.next_part.new.walk inv.box inv.skip _ _ c.in_default.ensures.end
     c.in_default.ensures.none_left inv.values
 
 pub returns-clause-states : goal.returns-clause-states
 returns-clause-states g c =
     let inv = c.rest.invariant in
-    read_end c.args.tree.now c.args.bounds c.args.strides.now (λ (a : Cell g.row.V.Denot). state_byte a.on) c.rest.walk c.next_part.new.walk inv.box inv.skip _ _ c.in_default.ensures.end
+    let there = c.lay_start-there in
+    read_end c.args.tree.now c.args.bounds c.args.strides.now (λ (a : Cell g.row.V.Denot). state_byte a.on) there.result there.ensures.there c.rest.walk c.next_part.new.walk inv.box inv.skip _ _ c.in_default.ensures.end
     c.in_default.ensures.none_left inv.states

@@ -1,6 +1,8 @@
-use Rattle.std.proofs.Common.{refl}
+use Rattle.std.proofs.Common.{◌∙◌, ap, refl, sym}
 use Rattle.vdb_node.specs.declared.Entry.TheVariants.{Child, Tile}
 use Rattle.vdb_levels.specs.Table.{IsKey, root_at}
+use Rattle.vdb_levels.specs.EntryFacts.{true_false}
+use Rattle.vdb_levels.proofs.BoxRootSteps.{nodes_change, put_changes}
 use Rattle.vdb_levels.proofs.Roots.{nodes_keep, put_keys, root_held, some_is, split_keeps, split_owns}
 use Rattle.vdb_levels.proofs.root.Root.split.Goals as goal
 
@@ -35,3 +37,20 @@ invariant_of-self g c = record {
   owns = root_held c.self.inside.table (g.S.NodeStore.blocks c.self.inside.nodes).holds (g.S.NodeStore.blocks c.make.new.self).holds
       (λ t. (g.met.S.NodeStore.same_block c.self.inside.nodes c.make.new.self t (c.in_err-slot.ensures.err t)).keeps.holds) c.self.invariant.owns;
 }
+
+pub returns-in_err-slot-clause-changes : goal.returns-in_err-slot-clause-changes
+returns-in_err-slot-clause-changes g c =
+    let s = g.S.NodeStore in
+    rw (← c.self.view_is)
+    (nodes_change s.bits s.place s.IsPlace s.blocks g.met.S.NodeStore.has_place (record { background = c.self.inside.background; limit = c.self.inside.limit; table = c.self.inside.table; nodes = c.self.inside.nodes }) c.make.new.self c.args.key (λ t. g.met.S.NodeStore.same_block c.self.inside.nodes c.make.new.self t (c.in_err-slot.ensures.err t)))
+
+pub returns-clause-changes : goal.returns-clause-changes
+returns-clause-changes g c =
+    let s = g.S.NodeStore in
+    let tiled = rw (← c.self.view_is) at c.requires in
+    rw (← c.self.view_is)
+    (put_changes s.bits s.place s.IsPlace s.blocks g.met.S.NodeStore.has_place (record { background = c.self.inside.background; limit = c.self.inside.limit; table = c.self.inside.table; nodes = c.self.inside.nodes })
+    (record { background = c.self.inside.background; limit = c.self.inside.limit; table = c.set.new.self; nodes = c.make.new.self }) c.args.key (Child c.in_ok-slot.slot) refl refl c.set.ensures.updates
+    (some_is (root_at c.self.inside.table c.args.key) (Tile c.args.cell) tiled)
+    (λ k e t h. g.met.S.NodeStore.same_block c.self.inside.nodes c.make.new.self t
+    (c.in_ok-slot.ensures.others t (λ f. true_false (sym (ap (s.blocks c.self.inside.nodes).holds f) ∙ c.self.invariant.owns.held k t h) c.in_ok-slot.ensures.made.vacant))))

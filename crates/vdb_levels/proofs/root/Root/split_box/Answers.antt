@@ -1,0 +1,40 @@
+-- The root blocks with keys so far are split.
+use Rattle.std.proofs.Common.{◌∙◌, refl, sym}
+use Rattle.vdb_levels.proofs.BoxRootSteps.{entered_next, field_twice, split_last_key, split_next_key}
+use Rattle.vdb_levels.proofs.KeysPast.{fewer_beyond}
+use Rattle.vdb_levels.proofs.root.Root.split_box.Goals as goal
+
+pub keys-init : goal.keys-init
+keys-init g c = record {
+  keeps = record { background = refl; limit = refl; cells = λ p. refl };
+  entered = λ k. refl;
+  done = λ k not_past. absurd (not_past tt);
+}
+
+pub keys-smaller : goal.keys-smaller
+keys-smaller g c = fewer_beyond c.args.self.now.table c.keys.past c.in-Some.key (sym (c.keys.invariant.entered c.in-Some.key) ∙ c.in-Some.ensures.next.0) c.in-Some.ensures.next.1
+
+pub returns-in_err-split_key-clause-keeps : goal.returns-in_err-split_key-clause-keeps
+returns-in_err-split_key-clause-keeps g c =
+    let s = g.S.NodeStore in
+    field_twice s.bits s.place s.blocks c.args.self.now c.keys.self c.split_key.new.self c.keys.invariant.keeps c.split_key.ensures.keeps
+
+pub returns-in_err-split_key-clause-entered : goal.returns-in_err-split_key-clause-entered
+returns-in_err-split_key-clause-entered g c =
+    let s = g.S.NodeStore in
+    entered_next s.bits s.place s.IsPlace s.blocks g.met.S.NodeStore.has_place c.args.self.now c.keys.self c.split_key.new.self c.in-Some.key c.keys.invariant.entered c.split_key.ensures.changes
+
+pub keys-preserved : goal.keys-preserved
+keys-preserved g c =
+    let s = g.S.NodeStore in
+    let i = c.keys.invariant in
+    record {
+      keeps = field_twice s.bits s.place s.blocks c.args.self.now c.keys.self c.split_key.new.self i.keeps c.split_key.ensures.keeps;
+      entered = entered_next s.bits s.place s.IsPlace s.blocks g.met.S.NodeStore.has_place c.args.self.now c.keys.self c.split_key.new.self c.in-Some.key i.entered c.split_key.ensures.changes;
+      done = split_next_key s.bits s.place s.IsPlace s.blocks g.met.S.NodeStore.has_place c.args.bounds c.args.cell.now c.keys.self c.split_key.new.self c.keys.past c.in-Some.key i.done c.in-Some.ensures.next c.split_key.ensures.changes c.in_ok-split_key.ensures.done;
+    }
+
+pub returns-clause-done : goal.returns-clause-done
+returns-clause-done g c =
+    let s = g.S.NodeStore in
+    split_last_key s.bits s.place s.IsPlace s.blocks g.met.S.NodeStore.has_place c.args.bounds c.args.cell.now c.keys.self c.keys.past c.keys.invariant.done c.in_default.ensures.next
