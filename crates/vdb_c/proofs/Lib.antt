@@ -10,3 +10,4 @@ pub mod Places
 pub mod Laid
 pub mod PartsRead
 pub mod BoxReads
+pub mod ManyWrites
