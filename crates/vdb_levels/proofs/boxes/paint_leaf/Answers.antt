@@ -1,5 +1,5 @@
 -- The voxels below an index are painted, and those from it on are the first ones.
-use Rattle.std.proofs.Common.{refl, arith}
+use Rattle.std.proofs.Common.{◌≡◌, refl, arith}
 use Rattle.vdb_levels.proofs.BoxLeaves.{voxels_end, voxels_next, voxels_rest}
 use Rattle.vdb_levels.proofs.boxes.paint_leaf.Goals as goal
 

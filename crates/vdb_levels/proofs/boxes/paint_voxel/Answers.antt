@@ -1,5 +1,5 @@
 -- The first coordinate of a voxel is its own.
-use Rattle.std.proofs.Common.{◌∙◌, ap, sym, refl}
+use Rattle.std.proofs.Common.{◌≡◌, ◌∙◌, ap, sym, refl}
 use Rattle.vdb_coord.specs.Space.{is_inside}
 use Rattle.vdb_levels.proofs.BoxLeaves.{one_voxel}
 use Rattle.vdb_levels.proofs.boxes.paint_voxel.Goals as goal

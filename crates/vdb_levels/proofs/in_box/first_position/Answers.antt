@@ -1,7 +1,7 @@
 -- In one block, positions are in the order of numbers; no number of an earlier block is one of a later block.
 use Rattle.std.proofs.Common.{◌≡◌, ◌+◌, SFits, w32, rules, sym, subst, ◌∙◌, int_le, true}
 use Rattle.std.proofs.lemmas.Int.{to_z-of_z}
-use Rattle.vdb_coord.specs.Components.{number_at}
+use Rattle.vdb_coord.specs.Components.{digit, number_at}
 use Rattle.vdb_coord.proofs.Meeting.{number_le}
 use Rattle.vdb_levels.proofs.Spans.{digit_le, le_not_lt, neither}
 use Rattle.vdb_levels.proofs.in_box.first_position.Goals as goal

@@ -1,5 +1,5 @@
 -- An index is a row and a position in it, and a row is a plane and a position in it.
-use Rattle.std.proofs.Common.{◌≡◌, ◌<◌, ◌≤◌, ◌+◌, ◌*◌, ℕ, suc, max, arith}
+use Rattle.std.proofs.Common.{◌≡◌, ◌<◌, ◌≤◌, ◌+◌, ◌*◌, ℕ, suc, max, Fits, w32, arith}
 use Rattle.std.proofs.Math.Nat.{mul-le-mul_right}
 use Rattle.vdb_levels.proofs.Spans.{joined_le, row_below}
 use Rattle.vdb_levels.proofs.in_box.next_index.Goals as goal

@@ -1,5 +1,5 @@
 -- The entries below an index are painted, and those from it on are the first ones.
-use Rattle.std.proofs.Common.{◌∙◌, ℕ, arith}
+use Rattle.std.proofs.Common.{◌≡◌, ◌∙◌, ◌∷◌, ℕ, ap, refl, sym, arith}
 use Rattle.vdb_node.specs.Nodes.{entry_count}
 use Rattle.vdb_levels.specs.SameFacts.{node_itself, node_twice, same_at}
 use Rattle.vdb_levels.proofs.BoxSteps.{paint_end, paint_next, paint_rest}

@@ -1,5 +1,5 @@
 -- An entry within the box becomes a tile; another is painted in part.
-use Rattle.std.proofs.Common.{◌∙◌, ℕ, ap, sym}
+use Rattle.std.proofs.Common.{◌≡◌, ◌∙◌, ◌∷◌, ℕ, ap, sym}
 use Rattle.vdb_node.specs.Nodes.{entry_count}
 use Rattle.vdb_levels.specs.Blocks.{entry_in}
 use Rattle.vdb_levels.specs.HasPlaces.{same_below}

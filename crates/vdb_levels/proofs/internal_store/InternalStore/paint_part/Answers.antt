@@ -1,5 +1,6 @@
 -- A child is painted below, and a tile has the cell if it has a coordinate in the box.
-use Rattle.std.proofs.Common.{◌∙◌, ℕ, ap, sym}
+use Rattle.std.proofs.Common.{◌≡◌, ◌∙◌, ◌∷◌, ℕ, ap, sym}
+use Rattle.vdb_node.specs.declared.Entry.TheVariants.{Child, Tile}
 use Rattle.vdb_node.specs.Nodes.{entry_count}
 use Rattle.vdb_levels.specs.Blocks.{entry_in}
 use Rattle.vdb_levels.specs.HasPlaces.{same_below}

@@ -1,5 +1,5 @@
 -- The entries below an index are split.
-use Rattle.std.proofs.Common.{◌∙◌, ℕ, refl, arith}
+use Rattle.std.proofs.Common.{◌≡◌, ◌∙◌, ◌∷◌, ℕ, ap, refl, sym, arith}
 use Rattle.vdb_node.specs.Nodes.{entry_count}
 use Rattle.vdb_levels.specs.SameFacts.{node_itself, node_twice}
 use Rattle.vdb_levels.proofs.BoxSteps.{split_end, split_next}

@@ -1,5 +1,5 @@
 -- A block within the box needs no node.
-use Rattle.std.proofs.Common.{◌∙◌, refl, sym}
+use Rattle.std.proofs.Common.{◌≡◌, ◌∙◌, refl, sym}
 use Rattle.vdb_node.specs.Nodes.{entry_count}
 use Rattle.vdb_levels.specs.HasPlaces.{same_below}
 use Rattle.vdb_levels.proofs.BoxSteps.{covered_from, split_covered}

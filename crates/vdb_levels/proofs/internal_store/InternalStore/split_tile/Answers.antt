@@ -1,8 +1,9 @@
 -- A tile that is split has its cell all over.
-use Rattle.std.proofs.Common.{◌∙◌, ℕ, ap, refl}
+use Rattle.std.proofs.Common.{◌≡◌, ◌∙◌, ◌∷◌, ℕ, ap, refl}
 use Rattle.vdb_node.specs.declared.Entry.TheVariants.{Tile}
 use Rattle.vdb_node.specs.Nodes.{entry_count}
-use Rattle.vdb_levels.specs.Blocks.{entry_in}
+use Rattle.vdb_levels.specs.Blocks.{entry_in, node_blocks}
+use Rattle.vdb_levels.specs.Places.{IsNodePlace}
 use Rattle.vdb_levels.proofs.BoxSteps.{split_tile}
 use Rattle.vdb_levels.proofs.Changes.{all_change, changes_twice, keeps_twice}
 use Rattle.vdb_levels.proofs.internal_store.InternalStore.split_tile.Goals as goal
