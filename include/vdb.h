@@ -282,6 +282,10 @@ int32_t vdb_grid_bounds(vdb_grid *grid, vdb_box *box, int32_t *found);
 /* Returns the size of the smallest tree of the grid's cells. */
 int32_t vdb_grid_census(vdb_grid *grid, vdb_census *census);
 
+/* Returns the number of leaves of the grid's tree. It depends on how the cells were written; after vdb_grid_prune it is that of the
+ * census. */
+int32_t vdb_grid_leaf_count(vdb_grid *grid, uint64_t *count);
+
 /* Returns the first active voxel of a box in block order, or the first one after *at, and its value. If none is left, *found
  * is 0, and *at and *value stay; otherwise *found is 1. VDB_RANGE: corners out of order.
  *

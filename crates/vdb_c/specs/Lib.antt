@@ -11,3 +11,4 @@ pub mod Many
 pub mod Elements
 pub mod BoxVoxels
 pub mod BoxArrays
+pub mod Leaves

@@ -13,7 +13,7 @@
 //! - `numbers`, `elements`, `box_voxels`, `reading`, `box_arrays`: calls on a box of voxels as arrays.
 //! - `pairs`: calls that combine two grids.
 //! - `scene_files`, `scene_grids`, `scene_moves`: calls on a scene and on its grids.
-//! - `reports`, `found`: calls that report on a grid.
+//! - `reports`, `found`, `leaves`: calls that report on a grid.
 #![tactic(auto)]
 
 mod arrays;
@@ -27,6 +27,7 @@ mod handles;
 mod held_grid;
 mod held_scene;
 mod kept;
+mod leaves;
 mod many;
 mod numbers;
 mod pairs;
