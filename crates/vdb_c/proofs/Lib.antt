@@ -9,3 +9,5 @@ pub mod Places
 pub mod Laid
 pub mod PartsRead
 pub mod BoxReads
+pub mod LeafRows
+pub mod LeafCopies

@@ -13,7 +13,8 @@
 //! - `numbers`, `elements`, `box_voxels`, `reading`, `box_arrays`: calls on a box of voxels as arrays.
 //! - `pairs`: calls that combine two grids.
 //! - `scene_files`, `scene_grids`, `scene_moves`: calls on a scene and on its grids.
-//! - `reports`, `found`, `leaves`: calls that report on a grid.
+//! - `leaf_rows`, `leaves`: calls on the leaves of a grid.
+//! - `reports`, `found`: calls that report on a grid.
 #![tactic(auto)]
 
 mod arrays;
@@ -27,6 +28,7 @@ mod handles;
 mod held_grid;
 mod held_scene;
 mod kept;
+mod leaf_rows;
 mod leaves;
 mod many;
 mod numbers;
