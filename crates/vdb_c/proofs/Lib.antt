@@ -11,3 +11,5 @@ pub mod Laid
 pub mod PartsRead
 pub mod BoxReads
 pub mod ManyWrites
+pub mod LeafRows
+pub mod LeafCopies
