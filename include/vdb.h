@@ -300,6 +300,29 @@ int32_t vdb_grid_census(vdb_grid *grid, vdb_census *census);
 int32_t vdb_grid_first_active(vdb_grid *grid, const vdb_box *box, vdb_coord *at, int64_t *value, int32_t *found);
 int32_t vdb_grid_next_active(vdb_grid *grid, const vdb_box *box, vdb_coord *at, int64_t *value, int32_t *found);
 
+/* ---- The leaves of a grid -------------------------------------------------------------------------------------------- */
+
+/* Returns the number of leaves of the grid's tree. It depends on how the cells were written; after vdb_grid_prune it is that of the
+ * census. */
+int32_t vdb_grid_leaf_count(vdb_grid *grid, uint64_t *count);
+
+/* Copies leaves in block order, as many as `origins` has elements or as are left: the first ones, or those whose least corner comes past
+ * a coordinate, such as past the last origin of the call before. *copied is their number, and 0 if none is left. Tiles aren't leaves.
+ *
+ * Element k of `origins` becomes the least corner of leaf k. The voxel that is dx, dy and dz past it along the axes, each 0 to 7, has its
+ * value at element 512 k + 64 dx + 8 dy + dz of `values`. Its state is bit 8 dy + dz of word 8 k + dx of `states`, where bit j counts 2^j.
+ * No element past those of the copied leaves changes. An array of length 0 is left out. Its pointer isn't null.
+ * VDB_RANGE: `origins` has no element, or `values` has neither 512 times as many nor 0, or `states` neither 8 times as many nor 0.
+ *
+ *     for (code = vdb_grid_first_leaves(g, at, 64, values, 64 * 512, states, 64 * 8, &n); !code && n;
+ *          code = vdb_grid_next_leaves(g, at[n - 1].x, at[n - 1].y, at[n - 1].z, at, 64, values, 64 * 512, states, 64 * 8, &n))
+ *         ...
+ */
+int32_t vdb_grid_first_leaves(vdb_grid *grid, vdb_coord *origins, size_t count, int64_t *values, size_t values_len, uint64_t *states,
+                              size_t states_len, size_t *copied);
+int32_t vdb_grid_next_leaves(vdb_grid *grid, int32_t x, int32_t y, int32_t z, vdb_coord *origins, size_t count, int64_t *values,
+                             size_t values_len, uint64_t *states, size_t states_len, size_t *copied);
+
 /* ---- Many voxels of a grid at once ---------------------------------------------------------------------------------- */
 
 /* Values and states are arrays with lengths of their own, in elements: int64_t values, and uint8_t states, which come out as 1 or 0

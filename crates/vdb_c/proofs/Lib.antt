@@ -10,3 +10,6 @@ pub mod Places
 pub mod Laid
 pub mod PartsRead
 pub mod BoxReads
+pub mod ManyWrites
+pub mod LeafRows
+pub mod LeafCopies

@@ -4,7 +4,7 @@ use Rattle.std.specs.Option.{option_and_then}
 use Rattle.vdb_coord.specs.Blocks.{vdb}
 use Rattle.vdb_coord.specs.Space.{Box}
 use Rattle.vdb_coord.specs.declared.Coord.{Coord}
-use Rattle.vdb_tree.specs.Field.{new as new_field, write}
+use Rattle.vdb_tree.specs.Field.{Field, new as new_field, write}
 use Rattle.vdb_tree.specs.Outcome.{IsOutcome}
 use Rattle.vdb_tree.specs.declared.Write.{Write}
 use Rattle.vdb_tree.specs.declared.Write.TheVariants as writes
@@ -82,11 +82,13 @@ abbrev pub IsWriteFor : Kind → Option (Write Scalar) → Type 0
 IsWriteFor kind None = ⊤
 IsWriteFor kind (Some change) = IsTrue (passes (is_of kind) change)
 
--- the outcome of a write, which fails with `Memory` only if it may have to allocate
+-- the outcome of a write to a field with a root limit, which fails with `Memory` only if it may have to allocate
+abbrev pub IsWrittenIn : ℕ → Coord → Write Scalar → Field Scalar → Field Scalar → Result (Unit {0}) TreeRefusal → Type 0
+IsWrittenIn limit at w old new result = IsOutcome scalar_eq vdb limit old (write at w old) new result × (write_takes_memory old at w ≡ false → IsOk result)
+
+-- the same for a grid
 abbrev pub IsWritten : Coord → Write Scalar → AnyGrid → AnyGrid → Result (Unit {0}) TreeRefusal → Type 0
-IsWritten at w old new result =
-    IsOutcome scalar_eq vdb (grid_root_limit old) (grid_field old) (write at w (grid_field old)) (grid_field new) result
-    × (write_takes_memory (grid_field old) at w ≡ false → IsOk result)
+IsWritten at w old new result = IsWrittenIn (grid_root_limit old) at w (grid_field old) (grid_field new) result
 
 -- a write to a voxel, through an accessor or none, both of which are tested
 abbrev pub Writes : Option (Option ℕ) → Coord → Option (Write Scalar) → AnyGrid → AnyGrid → ℤ → Type 0

@@ -13,3 +13,4 @@ pub mod BoxVoxels
 pub mod BoxArrays
 pub mod HeldView
 pub mod Views
+pub mod Leaves

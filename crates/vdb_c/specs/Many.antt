@@ -10,7 +10,7 @@ use Rattle.vdb_scene.specs.Grids.{grid_field, grid_root_limit}
 use Rattle.vdb_scene.specs.declared.any_grid.AnyGrid.{AnyGrid}
 use Rattle.vdb_scene.specs.declared.scalar.Scalar.{Scalar}
 use Rattle.vdb_value.specs.declared.Kind.{Kind}
-use Rattle.vdb_c.specs.Calls.{IsWritten, write_of}
+use Rattle.vdb_c.specs.Calls.{IsWrittenIn, write_of}
 use Rattle.vdb_c.specs.Codes.{done, out_of_range, tree_code}
 use Rattle.vdb_c.specs.Values.{accessor_of, byte_is_on, corner_coord, state_byte, value_number, value_of}
 use Rattle.vdb_c.specs.declared.values.Corner.{Corner}
@@ -61,16 +61,24 @@ abbrev pub after_writes : (ℕ → Coord) → (ℕ → Option (Write Scalar)) �
 after_writes voxel change zero f = f
 after_writes voxel change (suc n) f = write_any (voxel n) (change n) (after_writes voxel change n f)
 
--- a write fails, and this is its code
-abbrev pub IsRefused : Coord → Option (Write Scalar) → AnyGrid → ℤ → Type 0
-IsRefused p None g code = ⊥
-IsRefused p (Some w) g code = (refusal : TreeRefusal) × (code ≡ tree_code (Err refusal)) × IsWritten p w g g (Err refusal)
+-- a write to a field with a root limit fails, and this is its code
+abbrev pub IsRefusedIn : ℕ → Coord → Option (Write Scalar) → Field Scalar → ℤ → Type 0
+IsRefusedIn limit p None f code = ⊥
+IsRefusedIn limit p (Some w) f code = (refusal : TreeRefusal) × (code ≡ tree_code (Err refusal)) × IsWrittenIn limit p w f f (Err refusal)
 
--- the first n of these writes happened: all of them, or those before one that fails
-unfoldable pub WritesFirst : ℕ → (ℕ → Coord) → (ℕ → Option (Write Scalar)) → AnyGrid → AnyGrid → ℕ → ℤ → Type 0
-WritesFirst count voxel change old new n code =
-    (grid_root_limit new ≡ grid_root_limit old) × (grid_field new ≡ after_writes voxel change n (grid_field old))
-    × (((code ≡ done) × (n ≡ count)) ⊎ ((n < count) × IsRefused (voxel n) (change n) new code))
+-- the same for a grid
+abbrev pub IsRefused : Coord → Option (Write Scalar) → AnyGrid → ℤ → Type 0
+IsRefused p change g code = IsRefusedIn (grid_root_limit g) p change (grid_field g) code
+
+-- the first n of these writes to a field with a root limit happened: all of them, or those before one that fails
+unfoldable pub WritesFirstIn : ℕ → (ℕ → Coord) → (ℕ → Option (Write Scalar)) → ℕ → ℕ → Field Scalar → Field Scalar → ℕ → ℤ → Type 0
+WritesFirstIn count voxel change limit limit' old new n code =
+    (limit' ≡ limit) × (new ≡ after_writes voxel change n old)
+    × (((code ≡ done) × (n ≡ count)) ⊎ ((n < count) × IsRefusedIn limit' (voxel n) (change n) new code))
+
+-- the same for a grid
+abbrev pub WritesFirst : ℕ → (ℕ → Coord) → (ℕ → Option (Write Scalar)) → AnyGrid → AnyGrid → ℕ → ℤ → Type 0
+WritesFirst count voxel change old new n code = WritesFirstIn count voxel change (grid_root_limit old) (grid_root_limit new) (grid_field old) (grid_field new) n code
 
 -- the writes of the arrays, if each element has one; otherwise nothing changes
 unfoldable pub WritesMany : ℕ → (ℕ → Coord) → (ℕ → Option (Write Scalar)) → AnyGrid → AnyGrid → ℕ → ℕ → ℤ → Type 0

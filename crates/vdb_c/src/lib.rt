@@ -9,10 +9,11 @@
 //! - `view`, `held_grid`, `held_scene`, `held_view`, `handles`: what C holds.
 //! - `codes`, `values`: codes, types, values, states, accessors and boxes as they cross.
 //! - `grid_life`, `voxels`, `regions`: calls on one grid.
-//! - `arrays`, `many`: calls on many voxels, given by their coordinates.
-//! - `numbers`, `elements`, `box_voxels`, `reading`, `box_arrays`: calls on a box of voxels as arrays.
+//! - `arrays`, `numbers`, `many`: calls on many voxels, given by their coordinates.
+//! - `elements`, `box_voxels`, `reading`, `box_arrays`: calls on a box of voxels as arrays.
 //! - `pairs`: calls that combine two grids.
 //! - `scene_files`, `scene_grids`, `scene_moves`: calls on a scene and on its grids.
+//! - `leaf_rows`, `leaves`: calls on the leaves of a grid.
 //! - `reports`, `found`: calls that report on a grid.
 //! - `views`: calls on a grid that several threads read.
 #![tactic(auto)]
@@ -29,6 +30,8 @@ mod held_grid;
 mod held_scene;
 mod held_view;
 mod kept;
+mod leaf_rows;
+mod leaves;
 mod many;
 mod numbers;
 mod pairs;

@@ -2,10 +2,11 @@
 ghost use Rattle.std.specs.Prelude.{◌≡◌, ◌<◌, ◌↔◌, ◌⊎◌, ℕ, IfSome, IsSome, IsTrue, None, Some, ⊤, false, length};
 ghost use Rattle.vdb_coord.specs.Blocks.{vdb};
 ghost use Rattle.vdb_scene.specs.Grids.{grid_field, grid_root_limit};
+ghost use Rattle.vdb_tree.specs.Field.{as_field_of};
 ghost use Rattle.vdb_tree.specs.Layout.{field_of};
 ghost use Rattle.vdb_tree.specs.Paths.{Lives};
 ghost use Rattle.vdb_c.specs.Calls.{IsWriteFor, OnHeld, OnValid, Reads, grid_kind};
-ghost use Rattle.vdb_c.specs.Many.{IsReadAt, WritesFirst, WritesMany, accessor_beside, byte_at, change_at as change_of_element, change_of as change_of_parts, is_beside, number_at, voxel_at};
+ghost use Rattle.vdb_c.specs.Many.{IsReadAt, WritesFirst, WritesFirstIn, WritesMany, accessor_beside, byte_at, change_at as change_of_element, change_of as change_of_parts, is_beside, number_at, voxel_at};
 ghost use Rattle.vdb_c.specs.Values.{state_byte};
 
 use crate::arrays::store;
@@ -15,8 +16,9 @@ use crate::numbers::Number;
 use crate::values::{Corner, accessor, coord, is_byte_on, value, value_number};
 use std::alloc::Global;
 use vdb_coord::Coord;
+use vdb_grid::Grid;
 use vdb_pool::Steps;
-use vdb_scene::{ACCESSORS, AnyGrid, Scalar};
+use vdb_scene::{ACCESSORS, AnyGrid, GridValue, Scalar, write_voxel};
 use vdb_tree::{Path, Tree, Write};
 use vdb_value::{Cell, Kind};
 
@@ -268,7 +270,6 @@ fn change_of(kind: Kind, number: Option<i64>, byte: Option<u8>) -> Option<Write<
 }
 
 /// Writes the voxels one after another until a write fails.
-#[tactic(auto, unfolding(crate::specs::Many::WritesFirst))]
 fn write_first(
     grid: &mut AnyGrid,
     accessor: Option<usize>,
@@ -282,12 +283,34 @@ fn write_first(
     requires given { (k : ℕ) → k < length at.now → IsSome (change_of_element (grid_kind grid.old) values.now states.now k) }
     ensures { WritesFirst (length at.now) (voxel_at at.now) (change_of_element (grid_kind grid.old) values.now states.now) grid.old grid.new written.new result }
 {
-    let kind = grid.kind();
+    match grid {
+        AnyGrid::Bool(held) => write_voxels(held, accessor, at, values, states, written, steps),
+        AnyGrid::I32(held) => write_voxels(held, accessor, at, values, states, written, steps),
+        AnyGrid::I64(held) => write_voxels(held, accessor, at, values, states, written, steps),
+    }
+}
+
+/// Writes the voxels of a grid of one type, one after another, until a write fails.
+#[tactic(auto, unfolding(crate::specs::Many::WritesFirstIn))]
+fn write_voxels<V: GridValue>(
+    grid: &mut Grid<V, ACCESSORS>,
+    accessor: Option<usize>,
+    at: &[Corner],
+    values: &[i64],
+    states: &[u8],
+    written: &mut usize,
+    steps: &mut Steps,
+) -> i32
+    requires within { (k : ℕ) → accessor ≡ Some k → k < ACCESSORS }
+    requires given { (k : ℕ) → k < length at.now → IsSome (change_of_element V.KIND values.now states.now k) }
+    ensures { WritesFirstIn (length at.now) (voxel_at at.now) (change_of_element V.KIND values.now states.now) grid.old.tree.limit grid.new.tree.limit
+        (as_field_of V.as_scalar (field_of vdb grid.old.tree)) (as_field_of V.as_scalar (field_of vdb grid.new.tree)) written.new result }
+{
     for k in 0..at.len() {
-        let Some(change) = change_at(kind, values, states, k) else {
+        let Some(change) = change_at(V::KIND, values, states, k) else {
             unreachable!()
         };
-        let outcome = grid.write(accessor, coord(&at[k]), change, steps);
+        let outcome = write_voxel(grid, accessor, coord(&at[k]), change, steps);
         if outcome.is_err() {
             *written = k;
             return tree_code(outcome);

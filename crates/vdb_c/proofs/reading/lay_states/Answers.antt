@@ -1,4 +1,4 @@
-use Rattle.std.proofs.Common.{◌≡◌, ◌∙◌, ap, refl, sym, arith, rules, IsTrue}
+use Rattle.std.proofs.Common.{◌∙◌, ap, refl, sym, arith, rules}
 use Rattle.vdb_coord.proofs.Boxes.{both}
 use Rattle.vdb_coord.proofs.Walk.{min_inside}
 use Rattle.vdb_node.specs.Leaf.{cell_in}

@@ -1,4 +1,4 @@
-use Rattle.std.proofs.Common.{◌≡◌, ◌∙◌, ap, refl, sym, arith, rules, set, SFits, w64, IsTrue}
+use Rattle.std.proofs.Common.{◌∙◌, ap, refl, sym, arith, rules, set, SFits, w64}
 use Rattle.std.proofs.lemmas.Int.{to_z-of_z}
 use Rattle.vdb_coord.proofs.Boxes.{both}
 use Rattle.vdb_coord.proofs.Walk.{min_inside}

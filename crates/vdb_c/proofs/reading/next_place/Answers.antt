@@ -1,4 +1,4 @@
-use Rattle.std.proofs.Common.{◌≡◌, ◌∙◌, ap, arith, refl, sym, pos, ◌+ℤ◌, ◌<ℤ◌, SFits, w32, to_z, of_z, rules}
+use Rattle.std.proofs.Common.{◌∙◌, ap, arith, refl, sym, pos, ◌+ℤ◌, ◌<ℤ◌, SFits, w32, to_z, of_z, rules}
 use Rattle.std.proofs.lemmas.Int.{to_z-of_z}
 use Rattle.vdb_coord.specs.declared.Coord.{Coord}
 use Rattle.vdb_c.specs.Elements.{place}

@@ -1,0 +1,102 @@
+-- Arrays that calls fill row by row.
+use Rattle.std.proofs.Common.{◌≡◌, ◌<◌, ◌≤◌, ◌≢◌, ◌⊎◌, inl, inr, ℕ, ℤ, zero, suc, ◌+◌, ◌*◌, refl, sym, ◌∙◌, ap, subst, Bool, true, ◌||◌, IsTrue, List, length, set, get_or, arith, add-one, get_or-set_same, get_or-set_other, Option, Some}
+use Rattle.std.specs.Prelude.{nat_eq}
+use Rattle.std.proofs.lemmas.Bool.{cases_eq}
+use Rattle.std.proofs.lemmas.Bool.Decides.{nat_tests}
+use Rattle.std.proofs.lemmas.List.{length-set}
+use Rattle.std.proofs.Math.Nat.{mul-suc}
+use Rattle.std.proofs.lemmas.Nat.{mul-le}
+use Rattle.vdb_coord.specs.declared.Coord.{Coord}
+use Rattle.vdb_c.specs.Leaves.{HasRows, HasRun, has_rows, last_before}
+use Rattle.vdb_c.specs.Many.{voxel_at}
+use Rattle.vdb_c.specs.Values.{corner_coord}
+use Rattle.vdb_c.specs.declared.values.Corner.{Corner}
+
+times_more : (size k : ℕ) → size * (k + 1) ≡ size * k + size
+times_more size k = ap (λ (m : ℕ). size * m) (add-one k) ∙ mul-suc size k
+
+module _ {X : Type 0} where
+  -- ---- a run
+
+  pub run_none : (first : ℕ) (run : ℕ → X → Type 0) (xs : List X) → HasRun first 0 run xs xs
+  run_none first run xs = record { len = refl; elements = λ i d l _. absurd (omega (arith, l)); before = λ i d l. refl; after = λ i d l. refl }
+
+  -- an empty array
+  pub run_empty : (first size : ℕ) (run : ℕ → X → Type 0) (xs : List X) → length xs ≡ 0 → HasRun first size run xs xs
+  run_empty first size run xs e = record { len = refl; elements = λ i d _ l. absurd (omega (arith, l, e)); before = λ i d l. refl; after = λ i d l. refl }
+
+  -- one more element
+  module _ (first n : ℕ) (run : ℕ → X → Type 0) (old xs ys : List X) (x : X) (room : first + n < length old) (is : run n x) (stored : ys ≡ set xs (first + n) x) (h : HasRun first n run old xs) where
+    here : first + n < length xs
+    here = omega (arith, room, h.len)
+
+    at : (i : ℕ) (d : X) → i < n + 1 → first + i < length old → (i ≡ n) ⊎ (i ≢ n) → run i (get_or (set xs (first + n) x) (first + i) d)
+    at i d l lt (inl same) = rw same (subst (run n) (sym (get_or-set_same xs (first + n) x d here)) is)
+    at i d l lt (inr other) = subst (run i) (sym (get_or-set_other xs (first + n) (first + i) x d (λ e. other (omega (arith, e))))) (h.elements i d (omega (arith, l, other)) lt)
+
+    set_next : HasRun first (n + 1) run old (set xs (first + n) x)
+    set_next = record {
+      len = length-set xs (first + n) x ∙ h.len;
+      elements = λ i d l lt. at i d l lt (cases_eq i n);
+      before = λ i d l. get_or-set_other xs (first + n) i x d (λ e. absurd (omega (arith, e, l))) ∙ h.before i d l;
+      after = λ i d l. get_or-set_other xs (first + n) i x d (λ e. absurd (omega (arith, e, l))) ∙ h.after i d (omega (arith, l));
+    }
+
+    pub run_next : HasRun first (n + 1) run old ys
+    run_next = subst (HasRun first (n + 1) run old) (sym stored) set_next
+
+  pub run_as : (first size : ℕ) (run to : ℕ → X → Type 0) (xs ys : List X) → ((i : ℕ) (x : X) → i < size → run i x → to i x) → HasRun first size run xs ys → HasRun first size to xs ys
+  run_as first size run to xs ys f h = record { len = h.len; elements = λ i d l lt. f i (get_or ys (first + i) d) l (h.elements i d l lt); before = h.before; after = h.after }
+
+  -- ---- rows
+
+  pub rows_none : (size : ℕ) (row : ℕ → ℕ → X → Type 0) (xs : List X) → HasRows size 0 row xs xs
+  rows_none size row xs = record { len = refl; rows = λ k i d l _ _. absurd (omega (arith, l)); others = λ i d l. refl }
+
+  pub rows_as : (size n : ℕ) (row to : ℕ → ℕ → X → Type 0) (xs ys : List X) → ((k i : ℕ) (x : X) → k < n → row k i x → to k i x) → HasRows size n row xs ys → HasRows size n to xs ys
+  rows_as size n row to xs ys f h = record { len = h.len; rows = λ k i d l m lt. f k i (get_or ys (size * k + i) d) l (h.rows k i d l m lt); others = h.others }
+
+  -- one more row
+  module _ (size n : ℕ) (row : ℕ → ℕ → X → Type 0) (xs ys zs : List X) (h : HasRows size n row xs ys) (last : HasRun (size * n) size (row n) ys zs) where
+    in_earlier : (k i : ℕ) → k < n → i < size → size * k + i < size * n
+    in_earlier k i l m =
+        let fits : size * (k + 1) ≤ size * n = mul-le size (k + 1) size n (omega arith) (omega (arith, l)) in
+        let more = times_more size k in omega (arith, fits, more, m)
+
+    row_at : (k i : ℕ) (d : X) → k < n + 1 → i < size → size * k + i < length xs → (k ≡ n) ⊎ (k ≢ n) → row k i (get_or zs (size * k + i) d)
+    row_at k i d l m lt (inl same) = rw same (last.elements i d m (let e : size * k ≡ size * n = ap (λ (j : ℕ). size * j) same in omega (arith, lt, e, h.len)))
+    row_at k i d l m lt (inr other) =
+        let below : k < n = omega (arith, l, other) in
+        subst (row k i) (sym (last.before (size * k + i) d (in_earlier k i below m))) (h.rows k i d below m lt)
+
+    pub rows_next : HasRows size (n + 1) row xs zs
+    rows_next = record {
+      len = last.len ∙ h.len;
+      rows = λ k i d l m lt. row_at k i d l m lt (cases_eq k n);
+      others = λ i d l. let more = times_more size n in last.after i d (omega (arith, l, more)) ∙ h.others i d (omega (arith, l, more));
+    }
+
+-- ---- the leaves in an array
+
+pub voxel_other : (at : List Corner) (k : ℕ) (c : Corner) (j : ℕ) → j ≢ k → voxel_at (set at k c) j ≡ voxel_at at j
+voxel_other at k c j other = ap corner_coord (get_or-set_other at k j c _ other)
+
+pub voxel_set : (at : List Corner) (k : ℕ) (c : Corner) → k < length at → voxel_at (set at k c) k ≡ corner_coord c
+voxel_set at k c l = ap corner_coord (get_or-set_same at k c _ l)
+
+pub last_other : (after : Option Coord) (at : List Corner) (k : ℕ) (c : Corner) (j : ℕ) → j ≤ k → last_before after (set at k c) j ≡ last_before after at j
+last_other after at k c zero h = refl
+last_other after at k c (suc j) h = ap Some (voxel_other at k c j (λ e. absurd (omega (arith, h, e))))
+
+pub last_next : (after : Option Coord) (at : List Corner) (k : ℕ) → last_before after at (k + 1) ≡ Some (voxel_at at k)
+last_next after at k = ap (last_before after at) (add-one k)
+
+-- the row of a leaf lies in its array
+pub row_room : (size count len k : ℕ) → IsTrue (has_rows size count len) → k < count → 0 < len → size * k + size ≤ len
+row_room size count len k h l some =
+    let full : len ≡ size * count = full_of h in
+    let fits : size * (k + 1) ≤ size * count = mul-le size (k + 1) size count (omega arith) (omega (arith, l)) in
+    let more = times_more size k in omega (arith, fits, more, full)
+  where
+    full_of : (nat_eq len 0 || nat_eq len (size * count)) ≡ true → len ≡ size * count
+    full_of h = grind (arith, nat_tests)
