@@ -366,6 +366,13 @@ void vdb_view_free(vdb_view *view);
 /* Returns the value and the state of a voxel, from the root. */
 int32_t vdb_view_get(vdb_view *view, int32_t x, int32_t y, int32_t z, int64_t *value, int32_t *active);
 
+/* Write the values and the states of many voxels, or of a box, to arrays, as vdb_grid_get_many and vdb_grid_read_box do. VDB_RANGE: as
+ * these say. */
+int32_t vdb_view_get_many(vdb_view *view, const vdb_coord *at, size_t count, int64_t *values, size_t values_len, uint8_t *states,
+                          size_t states_len);
+int32_t vdb_view_read_box(vdb_view *view, const vdb_box *box, const vdb_strides *strides, int64_t *values, size_t values_len,
+                          uint8_t *states, size_t states_len);
+
 /* ---- A scene -------------------------------------------------------------------------------------------------------- */
 
 /* A name, a key or a text is an array of bytes and its length. No 0 ends it. VDB_NAME: a name or a key has another form than

@@ -556,6 +556,18 @@ public:
         return {value, active != 0};
     }
 
+    // Reads many voxels, or a box, as a Grid does.
+    void get_many(Span<const Coord> at, Span<int64_t> values, Span<uint8_t> states = {})
+    {
+        check(vdb_view_get_many(&view_, detail::data_of(at), at.size(), detail::data_of(values), values.size(), detail::data_of(states),
+                                states.size()));
+    }
+    void read_box(const Box &box, Span<int64_t> values, Span<uint8_t> states = {}) { read_box(box, strides_of(box), values, states); }
+    void read_box(const Box &box, const Strides &strides, Span<int64_t> values, Span<uint8_t> states = {})
+    {
+        check(vdb_view_read_box(&view_, &box, &strides, detail::data_of(values), values.size(), detail::data_of(states), states.size()));
+    }
+
 private:
     View() = default;
 

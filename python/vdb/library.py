@@ -99,6 +99,8 @@ ARGUMENTS = {
     "vdb_view_copy": (VIEW, GRID),
     "vdb_view_free": (VIEW,),
     "vdb_view_get": (VIEW, *PLACE, I64, I32),
+    "vdb_view_get_many": (VIEW, COORD, c_size_t, I64, c_size_t, BUFFER, c_size_t),
+    "vdb_view_read_box": (VIEW, *DENSE),
     "vdb_scene_new": (SCENE,),
     "vdb_scene_free": (SCENE,),
     "vdb_scene_load": (SCENE, BUFFER, c_size_t),

@@ -281,6 +281,13 @@ static void views()
         thread.join();
     CHECK(wrong == (std::array<int, 4>{}));
     vdb::View moved = std::move(view);
+    std::vector<int64_t> values(2), dense(8);
+    std::vector<uint8_t> states(2, 7);
+    moved.get_many(std::vector<vdb::Coord>{{17, 1, -5}, {34, 2, -10}}, values, states);
+    CHECK(values == std::vector<int64_t>({1, 2}) && states == std::vector<uint8_t>({0, 1}));
+    moved.read_box({{16, 1, -6}, {17, 2, -5}}, dense);
+    CHECK(dense == std::vector<int64_t>({3, 3, 3, 3, 3, 1, 3, 3}));
+    CHECK(code_of([&] { moved.read_box({{16, 1, -6}, {17, 2, -4}}, dense); }) == VDB_RANGE);
     vdb::Grid copied = moved.copy();
     copied.set({17, 1, -5}, 8);
     CHECK(copied.get({17, 1, -5}).value == 8 && copied.count() == 51);

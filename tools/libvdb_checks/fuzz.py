@@ -382,7 +382,7 @@ class Session:
         slot, number = self.grid(), self.chance.randrange(VIEWS)
         grid, shown = self.maps[slot], self.view_maps[number]
         handle, refusals = self.views[number], [] if shown else [EMPTY]
-        form = self.chance.choice(["new", "share", "copy", "free", *["get"] * 6])
+        form = self.chance.choice(["new", "share", "copy", "free", *["get"] * 4, *["many"] * 3])
 
         def commit():
             if form == "new":
@@ -403,6 +403,15 @@ class Session:
             return Step("vdb_view_copy", [handle, self.grids[slot]], (), refusals, commit, None, [slot])
         if form == "free":
             return Step("vdb_view_free", [handle], (), (), commit)
+        if form == "many":
+            at = [self.place() for _ in range(self.chance.choice([1, 2, 5]))]
+            coord, count = self.header.types["vdb_coord"], len(at)
+            values, states = (c_int64 * count)(), (c_uint8 * count)()
+            coords = (coord * count)(*(coord(*self.voxel(it)) for it in at))
+            length = count + 1 if self.rarely() else count
+            results = lambda: [tuple(shown.get(it)[0] for it in at), tuple(int(shown.get(it)[1]) for it in at)]  # noqa: E731
+            refusals = [*refusals, RANGE] if length != count else refusals
+            return Step("vdb_view_get_many", [handle, coords, count, values, length, states, count], [values, states], refusals, commit, results)
         at, value, on = self.place(), c_int64(77), c_int32(77)
         results = lambda: [shown.get(at)[0], int(shown.get(at)[1])]  # noqa: E731
         return Step("vdb_view_get", [handle, *self.voxel(at), byref(value), byref(on)], [value, on], refusals, commit, results)
