@@ -406,9 +406,9 @@ class Session:
         if form == "many":
             at = [self.place() for _ in range(self.chance.choice([1, 2, 5]))]
             coord, count = self.header.types["vdb_coord"], len(at)
-            values, states = (c_int64 * count)(), (c_uint8 * count)()
-            coords = (coord * count)(*(coord(*self.voxel(it)) for it in at))
             length = count + 1 if self.rarely() else count
+            values, states = (c_int64 * length)(), (c_uint8 * count)()
+            coords = (coord * count)(*(coord(*self.voxel(it)) for it in at))
             results = lambda: [tuple(shown.get(it)[0] for it in at), tuple(int(shown.get(it)[1]) for it in at)]  # noqa: E731
             refusals = [*refusals, RANGE] if length != count else refusals
             return Step("vdb_view_get_many", [handle, coords, count, values, length, states, count], [values, states], refusals, commit, results)
