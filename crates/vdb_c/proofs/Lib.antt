@@ -10,4 +10,7 @@ pub mod Laid
 pub mod PartsRead
 pub mod BoxReads
 pub mod LeafRows
+pub mod Ranks
+pub mod BoxFields
 pub mod LeafCopies
+pub mod UniformBoxes

@@ -11,4 +11,6 @@ pub mod Many
 pub mod Elements
 pub mod BoxVoxels
 pub mod BoxArrays
+pub mod BoxWrites
 pub mod Leaves
+pub mod Uniform
