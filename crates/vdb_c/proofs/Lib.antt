@@ -12,4 +12,7 @@ pub mod PartsRead
 pub mod BoxReads
 pub mod ManyWrites
 pub mod LeafRows
+pub mod Ranks
+pub mod BoxFields
 pub mod LeafCopies
+pub mod UniformBoxes

@@ -13,4 +13,6 @@ pub mod BoxVoxels
 pub mod BoxArrays
 pub mod HeldView
 pub mod Views
+pub mod BoxWrites
 pub mod Leaves
+pub mod Uniform
