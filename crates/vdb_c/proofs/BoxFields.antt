@@ -98,11 +98,11 @@ module _ (p : Coord) (w : Write Scalar) (old new : AnyGrid) where
       let same : grid_field new ≡ grid_field old = h.0.0 in
       let obeys : ObeysLimit scalar_eq vdb (grid_root_limit old) (write p w (grid_field new)) (Err refusal) = subst (λ (f : Field Scalar). ObeysLimit scalar_eq vdb (grid_root_limit old) (write p w f) (Err refusal)) (sym same) h.0.1 in
       let here : IsRefused p (Some w) new code = (
-            refusal,
-            is,
-            (
-              (refl, subst (λ (n : ℕ). ObeysLimit scalar_eq vdb n (write p w (grid_field new)) (Err refusal)) (sym limit) obeys),
-              subst (λ (f : Field Scalar). write_takes_memory f p w ≡ false → IsOk (Err refusal)) (sym same) h.1,
-            ),
-          ) in
+        refusal,
+        is,
+        (
+          (refl, subst (λ (n : ℕ). ObeysLimit scalar_eq vdb n (write p w (grid_field new)) (Err refusal)) (sym limit) obeys),
+          subst (λ (f : Field Scalar). write_takes_memory f p w ≡ false → IsOk {T = Unit {0}} (Err refusal)) (sym same) h.1,
+        ),
+      ) in
       subst (λ (o : Option (Write Scalar)). IsRefused p o new code) (sym given) here

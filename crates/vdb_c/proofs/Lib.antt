@@ -15,4 +15,3 @@ pub mod LeafRows
 pub mod Ranks
 pub mod BoxFields
 pub mod LeafCopies
-pub mod UniformBoxes

@@ -170,7 +170,7 @@ module _ (b : Box) (p : Coord) (inside : IsTrue (is_inside b p)) where
         coord (p.x +ℤ pos 1) b.min.y b.min.z,
         next_along_x b p inside end_z end_y x,
         along_x gx (int_gap b.min.x (p.x +ℤ pos 1)) gy (int_gap b.min.y b.min.y) gz (int_gap b.min.z b.min.z) ey ez (gap_next b.min.x p.x at.0.0)
-        (gap_end b.min.y b.max.y p.y at.1.0 at.1.1 end_y) (gap_end b.min.z b.max.z p.z at.2.0 at.2.1 end_z) (gap_self b.min.y) (gap_self b.min.z),
+            (gap_end b.min.y b.max.y p.y at.1.0 at.1.1 end_y) (gap_end b.min.z b.max.z p.z at.2.0 at.2.1 end_z) (gap_self b.min.y) (gap_self b.min.z),
       )
 
   steps : (n : Coord) → IsNextVoxel b p (Some n) → Steps

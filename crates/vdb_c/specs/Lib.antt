@@ -15,4 +15,3 @@ pub mod HeldView
 pub mod Views
 pub mod BoxWrites
 pub mod Leaves
-pub mod Uniform

@@ -14,7 +14,7 @@
 //! - `pairs`: calls that combine two grids.
 //! - `scene_files`, `scene_grids`, `scene_moves`: calls on a scene and on its grids.
 //! - `leaf_rows`, `leaves`: calls on the leaves of a grid.
-//! - `reports`, `found`, `uniform`: calls that report on a grid.
+//! - `reports`, `found`: calls that report on a grid.
 //! - `views`: calls on a grid that several threads read.
 #![tactic(auto)]
 
@@ -42,7 +42,6 @@ mod reports;
 mod scene_files;
 mod scene_grids;
 mod scene_moves;
-mod uniform;
 mod values;
 mod view;
 mod views;

@@ -1,4 +1,5 @@
-use Rattle.std.proofs.Common.{◌≡◌, ◌∙◌, ◌+◌, refl, sym, ap, arith, inl, inr, ℕ, Some}
+use Rattle.std.proofs.Common.{◌≡◌, ◌∙◌, ◌+◌, refl, sym, ap, arith, inl, inr, rules, w32, ℕ, SFits, Some}
+use Rattle.std.proofs.lemmas.Int.{to_z-of_z}
 use Rattle.vdb_coord.proofs.Boxes.{both}
 use Rattle.vdb_coord.proofs.Walk.{min_inside}
 use Rattle.vdb_tree.specs.Field.{Field, write}
@@ -7,7 +8,7 @@ use Rattle.vdb_scene.specs.Grids.{grid_field}
 use Rattle.vdb_scene.specs.Scalars.{kind_of}
 use Rattle.vdb_scene.specs.declared.scalar.Scalar.{Scalar}
 use Rattle.vdb_c.specs.BoxWrites.{WritesBoxUpTo, change_of_voxel}
-use Rattle.vdb_c.specs.Calls.{grid_kind}
+use Rattle.vdb_c.specs.Calls.{IsWritten, grid_kind}
 use Rattle.vdb_c.specs.Many.{change_at}
 use Rattle.vdb_c.proofs.BoxFields.{refused, stayed, succeeded, writes_all, writes_next, writes_none}
 use Rattle.vdb_c.proofs.Places.{place_at_most}
@@ -21,8 +22,8 @@ voxels-init c =
     record {
       inside = rw at_min (min_inside b (both _ _ c.min-p.ensures.bounds).0);
       limit = refl;
-      kind = c.kind.ensures;
-      same = sym c.kind.ensures;
+      kind = c.kind-kind.ensures;
+      same = sym c.kind-kind.ensures;
       number = sym (rank_min b c.min-p.result at_min);
       field = writes_none b (change_of_voxel (grid_kind c.args.grid.now) b c.args.strides.now c.args.values.now c.args.states.now) c.args.grid.now 0 refl;
     }
@@ -46,8 +47,8 @@ voxels-preserved c =
     let change = change_of_voxel (grid_kind c.args.grid.now) b c.args.strides.now c.args.values.now c.args.states.now in
     let given : change p ≡ Some w =
     sym (c.in-Some.ensures.write ∙ ap (λ (k : Kind). change_at k c.args.values.now c.args.states.now c.place-index.result) inv.kind ∙ ap (change_at (grid_kind c.args.grid.now) c.args.values.now c.args.states.now) c.place-index.ensures) in
-    let done : grid_field c.write-outcome.new.grid ≡ write p w (grid_field c.voxels.grid) =
-    succeeded p w c.voxels.grid c.write-outcome.new.grid c.write-outcome.result (c.is_err.ensures ∙ c.if-is_err.false) (c.write-outcome.ensures.outcome, c.write-outcome.ensures.memory) in
+    let done : grid_field c.write-outcome.new.self ≡ write p w (grid_field c.voxels.grid) =
+    succeeded p w c.voxels.grid c.write-outcome.new.self c.write-outcome.result (sym c.is_err.ensures.value ∙ c.if-is_err.false) (c.write-outcome.ensures.outcome, c.write-outcome.ensures.memory) in
     record {
       inside = c.in-Some-next_voxel.ensures.next.0;
       limit = c.write-outcome.ensures.limit ∙ inv.limit;
@@ -67,16 +68,16 @@ returns-then-is_err c =
     let change = change_of_voxel (grid_kind c.args.grid.now) b c.args.strides.now c.args.values.now c.args.states.now in
     let given : change p ≡ Some w =
     sym (c.in-Some.ensures.write ∙ ap (λ (k : Kind). change_at k c.args.values.now c.args.states.now c.place-index.result) inv.kind ∙ ap (change_at (grid_kind c.args.grid.now) c.args.values.now c.args.states.now) c.place-index.ensures) in
-    let failed = c.is_err.ensures ∙ c.if-is_err.true in
-    let outcome = (c.write-outcome.ensures.outcome, c.write-outcome.ensures.memory) in (
+    let failed = sym c.is_err.ensures.value ∙ c.if-is_err.true in
+    let fits : SFits w32 c.tree_code.result = search rules in
+    let outcome : IsWritten p w c.voxels.grid c.write-outcome.new.self c.write-outcome.result = (c.write-outcome.ensures.outcome, c.write-outcome.ensures.memory) in (
       c.write-outcome.ensures.limit ∙ inv.limit,
-      inr
-      (
+      inr (
         p,
         inv.inside,
         inv.number,
-        stayed p w c.voxels.grid c.write-outcome.new.grid c.write-outcome.result failed outcome ∙ inv.field,
-        refused p w c.voxels.grid c.write-outcome.new.grid c.write-outcome.result c.tree_code.result failed c.tree_code.ensures c.write-outcome.ensures.limit outcome (change p) given,
+        stayed p w c.voxels.grid c.write-outcome.new.self c.write-outcome.result failed outcome ∙ inv.field,
+        refused p w c.voxels.grid c.write-outcome.new.self c.write-outcome.result _ failed (to_z-of_z w32 c.tree_code.result fits ∙ c.tree_code.ensures) c.write-outcome.ensures.limit outcome (change p) given,
       ),
     )
 
@@ -91,8 +92,8 @@ returns-in-None c =
     let change = change_of_voxel (grid_kind c.args.grid.now) b c.args.strides.now c.args.values.now c.args.states.now in
     let given : change p ≡ Some w =
     sym (c.in-Some.ensures.write ∙ ap (λ (k : Kind). change_at k c.args.values.now c.args.states.now c.place-index.result) inv.kind ∙ ap (change_at (grid_kind c.args.grid.now) c.args.values.now c.args.states.now) c.place-index.ensures) in
-    let done : grid_field c.write-outcome.new.grid ≡ write p w (grid_field c.voxels.grid) =
-    succeeded p w c.voxels.grid c.write-outcome.new.grid c.write-outcome.result (c.is_err.ensures ∙ c.if-is_err.false) (c.write-outcome.ensures.outcome, c.write-outcome.ensures.memory) in
+    let done : grid_field c.write-outcome.new.self ≡ write p w (grid_field c.voxels.grid) =
+    succeeded p w c.voxels.grid c.write-outcome.new.self c.write-outcome.result (sym c.is_err.ensures.value ∙ c.if-is_err.false) (c.write-outcome.ensures.outcome, c.write-outcome.ensures.memory) in
     let size = ap (λ (n : ℕ). n + 1) inv.number ∙ rank_last b p inv.inside c.in-None.ensures.next in (
       c.write-outcome.ensures.limit ∙ inv.limit,
       inl (refl, size, done ∙ ap (write p w) inv.field ∙ writes_next b change f p inv.inside c.voxels.count inv.number w given ∙ writes_all b change f (c.voxels.count + 1) size),
