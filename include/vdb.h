@@ -282,10 +282,6 @@ int32_t vdb_grid_bounds(vdb_grid *grid, vdb_box *box, int32_t *found);
 /* Returns the size of the smallest tree of the grid's cells. */
 int32_t vdb_grid_census(vdb_grid *grid, vdb_census *census);
 
-/* Returns the value and the state of all voxels of a box, if they are equal, and *uniform is 1 then. If two voxels differ, *uniform is 0,
- * and *value and *active stay. VDB_RANGE: corners out of order. */
-int32_t vdb_grid_uniform(vdb_grid *grid, const vdb_box *box, int64_t *value, int32_t *active, int32_t *uniform);
-
 /* Returns the first active voxel of a box in block order, or the first one after *at, and its value. If none is left, *found
  * is 0, and *at and *value stay; otherwise *found is 1. VDB_RANGE: corners out of order.
  *
