@@ -15,13 +15,13 @@
  *
  * Handles. A vdb_grid, vdb_view or vdb_scene is a struct in the memory of the caller. It starts empty: VDB_GRID_INIT,
  * VDB_VIEW_INIT, VDB_SCENE_INIT, or all bytes 0. Calls create a grid, view or scene in it. vdb_grid_free, vdb_view_free and
- * vdb_scene_free end that and leave the handle empty. Never change a field. Never copy a handle by assignment, unless the old one isn't used again:
- * vdb_grid_copy makes a second grid.
+ * vdb_scene_free end that and leave the handle empty. Never change a field. Never copy a handle by assignment, unless the old
+ * one isn't used again: vdb_grid_copy makes a second grid, and vdb_view_share a second view.
  *
  * Codes. Each call except the three that free returns a code. VDB_OK is 0: done. After any other code nothing has changed,
  * neither a grid or scene nor what a pointer argument points to. A call whose
  * comment names no code returns VDB_OK or VDB_EMPTY alone; every call returns VDB_EMPTY if a handle that it needs is empty.
- * vdb_message returns the text of a code. vdb_grid_write_many says what else it may have done.
+ * vdb_message returns the text of a code. vdb_grid_write_many and vdb_grid_write_box say what else they may have done.
  *
  * Values cross as int64_t: 0 or 1 for VDB_BOOL, -2,147,483,648 to 2,147,483,647 for VDB_I32, any for VDB_I64. A state
  * comes out as 1 (active) or 0 (inactive); every state but 0 goes in as active.
@@ -346,6 +346,13 @@ int32_t vdb_grid_write_many(vdb_grid *grid, int32_t accessor, const vdb_coord *a
  * VDB_RANGE: corners out of order, rows that overlap by their strides, or an array that is neither of length 0 nor long enough. */
 int32_t vdb_grid_read_box(vdb_grid *grid, const vdb_box *box, const vdb_strides *strides, int64_t *values, size_t values_len,
                           uint8_t *states, size_t states_len);
+
+/* Sets each voxel of a box to the value and the state of its element, by x, then y, then z, through an accessor or without one.
+ * VDB_RANGE: no such accessor, corners out of order, rows that overlap by their strides, an array that is neither of length 0 nor long
+ * enough, both of length 0, or a value outside the type; then nothing has changed. VDB_ROOT_LIMIT, VDB_MEMORY: the first *written voxels
+ * of the box in that order are set, and the one after them failed. After VDB_OK, *written is the number of voxels of the box. */
+int32_t vdb_grid_write_box(vdb_grid *grid, int32_t accessor, const vdb_box *box, const vdb_strides *strides, const int64_t *values,
+                           size_t values_len, const uint8_t *states, size_t states_len, size_t *written);
 
 /* ---- A view ---------------------------------------------------------------------------------------------------------- */
 

@@ -12,4 +12,6 @@ pub mod PartsRead
 pub mod BoxReads
 pub mod ManyWrites
 pub mod LeafRows
+pub mod Ranks
+pub mod BoxFields
 pub mod LeafCopies

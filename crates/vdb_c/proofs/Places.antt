@@ -16,7 +16,7 @@ use Rattle.vdb_c.specs.declared.elements.Strides.{Strides}
 
 -- ---- along an axis
 
-reached : (low z : ℤ) → IsTrue (int_le low z) → low +ℤ pos (int_gap low z) ≡ z
+pub reached : (low z : ℤ) → IsTrue (int_le low z) → low +ℤ pos (int_gap low z) ≡ z
 reached (pos a) (pos b) h = grind (arith, ints)
 reached (pos a) (negsuc b) h = grind (arith, ints)
 reached (negsuc a) (pos b) h = grind (arith, ints)
@@ -48,10 +48,10 @@ same_gap low high m n h k e =
 
 -- ---- in a box
 
-positive : (n : ℕ) → nat_lt 0 n ≡ true → 0 < n
+pub positive : (n : ℕ) → nat_lt 0 n ≡ true → 0 < n
 positive n h = search (rules, tests)
 
-at_most : (m n : ℕ) → nat_le m n ≡ true → m ≤ n
+pub at_most : (m n : ℕ) → nat_le m n ≡ true → m ≤ n
 at_most m n h = search (rules, tests)
 
 next_gap : (low z : ℤ) → int_le low z ≡ true → int_gap low (z +ℤ pos 1) ≡ int_gap low z + 1
@@ -90,7 +90,7 @@ module _ (b : Box) (s : Strides) where
         sums a a' c c' d d' h k l = omega arith
 
   module _ (apart : IsTrue (are_apart b s)) where
-    strides : (nat_lt 0 s.z ≡ true) × (nat_le (extent b.min.z b.max.z * s.z) s.y ≡ true) × (nat_le (extent b.min.y b.max.y * s.y) s.x ≡ true)
+    pub strides : (nat_lt 0 s.z ≡ true) × (nat_le (extent b.min.z b.max.z * s.z) s.y ≡ true) × (nat_le (extent b.min.y b.max.y * s.y) s.x ≡ true)
     strides = three (nat_lt 0 s.z) (nat_le (extent b.min.z b.max.z * s.z) s.y) (nat_le (extent b.min.y b.max.y * s.y) s.x) apart
 
     -- a row and a plane end before the next one begins

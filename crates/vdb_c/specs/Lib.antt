@@ -13,4 +13,5 @@ pub mod BoxVoxels
 pub mod BoxArrays
 pub mod HeldView
 pub mod Views
+pub mod BoxWrites
 pub mod Leaves

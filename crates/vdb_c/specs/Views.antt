@@ -3,7 +3,7 @@ use Rattle.std.specs.Prelude.{◌≡◌, ◌⊎◌, ℤ, Box, Option, Some, None
 use Rattle.std.specs.Option.{option_and_then, option_map}
 use Rattle.std.specs.Arc.{arc_value}
 use Rattle.vdb_scene.specs.declared.any_grid.AnyGrid.{AnyGrid}
-use Rattle.vdb_c.specs.Codes.{done, empty, memory}
+use Rattle.vdb_c.specs.Codes.{done, empty, memory, out_of_range}
 use Rattle.vdb_c.specs.declared.view.View.{View}
 
 abbrev boxed : {A : Type 0} → Box AnyGrid A → AnyGrid
@@ -23,7 +23,12 @@ abbrev pub IsShared : Option AnyGrid → Option View → Option View → ℤ →
 IsShared None old new code = (code ≡ empty) × (new ≡ old)
 IsShared (Some g) old new code = ((code ≡ done) × (shown new ≡ Some g)) ⊎ ((code ≡ memory) × (new ≡ old))
 
--- a call that reads the grid of a view: an empty view changes nothing
+-- a call that reads the grid of a view, with an argument that is tested: an empty view, or a wrong argument, changes nothing
+abbrev pub OnShownIf : {B : Type 0} → Option AnyGrid → Option B → ℤ → Type 0 → (AnyGrid → B → Type 0) → Type 0
+OnShownIf None b code kept answer = (code ≡ empty) × kept
+OnShownIf (Some g) None code kept answer = (code ≡ out_of_range) × kept
+OnShownIf (Some g) (Some b) code kept answer = (code ≡ done) × answer g b
+
+-- such a call without an argument that could be wrong
 abbrev pub OnShown : Option AnyGrid → ℤ → Type 0 → (AnyGrid → Type 0) → Type 0
-OnShown None code kept answer = (code ≡ empty) × kept
-OnShown (Some g) code kept answer = (code ≡ done) × answer g
+OnShown g code kept answer = OnShownIf g (Some g) code kept (λ h _. answer h)

@@ -66,7 +66,7 @@ pub(crate) fn bounds_beside(
 }
 
 /// Writes the value and the state of each voxel of a box to its elements.
-fn read(
+pub(crate) fn read(
     grid: &AnyGrid,
     bounds: Bounds,
     strides: &Strides,

@@ -1,8 +1,8 @@
 //! The engine for C: grids and scenes behind handles.
 //!
 //! A call takes handles, numbers and arrays, and returns a code. Code 0 means that it is done. With any other code no cell, no limit
-//! and nothing that the call writes to has changed, except that `vdb_grid_write_many` may have written its first voxels. Each call
-//! tests its arguments, so none has a condition; what C owes is stated in the header.
+//! and nothing that the call writes to has changed, except that `vdb_grid_write_many` and `vdb_grid_write_box` may have written their first
+//! voxels. Each call tests its arguments, so none has a condition; what C owes is stated in the header.
 //!
 //! The modules, from below:
 //! - `kept`: the pointer of a box, the one module that makes and follows it.
@@ -10,7 +10,7 @@
 //! - `codes`, `values`: codes, types, values, states, accessors and boxes as they cross.
 //! - `grid_life`, `voxels`, `regions`: calls on one grid.
 //! - `arrays`, `numbers`, `many`: calls on many voxels, given by their coordinates.
-//! - `elements`, `box_voxels`, `reading`, `box_arrays`: calls on a box of voxels as arrays.
+//! - `elements`, `box_voxels`, `reading`, `box_arrays`, `box_writes`: calls on a box of voxels as arrays.
 //! - `pairs`: calls that combine two grids.
 //! - `scene_files`, `scene_grids`, `scene_moves`: calls on a scene and on its grids.
 //! - `leaf_rows`, `leaves`: calls on the leaves of a grid.
@@ -21,6 +21,7 @@
 mod arrays;
 mod box_arrays;
 mod box_voxels;
+mod box_writes;
 mod codes;
 mod elements;
 mod found;

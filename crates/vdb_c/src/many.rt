@@ -50,7 +50,7 @@ pub extern "C" fn vdb_grid_get_many(
 }
 
 /// Returns the accessor of a number, or none for -1: `None` if the number is out of range, or an array doesn't fit the voxels.
-fn accessor_of_many(
+pub(crate) fn accessor_of_many(
     number: i32,
     count: usize,
     values: usize,
@@ -106,7 +106,7 @@ fn probe(grid: &mut AnyGrid, accessor: Option<usize>, at: Coord, steps: &mut Ste
 }
 
 /// Writes the value and the state of each voxel to arrays that fit the voxels.
-fn read_cells(
+pub(crate) fn read_cells(
     grid: &AnyGrid,
     at: &[Corner],
     values: &mut [i64],

@@ -1,15 +1,21 @@
 //! Calls on views: a grid that several threads read, each through a handle of its own.
-ghost use Rattle.std.specs.Prelude.{◌≡◌, None};
-ghost use Rattle.vdb_coord.specs.Space.{coord};
+ghost use Rattle.std.specs.Prelude.{◌≡◌, None, length, negsuc};
+ghost use Rattle.vdb_coord.specs.Space.{coord, is_inside};
 ghost use Rattle.vdb_scene.specs.Grids.{grid_field};
+ghost use Rattle.vdb_c.specs.BoxArrays.{box_beside};
 ghost use Rattle.vdb_c.specs.Calls.{IsCopied};
+ghost use Rattle.vdb_c.specs.Elements.{IsLaid};
+ghost use Rattle.vdb_c.specs.Many.{IsReadAt, accessor_beside, byte_at, number_at};
 ghost use Rattle.vdb_c.specs.Values.{state_number as number_of_state, value_number as number_of_value};
-ghost use Rattle.vdb_c.specs.Views.{IsShared, IsShown, OnShown, shown};
+ghost use Rattle.vdb_c.specs.Views.{IsShared, IsShown, OnShown, OnShownIf, shown};
 
-use crate::codes::{DONE, EMPTY, MEMORY};
+use crate::box_arrays::{bounds_beside, read};
+use crate::codes::{DONE, EMPTY, MEMORY, OUT_OF_RANGE};
+use crate::elements::Strides;
 use crate::handles::GridHandle;
 use crate::held_view::ViewHandle;
-use crate::values::{state_number, value_number};
+use crate::many::{accessor_of_many, read_cells};
+use crate::values::{Corner, Corners, state_number, value_number};
 use crate::view::View;
 use std::alloc::Global;
 use std::sync::Arc;
@@ -133,6 +139,65 @@ pub extern "C" fn vdb_view_get(
             DONE
         }
         None => EMPTY,
+    };
+    handle.view.put(alloc, view);
+    code
+}
+
+/// Writes the value and the state of each voxel of `at` to `values` and `states`, by a path that it keeps from voxel to voxel.
+#[unsafe(no_mangle)]
+pub extern "C" fn vdb_view_get_many(
+    alloc: Global,
+    handle: &mut ViewHandle,
+    at: &[Corner],
+    values: &mut [i64],
+    states: &mut [u8],
+) -> i32
+    ensures same { handle.new.view.held ≡ handle.old.view.held }
+    ensures read { OnShownIf (shown handle.old.view.held) (accessor_beside (negsuc 0) (length at.now) (length values.old) (length states.old)) result ((values.new ≡ values.old) × (states.new ≡ states.old)) (λ g _.
+        IsReadAt (number_at (grid_field g)) at.now values.old values.new × IsReadAt (byte_at (grid_field g)) at.now states.old states.new) }
+{
+    let Some(view) = handle.view.take(alloc) else {
+        return EMPTY;
+    };
+    let fits = accessor_of_many(-1, at.len(), values.len(), states.len()).is_some();
+    let code = match &view.grid {
+        None => EMPTY,
+        Some(_) if !fits => OUT_OF_RANGE,
+        Some(grid) => {
+            read_cells(grid, at, values, states, &mut handle.steps);
+            DONE
+        }
+    };
+    handle.view.put(alloc, view);
+    code
+}
+
+/// Writes the value and the state of each voxel of a box to its elements of `values` and `states`, as `vdb_grid_read_box` does.
+#[unsafe(no_mangle)]
+pub extern "C" fn vdb_view_read_box(
+    alloc: Global,
+    handle: &mut ViewHandle,
+    corners: &Corners,
+    strides: &Strides,
+    values: &mut [i64],
+    states: &mut [u8],
+) -> i32
+    ensures same { handle.new.view.held ≡ handle.old.view.held }
+    ensures read { OnShownIf (shown handle.old.view.held) (box_beside corners.now strides.now (length values.old) (length states.old)) result ((values.new ≡ values.old) × (states.new ≡ states.old)) (λ g box.
+        IsLaid box strides.now (is_inside box) (number_at (grid_field g)) values.old values.new × IsLaid box strides.now (is_inside box) (byte_at (grid_field g)) states.old states.new) }
+{
+    let Some(view) = handle.view.take(alloc) else {
+        return EMPTY;
+    };
+    let bounds = bounds_beside(corners, strides, values.len(), states.len());
+    let code = match (&view.grid, bounds) {
+        (None, _) => EMPTY,
+        (Some(_), None) => OUT_OF_RANGE,
+        (Some(grid), Some(bounds)) => {
+            read(grid, bounds, strides, values, states, &mut handle.steps);
+            DONE
+        }
     };
     handle.view.put(alloc, view);
     code

@@ -1,0 +1,40 @@
+use Rattle.std.proofs.Common.{◌≡◌, ◌⊎◌, inl, inr, sym, ap, ◌∙◌, subst, not, ℕ, IsTrue}
+use Rattle.std.specs.Prelude.{IsSome}
+use Rattle.vdb_coord.specs.declared.Coord.{Coord}
+use Rattle.vdb_coord.proofs.Boxes.{both}
+use Rattle.vdb_coord.proofs.Walk.{min_inside}
+use Rattle.vdb_c.specs.BoxWrites.{change_of_voxel}
+use Rattle.vdb_c.specs.Many.{change_at}
+use Rattle.vdb_c.proofs.NextVoxels.{none, up_to_min}
+use Rattle.vdb_c.proofs.box_writes.missing_voxel.Goals as goal
+
+pub voxels-init : goal.voxels-init
+voxels-init c =
+    let at_min = c.min-p.ensures.corner in
+    record {
+      inside = rw at_min (min_inside c.args.bounds (both _ _ c.min-p.ensures.bounds).0);
+      given = λ q i h. let never : IsTrue (none q) = (up_to_min c.args.bounds c.min-p.result at_min).all q i h in absurd cc;
+    }
+
+pub voxels-preserved : goal.voxels-preserved
+voxels-preserved c =
+    let inv = c.voxels.invariant in
+    let all = change_at c.args.kind c.args.values.now c.args.states.now in
+    let here : IsSome (change_of_voxel c.args.kind c.args.bounds c.args.strides.now c.args.values.now c.args.states.now c.voxels.p) = subst IsSome (c.change_at.ensures.write ∙ ap all c.place-index.ensures) (c.is_none.ensures ∙ ap not c.if-is_none.false) in
+    record {
+      inside = c.in-Some.ensures.next.0;
+      given = λ q i h. elim (c.in-Some.ensures.next.2 q i h) [
+        | inl k ↦ inv.given q i k
+        | inr e ↦ subst (λ (r : Coord). IsSome (change_of_voxel c.args.kind c.args.bounds c.args.strides.now c.args.values.now c.args.states.now r)) (sym e) here
+      ];
+    }
+
+pub returns-in-None-clause-none : goal.returns-in-None-clause-none
+returns-in-None-clause-none c = λ _ q i.
+    let inv = c.voxels.invariant in
+    let all = change_at c.args.kind c.args.values.now c.args.states.now in
+    let here : IsSome (change_of_voxel c.args.kind c.args.bounds c.args.strides.now c.args.values.now c.args.states.now c.voxels.p) = subst IsSome (c.change_at.ensures.write ∙ ap all c.place-index.ensures) (c.is_none.ensures ∙ ap not c.if-is_none.false) in
+    elim (c.in-None.ensures.next q i) [
+      | inl k ↦ inv.given q i k
+      | inr e ↦ subst (λ (r : Coord). IsSome (change_of_voxel c.args.kind c.args.bounds c.args.strides.now c.args.values.now c.args.states.now r)) (sym e) here
+    ]

@@ -1,0 +1,196 @@
+//! A box of voxels written from arrays.
+ghost use Rattle.std.specs.Prelude.{◌≡◌, ◌+◌, ◌<◌, ◌^◌, ◌⊎◌, ℕ, IfSome, IsSome, IsTrue, None, Some, length};
+ghost use Rattle.vdb_coord.specs.Space.{is_inside};
+ghost use Rattle.vdb_coord.specs.declared.Coord.{Coord};
+ghost use Rattle.vdb_c.specs.BoxWrites.{WritesBox, WritesBoxUpTo, box_written, change_of_voxel};
+ghost use Rattle.vdb_c.specs.Calls.{IsWriteFor, OnHeld, OnValid, grid_kind};
+ghost use Rattle.vdb_c.specs.Elements.{are_apart as are_voxels_apart, place as place_of};
+ghost use Rattle.vdb_c.specs.Many.{change_at as change_of_element};
+ghost use Rattle.vdb_c.specs.Values.{accessor_of};
+
+use crate::box_arrays::bounds_beside;
+use crate::box_voxels::next_voxel;
+use crate::codes::{DONE, EMPTY, OUT_OF_RANGE, tree_code};
+use crate::elements::{Strides, place};
+use crate::handles::GridHandle;
+use crate::values::{Corners, accessor, is_byte_on, value};
+use std::alloc::Global;
+use vdb_coord::{Bounds, Coord};
+use vdb_pool::Steps;
+use vdb_scene::{ACCESSORS, AnyGrid, Scalar};
+use vdb_tree::Write;
+use vdb_value::Kind;
+
+/// Sets each voxel of a box to its elements of `values` and `states`, by x, then y, then z, through an accessor or, with -1, from the
+/// root. If one of the arrays is empty, the voxels keep that part. It writes to `written` how many voxels it has set.
+#[unsafe(no_mangle)]
+pub extern "C" fn vdb_grid_write_box(
+    alloc: Global,
+    handle: &mut GridHandle,
+    number: i32,
+    corners: &Corners,
+    strides: &Strides,
+    values: &[i64],
+    states: &[u8],
+    written: &mut usize,
+) -> i32
+    ensures { OnHeld handle.old.grid.held handle.new.grid.held result (written.new ≡ written.old) (λ g h.
+        OnValid (accessor_of number) g h result (written.new ≡ written.old) (λ _.
+        OnValid (box_written corners.now strides.now (length values.now) (length states.now)) g h result (written.new ≡ written.old) (λ box.
+        WritesBox box (change_of_voxel (grid_kind g) box strides.now values.now states.now) g h written.old written.new result))) }
+{
+    let Some(mut grid) = handle.grid.take(alloc) else {
+        return EMPTY;
+    };
+    let Some(accessor) = accessor(number) else {
+        handle.grid.put(alloc, grid);
+        return OUT_OF_RANGE;
+    };
+    let mut code = OUT_OF_RANGE;
+    if let Some(bounds) = bounds_written(corners, strides, values.len(), states.len()) {
+        code = write_box(
+            &mut grid,
+            accessor,
+            bounds,
+            strides,
+            values,
+            states,
+            written,
+            &mut handle.steps,
+        );
+    }
+    handle.grid.put(alloc, grid);
+    code
+}
+
+/// Returns the box of two corners: `None` if they aren't in order, an array doesn't fit the box, or both are empty.
+fn bounds_written(
+    corners: &Corners,
+    strides: &Strides,
+    values: usize,
+    states: usize,
+) -> Option<Bounds>
+    ensures value { result ≡ box_written corners.now strides.now values states }
+    ensures apart { IfSome result (λ box. IsTrue (are_voxels_apart box strides.now)) }
+    ensures reach { IfSome result (λ box. place_of box strides.now box.max + 1 < 2 ^ 64) }
+{
+    if values == 0 && states == 0 {
+        return None;
+    }
+    let bounds = bounds_beside(corners, strides, values, states)?;
+    Some(bounds)
+}
+
+/// Writes the voxels of a box, if each has a write.
+#[tactic(auto, unfolding(crate::specs::BoxWrites::WritesBox))]
+fn write_box(
+    grid: &mut AnyGrid,
+    accessor: Option<usize>,
+    bounds: Bounds,
+    strides: &Strides,
+    values: &[i64],
+    states: &[u8],
+    written: &mut usize,
+    steps: &mut Steps,
+) -> i32
+    requires within { (k : ℕ) → accessor ≡ Some k → k < ACCESSORS }
+    requires apart { IsTrue (are_voxels_apart bounds strides.now) }
+    requires reach { place_of bounds strides.now bounds.max + 1 < 2 ^ 64 }
+    ensures { WritesBox bounds (change_of_voxel (grid_kind grid.old) bounds strides.now values.now states.now) grid.old grid.new written.old written.new result }
+{
+    match missing_voxel(grid.kind(), bounds, strides, values, states) {
+        Some(_) => OUT_OF_RANGE,
+        None => write_voxels(
+            grid, accessor, bounds, strides, values, states, written, steps,
+        ),
+    }
+}
+
+/// Returns the first voxel of a box without a write, if any: its value isn't one of the type, or no array has an element for it.
+fn missing_voxel(
+    kind: Kind,
+    bounds: Bounds,
+    strides: &Strides,
+    values: &[i64],
+    states: &[u8],
+) -> Option<Coord>
+    requires { place_of bounds strides.now bounds.max + 1 < 2 ^ 64 }
+    ensures some { IfSome result (λ p. IsTrue (is_inside bounds p) × (change_of_voxel kind bounds strides.now values.now states.now p ≡ None)) }
+    ensures none { result ≡ None → (p : Coord) → IsTrue (is_inside bounds p) → IsSome (change_of_voxel kind bounds strides.now values.now states.now p) }
+{
+    let mut p = bounds.min();
+    'voxels: loop {
+        let index = place(bounds, strides, p);
+        if change_at(kind, values, states, index).is_none() {
+            return Some(p);
+        }
+        match next_voxel(bounds, p) {
+            Some(next) => p = next,
+            None => return None,
+        }
+    }
+}
+
+/// Returns the write of one element of each array: `None` if neither has it or the type doesn't have the value.
+fn change_at(kind: Kind, values: &[i64], states: &[u8], k: usize) -> Option<Write<Scalar>>
+    ensures write { result ≡ change_of_element kind values.now states.now k }
+    ensures fits { IsWriteFor kind result }
+{
+    let Some(number) = values.get(k).copied() else {
+        return match states.get(k).copied() {
+            Some(byte) => Some(Write::State(is_byte_on(byte))),
+            None => None,
+        };
+    };
+    let value = value(kind, number)?;
+    match states.get(k).copied() {
+        Some(byte) => Some(if is_byte_on(byte) {
+            Write::On(value)
+        } else {
+            Write::Off(value)
+        }),
+        None => Some(Write::Value(value)),
+    }
+}
+
+/// Writes the voxels of a box one after another until a write fails.
+#[tactic(auto, unfolding(crate::specs::BoxWrites::WritesBoxUpTo))]
+fn write_voxels(
+    grid: &mut AnyGrid,
+    accessor: Option<usize>,
+    bounds: Bounds,
+    strides: &Strides,
+    values: &[i64],
+    states: &[u8],
+    written: &mut usize,
+    steps: &mut Steps,
+) -> i32
+    requires within { (k : ℕ) → accessor ≡ Some k → k < ACCESSORS }
+    requires apart { IsTrue (are_voxels_apart bounds strides.now) }
+    requires reach { place_of bounds strides.now bounds.max + 1 < 2 ^ 64 }
+    requires given { (p : Coord) → IsTrue (is_inside bounds p) → IsSome (change_of_voxel (grid_kind grid.old) bounds strides.now values.now states.now p) }
+    ensures { WritesBoxUpTo bounds (change_of_voxel (grid_kind grid.old) bounds strides.now values.now states.now) grid.old grid.new written.new result }
+{
+    let kind = grid.kind();
+    let mut p = bounds.min();
+    let mut count = 0;
+    'voxels: loop {
+        let index = place(bounds, strides, p);
+        let Some(change) = change_at(kind, values, states, index) else {
+            unreachable!()
+        };
+        let outcome = grid.write(accessor, p, change, steps);
+        if outcome.is_err() {
+            *written = count;
+            return tree_code(outcome);
+        }
+        count += 1;
+        match next_voxel(bounds, p) {
+            Some(next) => p = next,
+            None => {
+                *written = count;
+                return DONE;
+            }
+        }
+    }
+}
