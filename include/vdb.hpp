@@ -260,6 +260,23 @@ public:
         check(vdb_grid_read_box(&grid_, &box, &strides, detail::data_of(values), values.size(), detail::data_of(states), states.size()));
     }
 
+    // Sets each voxel of a box from arrays: z fastest and without gaps, unless there are strides. Of an array that is left out,
+    // the voxels keep their own part. If a write throws other than VDB_RANGE, the first *written voxels are set.
+    void write_box(const Box &box, Span<const int64_t> values, Span<const uint8_t> states = {}, std::size_t *written = nullptr)
+    {
+        write_box(box, strides_of(box), values, states, written);
+    }
+    void write_box(const Box &box, const Strides &strides, Span<const int64_t> values, Span<const uint8_t> states = {},
+                   std::size_t *written = nullptr)
+    {
+        std::size_t done = 0;
+        const int32_t code = vdb_grid_write_box(&grid_, VDB_NO_ACCESSOR, &box, &strides, detail::data_of(values), values.size(),
+                                                detail::data_of(states), states.size(), &done);
+        if (written)
+            *written = done;
+        check(code);
+    }
+
     void unite(Grid &other) { combine(vdb_grid_unite, other); }
     void subtract(Grid &other) { combine(vdb_grid_subtract, other); }
     void intersect(Grid &other) { combine(vdb_grid_intersect, other); }

@@ -63,6 +63,13 @@ public:
         check(vdb_grid_read_box(&grid, &box, &strides, values.data(), values.size(), &none, 0));
     }
 
+    void write_box(const std::vector<std::int64_t>& values, const std::vector<std::uint8_t>& states) {
+        const vdb_box box = {{0, 0, 0}, {SIDE - 1, SIDE - 1, SIDE - 1}};
+        const vdb_strides strides = {SIDE * SIDE, SIDE, 1};
+        std::size_t written;
+        check(vdb_grid_write_box(&grid, 0, &box, &strides, values.data(), values.size(), states.data(), states.size(), &written));
+    }
+
     Sum leaves() {
         constexpr std::size_t MOST = 16;
         vdb_coord at[MOST];
@@ -124,6 +131,12 @@ public:
     void read_box(std::vector<std::int64_t>& values) {
         openvdb::tools::Dense<std::int64_t> dense(openvdb::CoordBBox(0, 0, 0, SIDE - 1, SIDE - 1, SIDE - 1), values.data());
         openvdb::tools::copyToDense(tree, dense, true);
+    }
+
+    void write_box(const std::vector<std::int64_t>& values, const std::vector<std::uint8_t>&) {
+        const openvdb::CoordBBox box(0, 0, 0, SIDE - 1, SIDE - 1, SIDE - 1);
+        const openvdb::tools::Dense<std::int64_t> dense(box, const_cast<std::int64_t*>(values.data()));
+        openvdb::tools::copyFromDense(dense, tree, std::int64_t(0), true);
     }
 
     Sum leaves() {
@@ -199,6 +212,12 @@ void run() {
         report("C, a box to an array", "voxel", VOXELS, [&] { grid.read_box(read); });
         for (std::int64_t value : read) boxed += value;
         report("C, leaves with their values summed", "leaf", LEAVES, [&] { leaves += grid.leaves(); });
+    }
+    {
+        Grid grid;
+        report("C, an array to a box, new leaves", "voxel", VOXELS, [&] { grid.write_box(values, states); });
+        report("C, an array to a box", "voxel", VOXELS, [&] { grid.write_box(values, states); });
+        leaves += grid.leaves();
     }
     {
         Grid grid;

@@ -127,7 +127,30 @@ class Many(unittest.TestCase):
         self.assertEqual((grid.count, grid[0, 0, 0]), (1, (1, True)))
 
 
-class Leaves(unittest.TestCase):
+class Boxes(unittest.TestCase):
+    def test_set_box(self):
+        dice = np.random.default_rng(3)
+        for kind, dtype in DTYPES.items():
+            values = dice.integers(0, 2, (9, 5, 17)).astype(dtype)
+            active = dice.integers(0, 2, values.shape).astype(np.bool_)
+            for states in (active, True, False):
+                with self.subTest(kind=kind, states=type(states)):
+                    grid = vdb.Grid(kind)
+                    grid.set_box((-4, 3, -9), values[:, ::-1], states)
+                    read, on = grid.to_array(((-4, 3, -9), (4, 7, 7)))
+                    np.testing.assert_array_equal(read, values[:, ::-1])
+                    np.testing.assert_array_equal(on, np.broadcast_to(states, values.shape))
+
+    def test_errors(self):
+        grid = vdb.Grid("i32")
+        with self.assertRaises(vdb.RangeError):
+            grid.set_box((0, 0, 0), np.array([[[1, MOST + 1]]]))
+        with self.assertRaises(ValueError):
+            grid.set_box((MOST, 0, 0), np.zeros((2, 1, 1), np.int32))
+        with self.assertRaises(ValueError):
+            grid.set_box((0, 0, 0), np.zeros((2, 1, 1), np.int32), np.zeros((1, 1, 1), np.bool_))
+        self.assertEqual(grid.count, 0)
+
     def test_leaves(self):
         grid = vdb.Grid("i32", 5)
         self.assertEqual((grid.leaf_count, list(grid.leaves())), (0, []))

@@ -78,6 +78,14 @@ def read_leaves(grid: GridHandle, dtype: np.dtype) -> "Iterator[tuple[tuple[int,
         call, after = LIBRARY.vdb_grid_next_leaves, found[-1]
 
 
+def write_box(grid: GridHandle, low: Sequence[int], values: np.ndarray, active: "np.ndarray | bool") -> None:
+    """Sets the values and the states of a box of voxels, slab by slab."""
+    states = np.broadcast_to(np.asarray(active, np.bool_), values.shape)
+    for first, end in slabs(low[0], values.shape) if values.size else ():
+        part, on = np.ascontiguousarray(values[first:end], np.int64), np.ascontiguousarray(states[first:end])
+        LIBRARY.vdb_grid_write_box(grid, ACCESSOR, *arguments(low, first, part, on), byref(c_size_t()))
+
+
 def arguments(low: Sequence[int], first: int, numbers: np.ndarray, states: np.ndarray) -> tuple:
     """Returns the arguments of a call on a slab: its box, its strides and its arrays, which are contiguous."""
     side_x, side_y, side_z = numbers.shape

@@ -7,9 +7,9 @@ from typing import Callable, Iterator, Mapping, NamedTuple, Optional, Sequence, 
 import numpy as np
 from vdbs.errors import ArrayTooLargeError
 from vdbs.forms import COORDINATE_SPAN, DEFAULT_LIMIT, KIND_NUMBERS, KINDS, Kind, Metadata, check_limit
-from vdbs.grid import MAX_BYTES, _coordinate, check_bounds
+from vdbs.grid import MAX_BYTES, _coordinate, check_bounds, checked_arrays
 
-from .arrays import box_of, read_array, read_leaves, read_voxels, write_array, write_voxels
+from .arrays import box_of, read_array, read_leaves, read_voxels, write_array, write_box, write_voxels
 from .library import LIBRARY, Box, CensusCounts, Coord, Count, GridHandle
 
 __all__ = ["Grid", "Census"]
@@ -35,9 +35,9 @@ class Census(NamedTuple):
 class Grid:
     """A sparse grid of booleans or integers over all coordinates of 32 bits.
 
-    Bounds are two corners, both included. A call that fails, other than `set_many`, leaves every voxel as it was. It raises MemoryError
-    if an allocation fails, RootLimitError if the grid would need more root blocks than its limit, and ValueError or TypeError for wrong
-    arguments.
+    Bounds are two corners, both included. A call that fails, other than `set_many` and `set_box`, leaves every voxel as it was. It
+    raises MemoryError if an allocation fails, RootLimitError if the grid would need more root blocks than its limit, and ValueError or
+    TypeError for wrong arguments.
     """
 
     def __init__(
@@ -191,6 +191,16 @@ class Grid:
         the failed one are set.
         """
         write_voxels(self._handle, at, values, active)
+
+    def set_box(self, origin: Coordinate, values: np.ndarray, active: "np.ndarray | bool" = True) -> None:
+        """Sets the values and the states of a box of voxels: that at `origin` to `values[0, 0, 0]`, and so on along x, y and z. `active`
+        is one state for all voxels, or a bool array of the same shape.
+
+        Raises RangeError if a value is outside the type, or the box outside the coordinates. After MemoryError or RootLimitError the
+        voxels before the failed one are set, by x, then y, then z.
+        """
+        _, values, states, low = checked_arrays(values, None if isinstance(active, bool) else active, origin)
+        write_box(self._handle, low, values, active if states is None else states)
 
     def fill(self, bounds: Sequence[Sequence[int]], value: Value, active: bool = True) -> None:
         """Sets the value and the state of each voxel of a box."""

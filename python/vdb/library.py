@@ -94,6 +94,7 @@ ARGUMENTS = {
     "vdb_grid_get_many": (GRID, c_int32, COORD, c_size_t, I64, c_size_t, BUFFER, c_size_t),
     "vdb_grid_write_many": (GRID, c_int32, COORD, c_size_t, I64, c_size_t, BUFFER, c_size_t, SIZE),
     "vdb_grid_read_box": (GRID, *DENSE),
+    "vdb_grid_write_box": (GRID, c_int32, *DENSE, SIZE),
     "vdb_view_new": (GRID, VIEW),
     "vdb_view_share": (VIEW, VIEW),
     "vdb_view_copy": (VIEW, GRID),

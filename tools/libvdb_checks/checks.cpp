@@ -240,6 +240,14 @@ static void arrays()
     CHECK(spread[0] == 9 && spread[11] == 9 && spread[20] == 101 && spread[23] == 102 && spread[28] == 104 && spread[31] == 105 && spread[1] == -1);
     CHECK(code_of([&] { grid.read_box(box, vdb::Strides{6, 2, 1}, spread); }) == VDB_RANGE);
     CHECK(code_of([&] { grid.read_box(box, few); }) == VDB_RANGE);
+
+    vdb::Grid boxed(vdb::Kind::i32, 9);
+    boxed.write_box(box, dense, {}, &written);
+    boxed.read_box(box, same);
+    CHECK(written == 12 && same == dense && boxed.count() == 0);
+    boxed.write_box(box, vdb::Strides{6, 3, 1}, {}, std::vector<uint8_t>(12, 1));
+    CHECK(boxed.count() == 12 && boxed.get({7, 8, 8}).value == 111);
+    CHECK(code_of([&] { boxed.write_box(box, few); }) == VDB_RANGE && code_of([&] { boxed.write_box(box, {}); }) == VDB_RANGE);
 }
 
 static void leaves()

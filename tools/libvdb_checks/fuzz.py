@@ -318,6 +318,10 @@ class Session:
         wrong = wrong or any(0 < it < count for it in lengths)
         strides = self.type("vdb_strides", step_x, step_y, step_z)
         arguments = [argument, byref(strides), values, lengths[0], states, lengths[1]]
+        if self.rarely(0.5):
+            accessor = self.accessor()
+            wrong = wrong or not -1 <= accessor < 8
+            return self.writes("vdb_grid_write_box", [accessor, *arguments], wrong, slot, places, elements, (values, states, lengths))
 
         def results(grid):
             found = [list(values) if lengths[0] else [], list(states) if lengths[1] else []]
