@@ -9,7 +9,7 @@
 //
 // A call that fails throws: MemoryError if an allocation failed, std::system_error if a file can't be read or written,
 // otherwise Error with the code of vdb.h. Every grid and every scene is then as it was,
-// unless the call is set_many.
+// unless the call is set_many or write_box.
 //
 // Owners move and don't copy; copy() makes a second grid. A moved-from grid or scene is empty, and its calls throw VDB_EMPTY.
 // No call may run on an owner that another thread uses. Look-ups change an owner too, so they aren't const. To read one grid in
