@@ -155,11 +155,11 @@ class Boxes(unittest.TestCase):
         grid = vdb.Grid("i32", 5)
         self.assertEqual((grid.leaf_count, list(grid.leaves())), (0, []))
         for number in range(600):
-            grid[number * 8 - 2400, -3, 2**31 - 1] = number, number % 3 == 0
+            grid[number * 8 - 2400, -3, 2**31 - 1] = number + 6, number % 3 == 0
         self.assertEqual(grid.leaf_count, 600)
         for number, (at, values, states) in enumerate(sorted(grid.leaves(), key=lambda leaf: leaf[0])):
             self.assertEqual((at, values.shape, values.dtype), ((number * 8 - 2400, -8, 2**31 - 8), (8, 8, 8), np.int32))
-            self.assertEqual((values[0, 5, 7], states[0, 5, 7], values.sum()), (number, number % 3 == 0, 511 * 5 + number))
+            self.assertEqual((values[0, 5, 7], states[0, 5, 7], values.sum()), (number + 6, number % 3 == 0, 511 * 5 + number + 6))
             self.assertEqual(states.sum(), number % 3 == 0)
 
 
