@@ -19,9 +19,9 @@
  * one isn't used again: vdb_grid_copy makes a second grid, and vdb_view_share a second view.
  *
  * Codes. Each call except the three that free returns a code. VDB_OK is 0: done. After any other code nothing has changed,
- * neither a grid or scene nor what a pointer argument points to. A call whose
- * comment names no code returns VDB_OK or VDB_EMPTY alone; every call returns VDB_EMPTY if a handle that it needs is empty.
- * vdb_message returns the text of a code. vdb_grid_write_many and vdb_grid_write_box say what else they may have done.
+ * neither a grid, view or scene nor what a pointer argument points to; vdb_grid_write_many and vdb_grid_write_box say what
+ * else they may have done. A call whose comment names no code returns VDB_OK or VDB_EMPTY alone; every call returns
+ * VDB_EMPTY if a handle that it needs is empty. vdb_message returns the text of a code.
  *
  * Values cross as int64_t: 0 or 1 for VDB_BOOL, -2,147,483,648 to 2,147,483,647 for VDB_I32, any for VDB_I64. A state
  * comes out as 1 (active) or 0 (inactive); every state but 0 goes in as active.

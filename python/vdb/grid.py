@@ -196,8 +196,9 @@ class Grid:
         """Sets the values and the states of a box of voxels: that at `origin` to `values[0, 0, 0]`, and so on along x, y and z. `active`
         is one state for all voxels, or a bool array of the same shape.
 
-        Raises RangeError if a value is outside the type, or the box outside the coordinates. After MemoryError or RootLimitError the
-        voxels before the failed one are set, by x, then y, then z.
+        Raises ValueError, before anything changes, if the box reaches past the coordinates or the shapes differ. The arrays cross in
+        slabs along x. After RangeError (a value outside the type) slabs before the one with that value are set; after MemoryError or
+        RootLimitError the voxels before the failed one are, by x, then y, then z.
         """
         _, values, states, low = checked_arrays(values, None if isinstance(active, bool) else active, origin)
         write_box(self._handle, low, values, active if states is None else states)
