@@ -15,6 +15,7 @@ use std::cmp::Ordering;
 
 impl Coord {
     /// Returns the number of the level's block that holds this coordinate, counted in blocks along each axis.
+    #[inline(always)]
     pub fn block_number_in(self, bits: Bits, level: Level) -> Coord
         requires { AreBits bits }
         ensures number { result ≡ block_number bits level self }
@@ -29,6 +30,7 @@ impl Coord {
 
     /// Returns the key of this coordinate in a root table: the number of its upper extent, counted in upper extents
     /// along each axis (OpenVDB's `RootNode::coordToKey`, which counts voxels).
+    #[inline(always)]
     pub fn key_in(self, bits: Bits) -> Coord
         requires { AreBits bits }
         ensures key { result ≡ key bits self }
@@ -39,6 +41,7 @@ impl Coord {
 
     /// Returns the index of the entry that holds this coordinate, in the level's node around it (OpenVDB's
     /// `coordToOffset`).
+    #[inline(always)]
     pub fn offset_in(self, bits: Bits, level: Level) -> u16
         requires { AreBits bits }
         ensures value { result ≡ offset bits level self }
@@ -77,6 +80,7 @@ impl Coord {
     }
 
     /// Returns the least coordinate of the block around this one that spans `2 ^ bits` voxels along each axis.
+    #[inline(always)]
     fn first_in(self, bits: u32) -> Coord
         requires { bits ≤ 15 }
         ensures { let first : ℤ → ℤ = λ x. first_of bits (number_at bits x) in result ≡ coord (first self.x) (first self.y) (first self.z) }
@@ -88,6 +92,7 @@ impl Coord {
     }
 
     /// Returns the greatest coordinate of the block around this one that spans `2 ^ bits` voxels along each axis.
+    #[inline(always)]
     fn last_in(self, bits: u32) -> Coord
         requires { bits ≤ 15 }
         ensures { let last : ℤ → ℤ = λ x. last_of bits (number_at bits x) in result ≡ coord (last self.x) (last self.y) (last self.z) }
@@ -99,6 +104,7 @@ impl Coord {
     }
 
     /// Returns the level's block that holds this coordinate (OpenVDB's `getNodeBoundingBox`).
+    #[inline(always)]
     pub fn block_in(self, bits: Bits, level: Level) -> Bounds
         requires { AreBits bits }
         ensures { result ≡ block_around bits level self }

@@ -96,6 +96,7 @@ impl<const W: usize> Mask<W> {
     }
 
     /// Sets each value from index `from` on and below `to` to `on`; every other stays.
+    #[inline(always)]
     pub fn set_run(&mut self, from: u32, to: u32, on: bool)
         requires few_words { W ≤ 512 }
         requires in_order { from ≤ to }

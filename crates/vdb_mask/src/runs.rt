@@ -4,6 +4,7 @@ ghost use Rattle.std.specs.Prelude.{◌≡◌, ◌*◌, ◌<◌, ◌≤◌, ℕ,
 ghost use Rattle.vdb_mask.specs.Mask.{bits_of, has_bit, is_on};
 
 /// Returns the word with each bit from `low` on and below `high` set to `on`.
+#[inline(always)]
 fn with_run(word: u64, low: u32, high: u32, on: bool) -> u64
     requires begins { low < 64 }
     requires some { 0 < high }
@@ -17,6 +18,7 @@ fn with_run(word: u64, low: u32, high: u32, on: bool) -> u64
 }
 
 /// Sets each bit of the row from index `from` on and below `to` to `on`.
+#[inline(always)]
 pub fn put(words: &mut [u64], from: u32, to: u32, on: bool)
     requires few_words { length words.old ≤ 512 }
     requires in_order { from ≤ to }

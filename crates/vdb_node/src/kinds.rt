@@ -1,6 +1,6 @@
 //! The rows of the three types of values.
 
-ghost use Rattle.std.specs.Prelude.{◌≡◌, ◌≢◌, ◌*◌, ◌<◌, ◌≤◌, ◌↔◌, ℕ, pos, length, slice_index_or, false, if◌then◌else◌, Some, None, IsTrue};
+ghost use Rattle.std.specs.Prelude.{◌≡◌, ◌≢◌, ◌+◌, ◌*◌, ◌<◌, ◌≤◌, ◌↔◌, ℕ, pos, length, slice_index_or, false, if◌then◌else◌, Some, None, IsTrue};
 ghost use Rattle.std.proofs.Common.{arith};
 ghost use Rattle.vdb_mask.specs.Mask.{is_on};
 ghost use Rattle.vdb_node.specs.Slots.{slot_of_i32, slot_of_i64};
@@ -43,6 +43,7 @@ fn next_other<V: Voxel>(values: &[V], value: V, from: u32, to: u32) -> u32
 }
 
 /// Sets the value at each index from `from` on and below `to`; every other stays.
+#[inline(always)]
 fn set_each<V: Voxel>(values: &mut [V], from: u32, to: u32, value: V)
     requires in_order { from ≤ to }
     requires within { to ≤ length values.old }
@@ -84,6 +85,18 @@ fn copy_run<V: Voxel>(values: &mut [V], others: &[V], from: u32, to: u32)
         → slice_index_or values.new i d ≡ slice_index_or values.old i d }
 {
     values[from as usize..to as usize].copy_from_slice(&others[from as usize..to as usize]);
+}
+
+/// Copies the values from `from` on to the slice, which has a place for each.
+fn copy_out<V: Voxel>(values: &[V], from: u32, into: &mut [V])
+    requires { from + length into.old ≤ length values.now }
+    ensures length { length into.new ≡ length into.old }
+    ensures values { (i : ℕ) (d e : V) → i < length into.old
+        → slice_index_or into.new i d ≡ slice_index_or values.now (from + i) e }
+{
+    let from = from as usize;
+    let count = into.len();
+    into.copy_from_slice(&values[from..from + count]);
 }
 
 /// Combines each of the first `count` values with the other at its index; those past them stay.
@@ -243,6 +256,12 @@ impl<const W: usize> Stored<W> for bool {
         row.test(i)
     }
 
+    fn copy_values(row: &Mask<W>, from: u32, into: &mut [bool]) {
+        'values: for i in 0..into.len() {
+            into[i] = row.test(from + i as u32);
+        }
+    }
+
     fn set_value(row: &mut Mask<W>, i: u32, value: bool) {
         put(row, i, value);
     }
@@ -328,6 +347,10 @@ impl<const W: usize> Stored<W> for i32 {
         row[i as usize]
     }
 
+    fn copy_values(row: &Vec<i32>, from: u32, into: &mut [i32]) {
+        copy_out(row, from, into);
+    }
+
     fn set_value(row: &mut Vec<i32>, i: u32, value: i32) {
         row[i as usize] = value;
     }
@@ -394,6 +417,10 @@ impl<const W: usize> Stored<W> for i64 {
 
     fn value_at(row: &Vec<i64>, i: u32) -> i64 {
         row[i as usize]
+    }
+
+    fn copy_values(row: &Vec<i64>, from: u32, into: &mut [i64]) {
+        copy_out(row, from, into);
     }
 
     fn set_value(row: &mut Vec<i64>, i: u32, value: i64) {

@@ -1,6 +1,6 @@
 //! Leaves.
 
-ghost use Rattle.std.specs.Prelude.{◌≡◌, ◌*◌, ◌<◌, ◌≤◌, ◌↔◌, ℕ, false, if◌then◌else◌, length, IfOk, IsOk, IsTrue, Some};
+ghost use Rattle.std.specs.Prelude.{◌≡◌, ◌+◌, ◌*◌, ◌<◌, ◌≤◌, ◌↔◌, ℕ, false, if◌then◌else◌, length, slice_index_or, IfOk, IsOk, IsTrue, Some};
 ghost use Rattle.vdb_mask.specs.Mask.{is_on, on_count};
 ghost use Rattle.vdb_node.specs.Blends.{AreBlended, LacksBlend};
 ghost use Rattle.vdb_node.specs.Bounds.{IsActiveBox};
@@ -88,6 +88,7 @@ impl<V: Stored<W>, const LOG2: u32, const W: usize> Leaf<V, LOG2, W> {
     }
 
     /// Returns the cell at index `i`. `LeafNode::getValue(i)` with `LeafNode::isValueOn(i)`.
+    #[inline(always)]
     pub fn entry(&self, i: u32) -> Cell<V>
         requires { i < entry_count LOG2 }
         ensures { (d : Cell V) → cell_in d self.now i ≡ result }
@@ -98,8 +99,20 @@ impl<V: Stored<W>, const LOG2: u32, const W: usize> Leaf<V, LOG2, W> {
         }
     }
 
+    /// Copies the values from index `from` on to a slice of as many places as it has.
+    /// `LeafNode::buffer().data()`, of which it copies a run.
+    pub fn copy_values(&self, from: u32, into: &mut [V])
+        requires { from + length into.old ≤ entry_count LOG2 }
+        ensures length { length into.new ≡ length into.old }
+        ensures values { (d : Cell V) (i : ℕ) (e : V) → i < length into.old
+            → slice_index_or into.new i e ≡ (cell_in d self.now (from + i)).value }
+    {
+        V::copy_values(&self.row, from, into);
+    }
+
     /// Sets the cell at index `i`; every other stays. `LeafNode::setValueOn(i, value)` and
     /// `LeafNode::setValueOff(i, value)`.
+    #[inline(always)]
     pub fn set(&mut self, i: u32, cell: Cell<V>)
         requires { i < entry_count LOG2 }
         ensures { SetsVoxel self.old self.new i cell }
@@ -110,6 +123,7 @@ impl<V: Stored<W>, const LOG2: u32, const W: usize> Leaf<V, LOG2, W> {
 
     /// Sets the cell at each index from `from` on and below `to`; every other stays. What
     /// `LeafNode::fill(bbox, value, active)` does with each row of its box.
+    #[inline(always)]
     pub fn fill_run(&mut self, from: u32, to: u32, cell: Cell<V>)
         requires in_order { from ≤ to }
         requires within { to ≤ entry_count LOG2 }

@@ -56,6 +56,14 @@ pub trait Stored<const W: usize>: Voxel {
         requires { i < row_len row.now }
         ensures { value_in row.now i ≡ result };
 
+    /// Copies the values from index `from` on to a slice of as many places as it has.
+    fn copy_values(row: &Self::Row, from: u32, into: &mut [Self])
+        requires few_words { W ≤ 512 }
+        requires within { from + length into.old ≤ row_len row.now }
+        ensures length { length into.new ≡ length into.old }
+        ensures values { (i : ℕ) (d : Self) → i < length into.old
+            → slice_index_or into.new i d ≡ value_in row.now (from + i) };
+
     /// Sets the value at an index; every other stays.
     fn set_value(row: &mut Self::Row, i: u32, value: Self)
         requires { i < row_len row.old }

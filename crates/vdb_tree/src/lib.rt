@@ -60,6 +60,7 @@ pub enum Write<V> {
 
 impl<V: Copy> Write<V> {
     /// Returns what the write makes of a cell.
+    #[inline(always)]
     pub fn applied(self, cell: Cell<V>) -> Cell<V>
         ensures { result ≡ written self cell }
     {

@@ -146,6 +146,7 @@ impl<
     }
 
     /// Returns the bits of its nodes.
+    #[inline(always)]
     pub fn bits(&self) -> Bits
         ensures value { result ≡ bits_of U L F }
         ensures configured { AreBits result }
@@ -159,6 +160,7 @@ impl<
     }
 
     /// Returns the key of p's upper extent.
+    #[inline(always)]
     pub(crate) fn key(&self, p: Coord) -> Coord
         ensures value { result ≡ key (bits_of U L F) p }
         ensures within { IsTrue (is_inside (block_numbers (bits_of U L F) Upper) (key (bits_of U L F) p)) }
@@ -167,6 +169,7 @@ impl<
     }
 
     /// Returns the index of p's entry in the level's node around it.
+    #[inline(always)]
     pub(crate) fn offset(&self, p: Coord, level: Level) -> u32
         ensures value { result ≡ offset (bits_of U L F) level p }
         ensures within { result < entry_count (node_bits (bits_of U L F) level) }
@@ -175,6 +178,7 @@ impl<
     }
 
     /// Returns whether the level's block around p lies within the box.
+    #[inline(always)]
     pub(crate) fn is_covered(&self, bounds: Bounds, level: Level, p: Coord) -> bool
         ensures { IsTrue result ↔ IsCovered (bits_of U L F) bounds level p }
     {
@@ -182,6 +186,7 @@ impl<
     }
 
     /// Returns the coordinates that the box has in the level's block around p, which is one of them.
+    #[inline(always)]
     pub(crate) fn part(&self, bounds: Bounds, level: Level, p: Coord) -> Bounds
         requires { IsTrue (is_inside bounds p) }
         ensures within { (q : Coord) → IsTrue (is_inside result q) → IsTrue (is_inside bounds q) × (block_number (bits_of U L F) level q ≡ block_number (bits_of U L F) level p) }

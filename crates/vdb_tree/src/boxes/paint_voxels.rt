@@ -12,6 +12,7 @@ use vdb_node::{Leaf, Stored};
 use vdb_value::Cell;
 
 /// Gives the leaf's voxels at the coordinates of `part` this cell, one run at a time. `part` lies in one leaf extent.
+#[inline(always)]
 pub(crate) fn paint_voxels<V: Stored<W>, const F: u32, const W: usize>(
     leaf: &mut Leaf<V, F, W>,
     bits: Bits,
@@ -39,6 +40,7 @@ pub(crate) fn paint_voxels<V: Stored<W>, const F: u32, const W: usize>(
 /// Returns the last coordinate of the run from p: within p's leaf extent, `part` has each coordinate from p up to it. The run
 /// ends with p's row along z. If `part` spans the extent in z, the run ends with p's plane of x. If `part` spans y too, it ends
 /// with `part`.
+#[inline(always)]
 fn run_end(bits: Bits, part: Bounds, p: Coord) -> Coord
     requires configured { AreBits bits }
     requires inside { IsTrue (is_inside part p) }
@@ -62,6 +64,7 @@ fn run_end(bits: Bits, part: Bounds, p: Coord) -> Coord
 }
 
 /// Returns whether the numbers from `low` to `high` are those from `first` to `last`.
+#[inline(always)]
 fn is_range(low: i32, high: i32, first: i32, last: i32) -> bool
     ensures { IsTrue result → (low ≡ first) × (high ≡ last) }
 {
@@ -69,6 +72,7 @@ fn is_range(low: i32, high: i32, first: i32, last: i32) -> bool
 }
 
 /// Returns the coordinate of the box after p, by z, then by y, then by x, or `None` if p is the last.
+#[inline(always)]
 fn next_voxel(part: Bounds, p: Coord) -> Option<Coord>
     requires { IsTrue (is_inside part p) }
     ensures next { IsNextBlock voxels leaf_level part p result }
