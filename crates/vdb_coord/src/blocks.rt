@@ -72,6 +72,7 @@ impl Coord {
     }
 
     /// Returns `offset_in` of a standard VDB tree.
+    #[inline(always)]
     pub fn offset(self, level: Level) -> u16
         ensures value { result ≡ offset vdb level self }
         ensures bound { result < entries vdb level }

@@ -70,6 +70,7 @@ impl<const W: usize> Mask<W> {
     }
 
     /// Returns whether the value at index `i` is on. `NodeMask::isOn(i)`.
+    #[inline(always)]
     pub fn test(&self, i: u32) -> bool
         requires { i < 64 * W }
         ensures { is_on self.now i ≡ result }
@@ -78,6 +79,7 @@ impl<const W: usize> Mask<W> {
     }
 
     /// Turns the value at index `i` on; every other stays. `NodeMask::setOn(i)`.
+    #[inline(always)]
     pub fn set(&mut self, i: u32)
         requires { i < 64 * W }
         ensures here { is_on self.new i ≡ true }
@@ -110,6 +112,7 @@ impl<const W: usize> Mask<W> {
 
     /// Returns the 64 values from index `64 * k` on, the first in the lowest bit: what
     /// `NodeMask::getWord(k)` gives to read.
+    #[inline(always)]
     pub fn word(&self, k: u32) -> u64
         requires { k < W }
         ensures { (j : ℕ) → j < 64 → is_on self.now (64 * k + j) ≡ has_bit result j }

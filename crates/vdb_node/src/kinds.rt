@@ -252,6 +252,7 @@ impl<const W: usize> Stored<W> for bool {
         row.copy_from(other);
     }
 
+    #[inline(always)]
     fn value_at(row: &Mask<W>, i: u32) -> bool {
         row.test(i)
     }
@@ -262,6 +263,7 @@ impl<const W: usize> Stored<W> for bool {
         }
     }
 
+    #[inline(always)]
     fn set_value(row: &mut Mask<W>, i: u32, value: bool) {
         put(row, i, value);
     }
@@ -343,6 +345,7 @@ impl<const W: usize> Stored<W> for i32 {
         copy_first(row, other, count);
     }
 
+    #[inline(always)]
     fn value_at(row: &Vec<i32>, i: u32) -> i32 {
         row[i as usize]
     }
@@ -351,6 +354,7 @@ impl<const W: usize> Stored<W> for i32 {
         copy_out(row, from, into);
     }
 
+    #[inline(always)]
     fn set_value(row: &mut Vec<i32>, i: u32, value: i32) {
         row[i as usize] = value;
     }
@@ -415,6 +419,7 @@ impl<const W: usize> Stored<W> for i64 {
         copy_first(row, other, count);
     }
 
+    #[inline(always)]
     fn value_at(row: &Vec<i64>, i: u32) -> i64 {
         row[i as usize]
     }
@@ -423,6 +428,7 @@ impl<const W: usize> Stored<W> for i64 {
         copy_out(row, from, into);
     }
 
+    #[inline(always)]
     fn set_value(row: &mut Vec<i64>, i: u32, value: i64) {
         row[i as usize] = value;
     }

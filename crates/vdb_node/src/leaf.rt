@@ -150,6 +150,7 @@ impl<V: Stored<W>, const LOG2: u32, const W: usize> Leaf<V, LOG2, W> {
 
     /// Returns the states of the entries, which are off past the last one. The leaf has a value for
     /// each entry. `LeafNode::getValueMask()`.
+    #[inline(always)]
     pub fn states(&self) -> &Mask<W>
         ensures same { result.now ≡ self.now.states }
         ensures values { length self.now.values ≡ entry_count LOG2 }

@@ -15,6 +15,7 @@ pub fn entries(bits: u32) -> u32
 }
 
 /// Sets the value at index `i` to `on`; every other stays.
+#[inline(always)]
 pub fn put<const W: usize>(mask: &mut Mask<W>, i: u32, on: bool)
     requires { i < 64 * W }
     ensures here { is_on mask.new i ≡ on }

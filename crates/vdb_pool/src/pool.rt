@@ -121,6 +121,7 @@ impl<T> Pool<T> {
     }
 
     /// Returns the node at a live place, by one visit.
+    #[inline(always)]
     pub fn at(&self, place: Place<T>, steps: &mut Steps) -> &T
         requires { IsLive self.now place }
         ensures node { node_at self.now (place_slot place) ≡ Some result.now }
@@ -131,6 +132,7 @@ impl<T> Pool<T> {
     }
 
     /// Returns the node at a live place for writing, by one visit. Places stay live, and nothing else changes.
+    #[inline(always)]
     pub fn at_mut(&mut self, place: Place<T>, steps: &mut Steps) -> &mut T
         requires { IsLive self.old place }
         ensures* writes_back { sem 𝓛 (lends_node T.row self.entry (place_slot place) result) }

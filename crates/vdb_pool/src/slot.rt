@@ -14,6 +14,7 @@ impl<T> Slot<T> {
     ghost use Rattle.vdb_pool.specs.contracts.slot.Slot.{the_row};
 
     /// Returns the node of a held slot.
+    #[inline(always)]
     pub(crate) fn node(&self) -> &T
         requires { IsSome (node_of self.now) }
         ensures { node_of self.now ≡ Some result.now }
@@ -25,6 +26,7 @@ impl<T> Slot<T> {
     }
 
     /// Returns the node of a held slot, for writing.
+    #[inline(always)]
     pub(crate) fn node_mut(&mut self) -> &mut T
         requires { IsSome (node_of self.old) }
         ensures* writes_back { sem 𝓛 (Lends (the_row T.row) T.row self.entry result Slot.Held) }

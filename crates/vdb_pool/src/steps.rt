@@ -39,6 +39,7 @@ impl Steps {
     }
 
     /// Adds one visit, unless the count is at its greatest value.
+    #[inline(always)]
     pub(crate) fn step(&mut self)
         ensures { self.new ≡ min (self.old + 1) (2 ^ 64 - 1) }
     {

@@ -175,6 +175,7 @@ impl<T> Storage<T> {
     }
 
     /// Returns the item at `index`, whose address is `at`.
+    #[inline(always)]
     pub(crate) fn get(&self, at: Address<T>, index: u32) -> &T
         requires { (at.pointer ≡ get_or self.now.places index null_ptr) × (index < length self.now.items) }
         ensures { result.now ≡ slice_index_or self.now.items index result.now }
@@ -184,6 +185,7 @@ impl<T> Storage<T> {
     }
 
     /// Returns the item at `index`, whose address is `at`, for writing.
+    #[inline(always)]
     pub(crate) fn get_mut(&mut self, at: Address<T>, index: u32) -> &mut T
         requires { (at.pointer ≡ get_or self.old.places index null_ptr) × (index < length self.old.items) }
         ensures* writes_back { sem 𝓛 (lends_item T.row self.entry index result) }
