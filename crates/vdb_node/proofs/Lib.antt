@@ -1,7 +1,6 @@
 pub mod Entries
 pub mod Leaves
 pub mod Listed
-pub mod Rows
 pub mod Sizes
 pub mod ShiftedWords
 pub mod Spans

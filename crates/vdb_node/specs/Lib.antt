@@ -5,3 +5,4 @@ pub mod Entries
 pub mod Leaf
 pub mod Nodes
 pub mod Slots
+pub mod Values

@@ -13,17 +13,20 @@ mod bounds;
 mod internal;
 mod kinds;
 mod leaf;
+mod slices;
 mod slots;
 mod stored;
 #[cfg(test)]
 mod tests;
 mod uniform;
+mod values;
 pub mod words;
 
 pub use bounds::{Span, VoxelBox};
 pub use internal::Internal;
 pub use leaf::Leaf;
 pub use stored::Stored;
+pub use values::Values;
 use vdb_value::Cell;
 
 /// An entry of an internal node or of the root: a child or a tile (OpenVDB's `isChildMaskOn` tells

@@ -12,14 +12,14 @@ use std::alloc::{AllocError, Global};
 use vdb_mask::Mask;
 use vdb_value::{Blend, Voxel};
 
-/// A type of voxel values with the row in which a node keeps them: a vector for the integers, a
+/// A type of voxel values with the row in which a node keeps them: `Values` for the integers, a
 /// mask of `W` words for booleans (OpenVDB's `LeafBuffer<ValueT, LOG2>` and
 /// `LeafBuffer<bool, LOG2>`).
 pub trait Stored<const W: usize>: Voxel {
     /// A row of values.
     type Row: Drop;
 
-    /// The capacity of a row, in values, and the value at an index of a row.
+    /// The capacity of a row, in values, which no call lowers, and the value at an index of a row.
     ghost row_len: { Self.Row → ℕ };
 
     ghost value_in: { Self.Row → ℕ → Self };
@@ -36,10 +36,10 @@ pub trait Stored<const W: usize>: Voxel {
         ensures values { IfOk result (λ row. (i : ℕ) → i < count → value_in row i ≡ self) }
         ensures in_place { Self.KIND ≡ truths → IsOk result };
 
-    /// Returns a row of its own with the same capacity and values; this one stays. Returns an error
+    /// Returns a row of its own with no less capacity and the same values; this one stays. Returns an error
     /// if the memory for them cannot be allocated; booleans take none beyond the row's place.
     fn copied_row(row: &Self::Row, alloc: Global) -> Result<Self::Row, AllocError>
-        ensures capacity { IfOk result (λ copy. row_len copy ≡ row_len row.now) }
+        ensures capacity { IfOk result (λ copy. row_len row.now ≤ row_len copy) }
         ensures values { IfOk result (λ copy. value_in copy ≡ value_in row.now) }
         ensures in_place { Self.KIND ≡ truths → IsOk result };
 
@@ -48,7 +48,7 @@ pub trait Stored<const W: usize>: Voxel {
     fn copy_row(row: &mut Self::Row, other: &Self::Row, count: u32)
         requires within { count ≤ row_len row.old }
         requires source { count ≤ row_len other.now }
-        ensures capacity { row_len row.new ≡ row_len row.old }
+        ensures capacity { row_len row.old ≤ row_len row.new }
         ensures values { (i : ℕ) → i < count → value_in row.new i ≡ value_in other.now i };
 
     /// Returns the value at an index.
@@ -59,7 +59,7 @@ pub trait Stored<const W: usize>: Voxel {
     /// Copies the values from index `from` on to a slice of as many places as it has.
     fn copy_values(row: &Self::Row, from: u32, into: &mut [Self])
         requires few_words { W ≤ 512 }
-        requires within { from + length into.old ≤ row_len row.now }
+        requires within { from + length into.old ≤ 64 * W }
         ensures length { length into.new ≡ length into.old }
         ensures values { (i : ℕ) (d : Self) → i < length into.old
             → slice_index_or into.new i d ≡ value_in row.now (from + i) };
@@ -67,7 +67,7 @@ pub trait Stored<const W: usize>: Voxel {
     /// Sets the value at an index; every other stays.
     fn set_value(row: &mut Self::Row, i: u32, value: Self)
         requires { i < row_len row.old }
-        ensures capacity { row_len row.new ≡ row_len row.old }
+        ensures capacity { row_len row.old ≤ row_len row.new }
         ensures here { value_in row.new i ≡ value }
         ensures others { (j : ℕ) → j ≢ i → value_in row.new j ≡ value_in row.old j };
 
@@ -76,7 +76,7 @@ pub trait Stored<const W: usize>: Voxel {
         requires few_words { W ≤ 512 }
         requires in_order { from ≤ to }
         requires within { to ≤ row_len row.old }
-        ensures capacity { row_len row.new ≡ row_len row.old }
+        ensures capacity { row_len row.old ≤ row_len row.new }
         ensures run { (i : ℕ) → from ≤ i → i < to → value_in row.new i ≡ value }
         ensures before { (i : ℕ) → i < from → value_in row.new i ≡ value_in row.old i }
         ensures after { (i : ℕ) → to ≤ i → value_in row.new i ≡ value_in row.old i };
@@ -105,7 +105,7 @@ pub trait Stored<const W: usize>: Voxel {
     fn blend_rows(row: &mut Self::Row, other: &Self::Row, count: u32, how: Blend) -> bool
         requires capacity { count ≤ row_len row.old }
         requires other_capacity { count ≤ row_len other.now }
-        ensures capacity { row_len row.new ≡ row_len row.old }
+        ensures capacity { row_len row.old ≤ row_len row.new }
         ensures blended { IsTrue result → (i : ℕ) → i < count
             → blended Self.greater Self.lesser Self.sum_of how (value_in row.old i) (value_in other.now i)
             ≡ Some (value_in row.new i) }
@@ -118,7 +118,7 @@ pub trait Stored<const W: usize>: Voxel {
     fn blend_row_with(row: &mut Self::Row, value: Self, count: u32, how: Blend) -> bool
         requires few_words { W ≤ 512 }
         requires capacity { count ≤ row_len row.old }
-        ensures capacity { row_len row.new ≡ row_len row.old }
+        ensures capacity { row_len row.old ≤ row_len row.new }
         ensures blended { IsTrue result → (i : ℕ) → i < count
             → blended Self.greater Self.lesser Self.sum_of how (value_in row.old i) value
             ≡ Some (value_in row.new i) }
@@ -132,7 +132,7 @@ pub trait Stored<const W: usize>: Voxel {
         requires mask_capacity { count ≤ 64 * W }
         requires capacity { count ≤ row_len row.old }
         requires other_capacity { count ≤ row_len other.now }
-        ensures capacity { row_len row.new ≡ row_len row.old }
+        ensures capacity { row_len row.old ≤ row_len row.new }
         ensures taken { (i : ℕ) → i < count → value_in row.new i
             ≡ (if is_on marks.now i then value_in other.now i else value_in row.old i) };
 
@@ -152,7 +152,7 @@ pub trait Stored<const W: usize>: Voxel {
     fn set_slot(row: &mut Self::Row, slots: &mut Vec<u32>, i: u32, slot: u32)
         requires within { i < row_len row.old }
         requires kept { Self.KIND ≡ truths → i < length slots.old.items }
-        ensures capacity { row_len row.new ≡ row_len row.old }
+        ensures capacity { row_len row.old ≤ row_len row.new }
         ensures numbers { length slots.new.items ≡ length slots.old.items }
         ensures here { slot_of (value_in row.new i) (slice_index_or slots.new.items i 0) ≡ slot }
         ensures others { (j : ℕ) → j ≢ i → value_in row.new j ≡ value_in row.old j }

@@ -26,20 +26,36 @@ pub(crate) fn slots_of(bytes: usize) -> u32
     }
 }
 
-/// Returns the chunk of a slot and its index there, by the slots of a chunk. Divisions by a constant are multiplications.
+/// Returns the chunk of a slot and its index there, by the slots of a chunk.
+#[inline(always)]
 fn chunk_and_index(slot: u32, len: u32) -> (u32, u32)
     requires { 0 < len }
     ensures chunk { result.0 ≡ slot / len }
     ensures index { result.1 ≡ slot % len }
 {
-    match len {
-        255 => (slot / 255, slot % 255),
-        85 => (slot / 85, slot % 85),
-        51 => (slot / 51, slot % 51),
-        17 => (slot / 17, slot % 17),
-        5 => (slot / 5, slot % 5),
-        _ => (slot / len, slot % len),
-    }
+    let chunk = quotient(slot, len);
+    (chunk, slot - chunk * len)
+}
+
+/// Returns the quotient of two numbers. For the divisors that a pool has, a multiplication and a shift give it.
+#[inline(always)]
+fn quotient(number: u32, divisor: u32) -> u32
+    requires { 0 < divisor }
+    ensures { result ≡ number / divisor }
+{
+    let number = number as u64;
+    let quotient = match divisor {
+        255 => (number * 2155905153) >> 39,
+        85 => (number * 3233857729) >> 38,
+        51 => (number * 2694881441) >> 37,
+        17 => (number * 4042322161) >> 36,
+        15 => (number * 2290649225) >> 35,
+        5 => (number * 3435973837) >> 34,
+        3 => (number * 2863311531) >> 33,
+        1 => number,
+        _ => number / divisor as u64,
+    };
+    quotient as u32
 }
 
 /// A block of slots, with its address.

@@ -1,12 +1,12 @@
 use Rattle.std.proofs.Common.{◌≡◌, ◌<◌, ◌≤◌, ℕ, get_or}
 use Rattle.std.specs.Prelude.{Some}
-use Rattle.vdb_node.proofs.kinds.blend_each.Given as goal
+use Rattle.vdb_node.proofs.slices.blend_each.Given as goal
 use Rattle.vdb_value.specs.Blends.{blended}
 
 abbrev pub invariant-values : goal.invariant-values
 invariant-values g l =
     record {
-      done : (j : ℕ) (d : g.row.V.Denot) → j < l.i
-          → blended g.V.Voxel.greater g.V.Voxel.lesser g.V.Voxel.sum_of l.how (get_or l.initial.values j d) (get_or l.others j d) ≡ Some (get_or l.values j d);
+      done : (j : ℕ) (d e : g.row.V.Denot) → j < l.i
+          → blended g.V.Voxel.greater g.V.Voxel.lesser g.V.Voxel.sum_of l.how (get_or l.initial.values j d) (get_or l.others j e) ≡ Some (get_or l.values j d);
       rest : (j : ℕ) (d : g.row.V.Denot) → l.i ≤ j → get_or l.values j d ≡ get_or l.initial.values j d;
     }

@@ -1,12 +1,13 @@
 use Rattle.std.proofs.Common.{◌≡◌, ◌<◌, ◌≤◌, ℕ, get_or}
 use Rattle.std.specs.Prelude.{Some}
-use Rattle.vdb_node.proofs.kinds.blend_each_with.Given as goal
+use Rattle.vdb_node.proofs.slices.blend_each_with.Given as goal
 use Rattle.vdb_value.specs.Blends.{blended}
 
 abbrev pub invariant-values : goal.invariant-values
 invariant-values g l =
     record {
-      done : (j : ℕ) (d : g.row.V.Denot) → j < l.i
+      done : (j : ℕ) (d : g.row.V.Denot) → l.from ≤ j → j < l.i
           → blended g.V.Voxel.greater g.V.Voxel.lesser g.V.Voxel.sum_of l.how (get_or l.initial.values j d) l.value ≡ Some (get_or l.values j d);
+      before : (j : ℕ) (d : g.row.V.Denot) → j < l.from → get_or l.values j d ≡ get_or l.initial.values j d;
       rest : (j : ℕ) (d : g.row.V.Denot) → l.i ≤ j → get_or l.values j d ≡ get_or l.initial.values j d;
     }

@@ -1,5 +1,5 @@
 use Rattle.std.proofs.Common.{◌≡◌, ◌<◌, ◌≤◌, ℕ, get_or}
-use Rattle.vdb_node.proofs.kinds.set_each.Given as goal
+use Rattle.vdb_node.proofs.slices.set_each.Given as goal
 
 abbrev pub invariant-values : goal.invariant-values
 invariant-values g l =
