@@ -142,6 +142,7 @@ impl<const W: usize> Stored<W> for i32 {
         row.set(i, value);
     }
 
+    #[inline(always)]
     fn set_run(row: &mut Values<i32>, from: u32, to: u32, value: i32) {
         row.set_run(from, to, value);
     }
@@ -216,6 +217,7 @@ impl<const W: usize> Stored<W> for i64 {
         row.set(i, value);
     }
 
+    #[inline(always)]
     fn set_run(row: &mut Values<i64>, from: u32, to: u32, value: i64) {
         row.set_run(from, to, value);
     }

@@ -144,12 +144,28 @@ impl<V: Voxel> Values<V> {
         ensures before { (i : ℕ) → i < from → value_of self.new i ≡ value_of self.old i }
         ensures after { (i : ℕ) → to ≤ i → value_of self.new i ≡ value_of self.old i }
     {
-        self.write_to(from);
-        if self.first.len() < to as usize {
-            self.first.truncate(from as usize);
+        if self.first.len() == from as usize {
             extend(&mut self.first, to, value);
         } else {
+            if self.first.len() < to as usize {
+                self.write_all();
+            }
             set_each(&mut self.first, from, to, value);
+        }
+    }
+
+    /// Writes every value to its place.
+    #[inline(never)]
+    fn write_all(&mut self)
+        ensures capacity { capacity self.old ≤ capacity self.new }
+        ensures written { capacity self.old ≤ length self.new.first.items }
+        ensures values { (i : ℕ) → value_of self.new i ≡ value_of self.old i }
+    {
+        let all = self.first.capacity();
+        let rest = self.rest;
+        match self.first.resize(all, rest) {
+            Ok(()) => {}
+            Err(_) => unreachable!(),
         }
     }
 
