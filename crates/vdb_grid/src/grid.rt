@@ -119,9 +119,9 @@ impl<V: Stored<512> + Stored<64> + Stored<8>, const K: usize> Grid<V, K> {
         }
     }
 
-    /// Returns the cell of a voxel in the leaf that ends the accessor's path, if that leaf holds the voxel.
+    /// Returns the cell of a voxel in the leaf that ends the accessor's path, if that leaf holds the voxel, by one visit.
     #[inline(always)]
-    fn near_cell(&self, k: usize, p: Coord, steps: &mut Steps) -> Option<Cell<V>>
+    pub fn near_cell(&self, k: usize, p: Coord, steps: &mut Steps) -> Option<Cell<V>>
         requires { k < K }
         ensures answer { is_some result ≡ has_leaf (last self.now.coords k) (path self.now.paths k) p }
         ensures cell { IfSome result (λ cell. cell ≡ (field_of vdb self.now.tree).cell p) }
@@ -132,10 +132,10 @@ impl<V: Stored<512> + Stored<64> + Stored<8>, const K: usize> Grid<V, K> {
         self.tree.cell_near(&self.paths[k], q, p, steps)
     }
 
-    /// Returns the cell of a voxel by the descent from the lowest node of the accessor's path that contains it. The
-    /// accessor then caches the path to the voxel.
+    /// Returns what `probe` returns, by the descent from the lowest node of the accessor's path that contains the voxel.
+    /// The accessor then caches the path to the voxel.
     #[inline(never)]
-    fn go_to(&mut self, k: usize, p: Coord, steps: &mut Steps) -> Cell<V>
+    pub fn go_to(&mut self, k: usize, p: Coord, steps: &mut Steps) -> Cell<V>
         requires { k < K }
         ensures cell { result ≡ (field_of vdb self.old.tree).cell p }
         ensures tree { self.new.tree ≡ self.old.tree }
@@ -245,16 +245,35 @@ impl<V: Stored<512> + Stored<64> + Stored<8>, const K: usize> Grid<V, K> {
         ensures untouched { result ≡ false → self.new ≡ self.old }
         ensures steps { steps.new ≤ steps.old + (if result then 1 else 0) }
     {
+        if !self.write_in_leaf(k, p, change, steps) {
+            return false;
+        }
+        self.coords[k] = Some(p);
+        true
+    }
+
+    /// Writes a voxel in the leaf that ends the accessor's path, if that leaf holds the voxel, by one visit and without
+    /// memory. Returns whether it does; if not, nothing changes. The accessor keeps the coordinate that it was given.
+    #[inline(always)]
+    pub fn write_in_leaf(&mut self, k: usize, p: Coord, change: Write<V>, steps: &mut Steps) -> bool
+        requires { k < K }
+        ensures answer { result ≡ has_leaf (last self.old.coords k) (path self.old.paths k) p }
+        ensures outcome { IsTrue result → IsOutcome V.eq vdb self.old.tree.limit (field_of vdb self.old.tree)
+            (write p change (field_of vdb self.old.tree)) (field_of vdb self.new.tree) (Ok tt) }
+        ensures limit { self.new.tree.limit ≡ self.old.tree.limit }
+        ensures alone { IsTrue result → IsVoxelWritten vdb self.old.tree self.new.tree p (written change ((field_of vdb self.old.tree).cell p)) }
+        ensures whole { IsTrue result → IsWhole vdb self.new.tree (path self.new.paths k) p }
+        ensures last { self.new.coords ≡ self.old.coords }
+        ensures untouched { result ≡ false → self.new ≡ self.old }
+        ensures steps { steps.new ≤ steps.old + (if result then 1 else 0) }
+    {
         let Some(q) = self.coords[k] else {
             return false;
         };
         let path = self.paths[k];
-        if !self.tree.write_near(&path, q, p, change, steps) {
-            return false;
-        }
+        let written = self.tree.write_near(&path, q, p, change, steps);
         let _ = self.tree.limit(); // no more upper extents than the limit hold anything but the background
-        self.coords[k] = Some(p);
-        true
+        written
     }
 
     /// Returns a grid with the same cells, tiles, nodes, background and limit, and with accessors that were given no

@@ -1,6 +1,6 @@
 //! Calls on a grid of one type of values, or on its tree, in the terms of a grid of any type.
 
-ghost use Rattle.std.specs.Prelude.{◌≡◌, ◌+◌, ◌*◌, ◌<◌, ◌≤◌, ℕ, Some, false, IfErr, IsOk, IsTrue};
+ghost use Rattle.std.specs.Prelude.{◌≡◌, ◌+◌, ◌*◌, ◌<◌, ◌≤◌, ℕ, Some, false, IfErr, IsOk, IsTrue, Ok};
 ghost use Rattle.std.specs.Option.{unwrap_or};
 ghost use Rattle.vdb_coord.specs.Blocks.{key, vdb};
 ghost use Rattle.vdb_coord.specs.Space.{everywhere};
@@ -11,6 +11,7 @@ ghost use Rattle.vdb_tree.specs.Table.{HasCapacity};
 ghost use Rattle.vdb_tree.specs.ConstantBlocks.{count as active_count};
 ghost use Rattle.vdb_tree.specs.declared.refusal.TreeRefusal.TheVariants.{Memory};
 ghost use Rattle.vdb_morph.specs.Growth.{IsGrowth};
+ghost use Rattle.vdb_grid.specs.Grid.{has_leaf, last, path};
 ghost use Rattle.vdb_scene.specs.Grids.{coords_after};
 ghost use Rattle.vdb_scene.specs.Scalars.{is_of, scalar_eq};
 ghost use Rattle.vdb_scene.specs.Step.{passes, write_takes_memory};
@@ -78,6 +79,27 @@ pub fn write<V: GridValue>(
         Some(k) => grid.write_by(k, at, change, steps),
         None => grid.write(at, change, steps),
     }
+}
+
+/// Writes a voxel in the leaf that ends an accessor's path, if that leaf holds the voxel. Returns whether it does; if not,
+/// nothing changes. The accessor keeps the coordinate that it was given.
+#[inline(always)]
+pub fn write_in_leaf<V: GridValue>(
+    grid: &mut Grid<V, ACCESSORS>,
+    k: usize,
+    at: Coord,
+    change: Write<Scalar>,
+    steps: &mut Steps,
+) -> bool
+    requires kind { IsTrue (passes (is_of V.KIND) change) }
+    requires within { k < ACCESSORS }
+    ensures answer { result ≡ has_leaf (last grid.old.coords k) (path grid.old.paths k) at }
+    ensures outcome { IsTrue result → IsOutcome scalar_eq vdb grid.old.tree.limit (as_field_of V.as_scalar (field_of vdb grid.old.tree))
+        (write at change (as_field_of V.as_scalar (field_of vdb grid.old.tree))) (as_field_of V.as_scalar (field_of vdb grid.new.tree)) (Ok tt) }
+    ensures limit { grid.new.tree.limit ≡ grid.old.tree.limit }
+    ensures untouched { result ≡ false → grid.new ≡ grid.old }
+{
+    grid.write_in_leaf(k, at, of_kind(change), steps)
 }
 
 /// Sets each voxel of a box to one cell, with a value of the grid's type.
