@@ -5,6 +5,7 @@ ghost use Rattle.vdb_node.specs.Nodes.{entry_count};
 
 mod blends;
 mod bounds;
+mod rows;
 mod words;
 
 use crate::{Entry, Internal, Leaf, Stored};
