@@ -117,6 +117,23 @@ impl<V: Voxel> Values<V> {
         }
     }
 
+    /// Writes the values up to an index, and those that follow in its 64 values, to their places.
+    #[inline(never)]
+    fn write_around(&mut self, i: u32)
+        requires { i < capacity self.old }
+        ensures capacity { capacity self.old ≤ capacity self.new }
+        ensures written { i < length self.new.first.items }
+        ensures values { (j : ℕ) → value_of self.new j ≡ value_of self.old j }
+    {
+        let rest = self.rest;
+        let end = (i / 64) as usize * 64 + 64;
+        let to = end.min(self.first.capacity()).max(self.first.len());
+        match self.first.resize(to, rest) {
+            Ok(()) => {}
+            Err(_) => unreachable!(),
+        }
+    }
+
     /// Sets the value at an index; every other stays.
     #[inline(always)]
     pub(crate) fn set(&mut self, i: u32, value: V)
@@ -125,13 +142,10 @@ impl<V: Voxel> Values<V> {
         ensures here { value_of self.new i ≡ value }
         ensures others { (j : ℕ) → j ≢ i → value_of self.new j ≡ value_of self.old j }
     {
-        if (i as usize) < self.first.len() {
-            self.first[i as usize] = value;
-        } else {
-            let rest = self.rest;
-            extend(&mut self.first, i, rest);
-            self.first.push_reserved(value);
+        if self.first.len() <= i as usize {
+            self.write_around(i);
         }
+        self.first[i as usize] = value;
     }
 
     /// Sets the value at each index from `from` on and below `to`; every other stays.
@@ -144,28 +158,31 @@ impl<V: Voxel> Values<V> {
         ensures before { (i : ℕ) → i < from → value_of self.new i ≡ value_of self.old i }
         ensures after { (i : ℕ) → to ≤ i → value_of self.new i ≡ value_of self.old i }
     {
-        if self.first.len() == from as usize {
-            extend(&mut self.first, to, value);
-        } else {
-            if self.first.len() < to as usize {
-                self.write_all();
-            }
+        if to as usize <= self.first.len() {
             set_each(&mut self.first, from, to, value);
+        } else if to - from < 64 {
+            self.write_around(to - 1);
+            set_each(&mut self.first, from, to, value);
+        } else {
+            self.set_long_run(from, to, value);
         }
     }
 
-    /// Writes every value to its place.
-    #[inline(never)]
-    fn write_all(&mut self)
+    /// Does what `set_run` does, and writes no value twice that it appends.
+    fn set_long_run(&mut self, from: u32, to: u32, value: V)
+        requires in_order { from ≤ to }
+        requires within { to ≤ capacity self.old }
         ensures capacity { capacity self.old ≤ capacity self.new }
-        ensures written { capacity self.old ≤ length self.new.first.items }
-        ensures values { (i : ℕ) → value_of self.new i ≡ value_of self.old i }
+        ensures run { (i : ℕ) → from ≤ i → i < to → value_of self.new i ≡ value }
+        ensures before { (i : ℕ) → i < from → value_of self.new i ≡ value_of self.old i }
+        ensures after { (i : ℕ) → to ≤ i → value_of self.new i ≡ value_of self.old i }
     {
-        let all = self.first.capacity();
-        let rest = self.rest;
-        match self.first.resize(all, rest) {
-            Ok(()) => {}
-            Err(_) => unreachable!(),
+        self.write_to(from);
+        if self.first.len() < to as usize {
+            self.first.truncate(from as usize);
+            extend(&mut self.first, to, value);
+        } else {
+            set_each(&mut self.first, from, to, value);
         }
     }
 
