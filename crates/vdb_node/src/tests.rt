@@ -376,13 +376,13 @@ fn a_leaf_of_truth_values_takes_no_memory(rt: HostRuntime) {
     expect_leaf(&rt, &copy, 0, yes, true, 32768);
 }
 
-// The bytes of a node's place: 8 for each word of a mask, and 24 for each vector.
+// The bytes of a node's place: 8 for each word of a mask, 32 for a row of integers, and 24 for the vector of slots.
 #[test]
 fn places_are_small(rt: HostRuntime) {
     assert_eq!(rt; size_of::<Leaf<bool, 3, 8>>(), 128);
-    assert_eq!(rt; size_of::<Leaf<i32, 3, 8>>(), 88);
-    assert_eq!(rt; size_of::<Internal<i32, 4, 64>>(), 1072);
-    assert_eq!(rt; size_of::<Internal<i32, 5, 512>>(), 8240);
+    assert_eq!(rt; size_of::<Leaf<i32, 3, 8>>(), 96);
+    assert_eq!(rt; size_of::<Internal<i32, 4, 64>>(), 1080);
+    assert_eq!(rt; size_of::<Internal<i32, 5, 512>>(), 8248);
     assert_eq!(rt; size_of::<Internal<bool, 4, 64>>(), 1560);
     assert_eq!(rt; size_of::<Internal<bool, 5, 512>>(), 12312);
 }
