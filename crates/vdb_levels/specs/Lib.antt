@@ -15,3 +15,4 @@ pub mod RootWalks
 pub mod Spans
 pub mod Boxes
 pub mod BoxRoots
+pub mod Fills

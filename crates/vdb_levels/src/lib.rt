@@ -14,6 +14,7 @@ mod pools;
 mod refusal;
 mod root;
 mod root_boxes;
+mod root_fill;
 mod root_walk;
 mod table;
 mod walk;

@@ -50,7 +50,8 @@ impl<V: Copy> RootTable<V> {
 
     /// How many entries there are.
     pub(crate) fn len(&self) -> usize
-        ensures { result ≡ length self.now }
+        ensures count { result ≡ length self.now }
+        ensures apart { IsDistinct coord_eq (keys_of self.now) }
     {
         self.entries.len()
     }
