@@ -26,14 +26,14 @@ use Rattle.vdb_levels.proofs.FirstNumbers.{number_between}
 use Rattle.vdb_levels.proofs.KeysPast.{some_or_none}
 use Rattle.vdb_levels.proofs.Roots.{coord_cases}
 
-or_cases : (a b : Bool) → (a || b) ≡ true → (a ≡ true) ⊎ (b ≡ true)
+pub or_cases : (a b : Bool) → (a || b) ≡ true → (a ≡ true) ⊎ (b ≡ true)
 or_cases true b h = inl refl
 or_cases false b h = inr h
 
-or_first : (a b : Bool) → a ≡ true → (a || b) ≡ true
+pub or_first : (a b : Bool) → a ≡ true → (a || b) ≡ true
 or_first a b h = rw h refl
 
-or_second : (a b : Bool) → b ≡ true → (a || b) ≡ true
+pub or_second : (a b : Bool) → b ≡ true → (a || b) ≡ true
 or_second true b h = refl
 or_second false b h = h
 
@@ -45,7 +45,7 @@ all_apart k (j ∷ keys) h =
     let rest : is_member coord_eq keys k ≡ false = not_true (is_member coord_eq keys k) (λ e. true_false (or_second (coord_eq k j) (is_member coord_eq keys k) e) h) in
     (first, all_apart k keys rest)
 
-one_more : (k : Coord) (keys : List Coord) → IsDistinct coord_eq keys → is_member coord_eq keys k ≡ false → IsDistinct coord_eq (k ∷ keys)
+pub one_more : (k : Coord) (keys : List Coord) → IsDistinct coord_eq keys → is_member coord_eq keys k ≡ false → IsDistinct coord_eq (k ∷ keys)
 unfolding IsDistinct
 one_more k keys distinct h = (all_apart k keys h, distinct)
 
@@ -129,6 +129,9 @@ keys_between bits low high l h k inside =
 
 -- ---- the next key of a box
 
+pub less_by_one : (x : ℤ) → x <ℤ (x +ℤ pos 1)
+less_by_one x = omega (arith, ints)
+
 module _ (b : Box) (p : Coord) (inside : is_inside b p ≡ true) where
   parts : ((b.min.x ≤ℤ p.x) × (p.x ≤ℤ b.max.x)) × ((b.min.y ≤ℤ p.y) × (p.y ≤ℤ b.max.y)) × ((b.min.z ≤ℤ p.z) × (p.z ≤ℤ b.max.z))
   parts = inside_parts b p inside
@@ -137,6 +140,7 @@ module _ (b : Box) (p : Coord) (inside : is_inside b p ≡ true) where
   next_z h =
       let low = parts.2.0 in (
         inside_from b (coord p.x p.y (p.z +ℤ pos 1)) parts.0.0 parts.0.1 parts.1.0 parts.1.1 (omega (arith, ints, low)) (omega (arith, ints, h)),
+        inr (refl, inr (refl, less_by_one p.z)),
         λ q _ before. elim before [
           | inl x ↦ inl (inl x)
           | inr r ↦ elim r.1 [
@@ -151,6 +155,7 @@ module _ (b : Box) (p : Coord) (inside : is_inside b p ≡ true) where
       let low = parts.1.0 in
       let range = parts.2 in (
         inside_from b (coord p.x (p.y +ℤ pos 1) b.min.z) parts.0.0 parts.0.1 (omega (arith, ints, low)) (omega (arith, ints, h)) (omega (arith, ints)) (omega (arith, ints, range.0, range.1)),
+        inr (refl, inl (less_by_one p.y)),
         λ q in_box before.
             let at = inside_parts b q in_box in
             let high = at.2.1 in
@@ -170,6 +175,7 @@ module _ (b : Box) (p : Coord) (inside : is_inside b p ≡ true) where
       let ys = parts.1 in
       let zs = parts.2 in (
         inside_from b (coord (p.x +ℤ pos 1) b.min.y b.min.z) (omega (arith, ints, low)) (omega (arith, ints, h)) (omega (arith, ints)) (omega (arith, ints, ys.0, ys.1)) (omega (arith, ints)) (omega (arith, ints, zs.0, zs.1)),
+        inl (less_by_one p.x),
         λ q in_box before.
             let at = inside_parts b q in_box in
             let y = at.1 in
@@ -220,9 +226,6 @@ not_bumped x m fx fm h = let k = simp to_z-of_z at h in grind (arith, ints)
 pub greatest : (x : ℤ) → SFits w32 x → x ≤ℤ pos 2147483647
 greatest x h = grind (arith, ints)
 
-pub less_by_one : (x : ℤ) → x <ℤ (x +ℤ pos 1)
-less_by_one x = omega (arith, ints)
-
 pub for_err : {T E : Type 0} (P Q : E → Type 0) (r : Result T E) → ((e : E) → P e → Q e) → IfErr r P → IfErr r Q
 for_err P Q (Ok x) f h = tt
 for_err P Q (Err e) f h = f e h
@@ -250,7 +253,7 @@ module _ {V S : Type 0} (bits : ℕ) (place : Coord → List ℕ) (blocks : S �
     ]
 
     pub enters_next : (next : Coord) → IsNextIn keys key (Some next) → EntersTo first new next
-    enters_next next n = record { enters = enters_both; inside = n.0; before = λ k inside before. done k inside (n.1 k inside before) }
+    enters_next next n = record { enters = enters_both; inside = n.0; before = λ k inside before. done k inside (n.2 k inside before) }
 
     pub enters_all : IsNextIn keys key None → (k : Coord) → IsTrue (is_inside keys k) → IsSome (root_at new.table k)
     enters_all n k inside = done k inside (n k inside)

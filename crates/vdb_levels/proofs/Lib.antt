@@ -17,3 +17,6 @@ pub mod BoxSteps
 pub mod BoxLeaves
 pub mod BoxRootSteps
 pub mod FillSteps
+pub mod CopiedTables
+pub mod ConstantBlocks
+pub mod CountedKeys

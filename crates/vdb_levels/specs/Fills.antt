@@ -29,4 +29,4 @@ module _ {V S : Type 0} where
 -- a coordinate of a box is the first after p, one of the box, by x, then by y, then by z; none if p is the last
 abbrev pub IsNextIn : Box → Coord → Option Coord → Type 0
 IsNextIn box p None = (q : Coord) → IsTrue (is_inside box q) → IsBefore q p ⊎ (q ≡ p)
-IsNextIn box p (Some next) = IsTrue (is_inside box next) × ((q : Coord) → IsTrue (is_inside box q) → IsBefore q next → IsBefore q p ⊎ (q ≡ p))
+IsNextIn box p (Some next) = IsTrue (is_inside box next) × IsBefore p next × ((q : Coord) → IsTrue (is_inside box q) → IsBefore q next → IsBefore q p ⊎ (q ≡ p))

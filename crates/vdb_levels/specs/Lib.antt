@@ -16,3 +16,4 @@ pub mod Spans
 pub mod Boxes
 pub mod BoxRoots
 pub mod Fills
+pub mod Constants

@@ -24,7 +24,7 @@ use vdb_value::{Cell, Voxel};
 pub struct Root<V: Voxel, S: NodeStore<V>> {
     pub(crate) alloc: Global,
     pub(crate) background: V,
-    limit: u32,
+    pub(crate) limit: u32,
     pub(crate) table: RootTable<V>,
     pub(crate) nodes: S,
 }

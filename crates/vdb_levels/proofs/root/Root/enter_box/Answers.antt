@@ -1,5 +1,4 @@
-use Rattle.std.proofs.Common.{◌≡◌, ◌∙◌, SFits, rules, sym, true, w32}
-use Rattle.vdb_coord.specs.Space.{everywhere, is_inside}
+use Rattle.std.proofs.Common.{SFits, rules, w32}
 use Rattle.vdb_coord.proofs.Boxes.{both}
 use Rattle.vdb_coord.proofs.Meeting.{fits_everywhere}
 use Rattle.vdb_coord.proofs.Walk.{min_inside}
@@ -22,6 +21,7 @@ enter_keys-requires g c =
     let high : IsKey s.bits c.key-high.result = rw c.key-high.ensures (key_within s.bits c.max.result (fits_everywhere c.max.result hx hy hz)) in
     record {
       keys = λ k inside. keys_between s.bits c.key-low.result c.key-high.result low high k inside;
+      capacity = c.has_capacity_for.ensures.0 c.if-not-has_capacity_for.false;
       low = rw (c.key-low.ensures, c.key-high.ensures, c.min.ensures.corner, c.max.ensures.corner) (key_inside s.bits c.args.bounds c.args.bounds.min (min_inside c.args.bounds (both _ _ c.min.ensures.bounds).0));
     }
 
@@ -29,3 +29,8 @@ pub returns-clause-entered : goal.returns-clause-entered
 returns-clause-entered g c =
     let s = g.S.NodeStore in
     on_ok _ _ c.enter_keys.result (λ h p inside. h _ (rw (c.key-low.ensures, c.key-high.ensures, c.min.ensures.corner, c.max.ensures.corner) (key_inside s.bits c.args.bounds p inside))) c.enter_keys.ensures.entered
+
+pub has_capacity_for-requires : goal.has_capacity_for-requires
+has_capacity_for-requires g c =
+    let s = g.S.NodeStore in
+    rw (c.key-low.ensures, c.key-high.ensures, c.min.ensures.corner, c.max.ensures.corner) (key_inside s.bits c.args.bounds c.args.bounds.min (min_inside c.args.bounds (both _ _ c.min.ensures.bounds).0))

@@ -1,6 +1,5 @@
 use Rattle.std.proofs.Common.{◌≡◌, rules}
 use Rattle.vdb_coord.specs.Space.{Box}
-use Rattle.vdb_levels.specs.Fills.{HasCapacityFor}
 use Rattle.vdb_levels.specs.declared.refusal.Refusal.TheVariants.{Memory}
 use Rattle.vdb_levels.proofs.FillSteps.{capacity_stays, enters_all, enters_both, enters_next, enters_none, enters_twice}
 use Rattle.vdb_levels.proofs.root.Root.enter_keys.Goals as goal
@@ -42,10 +41,10 @@ returns-in_err-enter_key-clause-enters g c =
     let i = c.keys.invariant in
     enters_twice s.bits s.place s.blocks keys c.args.self.now c.keys.self c.enter_key.new.self i.enters (c.enter_key.ensures.enters keys i.inside)
 
-pub returns-in_err-enter_key-clause-capacity : goal.returns-in_err-enter_key-clause-capacity
-returns-in_err-enter_key-clause-capacity g c =
+pub returns-in_err-enter_key-clause-memory : goal.returns-in_err-enter_key-clause-memory
+returns-in_err-enter_key-clause-memory g c =
     let s = g.S.NodeStore in
     let keys : Box = record { min = c.args.low; max = c.args.high } in
     let i = c.keys.invariant in
-    let f : HasCapacityFor c.args.self.now keys → c.in_err-enter_key.field-0.0 ≡ Memory = λ capacity. c.in_err-enter_key.ensures.capacity keys (capacity_stays s.bits s.place s.blocks keys c.args.self.now c.keys.self i.enters capacity) i.inside in
+    let f : c.in_err-enter_key.field-0.0 ≡ Memory = c.in_err-enter_key.ensures.capacity keys (capacity_stays s.bits s.place s.blocks keys c.args.self.now c.keys.self i.enters c.requires.capacity) i.inside in
     search (rules, f)
