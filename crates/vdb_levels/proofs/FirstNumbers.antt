@@ -74,7 +74,7 @@ entry_corner_of low bits p q x y z hx hy hz e =
 
 -- ---- keys
 
-number_between : (bits : ℕ) (low high x : ℤ) → is_between low high x ≡ true → is_between (number_at bits low) (number_at bits high) (number_at bits x) ≡ true
+pub number_between : (bits : ℕ) (low high x : ℤ) → is_between low high x ≡ true → is_between (number_at bits low) (number_at bits high) (number_at bits x) ≡ true
 number_between bits low high x h =
     let hs = both (int_le low x) (int_le x high) h in
     and_true (int_le (number_at bits low) (number_at bits x)) (int_le (number_at bits x) (number_at bits high)) (number_le bits low x hs.0) (number_le bits x high hs.1)

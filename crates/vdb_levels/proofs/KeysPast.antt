@@ -93,7 +93,7 @@ fewer_past root passed k next = fewer_beyond root passed k next.0 next.1
 pub past_or : (after : Option Coord) (k : Coord) → IsPast after k ⊎ (IsPast after k → ⊥)
 past_or after k = elim (bool_cases (is_key_past after k)) [ inl e ↦ inl (past_from_test after k e) | inr e ↦ inr (λ h. true_false (past_test after k h) e) ]
 
-some_or_none : {A : Type 0} (o : Option A) → IsSome o ⊎ (o ≡ None)
+pub some_or_none : {A : Type 0} (o : Option A) → IsSome o ⊎ (o ≡ None)
 some_or_none None = inr refl
 some_or_none (Some x) = inl refl
 

@@ -16,3 +16,7 @@ pub mod Spans
 pub mod BoxSteps
 pub mod BoxLeaves
 pub mod BoxRootSteps
+pub mod FillSteps
+pub mod CopiedTables
+pub mod ConstantBlocks
+pub mod CountedKeys

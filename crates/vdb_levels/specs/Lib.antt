@@ -15,3 +15,5 @@ pub mod RootWalks
 pub mod Spans
 pub mod Boxes
 pub mod BoxRoots
+pub mod Fills
+pub mod Constants

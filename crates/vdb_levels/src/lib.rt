@@ -2,6 +2,8 @@
 #![tactic(auto)]
 
 mod boxes;
+mod constants;
+mod copies;
 mod corners;
 mod in_box;
 mod internal_store;
@@ -14,12 +16,15 @@ mod pools;
 mod refusal;
 mod root;
 mod root_boxes;
+mod root_fill;
 mod root_walk;
 mod table;
 mod walk;
 mod write;
 
 pub use boxes::BoxStore;
+pub use constants::{ConstantStore, one_cell};
+pub use copies::CopyStore;
 pub use internal_store::InternalStore;
 pub use leaf_store::LeafStore;
 pub use node_store::NodeStore;

@@ -1,5 +1,5 @@
 //! A tree: a root table over a store of nodes.
-ghost use Rattle.std.specs.Prelude.{◌≡◌, ◌+◌, ◌*◌, ◌≤◌, ◌<◌, [], IfOk, IfErr, IfSome, OnOk, OnErr, IsOk, Some, None, length};
+ghost use Rattle.std.specs.Prelude.{◌≡◌, ◌≢◌, ◌+◌, ◌*◌, ◌≤◌, ◌<◌, [], IfOk, IfErr, IfSome, OnOk, OnErr, IsOk, IsSome, Some, None, length};
 ghost use Rattle.vdb_node.specs.declared.Entry.TheVariants.{Child, Tile};
 ghost use Rattle.vdb_value.specs.declared.Cell.{Cell};
 ghost use Rattle.vdb_levels.specs.BoxRoots.{ChangesKey};
@@ -24,7 +24,7 @@ use vdb_value::{Cell, Voxel};
 pub struct Root<V: Voxel, S: NodeStore<V>> {
     pub(crate) alloc: Global,
     pub(crate) background: V,
-    limit: u32,
+    pub(crate) limit: u32,
     pub(crate) table: RootTable<V>,
     pub(crate) nodes: S,
 }
@@ -168,10 +168,12 @@ impl<V: Voxel, S: NodeStore<V>> Root<V, S> {
     }
 
     /// Makes sure that the key has an entry, the tile that it stands for.
-    fn enter(&mut self, key: Coord, cell: Cell<V>) -> Result<(), Refusal>
+    pub(crate) fn enter(&mut self, key: Coord, cell: Cell<V>) -> Result<(), Refusal>
         requires tiled { entry_of_key self.old.background self.old.table key ≡ Tile cell }
         requires key { IsKey S.bits key }
         ensures keeps { KeepsField S.bits S.place S.blocks self.old self.new }
+        ensures stays { IsSome (root_at self.old.table key) → root_at self.new.table key ≡ root_at self.old.table key }
+        ensures others { (k : Coord) → k ≢ key → root_at self.new.table k ≡ root_at self.old.table k }
         ensures entered { OnOk result (root_at self.new.table key ≡ Some (Tile cell)) }
         ensures capacity { IfErr result (λ refusal. HasCapacity self.old key → refusal ≡ Memory) }
     {

@@ -35,7 +35,7 @@ impl<V: Voxel, S: BoxStore<V>> Root<V, S> {
         Ok(())
     }
 
-    fn off(&self) -> Cell<V>
+    pub(crate) fn off(&self) -> Cell<V>
         ensures { result ≡ off self.now.background }
     {
         Cell {

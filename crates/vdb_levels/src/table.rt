@@ -1,6 +1,6 @@
 //! The root table.
 
-ghost use Rattle.std.specs.Prelude.{◌≡◌, ◌+◌, ◌≤◌, List, Some, None, OnOk, OnErr, if◌then◌else◌, IsSome, length};
+ghost use Rattle.std.specs.Prelude.{◌≡◌, ◌+◌, ◌≤◌, List, Some, None, IfOk, OnOk, OnErr, if◌then◌else◌, IsSome, length};
 ghost use Rattle.std.specs.List.{IsDistinct};
 ghost use Rattle.std.specs.Map.{keys_of};
 ghost use Rattle.vdb_coord.specs.Space.{coord_eq};
@@ -50,7 +50,8 @@ impl<V: Copy> RootTable<V> {
 
     /// How many entries there are.
     pub(crate) fn len(&self) -> usize
-        ensures { result ≡ length self.now }
+        ensures count { result ≡ length self.now }
+        ensures apart { IsDistinct coord_eq (keys_of self.now) }
     {
         self.entries.len()
     }
@@ -99,6 +100,23 @@ impl<V: Copy> RootTable<V> {
     {
         self.entries.insert(key, entry)?;
         Ok(())
+    }
+
+    /// A separate table with the same entries. The error says that memory was refused.
+    pub(crate) fn try_copy(&self, alloc: Global) -> Result<RootTable<V>, AllocError>
+        ensures entries { IfOk result (λ copy. (k : Coord) → root_at copy k ≡ root_at self.now k) }
+        ensures size { IfOk result (λ copy. length copy ≤ length self.now) }
+    {
+        let mut copy = RootTable::new(alloc);
+        let mut passed = None;
+        'keys: while let Some(key) = self.next_key(passed) {
+            let Some(entry) = self.get(key) else {
+                unreachable!()
+            };
+            copy.put(key, entry)?;
+            passed = Some(key);
+        }
+        Ok(copy)
     }
 
     /// Changes the entry under a key that has one.

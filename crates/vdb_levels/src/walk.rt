@@ -286,7 +286,7 @@ impl<V: Stored<W>, const LOG2: u32, const W: usize, Below: WalkStore<V>> Interna
     }
 
     /// Returns the first entry from an index on that the walk doesn't pass over, with its index.
-    fn next_entry(
+    pub(crate) fn next_entry(
         &self,
         slot: u32,
         from: u32,
