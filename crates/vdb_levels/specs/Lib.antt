@@ -15,3 +15,6 @@ pub mod RootWalks
 pub mod Spans
 pub mod Boxes
 pub mod BoxRoots
+pub mod Rules
+pub mod States
+pub mod Pairs
