@@ -16,3 +16,4 @@ pub mod Spans
 pub mod BoxSteps
 pub mod BoxLeaves
 pub mod BoxRootSteps
+pub mod EntrySteps
