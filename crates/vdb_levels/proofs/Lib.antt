@@ -17,3 +17,4 @@ pub mod BoxSteps
 pub mod BoxLeaves
 pub mod BoxRootSteps
 pub mod EntrySteps
+pub mod PairSteps
