@@ -24,7 +24,7 @@ use Rattle.vdb_levels.proofs.EntrySteps.{cell_stays, less_not, or_less, same_or_
 -- a state that the rule makes stays
 pub made_stays : (rule : StateRule) (s t : Bool) → s ≡ made rule → state_of rule s t ≡ s
 made_stays Unite true t e = refl
-made_stays Unite false t e = absurd (true_false (sym e) refl)
+made_stays Unite false t e = absurd (true_false e refl)
 made_stays Subtract false t e = refl
 made_stays Subtract true t e = absurd (true_false refl e)
 made_stays Intersect false t e = refl
@@ -46,10 +46,10 @@ idle_stays Intersect s false e = absurd (e refl)
 pub acts_makes : (rule : StateRule) (s t : Bool) → t ≡ acts_at rule → state_of rule s t ≡ made rule
 acts_makes Unite true true e = refl
 acts_makes Unite false true e = refl
-acts_makes Unite s false e = absurd (true_false (sym e) refl)
+acts_makes Unite s false e = absurd (true_false e refl)
 acts_makes Subtract true true e = refl
 acts_makes Subtract false true e = refl
-acts_makes Subtract s false e = absurd (true_false (sym e) refl)
+acts_makes Subtract s false e = absurd (true_false e refl)
 acts_makes Intersect true false e = refl
 acts_makes Intersect false false e = refl
 acts_makes Intersect s true e = absurd (true_false refl e)
@@ -128,7 +128,7 @@ module _ {V U : Type 0} (rule : StateRule) where
         same_tile x y e = cc
 
     pub made_below : (was : Cell V) → ((d : Entry V) → entry_in d pool slot i ≡ Tile was) → ((e : Cell U) → o.entry e over [] ≡ Child over) → (e : Cell U) → IsRefinedBelow rule (node_blocks b pool) slot i o over at → was.on ≡ made rule
-    made_below was tiled whole e h = h.tiles was e [] was over tt (tiled (Tile was)) (whole e)
+    made_below was tiled whole e h = h.tiles was e [] was over tt (ap (λ x. part_below (b.entry was) x []) (tiled (Tile was))) (whole e)
 
   -- ---- the entries one after another
 
