@@ -18,3 +18,4 @@ pub mod BoxLeaves
 pub mod BoxRootSteps
 pub mod EntrySteps
 pub mod PairSteps
+pub mod PairEntries

@@ -10,6 +10,10 @@ use Rattle.vdb_levels.specs.Rules.{acts_at, made, ruled}
 use Rattle.vdb_levels.specs.States.{IsStated}
 use Rattle.vdb_levels.specs.declared.rule.StateRule.{StateRule}
 
+-- a sound store holds a node in a slot
+abbrev pub IsHeldIn : Type 0 → (ℕ → Bool) → ℕ → Type 0
+IsHeldIn IsSound holds slot = IsSound × (holds slot ≡ true)
+
 module _ {V U : Type 0} (rule : StateRule) where
   -- each tile over a place, where the others have a node, has the state that the rule makes
   pub record IsRefined (ours : Cell V → List ℕ → Entry V) (others : Cell U → List ℕ → Entry U) (at : List ℕ) : Type 0 where

@@ -7,7 +7,7 @@ ghost use Rattle.vdb_node.specs.declared.Entry.TheVariants.{Child, Tile};
 ghost use Rattle.vdb_pool.specs.Contents.{node_at};
 ghost use Rattle.vdb_value.specs.declared.Cell.{Cell};
 ghost use Rattle.vdb_levels.specs.Blocks.{entry_in, KeepsBlock, node_blocks};
-ghost use Rattle.vdb_levels.specs.Pairs.{AreIdle, CombinesAt, IsRefinedAt, IsRefinedBelow};
+ghost use Rattle.vdb_levels.specs.Pairs.{AreIdle, CombinesAt, IsHeldIn, IsRefinedAt, IsRefinedBelow};
 ghost use Rattle.vdb_levels.specs.Places.{IsNodePlace};
 ghost use Rattle.vdb_levels.specs.Rules.{ruled};
 ghost use Rattle.vdb_levels.specs.Same.{ChangesEntry, IsSameNode};
@@ -186,19 +186,19 @@ impl<V: Stored<W>, const LOG2: u32, const W: usize, Below: StateStore<V>> Intern
     {
         let mut from = 0;
         'children: while let Some((index, over)) = other.next_child(other_slot, from, steps) {
-            self.refine_entry(alloc, slot, index, &other.below, over, rule, steps)?;
+            self.refine_entry(alloc, slot, index, other, over, rule, steps)?;
             from = index + 1;
         }
         Ok(())
     }
 
-    /// Makes the nodes below the entry at an index wherever the others have nodes below the one in the slot `over`.
+    /// Makes the nodes below the entry at an index wherever the other store has nodes below its child `over`.
     fn refine_entry<U: Stored<W>, OtherBelow: NodeStore<U>>(
         &mut self,
         alloc: Global,
         slot: u32,
         index: u32,
-        others: &OtherBelow,
+        other: &InternalStore<U, LOG2, W, OtherBelow>,
         over: u32,
         rule: StateRule,
         steps: &mut Steps,
@@ -208,21 +208,20 @@ impl<V: Stored<W>, const LOG2: u32, const W: usize, Below: StateStore<V>> Intern
         requires sound { AreSoundNodes LOG2 W Below.bits (Below.IsSound self.old.below) self.old.pool (Below.blocks self.old.below).holds }
         requires held { IsSome (node_at self.old.pool slot) }
         requires within { index < entry_count LOG2 }
-        requires over_sound { OtherBelow.IsSound others.now }
-        requires over_held { (OtherBelow.blocks others.now).holds over ≡ true }
+        requires over { IsHeldIn (OtherBelow.IsSound other.now.below) (OtherBelow.blocks other.now.below).holds over }
         ensures sound { AreSoundNodes LOG2 W Below.bits (Below.IsSound self.new.below) self.new.pool (Below.blocks self.new.below).holds }
         ensures changes { ChangesEntry (entry_count LOG2) (Below.Same self.old.below self.new.below) self.old.pool self.new.pool slot index }
         ensures keeps { KeepsBlock (IsNodePlace (entry_count LOG2) Below.IsPlace) (node_blocks (Below.blocks self.old.below) self.old.pool) (node_blocks (Below.blocks self.new.below) self.new.pool) slot }
-        ensures done { OnOk result ((at : List ℕ) → Below.IsPlace at → IsRefinedBelow rule (node_blocks (Below.blocks self.new.below) self.new.pool) slot index (OtherBelow.blocks others.now) over at) }
+        ensures done { OnOk result ((at : List ℕ) → Below.IsPlace at → IsRefinedBelow rule (node_blocks (Below.blocks self.new.below) self.new.pool) slot index (OtherBelow.blocks other.now.below) over at) }
     {
         match self.entry(slot, index, steps) {
-            Entry::Child(child) => self.refine_child(alloc, slot, index, child, others, over, rule, steps),
+            Entry::Child(child) => self.refine_child(alloc, slot, index, child, other, over, rule, steps),
             Entry::Tile(tile) => {
                 if tile.on == rule.made() {
                     return Ok(());
                 }
                 let child = self.split(alloc, slot, index, tile, steps)?;
-                self.refine_child(alloc, slot, index, child, others, over, rule, steps)
+                self.refine_child(alloc, slot, index, child, other, over, rule, steps)
             }
         }
     }
@@ -234,7 +233,7 @@ impl<V: Stored<W>, const LOG2: u32, const W: usize, Below: StateStore<V>> Intern
         slot: u32,
         index: u32,
         child: u32,
-        others: &OtherBelow,
+        other: &InternalStore<U, LOG2, W, OtherBelow>,
         over: u32,
         rule: StateRule,
         steps: &mut Steps,
@@ -244,14 +243,13 @@ impl<V: Stored<W>, const LOG2: u32, const W: usize, Below: StateStore<V>> Intern
         requires sound { AreSoundNodes LOG2 W Below.bits (Below.IsSound self.old.below) self.old.pool (Below.blocks self.old.below).holds }
         requires held { IsSome (node_at self.old.pool slot) }
         requires child { IsChildAt (entry_count LOG2) self.old.pool slot index child }
-        requires over_sound { OtherBelow.IsSound others.now }
-        requires over_held { (OtherBelow.blocks others.now).holds over ≡ true }
+        requires over { IsHeldIn (OtherBelow.IsSound other.now.below) (OtherBelow.blocks other.now.below).holds over }
         ensures sound { AreSoundNodes LOG2 W Below.bits (Below.IsSound self.new.below) self.new.pool (Below.blocks self.new.below).holds }
         ensures changes { ChangesEntry (entry_count LOG2) (Below.Same self.old.below self.new.below) self.old.pool self.new.pool slot index }
         ensures keeps { KeepsBlock (IsNodePlace (entry_count LOG2) Below.IsPlace) (node_blocks (Below.blocks self.old.below) self.old.pool) (node_blocks (Below.blocks self.new.below) self.new.pool) slot }
-        ensures done { OnOk result ((at : List ℕ) → Below.IsPlace at → IsRefinedBelow rule (node_blocks (Below.blocks self.new.below) self.new.pool) slot index (OtherBelow.blocks others.now) over at) }
+        ensures done { OnOk result ((at : List ℕ) → Below.IsPlace at → IsRefinedBelow rule (node_blocks (Below.blocks self.new.below) self.new.pool) slot index (OtherBelow.blocks other.now.below) over at) }
     {
-        self.below.refine(alloc, child, others, over, rule, steps)
+        self.below.refine(alloc, child, &other.below, over, rule, steps)
     }
 
     /// Combines the states below the node in a slot with those of the other node.
@@ -329,8 +327,7 @@ impl<V: Stored<W>, const LOG2: u32, const W: usize, Below: StateStore<V>> Intern
         requires sound { AreSoundNodes LOG2 W Below.bits (Below.IsSound self.old.below) self.old.pool (Below.blocks self.old.below).holds }
         requires held { IsSome (node_at self.old.pool slot) }
         requires within { index < entry_count LOG2 }
-        requires over_sound { OtherBelow.IsSound others.now }
-        requires over_held { (OtherBelow.blocks others.now).holds over ≡ true }
+        requires over { IsHeldIn (OtherBelow.IsSound others.now) (OtherBelow.blocks others.now).holds over }
         ensures sound { AreSoundNodes LOG2 W Below.bits (Below.IsSound self.new.below) self.new.pool (Below.blocks self.new.below).holds }
         ensures changes { ChangesEntry (entry_count LOG2) (Below.Same self.old.below self.new.below) self.old.pool self.new.pool slot index }
         ensures combines { (at : List ℕ) → Below.IsPlace at → IsRefinedBelow rule (node_blocks (Below.blocks self.old.below) self.old.pool) slot index (OtherBelow.blocks others.now) over at

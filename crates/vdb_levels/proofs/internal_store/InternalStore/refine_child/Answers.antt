@@ -53,4 +53,4 @@ returns-clause-done g c =
     let o = g.OtherBelow.NodeStore in
     let pool = c.args.self.now.pool in
     let new = c.refine.new.self in
-    on_ok _ _ c.refine.result (λ h at p. below_child c.args.rule (b.blocks new) pool c.args.slot c.args.index (o.blocks c.args.others.now) c.args.over at c.args.child c.requires.child.1 (h at p)) c.refine.ensures.done
+    on_ok _ _ c.refine.result (λ h at p. below_child c.args.rule (b.blocks new) pool c.args.slot c.args.index (o.blocks c.args.other.now.below) c.args.over at c.args.child c.requires.child.1 (h at p)) c.refine.ensures.done

@@ -26,8 +26,7 @@ refine_entry-requires g c = record {
   sound = c.children.invariant.sound;
   held = c.children.invariant.held;
   within = c.in-Some.ensures.child.0;
-  over_sound = c.requires.other_sound.below;
-  over_held = c.requires.other_sound.owns.held _ _ _ c.in-Some.ensures.child;
+  over = (c.requires.other_sound.below, c.requires.other_sound.owns.held _ _ _ c.in-Some.ensures.child);
 }
 
 pub returns-in_err-refine_entry-clause-keeps : goal.returns-in_err-refine_entry-clause-keeps

@@ -12,5 +12,5 @@ returns-in_ok-child-in-Tile-clause-changes g c =
     let pool = c.args.self.now.pool in
     let old = c.args.self.now.below in
     let mid = c.split.new.self in
-    let fin = c.refine_child.new.self in
-    changes_twice n (b.Same old mid.below) (b.Same mid.below fin.below) (b.Same old fin.below) (λ t h k. g.met.Below.NodeStore.same_twice old mid.below fin.below t h k) pool mid.pool fin.pool c.args.slot c.args.index c.split.ensures.changes c.refine_child.ensures.changes
+    let fin = c.refine_child-in-Tile.new.self in
+    changes_twice n (b.Same old mid.below) (b.Same mid.below fin.below) (b.Same old fin.below) (λ t h k. g.met.Below.NodeStore.same_twice old mid.below fin.below t h k) pool mid.pool fin.pool c.args.slot c.args.index c.split.ensures.changes c.refine_child-in-Tile.ensures.changes
