@@ -1,14 +1,19 @@
 -- Cells below one entry, whose states are combined with those below another.
-use Rattle.std.proofs.Common.{◌≡◌, ℕ, Bool, List, [], ◌∷◌, sym, ap, ◌∙◌}
+use Rattle.std.proofs.Common.{◌≡◌, ℕ, ◌<◌, Bool, true, List, [], ◌∷◌, sym, ap, ◌∙◌}
 use Rattle.vdb_node.specs.declared.Entry.{Entry}
 use Rattle.vdb_node.specs.declared.Entry.TheVariants.{Child, Tile}
 use Rattle.vdb_pool.specs.Contents.{Contents}
 use Rattle.vdb_value.specs.declared.Cell.{Cell}
 use Rattle.vdb_levels.specs.Blocks.{Blocks, below_entry, entry_in, node_blocks}
-use Rattle.vdb_levels.specs.Pairs.{IsRefinedBelow}
+use Rattle.vdb_levels.specs.Pairs.{IfChild, IsHeldIn, IsRefinedBelow}
 use Rattle.vdb_levels.specs.Rules.{acts_at, made, ruled, with_state}
+use Rattle.vdb_levels.specs.Sound.{OwnsBelow}
 use Rattle.vdb_levels.specs.declared.rule.StateRule.{StateRule}
 use Rattle.vdb_levels.proofs.PairSteps.{idle_stays, made_below, made_stays, ruled_made, ruled_stays}
+
+pub held_below : {V : Type 0} (n : ℕ) (pool : Contents (List (Entry V))) (slot i : ℕ) (IsSound : Type 0) (holds : ℕ → Bool) → IsSound → OwnsBelow n pool holds → i < n → (x : Entry V) → ((d : Entry V) → entry_in d pool slot i ≡ x) → IfChild x (IsHeldIn IsSound holds)
+held_below n pool slot i IsSound holds sound owns within (Tile c) is = tt
+held_below n pool slot i IsSound holds sound owns within (Child r) is = (sound, owns.held slot i r (within, is))
 
 module _ {V U : Type 0} (rule : StateRule) where
   pub tile_combines : (b : Blocks V) (pool : Contents (List (Entry V))) (slot i : ℕ) (o : Blocks U) (over : ℕ) (at : List ℕ) (was : Cell V) → ((d : Entry V) → entry_in d pool slot i ≡ Tile was) → ((e : Cell U) → o.entry e over [] ≡ Child over)

@@ -14,6 +14,11 @@ use Rattle.vdb_levels.specs.declared.rule.StateRule.{StateRule}
 abbrev pub IsHeldIn : Type 0 → (ℕ → Bool) → ℕ → Type 0
 IsHeldIn IsSound holds slot = IsSound × (holds slot ≡ true)
 
+-- what holds of the entry's child, if it is one
+abbrev pub IfChild : {V : Type 0} → Entry V → (ℕ → Type 0) → Type 0
+IfChild (Tile c) Q = Unit {0}
+IfChild (Child slot) Q = Q slot
+
 module _ {V U : Type 0} (rule : StateRule) where
   -- each tile over a place, where the others have a node, has the state that the rule makes
   pub record IsRefined (ours : Cell V → List ℕ → Entry V) (others : Cell U → List ℕ → Entry U) (at : List ℕ) : Type 0 where

@@ -7,8 +7,9 @@ ghost use Rattle.vdb_node.specs.declared.Entry.TheVariants.{Child, Tile};
 ghost use Rattle.vdb_pool.specs.Contents.{node_at};
 ghost use Rattle.vdb_value.specs.declared.Cell.{Cell};
 ghost use Rattle.vdb_levels.specs.Blocks.{entry_in, KeepsBlock, node_blocks};
-ghost use Rattle.vdb_levels.specs.Pairs.{AreIdle, CombinesAt, IsHeldIn, IsRefinedAt, IsRefinedBelow};
+ghost use Rattle.vdb_levels.specs.Pairs.{AreIdle, CombinesAt, IfChild, IsHeldIn, IsRefinedAt, IsRefinedBelow};
 ghost use Rattle.vdb_levels.specs.Places.{IsNodePlace};
+ghost use Rattle.vdb_levels.specs.Pruned.{HasNoChild};
 ghost use Rattle.vdb_levels.specs.Rules.{ruled};
 ghost use Rattle.vdb_levels.specs.Same.{ChangesEntry, IsSameNode};
 ghost use Rattle.vdb_levels.specs.Sound.{AreSoundNodes, IsChildAt, IsNode};
@@ -185,7 +186,7 @@ impl<V: Stored<W>, const LOG2: u32, const W: usize, Below: StateStore<V>> Intern
         ensures done { OnOk result ((at : List ℕ) → IsNodePlace (entry_count LOG2) Below.IsPlace at → IsRefinedAt rule (node_blocks (Below.blocks self.new.below) self.new.pool) slot (node_blocks (OtherBelow.blocks other.now.below) other.now.pool) other_slot at) }
     {
         let mut from = 0;
-        'children: while let Some((index, over)) = other.next_child(other_slot, from, steps) {
+        'children: while let Some((index, over)) = other.next_held(other_slot, from, steps) {
             self.refine_entry(alloc, slot, index, other, over, rule, steps)?;
             from = index + 1;
         }
@@ -302,7 +303,7 @@ impl<V: Stored<W>, const LOG2: u32, const W: usize, Below: StateStore<V>> Intern
         ensures combines { (at : List ℕ) → Below.IsPlace at → IsRefinedAt rule (node_blocks (Below.blocks self.old.below) self.old.pool) slot (node_blocks (OtherBelow.blocks other.now.below) other.now.pool) other_slot (index ∷ at)
             → CombinesAt rule (node_blocks (Below.blocks self.old.below) self.old.pool) (node_blocks (Below.blocks self.new.below) self.new.pool) slot (index ∷ at) (λ e. (node_blocks (OtherBelow.blocks other.now.below) other.now.pool).cell e other_slot (index ∷ at)) }
     {
-        match other.entry(other_slot, index, steps) {
+        match other.held_entry(other_slot, index, steps) {
             Entry::Child(over) => self.combine_below(slot, index, &other.below, over, rule, steps),
             Entry::Tile(tile) => {
                 if tile.on == rule.acts_at() {
@@ -346,6 +347,33 @@ impl<V: Stored<W>, const LOG2: u32, const W: usize, Below: NodeStore<V>> Interna
     W,
     Below,
 > {
+    /// Returns the first index from `from` on at which the node in a slot has a child, with the child, which is held.
+    fn next_held(&self, slot: u32, from: u32, steps: &mut Steps) -> Option<(u32, u32)>
+        requires sound { AreSoundNodes LOG2 W Below.bits (Below.IsSound self.now.below) self.now.pool (Below.blocks self.now.below).holds }
+        requires held { IsSome (node_at self.now.pool slot) }
+        requires within { from ≤ entry_count LOG2 }
+        ensures none { IfNone result (HasNoChild (entry_count LOG2) self.now.pool slot from (entry_count LOG2)) }
+        ensures before { IfSome result (λ next. HasNoChild (entry_count LOG2) self.now.pool slot from next.0) }
+        ensures child { IfSome result (λ next. IsChildAt (entry_count LOG2) self.now.pool slot next.0 next.1) }
+        ensures from_on { IfSome result (λ next. from ≤ next.0) }
+        ensures few { IfSome result (λ next. next.0 < 32768) }
+        ensures within { IfSome result (λ next. next.0 < entry_count LOG2) }
+        ensures over { IfSome result (λ next. IsHeldIn (Below.IsSound self.now.below) (Below.blocks self.now.below).holds next.1) }
+    {
+        self.next_child(slot, from, steps)
+    }
+
+    /// Returns the entry at an index of the node in a slot, which is held if it is a child.
+    fn held_entry(&self, slot: u32, index: u32, steps: &mut Steps) -> Entry<V>
+        requires sound { AreSoundNodes LOG2 W Below.bits (Below.IsSound self.now.below) self.now.pool (Below.blocks self.now.below).holds }
+        requires held { IsSome (node_at self.now.pool slot) }
+        requires within { index < entry_count LOG2 }
+        ensures entry { (d : Entry V) → entry_in d self.now.pool slot index ≡ result }
+        ensures over { IfChild result (IsHeldIn (Below.IsSound self.now.below) (Below.blocks self.now.below).holds) }
+    {
+        self.entry(slot, index, steps)
+    }
+
     /// Returns the first index from `from` on below which the rule may change a state.
     fn next_to_combine<U: Stored<W>, OtherBelow: NodeStore<U>>(
         &self,

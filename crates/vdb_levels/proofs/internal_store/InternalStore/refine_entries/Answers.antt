@@ -21,14 +21,6 @@ children-init g c =
       done = λ i at within less. absurd (omega arith);
     }
 
-pub refine_entry-requires : goal.refine_entry-requires
-refine_entry-requires g c = record {
-  sound = c.children.invariant.sound;
-  held = c.children.invariant.held;
-  within = c.in-Some.ensures.child.0;
-  over = (c.requires.other_sound.below, c.requires.other_sound.owns.held _ _ _ c.in-Some.ensures.child);
-}
-
 pub returns-in_err-refine_entry-clause-keeps : goal.returns-in_err-refine_entry-clause-keeps
 returns-in_err-refine_entry-clause-keeps g c = keeps_twice _ _ _ _ c.args.slot c.children.invariant.keeps c.refine_entry.ensures.keeps
 
