@@ -19,3 +19,4 @@ pub mod BoxRootSteps
 pub mod EntrySteps
 pub mod PairSteps
 pub mod PairEntries
+pub mod PairRootSteps

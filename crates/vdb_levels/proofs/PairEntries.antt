@@ -1,5 +1,6 @@
 -- Cells below one entry, whose states are combined with those below another.
-use Rattle.std.proofs.Common.{◌≡◌, ℕ, ◌<◌, Bool, true, List, [], ◌∷◌, sym, ap, ◌∙◌}
+use Rattle.std.proofs.Common.{◌≡◌, ℕ, ◌<◌, Bool, true, false, List, [], ◌∷◌, refl, sym, ap, ◌∙◌}
+use Rattle.std.proofs.Math.Bool.{beq}
 use Rattle.vdb_node.specs.declared.Entry.{Entry}
 use Rattle.vdb_node.specs.declared.Entry.TheVariants.{Child, Tile}
 use Rattle.vdb_pool.specs.Contents.{Contents}
@@ -10,6 +11,18 @@ use Rattle.vdb_levels.specs.Rules.{acts_at, made, ruled, with_state}
 use Rattle.vdb_levels.specs.Sound.{OwnsBelow}
 use Rattle.vdb_levels.specs.declared.rule.StateRule.{StateRule}
 use Rattle.vdb_levels.proofs.PairSteps.{idle_stays, made_below, made_stays, ruled_made, ruled_stays}
+
+pub beq_same : (a b : Bool) → beq a b ≡ true → a ≡ b
+beq_same true true h = refl
+beq_same true false h = cc
+beq_same false true h = cc
+beq_same false false h = refl
+
+pub beq_apart : (a b : Bool) → beq a b ≡ false → a ≡ b → ⊥
+beq_apart true true h e = cc
+beq_apart true false h e = cc
+beq_apart false true h e = cc
+beq_apart false false h e = cc
 
 pub held_below : {V : Type 0} (n : ℕ) (pool : Contents (List (Entry V))) (slot i : ℕ) (IsSound : Type 0) (holds : ℕ → Bool) → IsSound → OwnsBelow n pool holds → i < n → (x : Entry V) → ((d : Entry V) → entry_in d pool slot i ≡ x) → IfChild x (IsHeldIn IsSound holds)
 held_below n pool slot i IsSound holds sound owns within (Tile c) is = tt

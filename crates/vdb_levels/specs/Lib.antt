@@ -18,3 +18,4 @@ pub mod BoxRoots
 pub mod Rules
 pub mod States
 pub mod Pairs
+pub mod PairRoots
