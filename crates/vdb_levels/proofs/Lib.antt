@@ -20,3 +20,4 @@ pub mod EntrySteps
 pub mod PairSteps
 pub mod PairEntries
 pub mod PairRootSteps
+pub mod PairRootCells

@@ -33,11 +33,8 @@ module _ {V : Type 0} where
   no_child c r e = cc
 
 module _ {V U S O : Type 0} (rule : StateRule) (P : List ℕ → Type 0) (blocks : S → Blocks V) (others : O → Blocks U) where
-  abbrev Refined : Layout V S → Layout U O → Coord → Type 0
-  Refined t u k = IsRefinedKey rule P blocks others t u k
-
   pub key_apart : (t : Layout V S) (u : Layout U O) (k : Coord) → ((over : ℕ) → root_at u.table k ≡ Some (Child over) → ⊥) → IsRefinedKey rule P blocks others t u k
-  key_apart t u k no = record { tile = λ tile over e f. absurd (no over f); node = λ slot over e f. absurd (no over f) }
+  key_apart t u k apart = record { tile = λ tile over e f. absurd (apart over f); node = λ slot over e f. absurd (apart over f) }
 
   pub key_of_tile : (t : Layout V S) (u : Layout U O) (k : Coord) (tile : Cell U) → entry_of_key u.background u.table k ≡ Tile tile → IsRefinedKey rule P blocks others t u k
   key_of_tile t u k tile is = key_apart t u k (λ over e. tile_no_child tile over (sym is ∙ entry_at_key u.background u.table k (Child over) e))

@@ -9,6 +9,10 @@ use Rattle.vdb_levels.specs.Rules.{made, ruled}
 use Rattle.vdb_levels.specs.Table.{Field, Layout, entry_of_key, root_at}
 use Rattle.vdb_levels.specs.declared.rule.StateRule.{StateRule}
 
+-- the rule activates nothing under a key
+abbrev pub IsIdleKey : {U O : Type 0} → StateRule → Layout U O → Coord → Type 0
+IsIdleKey {U} rule u k = (made rule ≡ false) ⊎ ((tile : Cell U) × (tile.on ≡ false) × (entry_of_key u.background u.table k ≡ Tile tile))
+
 module _ {V U : Type 0} (rule : StateRule) where
   -- the values of f, with the states of both combined
   abbrev pub combined : Field V → Field U → Field V
@@ -19,7 +23,3 @@ module _ {V U : Type 0} (rule : StateRule) where
     pub record IsRefinedKey (t : Layout V S) (u : Layout U O) (k : Coord) : Type 0 where
       pub tile : (tile : Cell V) (over : ℕ) → root_at t.table k ≡ Some (Tile tile) → root_at u.table k ≡ Some (Child over) → tile.on ≡ made rule
       pub node : (slot over : ℕ) → root_at t.table k ≡ Some (Child slot) → root_at u.table k ≡ Some (Child over) → (at : List ℕ) → IsPlace at → IsRefinedAt rule (blocks t.nodes) slot (others u.nodes) over at
-
-  -- the rule activates nothing under a key
-  abbrev pub IsIdleKey : {O : Type 0} → Layout U O → Coord → Type 0
-  IsIdleKey u k = (made rule ≡ false) ⊎ ((tile : Cell U) × (tile.on ≡ false) × (entry_of_key u.background u.table k ≡ Tile tile))

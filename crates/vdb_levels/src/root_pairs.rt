@@ -121,4 +121,123 @@ impl<V: Voxel, S: NodeStore<V>> Root<V, S> {
             .refine(self.alloc, slot, &other.nodes, over, rule, steps)?;
         Ok(())
     }
+
+    /// Combines the states below the keys of this tree with those of the other, without memory. The values stay. No tile over them
+    /// has to be split, and the rule activates nothing in root blocks without an entry.
+    pub fn combine<U: Voxel, O: NodeStore<U>>(
+        &mut self,
+        other: &Root<U, O>,
+        rule: StateRule,
+        steps: &mut Steps,
+    )
+    where
+        S: PairStore<V, U, O>,
+        ensures limit { self.new.limit ≡ self.old.limit }
+        ensures field { ((k : Coord) → IsRefinedKey rule S.IsPlace S.blocks O.blocks self.old other.now k) → ((k : Coord) → root_at self.old.table k ≡ None → IsIdleKey rule other.now k)
+            → field_of S.bits S.place S.blocks self.new ≡ combined rule (field_of S.bits S.place S.blocks self.old) (field_of O.bits O.place O.blocks other.now) }
+    {
+        let mut past = None;
+        'keys: while let Some(key) = self.next_key(past) {
+            self.combine_key(key, other, rule, steps);
+            past = Some(key);
+        }
+    }
+
+    /// Combines the states of the root block with a key.
+    fn combine_key<U: Voxel, O: NodeStore<U>>(
+        &mut self,
+        key: Coord,
+        other: &Root<U, O>,
+        rule: StateRule,
+        steps: &mut Steps,
+    )
+    where
+        S: PairStore<V, U, O>,
+        requires entered { IsSome (root_at self.old.table key) }
+        ensures changes { ChangesKey S.bits S.place S.IsPlace S.blocks self.old self.new key }
+        ensures combines { (p : Coord) → key_of S.bits p ≡ key → IsRefinedKey rule S.IsPlace S.blocks O.blocks self.old other.now key
+            → cell_at S.bits S.place S.blocks self.new p ≡ ruled rule (cell_at S.bits S.place S.blocks self.old p) (cell_at O.bits O.place O.blocks other.now p).on }
+    {
+        match other.entry(key) {
+            Entry::Child(over) => self.combine_under(key, other, over, rule, steps),
+            Entry::Tile(tile) => {
+                if tile.on == rule.acts_at() {
+                    self.fill_key(key, rule.made(), steps);
+                }
+            }
+        }
+    }
+
+    /// Combines the states of the root block with a key, where the other tree has a node.
+    fn combine_under<U: Voxel, O: NodeStore<U>>(
+        &mut self,
+        key: Coord,
+        other: &Root<U, O>,
+        over: u32,
+        rule: StateRule,
+        steps: &mut Steps,
+    )
+    where
+        S: PairStore<V, U, O>,
+        requires entered { IsSome (root_at self.old.table key) }
+        requires over { entry_of_key other.now.background other.now.table key ≡ Child over }
+        ensures changes { ChangesKey S.bits S.place S.IsPlace S.blocks self.old self.new key }
+        ensures combines { (p : Coord) → key_of S.bits p ≡ key → IsRefinedKey rule S.IsPlace S.blocks O.blocks self.old other.now key
+            → cell_at S.bits S.place S.blocks self.new p ≡ ruled rule (cell_at S.bits S.place S.blocks self.old p) (cell_at O.bits O.place O.blocks other.now p).on }
+    {
+        match self.entry(key) {
+            Entry::Child(slot) => self.combine_node(key, slot, other, over, rule, steps),
+            Entry::Tile(_) => {}
+        }
+    }
+
+    /// Combines the states below the node under a key.
+    fn combine_node<U: Voxel, O: NodeStore<U>>(
+        &mut self,
+        key: Coord,
+        slot: u32,
+        other: &Root<U, O>,
+        over: u32,
+        rule: StateRule,
+        steps: &mut Steps,
+    )
+    where
+        S: PairStore<V, U, O>,
+        requires child { entry_of_key self.old.background self.old.table key ≡ Child slot }
+        requires over { entry_of_key other.now.background other.now.table key ≡ Child over }
+        ensures changes { ChangesKey S.bits S.place S.IsPlace S.blocks self.old self.new key }
+        ensures combines { (p : Coord) → key_of S.bits p ≡ key → IsRefinedKey rule S.IsPlace S.blocks O.blocks self.old other.now key
+            → cell_at S.bits S.place S.blocks self.new p ≡ ruled rule (cell_at S.bits S.place S.blocks self.old p) (cell_at O.bits O.place O.blocks other.now p).on }
+    {
+        self.nodes.combine(slot, &other.nodes, over, rule, steps);
+    }
+}
+
+impl<V: Voxel, S: StateStore<V>> Root<V, S> {
+    /// Gives each cell of the root block with a key this state.
+    fn fill_key(&mut self, key: Coord, on: bool, steps: &mut Steps)
+        requires entered { IsSome (root_at self.old.table key) }
+        ensures changes { ChangesKey S.bits S.place S.IsPlace S.blocks self.old self.new key }
+        ensures sets { (p : Coord) → key_of S.bits p ≡ key → cell_at S.bits S.place S.blocks self.new p ≡ with_state on (cell_at S.bits S.place S.blocks self.old p) }
+    {
+        match self.entry(key) {
+            Entry::Child(slot) => self.fill_node(key, slot, on, steps),
+            Entry::Tile(tile) => {
+                let cell = Cell {
+                    value: tile.value,
+                    on,
+                };
+                self.replace_tile(key, tile, cell);
+            }
+        }
+    }
+
+    /// Gives each cell of the node under a key this state.
+    fn fill_node(&mut self, key: Coord, slot: u32, on: bool, steps: &mut Steps)
+        requires child { entry_of_key self.old.background self.old.table key ≡ Child slot }
+        ensures changes { ChangesKey S.bits S.place S.IsPlace S.blocks self.old self.new key }
+        ensures sets { (p : Coord) → key_of S.bits p ≡ key → cell_at S.bits S.place S.blocks self.new p ≡ with_state on (cell_at S.bits S.place S.blocks self.old p) }
+    {
+        self.nodes.fill_states(slot, on, steps);
+    }
 }
