@@ -21,3 +21,4 @@ pub mod PairSteps
 pub mod PairEntries
 pub mod PairRootSteps
 pub mod PairRootCells
+pub mod PairRootEnters

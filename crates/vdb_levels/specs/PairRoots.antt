@@ -9,9 +9,13 @@ use Rattle.vdb_levels.specs.Rules.{made, ruled}
 use Rattle.vdb_levels.specs.Table.{Field, Layout, entry_of_key, root_at}
 use Rattle.vdb_levels.specs.declared.rule.StateRule.{StateRule}
 
+-- the entry under a key is an inactive tile, or stands for one
+abbrev pub IsInactiveKey : {U O : Type 0} → Layout U O → Coord → Type 0
+IsInactiveKey {U} u k = (tile : Cell U) × (tile.on ≡ false) × (entry_of_key u.background u.table k ≡ Tile tile)
+
 -- the rule activates nothing under a key
 abbrev pub IsIdleKey : {U O : Type 0} → StateRule → Layout U O → Coord → Type 0
-IsIdleKey {U} rule u k = (made rule ≡ false) ⊎ ((tile : Cell U) × (tile.on ≡ false) × (entry_of_key u.background u.table k ≡ Tile tile))
+IsIdleKey rule u k = (made rule ≡ false) ⊎ IsInactiveKey u k
 
 module _ {V U : Type 0} (rule : StateRule) where
   -- the values of f, with the states of both combined

@@ -15,6 +15,7 @@ mod pools;
 mod refusal;
 mod root;
 mod root_boxes;
+mod root_enter;
 mod root_pairs;
 mod root_walk;
 mod rule;

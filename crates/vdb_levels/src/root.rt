@@ -2,6 +2,7 @@
 ghost use Rattle.std.specs.Prelude.{◌≡◌, ◌+◌, ◌*◌, ◌≤◌, ◌<◌, [], IfOk, IfErr, IfSome, OnOk, OnErr, IsOk, Some, None, length};
 ghost use Rattle.vdb_node.specs.declared.Entry.TheVariants.{Child, Tile};
 ghost use Rattle.vdb_value.specs.declared.Cell.{Cell};
+ghost use Rattle.vdb_coord.specs.declared.Coord.{Coord};
 ghost use Rattle.vdb_levels.specs.BoxRoots.{ChangesKey};
 ghost use Rattle.vdb_levels.specs.Field.{written};
 ghost use Rattle.vdb_levels.specs.Places.{key_of};
@@ -168,11 +169,12 @@ impl<V: Voxel, S: NodeStore<V>> Root<V, S> {
     }
 
     /// Makes sure that the key has an entry, the tile that it stands for.
-    fn enter(&mut self, key: Coord, cell: Cell<V>) -> Result<(), Refusal>
+    pub(crate) fn enter(&mut self, key: Coord, cell: Cell<V>) -> Result<(), Refusal>
         requires tiled { entry_of_key self.old.background self.old.table key ≡ Tile cell }
         requires key { IsKey S.bits key }
         ensures keeps { KeepsField S.bits S.place S.blocks self.old self.new }
         ensures entered { OnOk result (root_at self.new.table key ≡ Some (Tile cell)) }
+        ensures grows { (k : Coord) → root_at self.new.table k ≡ None → root_at self.old.table k ≡ None }
         ensures capacity { IfErr result (λ refusal. HasCapacity self.old key → refusal ≡ Memory) }
     {
         if self.table.get(key).is_some() {

@@ -24,6 +24,30 @@ use vdb_pool::Steps;
 use vdb_value::{Cell, Voxel};
 
 impl<V: Voxel, S: NodeStore<V>> Root<V, S> {
+    /// Combines the states of this tree with those of the other by a rule, in place. The values of this tree stay, and so does the
+    /// other tree (OpenVDB's `topologyUnion`, `topologyDifference` and `topologyIntersection`).
+    ///
+    /// `RootLimit`: the table has no capacity for the root blocks that aren't inactive in the other tree; only `Unite` can cause it.
+    /// `Memory`: an allocation failed. Both errors keep every cell.
+    pub fn combine_states<U: Voxel, O: NodeStore<U>>(
+        &mut self,
+        other: &Root<U, O>,
+        rule: StateRule,
+        steps: &mut Steps,
+    ) -> Result<(), Refusal>
+    where
+        S: PairStore<V, U, O>,
+        ensures ok { OnOk result (field_of S.bits S.place S.blocks self.new ≡ combined rule (field_of S.bits S.place S.blocks self.old) (field_of O.bits O.place O.blocks other.now)) }
+        ensures err { OnErr result (field_of S.bits S.place S.blocks self.new ≡ field_of S.bits S.place S.blocks self.old) }
+        ensures limit { self.new.limit ≡ self.old.limit }
+        ensures memory { (rule ≡ unites → ⊥) → IfErr result (λ refusal. refusal ≡ Memory) }
+    {
+        self.enter_for(other, rule)?;
+        self.refine(other, rule, steps)?;
+        self.combine(other, rule, steps);
+        Ok(())
+    }
+
     /// Makes nodes wherever the other tree has one in place of a tile whose state the rule may change, in the root blocks that have
     /// an entry. No cell changes. `Memory`: an allocation failed; some nodes may have been made, and every cell stays.
     pub fn refine<U: Voxel, O: NodeStore<U>>(

@@ -4,6 +4,7 @@ use Rattle.std.proofs.lemmas.Bool.Decides.{nat_tests}
 use Rattle.vdb_node.specs.declared.Entry.TheVariants.{Tile}
 use Rattle.vdb_levels.specs.Table.{IsKey, root_at}
 use Rattle.vdb_levels.proofs.Roots.{enter_keeps, enter_owns, none_at, put_keys}
+use Rattle.vdb_levels.proofs.PairRootEnters.{none_before}
 use Rattle.vdb_levels.proofs.root.Root.enter.Goals as goal
 
 pub invariant_of-self-2 : goal.invariant_of-self-2
@@ -24,3 +25,6 @@ returns-clause-keeps g c =
     rw (← c.self.view_is)
     (enter_keeps s.bits s.place s.blocks (record { background = c.self.inside.background; limit = c.self.inside.limit; table = c.self.inside.table; nodes = c.self.inside.nodes }) (record { background = c.self.inside.background; limit = c.self.inside.limit; table = c.put.new.self; nodes = c.self.inside.nodes }) c.args.key c.args.cell refl refl refl
     (rw (← c.self.view_is) at c.requires.tiled) c.in_ok-put.ensures.ok)
+
+pub returns-clause-grows : goal.returns-clause-grows
+returns-clause-grows g c = λ k none. rw (← c.self.view_is) (none_before c.self.inside.table c.put.new.self c.args.key (Tile c.args.cell) c.in_ok-put.ensures.ok k none)
