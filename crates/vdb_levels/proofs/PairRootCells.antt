@@ -9,7 +9,7 @@ use Rattle.vdb_coord.proofs.BlockOrder.{less_apart}
 use Rattle.vdb_node.specs.declared.Entry.{Entry}
 use Rattle.vdb_node.specs.declared.Entry.TheVariants.{Child, Tile}
 use Rattle.vdb_value.specs.declared.Cell.{Cell}
-use Rattle.vdb_levels.specs.Blocks.{Blocks, IsSameBlock, below_entry}
+use Rattle.vdb_levels.specs.Blocks.{Blocks, below_entry}
 use Rattle.vdb_levels.specs.BoxRoots.{ChangesKey, IsSameKey}
 use Rattle.vdb_levels.specs.EntryFacts.{true_false}
 use Rattle.vdb_levels.specs.PairRoots.{IsIdleKey, IsRefinedKey, combined}

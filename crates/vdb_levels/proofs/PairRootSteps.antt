@@ -1,5 +1,5 @@
 -- Root blocks that are refined, key by key.
-use Rattle.std.proofs.Common.{◌≡◌, ◌≢◌, ◌⊎◌, inl, inr, ℕ, Bool, true, false, List, refl, sym, ap, subst, ◌∙◌}
+use Rattle.std.proofs.Common.{◌≡◌, ◌≢◌, ◌⊎◌, ℕ, List, sym, ap, subst, ◌∙◌}
 use Rattle.std.specs.Prelude.{Option, Some, None}
 use Rattle.std.specs.declared.cmp.Ordering.TheVariants.{Less}
 use Rattle.vdb_coord.specs.Space.{coord_cmp}
@@ -17,7 +17,7 @@ use Rattle.vdb_levels.specs.Table.{IsNextKey, IsPast, Layout, entry_of_key, root
 use Rattle.vdb_levels.specs.declared.rule.StateRule.{StateRule}
 use Rattle.vdb_levels.proofs.BoxSteps.{has_prefix}
 use Rattle.vdb_levels.proofs.KeysPast.{keys_end, keys_next}
-use Rattle.vdb_levels.proofs.Roots.{child_at_key, entry_at_key}
+use Rattle.vdb_levels.proofs.Roots.{entry_at_key}
 
 module _ {V : Type 0} where
   no_entry : (x : Entry V) → ◌≡◌ {A = Option (Entry V)} None (Some x) → ⊥

@@ -1,23 +1,23 @@
 -- Entries of a node whose states are combined with those of another node, one after another.
-use Rattle.std.proofs.Common.{◌≡◌, ◌⊎◌, inl, inr, ◌<◌, ◌≤◌, ◌+◌, ℕ, Bool, true, false, not, ◌&&◌, ◌||◌, List, [], ◌∷◌, refl, sym, ap, subst, ◌∙◌, arith}
+use Rattle.std.proofs.Common.{◌≡◌, ◌⊎◌, inl, inr, ◌<◌, ◌≤◌, ◌+◌, ℕ, Bool, true, false, ◌&&◌, ◌||◌, List, [], ◌∷◌, refl, sym, ap, subst, ◌∙◌}
 use Rattle.vdb_node.specs.declared.Entry.{Entry}
 use Rattle.vdb_node.specs.declared.Entry.TheVariants.{Child, Tile}
 use Rattle.vdb_pool.specs.Contents.{Contents}
 use Rattle.vdb_value.specs.declared.Cell.{Cell}
-use Rattle.vdb_levels.specs.Blocks.{Blocks, IsSameBlock, below_entry, entry_in, node_blocks, part_below}
+use Rattle.vdb_levels.specs.Blocks.{Blocks, IsSameBlock, entry_in, node_blocks, part_below}
 use Rattle.vdb_levels.specs.EntryFacts.{child_any, tile_no_child, true_false}
-use Rattle.vdb_levels.specs.Pairs.{AreIdle, CombinesAt, IsIdle, IsRefined, IsRefinedAt, IsRefinedBelow}
+use Rattle.vdb_levels.specs.Pairs.{AreIdle, CombinesAt, IsIdle, IsRefinedAt, IsRefinedBelow}
 use Rattle.vdb_levels.specs.Places.{IsNodePlace, IsPrefixOf}
 use Rattle.vdb_levels.specs.Pruned.{HasNoChild}
 use Rattle.vdb_levels.specs.Rules.{acts_at, made, ruled, state_of, with_state}
 use Rattle.vdb_levels.specs.Same.{ChangesEntry, IsSameEntry}
 use Rattle.vdb_levels.specs.SameFacts.{same_part}
 use Rattle.vdb_levels.specs.Sound.{IsChildAt}
-use Rattle.vdb_levels.specs.States.{AreStated, IsStated}
+use Rattle.vdb_levels.specs.States.{AreStated}
 use Rattle.vdb_levels.specs.declared.rule.StateRule.{StateRule}
 use Rattle.vdb_levels.specs.declared.rule.StateRule.TheVariants.{Unite, Subtract, Intersect}
 use Rattle.vdb_levels.proofs.BoxSteps.{has_prefix}
-use Rattle.vdb_levels.proofs.EntrySteps.{cell_stays, less_not, or_less, same_or_less, stated_state}
+use Rattle.vdb_levels.proofs.EntrySteps.{less_not, or_less, same_or_less, stated_state}
 
 -- ---- rules
 

@@ -1,5 +1,5 @@
 //! Two stores of one shape, whose states are combined in place.
-ghost use Rattle.std.specs.Prelude.{◌≡◌, ◌≢◌, ◌+◌, ◌∷◌, [], ◌<◌, ◌≤◌, ℕ, List, Bool, IfNone, IfSome, IsSome, OnOk, true};
+ghost use Rattle.std.specs.Prelude.{◌≡◌, ◌≢◌, ◌+◌, ◌∷◌, [], ◌<◌, ◌≤◌, ℕ, List, IfNone, IfSome, IsSome, OnOk, true};
 ghost use Rattle.vdb_coord.specs.declared.Coord.{Coord};
 ghost use Rattle.vdb_node.specs.Nodes.{entry_count};
 ghost use Rattle.vdb_node.specs.declared.Entry.{Entry};
@@ -10,16 +10,15 @@ ghost use Rattle.vdb_levels.specs.Blocks.{entry_in, KeepsBlock, node_blocks};
 ghost use Rattle.vdb_levels.specs.Pairs.{AreIdle, CombinesAt, IfChild, IsHeldIn, IsRefinedAt, IsRefinedBelow};
 ghost use Rattle.vdb_levels.specs.Places.{IsNodePlace};
 ghost use Rattle.vdb_levels.specs.Pruned.{HasNoChild};
-ghost use Rattle.vdb_levels.specs.Rules.{ruled};
 ghost use Rattle.vdb_levels.specs.Same.{ChangesEntry, IsSameNode};
 ghost use Rattle.vdb_levels.specs.Sound.{AreSoundNodes, IsChildAt, IsNode};
 
+use crate::NodeStore;
 use crate::internal_store::InternalStore;
 use crate::leaf_store::LeafStore;
 use crate::pools::held_place;
 use crate::rule::{StateRule, combine_leaf};
 use crate::state_store::StateStore;
-use crate::NodeStore;
 use std::alloc::Global;
 use vdb_node::{Entry, Stored};
 use vdb_pool::{Memory, Steps};
@@ -49,14 +48,7 @@ pub trait PairStore<V: Voxel, U: Voxel, O: NodeStore<U>>: StateStore<V> {
 
     /// Combines the states of the block in a slot with those of the other block, without memory, where no tile over them has to
     /// be split. The values stay.
-    fn combine(
-        &mut self,
-        slot: u32,
-        other: &O,
-        other_slot: u32,
-        rule: StateRule,
-        steps: &mut Steps,
-    )
+    fn combine(&mut self, slot: u32, other: &O, other_slot: u32, rule: StateRule, steps: &mut Steps)
         requires sound { Self.IsSound self.old }
         requires held { (Self.blocks self.old).holds slot ≡ true }
         requires other_sound { O.IsSound other.now }
@@ -216,7 +208,9 @@ impl<V: Stored<W>, const LOG2: u32, const W: usize, Below: StateStore<V>> Intern
         ensures done { OnOk result ((at : List ℕ) → Below.IsPlace at → IsRefinedBelow rule (node_blocks (Below.blocks self.new.below) self.new.pool) slot index (OtherBelow.blocks other.now.below) over at) }
     {
         match self.entry(slot, index, steps) {
-            Entry::Child(child) => self.refine_child(alloc, slot, index, child, other, over, rule, steps),
+            Entry::Child(child) => self.refine_child(
+                alloc, slot, index, child, other, over, rule, steps,
+            ),
             Entry::Tile(tile) => {
                 if tile.on == rule.made() {
                     return Ok(());
@@ -250,7 +244,8 @@ impl<V: Stored<W>, const LOG2: u32, const W: usize, Below: StateStore<V>> Intern
         ensures keeps { KeepsBlock (IsNodePlace (entry_count LOG2) Below.IsPlace) (node_blocks (Below.blocks self.old.below) self.old.pool) (node_blocks (Below.blocks self.new.below) self.new.pool) slot }
         ensures done { OnOk result ((at : List ℕ) → Below.IsPlace at → IsRefinedBelow rule (node_blocks (Below.blocks self.new.below) self.new.pool) slot index (OtherBelow.blocks other.now.below) over at) }
     {
-        self.below.refine(alloc, child, &other.below, over, rule, steps)
+        self.below
+            .refine(alloc, child, &other.below, over, rule, steps)
     }
 
     /// Combines the states below the node in a slot with those of the other node.
@@ -275,7 +270,9 @@ impl<V: Stored<W>, const LOG2: u32, const W: usize, Below: StateStore<V>> Intern
         ensures others { (other : ℕ) → other ≢ slot → IsSameNode (entry_count LOG2) (Below.Same self.old.below self.new.below) self.old.pool self.new.pool other }
     {
         let mut from = 0;
-        'entries: while let Some(index) = self.next_to_combine(slot, other, other_slot, rule, from, steps) {
+        'entries: while let Some(index) = self.next_to_combine(
+            slot, other, other_slot, rule, from, steps,
+        ) {
             self.combine_entry(slot, index, other, other_slot, rule, steps);
             from = index + 1;
         }

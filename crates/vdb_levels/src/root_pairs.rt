@@ -1,11 +1,10 @@
 //! States of two trees, which are combined key by key.
-ghost use Rattle.std.specs.Prelude.{◌≡◌, ◌≢◌, ℕ, List, IfErr, IsSome, OnErr, OnOk, None, Some, is_some};
+ghost use Rattle.std.specs.Prelude.{◌≡◌, ◌≢◌, IfErr, IsSome, OnErr, OnOk, None, Some, is_some};
 ghost use Rattle.vdb_coord.specs.declared.Coord.{Coord};
 ghost use Rattle.vdb_node.specs.declared.Entry.TheVariants.{Child, Tile};
 ghost use Rattle.vdb_value.specs.declared.Cell.{Cell};
 ghost use Rattle.vdb_levels.specs.BoxRoots.{ChangesKey};
 ghost use Rattle.vdb_levels.specs.PairRoots.{combined, IsIdleKey, IsRefinedKey};
-ghost use Rattle.vdb_levels.specs.Pairs.{IsRefinedAt};
 ghost use Rattle.vdb_levels.specs.Places.{key_of};
 ghost use Rattle.vdb_levels.specs.Rules.{ruled, with_state};
 ghost use Rattle.vdb_levels.specs.Table.{cell_at, entry_of_key, field_of, KeepsField, root_at};

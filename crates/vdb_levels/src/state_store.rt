@@ -1,10 +1,10 @@
 //! Blocks whose states are set, and whose values stay.
-ghost use Rattle.std.specs.Prelude.{◌≡◌, ◌≢◌, ◌∷◌, ◌<◌, ◌≤◌, ℕ, List, IfNone, IfSome, IsSome, true, false};
+ghost use Rattle.std.specs.Prelude.{◌≡◌, ◌≢◌, ◌∷◌, ◌<◌, ◌≤◌, ℕ, IfNone, IfSome, IsSome, true, false};
 ghost use Rattle.vdb_node.specs.Nodes.{entry_count};
 ghost use Rattle.vdb_node.specs.declared.Entry.{Entry};
 ghost use Rattle.vdb_pool.specs.Contents.{node_at};
 ghost use Rattle.vdb_value.specs.declared.Cell.{Cell};
-ghost use Rattle.vdb_levels.specs.Blocks.{entry_in, node_blocks};
+ghost use Rattle.vdb_levels.specs.Blocks.{node_blocks};
 ghost use Rattle.vdb_levels.specs.Places.{IsNodePlace};
 ghost use Rattle.vdb_levels.specs.Same.{ChangesEntry, IsSameNode};
 ghost use Rattle.vdb_levels.specs.Sound.{AreSoundNodes, IsChildAt, IsNode};
@@ -35,9 +35,7 @@ pub trait StateStore<V: Voxel>: NodeStore<V> {
 impl<V: Stored<W>, const LOG2: u32, const W: usize> StateStore<V> for LeafStore<V, LOG2, W> {
     fn fill_states(&mut self, slot: u32, on: bool, steps: &mut Steps) {
         let place = held_place(&self.pool, slot);
-        self.pool
-            .at_mut(place, steps)
-            .set_states(&Mask::filled(on));
+        self.pool.at_mut(place, steps).set_states(&Mask::filled(on));
     }
 }
 
@@ -122,7 +120,11 @@ impl<V: Stored<W>, const LOG2: u32, const W: usize, Below: NodeStore<V>> Interna
         ensures few { IfSome result (λ index. index < 32768) }
     {
         if on {
-            if from < entries(LOG2) { Some(from) } else { None }
+            if from < entries(LOG2) {
+                Some(from)
+            } else {
+                None
+            }
         } else {
             self.next_active(slot, from, steps)
         }

@@ -1,6 +1,6 @@
 -- A child is combined below, and a tile has the state that the rule makes.
-use Rattle.std.proofs.Common.{◌≡◌, ◌∙◌, ◌∷◌, ℕ, ap, refl}
-use Rattle.vdb_node.specs.declared.Entry.TheVariants.{Child, Tile}
+use Rattle.std.proofs.Common.{◌≡◌, ◌∙◌, ◌∷◌, ℕ}
+use Rattle.vdb_node.specs.declared.Entry.TheVariants.{Tile}
 use Rattle.vdb_node.specs.Nodes.{entry_count}
 use Rattle.vdb_levels.specs.Sound.{IsChildAt}
 use Rattle.vdb_levels.proofs.Changes.{all_change, below_changes, holds_all, keeps_apart}

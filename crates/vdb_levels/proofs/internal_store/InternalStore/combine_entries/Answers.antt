@@ -1,5 +1,5 @@
 -- The entries below an index are combined, and those from it on are the first ones.
-use Rattle.std.proofs.Common.{◌≡◌, ◌∙◌, ◌∷◌, ℕ, List, refl, sym, subst, arith}
+use Rattle.std.proofs.Common.{◌≡◌, ◌∙◌, ◌∷◌, ℕ, arith}
 use Rattle.vdb_node.specs.Nodes.{entry_count}
 use Rattle.vdb_levels.specs.Blocks.{node_blocks}
 use Rattle.vdb_levels.specs.Pairs.{IsRefinedAt}

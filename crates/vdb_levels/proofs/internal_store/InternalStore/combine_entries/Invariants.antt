@@ -23,7 +23,7 @@ invariant-entries g l =
       rest : (i : ℕ) → i < n → l.from ≤ i → IsSameEntry n (b.Same l.fn.self.below l.self.below) l.fn.self.pool l.self.pool l.slot i;
       done : (d : Cell g.row.V.Denot) (i : ℕ) (at : List ℕ) → i < n → i < l.from → b.IsPlace at → IsRefinedAt l.rule (node_blocks (b.blocks l.fn.self.below) l.fn.self.pool) l.slot (node_blocks (o.blocks l.other.below) l.other.pool) l.other_slot (i ∷ at)
           → (e : Cell g.row.U.Denot) → (node_blocks (b.blocks l.self.below) l.self.pool).cell d l.slot (i ∷ at)
-              ≡ ruled l.rule ((node_blocks (b.blocks l.fn.self.below) l.fn.self.pool).cell d l.slot (i ∷ at)) ((node_blocks (o.blocks l.other.below) l.other.pool).cell e l.other_slot (i ∷ at)).on;
+          ≡ ruled l.rule ((node_blocks (b.blocks l.fn.self.below) l.fn.self.pool).cell d l.slot (i ∷ at)) ((node_blocks (o.blocks l.other.below) l.other.pool).cell e l.other_slot (i ∷ at)).on;
     }
 
 abbrev pub decreases-entries : goal.decreases-entries

@@ -1,5 +1,5 @@
 -- The cells below an index have the state, and the entries from it on are the first ones.
-use Rattle.std.proofs.Common.{◌≡◌, ◌∙◌, ◌∷◌, ℕ, refl, arith}
+use Rattle.std.proofs.Common.{◌≡◌, ◌∙◌, ◌∷◌, ℕ, arith}
 use Rattle.vdb_node.specs.Nodes.{entry_count}
 use Rattle.vdb_levels.specs.SameFacts.{node_itself, node_twice, same_at}
 use Rattle.vdb_levels.proofs.EntrySteps.{Always, Sets, entries_end, entries_next, rest_next, sets_whole, stated_sets}

@@ -1,8 +1,7 @@
 -- A tile whose state may change becomes a child, which is refined.
-use Rattle.std.proofs.Common.{◌≡◌, ◌∙◌, ◌∷◌, ℕ, refl}
+use Rattle.std.proofs.Common.{◌≡◌, ◌∙◌, ◌∷◌, ℕ}
 use Rattle.vdb_node.specs.Nodes.{entry_count}
-use Rattle.vdb_levels.proofs.Changes.{all_change, changes_twice, keeps_twice}
-use Rattle.vdb_levels.proofs.PairSteps.{below_made}
+use Rattle.vdb_levels.proofs.Changes.{changes_twice}
 use Rattle.vdb_levels.proofs.internal_store.InternalStore.refine_entry.Goals as goal
 
 pub returns-in_ok-child-in-Tile-clause-changes : goal.returns-in_ok-child-in-Tile-clause-changes

@@ -1,5 +1,5 @@
 -- A tile of the other tree fills the root block with the state that the rule makes, or changes nothing.
-use Rattle.std.proofs.Common.{◌∙◌, ap, sym}
+use Rattle.std.proofs.Common.{◌∙◌, sym}
 use Rattle.vdb_levels.proofs.BoxRootSteps.{nothing_changes}
 use Rattle.vdb_levels.proofs.PairEntries.{beq_apart, beq_same}
 use Rattle.vdb_levels.proofs.PairRootCells.{filled_combined, idle_combined}

@@ -1,9 +1,9 @@
 -- The node under the key is combined, and no other node changes.
-use Rattle.std.proofs.Common.{◌∙◌, ap, sym}
+use Rattle.std.proofs.Common.{◌∙◌}
 use Rattle.vdb_levels.proofs.BoxRootSteps.{child_changes}
 use Rattle.vdb_levels.proofs.Changes.{holds_all}
 use Rattle.vdb_levels.proofs.PairRootCells.{child_combined}
-use Rattle.vdb_levels.proofs.Roots.{child_at_key, entry_at_key, root_held}
+use Rattle.vdb_levels.proofs.Roots.{child_at_key, root_held}
 use Rattle.vdb_levels.proofs.root.Root.combine_node.Goals as goal
 
 pub combine-requires-clause-held : goal.combine-requires-clause-held

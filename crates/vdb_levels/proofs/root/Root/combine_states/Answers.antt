@@ -1,5 +1,5 @@
 -- Entries come first, then nodes, and then the states are combined without memory.
-use Rattle.std.proofs.Common.{◌∙◌, ap, sym, refl}
+use Rattle.std.proofs.Common.{◌∙◌, ap}
 use Rattle.vdb_levels.specs.PairRoots.{combined}
 use Rattle.vdb_levels.specs.Table.{field_of, root_at}
 use Rattle.vdb_levels.proofs.BoxRootSteps.{field_twice}

@@ -1,5 +1,5 @@
 -- A tile under the key has the state that the rule makes.
-use Rattle.std.proofs.Common.{◌∙◌, ap, sym}
+use Rattle.std.proofs.Common.{◌∙◌}
 use Rattle.vdb_levels.proofs.BoxRootSteps.{nothing_changes, tile_at_key}
 use Rattle.vdb_levels.proofs.PairRootCells.{made_combined}
 use Rattle.vdb_levels.proofs.Roots.{child_at_key}

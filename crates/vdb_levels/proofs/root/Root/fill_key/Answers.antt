@@ -1,4 +1,4 @@
-use Rattle.std.proofs.Common.{◌∙◌, ap, sym}
+use Rattle.std.proofs.Common.{◌∙◌}
 use Rattle.vdb_levels.proofs.BoxRootSteps.{tile_at_key}
 use Rattle.vdb_levels.proofs.PairRootCells.{tile_set}
 use Rattle.vdb_levels.proofs.root.Root.fill_key.Goals as goal

@@ -1,5 +1,5 @@
 -- The node under the key is filled, and no other node changes.
-use Rattle.std.proofs.Common.{◌∙◌, ap, sym}
+use Rattle.std.proofs.Common.{◌∙◌}
 use Rattle.vdb_levels.proofs.BoxRootSteps.{child_changes}
 use Rattle.vdb_levels.proofs.Changes.{holds_all}
 use Rattle.vdb_levels.proofs.PairRootCells.{child_set}

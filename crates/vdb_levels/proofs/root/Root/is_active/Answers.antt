@@ -1,4 +1,4 @@
-use Rattle.std.proofs.Common.{◌∙◌, sym}
+use Rattle.std.proofs.Common.{◌∙◌}
 use Rattle.vdb_levels.proofs.root.Root.is_active.Goals as goal
 
 pub returns-in-Tile : goal.returns-in-Tile

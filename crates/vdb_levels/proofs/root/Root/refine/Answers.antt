@@ -1,5 +1,5 @@
 -- The root blocks with keys so far are refined.
-use Rattle.std.proofs.Common.{◌∙◌, refl, sym}
+use Rattle.std.proofs.Common.{◌∙◌, refl}
 use Rattle.vdb_levels.proofs.BoxRootSteps.{entered_next, field_twice}
 use Rattle.vdb_levels.proofs.KeysPast.{fewer_past}
 use Rattle.vdb_levels.proofs.PairRootSteps.{refine_last_key, refine_next_key}

@@ -1,4 +1,4 @@
-use Rattle.std.proofs.Common.{◌∙◌, refl, sym}
+use Rattle.std.proofs.Common.{◌∙◌, refl}
 use Rattle.vdb_levels.proofs.BoxRootSteps.{nothing_changes}
 use Rattle.vdb_levels.proofs.PairRootSteps.{key_of_tile}
 use Rattle.vdb_levels.proofs.root.Root.refine_key.Goals as goal

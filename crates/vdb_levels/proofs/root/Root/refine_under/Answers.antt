@@ -1,5 +1,5 @@
 -- A tile whose state may change becomes a node, which is refined.
-use Rattle.std.proofs.Common.{◌∙◌, refl, sym}
+use Rattle.std.proofs.Common.{◌∙◌}
 use Rattle.vdb_levels.proofs.BoxRootSteps.{change_twice}
 use Rattle.vdb_levels.proofs.root.Root.refine_under.Goals as goal
 
