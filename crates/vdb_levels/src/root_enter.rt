@@ -16,7 +16,7 @@ use vdb_value::Voxel;
 
 impl<V: Voxel, S: NodeStore<V>> Root<V, S> {
     /// Gives an entry to each root block in which the rule may activate a cell.
-    pub(crate) fn enter_for<U: Voxel, O: NodeStore<U>>(
+    pub(crate) fn enter_by_rule<U: Voxel, O: NodeStore<U>>(
         &mut self,
         other: &Root<U, O>,
         rule: StateRule,
@@ -28,14 +28,14 @@ impl<V: Voxel, S: NodeStore<V>> Root<V, S> {
         ensures others { (rule ≡ unites → ⊥) → IsOk result }
     {
         match rule {
-            StateRule::Unite => self.enter_keys(other),
+            StateRule::Unite => self.enter_shared(other),
             StateRule::Subtract => Ok(()),
             StateRule::Intersect => Ok(()),
         }
     }
 
     /// Gives an entry to each root block that isn't inactive in the other tree.
-    fn enter_keys<U: Voxel, O: NodeStore<U>>(&mut self, other: &Root<U, O>) -> Result<(), Refusal>
+    fn enter_shared<U: Voxel, O: NodeStore<U>>(&mut self, other: &Root<U, O>) -> Result<(), Refusal>
     where
         S: PairStore<V, U, O>,
         ensures keeps { KeepsField S.bits S.place S.blocks self.old self.new }
@@ -43,7 +43,7 @@ impl<V: Voxel, S: NodeStore<V>> Root<V, S> {
     {
         let mut past = None;
         'keys: while let Some(key) = self.next_shared(other, past) {
-            self.enter_key(key, other.is_active(key))?;
+            self.enter_active(key, other.is_active(key))?;
             past = Some(key);
         }
         Ok(())
@@ -64,7 +64,7 @@ impl<V: Voxel, S: NodeStore<V>> Root<V, S> {
     }
 
     /// Gives the key an entry, if the root block is to be active.
-    fn enter_key(&mut self, key: Coord, active: bool) -> Result<(), Refusal>
+    fn enter_active(&mut self, key: Coord, active: bool) -> Result<(), Refusal>
         requires key { IsKey S.bits key }
         ensures keeps { KeepsField S.bits S.place S.blocks self.old self.new }
         ensures grows { (k : Coord) → root_at self.new.table k ≡ None → root_at self.old.table k ≡ None }

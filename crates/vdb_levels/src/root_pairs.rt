@@ -41,7 +41,7 @@ impl<V: Voxel, S: NodeStore<V>> Root<V, S> {
         ensures limit { self.new.limit ≡ self.old.limit }
         ensures memory { (rule ≡ unites → ⊥) → IfErr result (λ refusal. refusal ≡ Memory) }
     {
-        self.enter_for(other, rule)?;
+        self.enter_by_rule(other, rule)?;
         self.refine(other, rule, steps)?;
         self.combine(other, rule, steps);
         Ok(())

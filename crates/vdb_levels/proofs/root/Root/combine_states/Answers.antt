@@ -12,7 +12,7 @@ returns-clause-ok g c =
     let s = g.S.NodeStore in
     let o = g.O.NodeStore in
     let t = c.args.self.now in
-    let mid = c.enter_for.new.self in
+    let mid = c.enter_by_rule.new.self in
     let fine = c.refine.new.self in
-    c.combine.ensures.field c.in_ok-refine.ensures.done (λ k none. c.in_ok-enter_for.ensures.entered k (gone_if (root_at fine.table k) (root_at mid.table k) (c.refine.ensures.entered k) none))
-    ∙ ap (λ f. combined c.args.rule f (field_of o.bits o.place o.blocks c.args.other.now)) (same_field s.bits s.place s.blocks t fine (field_twice s.bits s.place s.blocks t mid fine c.enter_for.ensures.keeps c.refine.ensures.keeps))
+    c.combine.ensures.field c.in_ok-refine.ensures.done (λ k none. c.in_ok-enter_by_rule.ensures.entered k (gone_if (root_at fine.table k) (root_at mid.table k) (c.refine.ensures.entered k) none))
+    ∙ ap (λ f. combined c.args.rule f (field_of o.bits o.place o.blocks c.args.other.now)) (same_field s.bits s.place s.blocks t fine (field_twice s.bits s.place s.blocks t mid fine c.enter_by_rule.ensures.keeps c.refine.ensures.keeps))

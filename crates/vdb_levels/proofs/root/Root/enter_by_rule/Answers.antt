@@ -1,10 +1,10 @@
 use Rattle.std.proofs.Common.{◌∙◌, ap, inl, inr, refl}
 use Rattle.vdb_levels.specs.Rules.{made}
 use Rattle.vdb_levels.proofs.Results.{on_ok}
-use Rattle.vdb_levels.proofs.root.Root.enter_for.Goals as goal
+use Rattle.vdb_levels.proofs.root.Root.enter_by_rule.Goals as goal
 
 pub returns-in-Unite-clause-entered : goal.returns-in-Unite-clause-entered
-returns-in-Unite-clause-entered g c = on_ok _ _ c.enter_keys.result (λ h k none. inr (h k none)) c.enter_keys.ensures.entered
+returns-in-Unite-clause-entered g c = on_ok _ _ c.enter_shared.result (λ h k none. inr (h k none)) c.enter_shared.ensures.entered
 
 pub returns-in-Unite-clause-others : goal.returns-in-Unite-clause-others
 returns-in-Unite-clause-others g c = λ apart. absurd (apart c.in-Unite.is)

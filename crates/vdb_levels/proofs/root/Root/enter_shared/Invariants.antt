@@ -4,7 +4,7 @@ use Rattle.vdb_coord.specs.declared.Coord.{Coord}
 use Rattle.vdb_levels.specs.PairRoots.{IsInactiveKey}
 use Rattle.vdb_levels.specs.Table.{IsPast, KeepsField, root_at}
 use Rattle.vdb_levels.proofs.KeysPast.{keys_past}
-use Rattle.vdb_levels.proofs.root.Root.enter_keys.Given as goal
+use Rattle.vdb_levels.proofs.root.Root.enter_shared.Given as goal
 
 abbrev pub invariant-keys : goal.invariant-keys
 invariant-keys g l =
