@@ -20,3 +20,9 @@ pub mod FillSteps
 pub mod CopiedTables
 pub mod ConstantBlocks
 pub mod CountedKeys
+pub mod EntrySteps
+pub mod PairSteps
+pub mod PairEntries
+pub mod PairRootSteps
+pub mod PairRootCells
+pub mod PairRootEnters

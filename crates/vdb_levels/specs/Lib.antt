@@ -17,3 +17,7 @@ pub mod Boxes
 pub mod BoxRoots
 pub mod Fills
 pub mod Constants
+pub mod Rules
+pub mod States
+pub mod Pairs
+pub mod PairRoots

@@ -337,27 +337,6 @@ impl<V: Stored<W>, const LOG2: u32, const W: usize, Below: BoxStore<V>> Internal
         }
     }
 
-    /// Makes another tile of a tile.
-    fn replace_tile(
-        &mut self,
-        slot: u32,
-        index: u32,
-        tile: Cell<V>,
-        cell: Cell<V>,
-        steps: &mut Steps,
-    )
-        requires sound { AreSoundNodes LOG2 W Below.bits (Below.IsSound self.old.below) self.old.pool (Below.blocks self.old.below).holds }
-        requires held { IsSome (node_at self.old.pool slot) }
-        requires within { index < entry_count LOG2 }
-        requires tile { (d : Entry V) → entry_in d self.old.pool slot index ≡ Tile tile }
-        ensures sound { AreSoundNodes LOG2 W Below.bits (Below.IsSound self.new.below) self.new.pool (Below.blocks self.new.below).holds }
-        ensures changes { ChangesEntry (entry_count LOG2) (Below.Same self.old.below self.new.below) self.old.pool self.new.pool slot index }
-        ensures tiled { (d : Entry V) → entry_in d self.new.pool slot index ≡ Tile cell }
-    {
-        let place = held_place(&self.pool, slot);
-        self.pool.at_mut(place, steps).set_tile(index, cell);
-    }
-
     /// Paints the entry at an index, around q, which doesn't lie within the box.
     fn paint_part(
         &mut self,

@@ -328,7 +328,7 @@ impl<V: Stored<W>, const LOG2: u32, const W: usize, Below: NodeStore<V>> Interna
     }
 
     /// Returns the first index from `from` on at which the node in a slot has a child, with the child.
-    fn next_child(&self, slot: u32, from: u32, steps: &mut Steps) -> Option<(u32, u32)>
+    pub(crate) fn next_child(&self, slot: u32, from: u32, steps: &mut Steps) -> Option<(u32, u32)>
         requires node { IsNode LOG2 W }
         requires held { IsSome (node_at self.now.pool slot) }
         requires within { from ≤ entry_count LOG2 }

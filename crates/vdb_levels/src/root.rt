@@ -2,6 +2,7 @@
 ghost use Rattle.std.specs.Prelude.{◌≡◌, ◌≢◌, ◌+◌, ◌*◌, ◌≤◌, ◌<◌, [], IfOk, IfErr, IfSome, OnOk, OnErr, IsOk, IsSome, Some, None, length};
 ghost use Rattle.vdb_node.specs.declared.Entry.TheVariants.{Child, Tile};
 ghost use Rattle.vdb_value.specs.declared.Cell.{Cell};
+ghost use Rattle.vdb_coord.specs.declared.Coord.{Coord};
 ghost use Rattle.vdb_levels.specs.BoxRoots.{ChangesKey};
 ghost use Rattle.vdb_levels.specs.Field.{written};
 ghost use Rattle.vdb_levels.specs.Places.{key_of};
@@ -175,6 +176,7 @@ impl<V: Voxel, S: NodeStore<V>> Root<V, S> {
         ensures stays { IsSome (root_at self.old.table key) → root_at self.new.table key ≡ root_at self.old.table key }
         ensures others { (k : Coord) → k ≢ key → root_at self.new.table k ≡ root_at self.old.table k }
         ensures entered { OnOk result (root_at self.new.table key ≡ Some (Tile cell)) }
+        ensures grows { (k : Coord) → root_at self.new.table k ≡ None → root_at self.old.table k ≡ None }
         ensures capacity { IfErr result (λ refusal. HasCapacity self.old key → refusal ≡ Memory) }
     {
         if self.table.get(key).is_some() {

@@ -231,13 +231,4 @@ impl<V: Voxel, S: BoxStore<V>> Root<V, S> {
         self.nodes.give_back(slot, steps);
         self.table.set(key, Entry::Tile(cell));
     }
-
-    fn replace_tile(&mut self, key: Coord, tile: Cell<V>, cell: Cell<V>)
-        requires entered { IsSome (root_at self.old.table key) }
-        requires tile { entry_of_key self.old.background self.old.table key ≡ Tile tile }
-        ensures changes { ChangesKey S.bits S.place S.IsPlace S.blocks self.old self.new key }
-        ensures tiled { root_at self.new.table key ≡ Some (Tile cell) }
-    {
-        self.table.set(key, Entry::Tile(cell));
-    }
 }

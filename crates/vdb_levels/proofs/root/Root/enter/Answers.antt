@@ -4,6 +4,7 @@ use Rattle.std.proofs.lemmas.Bool.Decides.{nat_tests}
 use Rattle.vdb_node.specs.declared.Entry.TheVariants.{Tile}
 use Rattle.vdb_levels.specs.Table.{IsKey, root_at}
 use Rattle.vdb_levels.proofs.Roots.{coord_cases, enter_keeps, enter_owns, none_at, put_keys, put_there}
+use Rattle.vdb_levels.proofs.PairRootEnters.{none_before}
 use Rattle.vdb_levels.proofs.root.Root.enter.Goals as goal
 
 pub invariant_of-self-2 : goal.invariant_of-self-2
@@ -29,3 +30,6 @@ pub returns-clause-others : goal.returns-clause-others
 returns-clause-others g c = λ k e.
     rw (← c.self.view_is)
     (elim (coord_cases c.args.key k) [ inl f ↦ absurd (e (sym f.0)) | inr f ↦ put_there c.self.inside.table c.put.new.self c.args.key (Tile c.args.cell) c.in_ok-put.ensures.ok k f.1 ])
+
+pub returns-clause-grows : goal.returns-clause-grows
+returns-clause-grows g c = λ k none. rw (← c.self.view_is) (none_before c.self.inside.table c.put.new.self c.args.key (Tile c.args.cell) c.in_ok-put.ensures.ok k none)
