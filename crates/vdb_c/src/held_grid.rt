@@ -23,6 +23,7 @@ impl Model for HeldGrid {
 
 impl HeldGrid {
     /// Holds what is kept.
+    #[inline(always)]
     fn of(kept: Kept<AnyGrid, Global>) -> HeldGrid
         ensures { result.held ≡ kept.held }
     {
@@ -32,6 +33,7 @@ impl HeldGrid {
     }
 
     /// Returns what is held.
+    #[inline(always)]
     fn kept(self, alloc: Global) -> Kept<AnyGrid, Global>
         ensures { result.held ≡ self.held }
     {
@@ -41,6 +43,7 @@ impl HeldGrid {
     }
 
     /// Takes the grid out, if there is one, and holds none then.
+    #[inline(always)]
     pub(crate) fn take(&mut self, alloc: Global) -> Option<Box<AnyGrid>>
         ensures value { option_map (λ b. b.value) result ≡ self.old.held }
         ensures gone { self.new.held ≡ None }
@@ -50,6 +53,7 @@ impl HeldGrid {
     }
 
     /// Holds this grid, and frees the one that it held.
+    #[inline(always)]
     pub(crate) fn put(&mut self, alloc: Global, grid: Box<AnyGrid>)
         ensures { self.new.held ≡ Some grid.value }
     {

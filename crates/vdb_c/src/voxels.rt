@@ -161,6 +161,7 @@ pub extern "C" fn vdb_grid_set_active(
 }
 
 /// Returns the write of a number and a state: `None` if the type doesn't have the number.
+#[inline(always)]
 fn cell_write(kind: Kind, number: i64, on: bool) -> Option<Write<Scalar>>
     ensures write { result ≡ option_map (write_of on) (value_of kind number) }
     ensures fits { IsWriteFor kind result }
@@ -174,6 +175,7 @@ fn cell_write(kind: Kind, number: i64, on: bool) -> Option<Write<Scalar>>
 }
 
 /// Returns the write of a number alone: `None` if the type doesn't have it.
+#[inline(always)]
 fn value_write(kind: Kind, number: i64) -> Option<Write<Scalar>>
     ensures write { result ≡ option_map writes.Value (value_of kind number) }
     ensures fits { IsWriteFor kind result }
@@ -182,6 +184,7 @@ fn value_write(kind: Kind, number: i64) -> Option<Write<Scalar>>
 }
 
 /// Writes a voxel, if the value is in the type's range and the number names an accessor or none.
+#[inline(always)]
 fn write(
     grid: &mut AnyGrid,
     number: i32,
