@@ -457,7 +457,7 @@ struct Leaf {
     Cell at(int x, int y, int z) const { return {values.data()[64 * x + 8 * y + z], (states.data()[x] >> (8 * y + z) & 1) != 0}; }
 };
 
-// The leaves of a grid, in block order. The grid must outlive it. It reads 16 leaves at a time, so a change of the grid shows in
+// The leaves of a grid, in block order. The grid must outlive it. It reads 4 leaves at a time, so a change of the grid shows in
 // later leaves.
 class Leaves {
 public:
@@ -495,7 +495,7 @@ public:
         friend bool operator!=(const Iterator &a, const Iterator &b) { return a.read_ != b.read_; }
 
     private:
-        static constexpr std::size_t MOST = 16;
+        static constexpr std::size_t MOST = 4;
 
         struct Read {
             explicit Read(Grid &from) : grid(from) {}

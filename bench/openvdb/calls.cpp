@@ -71,7 +71,7 @@ public:
     }
 
     Sum leaves() {
-        constexpr std::size_t MOST = 16;
+        constexpr std::size_t MOST = 4; // their values fit the first cache
         vdb_coord at[MOST];
         static std::int64_t values[MOST * 512];
         std::uint64_t states[MOST * 8];

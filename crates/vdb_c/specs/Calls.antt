@@ -20,7 +20,7 @@ use Rattle.vdb_scene.specs.declared.any_grid.AnyGrid.{AnyGrid}
 use Rattle.vdb_scene.specs.declared.scalar.Scalar.{Scalar}
 use Rattle.vdb_value.specs.declared.Kind.{Kind}
 use Rattle.vdb_c.specs.Codes.{done, empty, memory, out_of_range, scene_code, tree_code}
-use Rattle.vdb_c.specs.Values.{kind_of_number, value_of}
+use Rattle.vdb_c.specs.Values.{accessor_of, kind_of_number, state_number, value_number, value_of}
 
 -- the type of a grid's values
 abbrev pub grid_kind : AnyGrid → Kind
@@ -40,6 +40,12 @@ OnValid (Some b) old new code kept call = call b
 -- a call that reads a grid, which keeps its cells and its limit
 abbrev pub Reads : AnyGrid → AnyGrid → ℤ → Type 0 → Type 0
 Reads old new code answer = (code ≡ done) × (grid_field new ≡ grid_field old) × (grid_root_limit new ≡ grid_root_limit old) × answer
+
+-- a call that reads the number and the state of a voxel through an accessor or none, which is tested
+abbrev pub Probes : ℤ → Coord → ℤ → ℤ → ℤ → ℤ → Option AnyGrid → Option AnyGrid → ℤ → Type 0
+Probes number at value value' active active' old new code =
+    OnHeld old new code ((value' ≡ value) × (active' ≡ active)) (λ g h. OnValid (accessor_of number) g h code ((value' ≡ value) × (active' ≡ active))
+    (λ _. Reads g h code ((value' ≡ value_number ((grid_field g).cell at).value) × (active' ≡ state_number ((grid_field g).cell at).on))))
 
 -- a call that changes a grid or fails, with the outcome that the library states
 abbrev pub Changes : AnyGrid → AnyGrid → ℤ → (Result (Unit {0}) TreeRefusal → Type 0) → Type 0

@@ -3,9 +3,8 @@ ghost use Rattle.std.specs.Prelude.{◌≡◌, ◌+◌, ◌<◌, ◌^◌, ◌⊎
 ghost use Rattle.vdb_coord.specs.Space.{is_inside};
 ghost use Rattle.vdb_coord.specs.declared.Coord.{Coord};
 ghost use Rattle.vdb_c.specs.BoxWrites.{WritesBox, WritesBoxUpTo, box_written, change_of_voxel};
-ghost use Rattle.vdb_c.specs.Calls.{IsWriteFor, OnHeld, OnValid, grid_kind};
+ghost use Rattle.vdb_c.specs.Calls.{OnHeld, OnValid, grid_kind};
 ghost use Rattle.vdb_c.specs.Elements.{are_apart as are_voxels_apart, place as place_of};
-ghost use Rattle.vdb_c.specs.Many.{change_at as change_of_element};
 ghost use Rattle.vdb_c.specs.Values.{accessor_of};
 
 use crate::box_arrays::bounds_beside;
@@ -13,12 +12,12 @@ use crate::box_voxels::next_voxel;
 use crate::codes::{DONE, EMPTY, OUT_OF_RANGE, tree_code};
 use crate::elements::{Strides, place};
 use crate::handles::GridHandle;
-use crate::values::{Corners, accessor, is_byte_on, value};
+use crate::many::change_at;
+use crate::values::{Corners, accessor};
 use std::alloc::Global;
 use vdb_coord::{Bounds, Coord};
 use vdb_pool::Steps;
-use vdb_scene::{ACCESSORS, AnyGrid, Scalar};
-use vdb_tree::Write;
+use vdb_scene::{ACCESSORS, AnyGrid};
 use vdb_value::Kind;
 
 /// Sets each voxel of a box to its elements of `values` and `states`, by x, then y, then z, through an accessor or, with -1, from the
@@ -128,28 +127,6 @@ fn missing_voxel(
             Some(next) => p = next,
             None => return None,
         }
-    }
-}
-
-/// Returns the write of one element of each array: `None` if neither has it or the type doesn't have the value.
-fn change_at(kind: Kind, values: &[i64], states: &[u8], k: usize) -> Option<Write<Scalar>>
-    ensures write { result ≡ change_of_element kind values.now states.now k }
-    ensures fits { IsWriteFor kind result }
-{
-    let Some(number) = values.get(k).copied() else {
-        return match states.get(k).copied() {
-            Some(byte) => Some(Write::State(is_byte_on(byte))),
-            None => None,
-        };
-    };
-    let value = value(kind, number)?;
-    match states.get(k).copied() {
-        Some(byte) => Some(if is_byte_on(byte) {
-            Write::On(value)
-        } else {
-            Write::Off(value)
-        }),
-        None => Some(Write::Value(value)),
     }
 }
 

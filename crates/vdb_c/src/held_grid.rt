@@ -23,6 +23,7 @@ impl Model for HeldGrid {
 
 impl HeldGrid {
     /// Holds what is kept.
+    #[inline(always)]
     fn of(kept: Kept<AnyGrid, Global>) -> HeldGrid
         ensures { result.held ≡ kept.held }
     {
@@ -32,6 +33,7 @@ impl HeldGrid {
     }
 
     /// Returns what is held.
+    #[inline(always)]
     fn kept(self, alloc: Global) -> Kept<AnyGrid, Global>
         ensures { result.held ≡ self.held }
     {
@@ -41,6 +43,7 @@ impl HeldGrid {
     }
 
     /// Takes the grid out, if there is one, and holds none then.
+    #[inline(always)]
     pub(crate) fn take(&mut self, alloc: Global) -> Option<Box<AnyGrid>>
         ensures value { option_map (λ b. b.value) result ≡ self.old.held }
         ensures gone { self.new.held ≡ None }
@@ -56,5 +59,15 @@ impl HeldGrid {
         let full = HeldGrid::of(Kept::of(grid));
         let old = boxed(mem::replace(self, full).kept(alloc));
         drop(old);
+    }
+    /// Holds this grid, in place of none.
+    #[inline(always)]
+    pub(crate) fn put_back(&mut self, alloc: Global, grid: Box<AnyGrid>)
+        requires { self.old.held ≡ None }
+        ensures { self.new.held ≡ Some grid.value }
+    {
+        let full = HeldGrid::of(Kept::of(grid));
+        let old = boxed(mem::replace(self, full).kept(alloc));
+        let None = old else { unreachable!() };
     }
 }

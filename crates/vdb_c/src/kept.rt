@@ -26,6 +26,7 @@ impl<T, A: Allocator> Model for Kept<T, A> {
 
 impl<T: Drop, A: Allocator> Kept<T, A> {
     /// Keeps a box.
+    #[inline(always)]
     pub(crate) fn of(boxed: Box<T, A>) -> Kept<T, A>
         ensures { result.held ≡ Some boxed.value }
     {
@@ -34,6 +35,7 @@ impl<T: Drop, A: Allocator> Kept<T, A> {
     }
 
     /// Returns the box that is kept.
+    #[inline(always)]
     fn into_box(self) -> Box<T, A>
         requires { IsSome self.held }
         ensures { Some result.value ≡ self.held }
@@ -44,6 +46,7 @@ impl<T: Drop, A: Allocator> Kept<T, A> {
 }
 
 /// Returns a null pointer.
+#[inline(always)]
 pub(crate) fn nothing<T: Drop>(alloc: Global) -> Kept<T, Global>
     ensures { result.held ≡ None }
 {
@@ -52,6 +55,7 @@ pub(crate) fn nothing<T: Drop>(alloc: Global) -> Kept<T, Global>
 }
 
 /// Returns the same pointer, unless it is null.
+#[inline(always)]
 fn unless_null<T: Drop>(kept: Kept<T, Global>) -> Option<Kept<T, Global>>
     ensures some { IfSome result (λ same. (same.held ≡ kept.held) × IsSome same.held) }
     ensures none { IfNone result (kept.held ≡ None) }
@@ -64,6 +68,7 @@ fn unless_null<T: Drop>(kept: Kept<T, Global>) -> Option<Kept<T, Global>>
 }
 
 /// Returns the box, if one is kept.
+#[inline(always)]
 pub(crate) fn boxed<T: Drop>(kept: Kept<T, Global>) -> Option<Box<T>>
     ensures { option_map (λ boxed. boxed.value) result ≡ kept.held }
 {

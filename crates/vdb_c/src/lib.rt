@@ -8,8 +8,9 @@
 //! - `kept`: the pointer of a box, the one module that makes and follows it.
 //! - `view`, `held_grid`, `held_scene`, `held_view`, `handles`: what C holds.
 //! - `codes`, `values`: codes, types, values, states, accessors and boxes as they cross.
+//! - `numbers`, `cells`: the value and the state of a voxel, as they cross.
 //! - `grid_life`, `voxels`, `regions`: calls on one grid.
-//! - `arrays`, `numbers`, `many`: calls on many voxels, given by their coordinates.
+//! - `arrays`, `many`: calls on many voxels, given by their coordinates.
 //! - `elements`, `box_voxels`, `reading`, `box_arrays`, `box_writes`: calls on a box of voxels as arrays.
 //! - `pairs`: calls that combine two grids.
 //! - `scene_files`, `scene_grids`, `scene_moves`: calls on a scene and on its grids.
@@ -22,6 +23,7 @@ mod arrays;
 mod box_arrays;
 mod box_voxels;
 mod box_writes;
+mod cells;
 mod codes;
 mod elements;
 mod found;

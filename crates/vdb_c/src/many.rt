@@ -240,7 +240,13 @@ fn missing_change(kind: Kind, count: usize, values: &[i64], states: &[u8]) -> Op
 }
 
 /// Returns the write of one element of each array.
-fn change_at(kind: Kind, values: &[i64], states: &[u8], k: usize) -> Option<Write<Scalar>>
+#[inline(always)]
+pub(crate) fn change_at(
+    kind: Kind,
+    values: &[i64],
+    states: &[u8],
+    k: usize,
+) -> Option<Write<Scalar>>
     ensures write { result ≡ change_of_element kind values.now states.now k }
     ensures fits { IsWriteFor kind result }
 {
@@ -248,6 +254,7 @@ fn change_at(kind: Kind, values: &[i64], states: &[u8], k: usize) -> Option<Writ
 }
 
 /// Returns the write of a value, a state or both: `None` if neither is given or the type doesn't have the value.
+#[inline(always)]
 fn change_of(kind: Kind, number: Option<i64>, byte: Option<u8>) -> Option<Write<Scalar>>
     ensures write { result ≡ change_of_parts kind number byte }
     ensures fits { IsWriteFor kind result }

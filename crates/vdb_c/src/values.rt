@@ -71,6 +71,7 @@ pub(crate) fn kind(number: i32) -> Option<Kind>
 }
 
 /// Returns a state as a number.
+#[inline(always)]
 pub(crate) fn state_number(on: bool) -> i32
     ensures { result ≡ number_of_state on }
 {
@@ -78,6 +79,7 @@ pub(crate) fn state_number(on: bool) -> i32
 }
 
 /// Returns a number as a state: active unless it is 0.
+#[inline(always)]
 pub(crate) fn is_on(number: i32) -> bool
     ensures { result ≡ number_is_on number }
 {
@@ -85,6 +87,7 @@ pub(crate) fn is_on(number: i32) -> bool
 }
 
 /// Returns a byte as a state: active unless it is 0.
+#[inline(always)]
 pub(crate) fn is_byte_on(byte: u8) -> bool
     ensures { result ≡ byte_is_on byte }
 {
@@ -92,6 +95,7 @@ pub(crate) fn is_byte_on(byte: u8) -> bool
 }
 
 /// Returns a value as a number.
+#[inline(always)]
 pub(crate) fn value_number(value: Scalar) -> i64
     ensures { result ≡ number_of_value value }
 {
@@ -103,6 +107,7 @@ pub(crate) fn value_number(value: Scalar) -> i64
 }
 
 /// Returns the value of a number: `None` if the type doesn't have it.
+#[inline(always)]
 pub(crate) fn value(kind: Kind, number: i64) -> Option<Scalar>
     ensures value { result ≡ value_of kind number }
     ensures fits { IfSome result (λ v. IsTrue (is_of kind v)) }
@@ -126,6 +131,7 @@ pub(crate) fn value(kind: Kind, number: i64) -> Option<Scalar>
 }
 
 /// Returns the accessor of a number, or none for -1: `None` if the number is out of range.
+#[inline(always)]
 pub(crate) fn accessor(number: i32) -> Option<Option<usize>>
     ensures { result ≡ accessor_of number }
 {
@@ -139,6 +145,7 @@ pub(crate) fn accessor(number: i32) -> Option<Option<usize>>
 }
 
 /// Returns a coordinate of C.
+#[inline(always)]
 pub(crate) fn coord(corner: &Corner) -> Coord
     ensures { result ≡ corner_coord corner.now }
 {

@@ -8,9 +8,10 @@ ghost use Rattle.vdb_tree.specs.Outcome.{IsOutcome};
 ghost use Rattle.vdb_tree.specs.declared.Write.TheVariants as writes;
 ghost use Rattle.vdb_scene.specs.Grids.{grid_field, grid_root_limit};
 ghost use Rattle.vdb_scene.specs.Scalars.{scalar_eq};
-ghost use Rattle.vdb_c.specs.Calls.{IsWriteFor, OnHeld, OnValid, Reads, Writes, grid_kind, write_of};
+ghost use Rattle.vdb_c.specs.Calls.{IsWriteFor, OnHeld, OnValid, Probes, Reads, Writes, grid_kind, write_of};
 ghost use Rattle.vdb_c.specs.Values.{accessor_of, is_on as number_is_on, state_number as number_of_state, value_number as number_of_value, value_of};
 
+use crate::cells::{go_to, near_cell};
 use crate::codes::{DONE, EMPTY, OUT_OF_RANGE, tree_code};
 use crate::handles::GridHandle;
 use crate::values::{accessor, is_on, state_number, value, value_number};
@@ -39,7 +40,7 @@ pub extern "C" fn vdb_grid_get(
         return EMPTY;
     };
     let cell = grid.get(Coord { x, y, z }, &mut handle.steps);
-    handle.grid.put(alloc, grid);
+    handle.grid.put_back(alloc, grid);
     *value = value_number(cell.value);
     *active = state_number(cell.on);
     DONE
@@ -61,16 +62,43 @@ pub extern "C" fn vdb_grid_probe(
         OnValid (accessor_of number) g h result ((value.new ≡ value.old) × (active.new ≡ active.old)) (λ _. Reads g h result
         ((value.new ≡ number_of_value ((grid_field g).cell (coord x y z)).value) × (active.new ≡ number_of_state ((grid_field g).cell (coord x y z)).on)))) }
 {
+    let Some(grid) = handle.grid.take(alloc) else {
+        return EMPTY;
+    };
+    let near = near_cell(&grid, number, Coord { x, y, z }, &mut handle.steps);
+    handle.grid.put_back(alloc, grid);
+    let Some(cell) = near else {
+        return probe_far(alloc, handle, number, x, y, z, value, active);
+    };
+    *value = cell.value;
+    *active = state_number(cell.on);
+    DONE
+}
+
+/// Returns what `vdb_grid_probe` returns, by the descent from the lowest node of the accessor's path that contains the voxel.
+#[inline(never)]
+fn probe_far(
+    alloc: Global,
+    handle: &mut GridHandle,
+    number: i32,
+    x: i32,
+    y: i32,
+    z: i32,
+    value: &mut i64,
+    active: &mut i32,
+) -> i32
+    ensures { Probes number (coord x y z) value.old value.new active.old active.new handle.old.grid.held handle.new.grid.held result }
+{
     let Some(mut grid) = handle.grid.take(alloc) else {
         return EMPTY;
     };
     let Some(accessor) = accessor(number) else {
-        handle.grid.put(alloc, grid);
+        handle.grid.put_back(alloc, grid);
         return OUT_OF_RANGE;
     };
-    let cell = grid.probe(accessor, Coord { x, y, z }, &mut handle.steps);
-    handle.grid.put(alloc, grid);
-    *value = value_number(cell.value);
+    let cell = go_to(&mut grid, accessor, Coord { x, y, z }, &mut handle.steps);
+    handle.grid.put_back(alloc, grid);
+    *value = cell.value;
     *active = state_number(cell.on);
     DONE
 }
@@ -100,7 +128,7 @@ pub extern "C" fn vdb_grid_set(
         change,
         &mut handle.steps,
     );
-    handle.grid.put(alloc, grid);
+    handle.grid.put_back(alloc, grid);
     code
 }
 
@@ -128,7 +156,7 @@ pub extern "C" fn vdb_grid_set_value(
         change,
         &mut handle.steps,
     );
-    handle.grid.put(alloc, grid);
+    handle.grid.put_back(alloc, grid);
     code
 }
 
@@ -156,11 +184,12 @@ pub extern "C" fn vdb_grid_set_active(
         change,
         &mut handle.steps,
     );
-    handle.grid.put(alloc, grid);
+    handle.grid.put_back(alloc, grid);
     code
 }
 
 /// Returns the write of a number and a state: `None` if the type doesn't have the number.
+#[inline(always)]
 fn cell_write(kind: Kind, number: i64, on: bool) -> Option<Write<Scalar>>
     ensures write { result ≡ option_map (write_of on) (value_of kind number) }
     ensures fits { IsWriteFor kind result }
@@ -174,6 +203,7 @@ fn cell_write(kind: Kind, number: i64, on: bool) -> Option<Write<Scalar>>
 }
 
 /// Returns the write of a number alone: `None` if the type doesn't have it.
+#[inline(always)]
 fn value_write(kind: Kind, number: i64) -> Option<Write<Scalar>>
     ensures write { result ≡ option_map writes.Value (value_of kind number) }
     ensures fits { IsWriteFor kind result }
@@ -182,6 +212,7 @@ fn value_write(kind: Kind, number: i64) -> Option<Write<Scalar>>
 }
 
 /// Writes a voxel, if the value is in the type's range and the number names an accessor or none.
+#[inline(always)]
 fn write(
     grid: &mut AnyGrid,
     number: i32,
