@@ -15,3 +15,4 @@ pub mod LeafRows
 pub mod Ranks
 pub mod BoxFields
 pub mod LeafCopies
+pub mod VoxelCalls

@@ -92,6 +92,11 @@ IsWriteFor kind (Some change) = IsTrue (passes (is_of kind) change)
 abbrev pub IsWrittenIn : ℕ → Coord → Write Scalar → Field Scalar → Field Scalar → Result (Unit {0}) TreeRefusal → Type 0
 IsWrittenIn limit at w old new result = IsOutcome scalar_eq vdb limit old (write at w old) new result × (write_takes_memory old at w ≡ false → IsOk result)
 
+-- the same for a write that is given
+abbrev pub IsWrittenBy : ℕ → Coord → Option (Write Scalar) → Field Scalar → Field Scalar → Result (Unit {0}) TreeRefusal → Type 0
+IsWrittenBy limit at None old new result = ⊥
+IsWrittenBy limit at (Some w) old new result = IsWrittenIn limit at w old new result
+
 -- the same for a grid
 abbrev pub IsWritten : Coord → Write Scalar → AnyGrid → AnyGrid → Result (Unit {0}) TreeRefusal → Type 0
 IsWritten at w old new result = IsWrittenIn (grid_root_limit old) at w (grid_field old) (grid_field new) result

@@ -36,6 +36,7 @@ mod kept;
 mod leaf_rows;
 mod leaves;
 mod many;
+mod near_writes;
 mod numbers;
 mod pairs;
 mod reading;

@@ -14,6 +14,7 @@ ghost use Rattle.vdb_c.specs.Values.{accessor_of, is_on as number_is_on, state_n
 use crate::cells::{go_to, near_cell};
 use crate::codes::{DONE, EMPTY, OUT_OF_RANGE, tree_code};
 use crate::handles::GridHandle;
+use crate::near_writes::set_near;
 use crate::values::{accessor, is_on, state_number, value, value_number};
 use std::alloc::Global;
 use vdb_coord::Coord;
@@ -120,6 +121,38 @@ pub extern "C" fn vdb_grid_set(
     let Some(mut grid) = handle.grid.take(alloc) else {
         return EMPTY;
     };
+    let done = set_near(
+        &mut grid,
+        number,
+        Coord { x, y, z },
+        given,
+        is_on(active),
+        &mut handle.steps,
+    );
+    handle.grid.put_back(alloc, grid);
+    if done {
+        return DONE;
+    }
+    set_far(alloc, handle, number, x, y, z, given, active)
+}
+
+/// Does what `vdb_grid_set` does, by the descent from the lowest node of the accessor's path that contains the voxel.
+#[inline(never)]
+fn set_far(
+    alloc: Global,
+    handle: &mut GridHandle,
+    number: i32,
+    x: i32,
+    y: i32,
+    z: i32,
+    given: i64,
+    active: i32,
+) -> i32
+    ensures { OnHeld handle.old.grid.held handle.new.grid.held result ⊤ (λ g h. Writes (accessor_of number) (coord x y z) (option_map (write_of (number_is_on active)) (value_of (grid_kind g) given)) g h result) }
+{
+    let Some(mut grid) = handle.grid.take(alloc) else {
+        return EMPTY;
+    };
     let change = cell_write(grid.kind(), given, is_on(active));
     let code = write(
         &mut grid,
@@ -190,7 +223,7 @@ pub extern "C" fn vdb_grid_set_active(
 
 /// Returns the write of a number and a state: `None` if the type doesn't have the number.
 #[inline(always)]
-fn cell_write(kind: Kind, number: i64, on: bool) -> Option<Write<Scalar>>
+pub(crate) fn cell_write(kind: Kind, number: i64, on: bool) -> Option<Write<Scalar>>
     ensures write { result ≡ option_map (write_of on) (value_of kind number) }
     ensures fits { IsWriteFor kind result }
 {

@@ -1,0 +1,16 @@
+use Rattle.std.proofs.Common.{◌≡◌, ◌∙◌, ap, rules, subst, w32, SFits, Some}
+use Rattle.std.specs.Prelude.{⊤, Option}
+use Rattle.std.specs.Option.{option_map}
+use Rattle.std.proofs.lemmas.Int.{to_z-of_z}
+use Rattle.vdb_coord.specs.Space.{coord}
+use Rattle.vdb_scene.specs.declared.any_grid.AnyGrid.{AnyGrid}
+use Rattle.vdb_c.specs.Calls.{OnHeld, Writes, grid_kind, write_of}
+use Rattle.vdb_c.specs.Values.{accessor_of, is_on, value_of}
+use Rattle.vdb_c.proofs.voxels.vdb_grid_set.Goals as goal
+
+pub returns : goal.returns
+returns c =
+    let fits : SFits w32 c.set_far.result = search rules in
+    let same = c.put_back.ensures ∙ ap Some (c.set_near-done.ensures.untouched c.if-done.false) ∙ ap Some c.deref_mut.ensures.value ∙ c.in-Some.ensures.value in
+    rw (to_z-of_z w32 c.set_far.result fits)
+    (subst (λ (o : Option AnyGrid). OnHeld o c.set_far.new.handle.grid.held c.set_far.result ⊤ (λ g h. Writes (accessor_of c.args.number) (coord c.args.x c.args.y c.args.z) (option_map (write_of (is_on c.args.active)) (value_of (grid_kind g) c.args.given)) g h c.set_far.result)) same c.set_far.ensures)

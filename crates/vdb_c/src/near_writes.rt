@@ -1,0 +1,70 @@
+//! Writes in the leaf that an accessor caches.
+ghost use Rattle.std.specs.Prelude.{◌≡◌, ◌<◌, IsTrue, Ok, false};
+ghost use Rattle.std.specs.Option.{option_map};
+ghost use Rattle.vdb_coord.specs.Blocks.{vdb};
+ghost use Rattle.vdb_tree.specs.Field.{as_field_of};
+ghost use Rattle.vdb_tree.specs.Layout.{field_of};
+ghost use Rattle.vdb_c.specs.Calls.{IsWriteFor, IsWrittenBy, Writes, grid_kind, write_of};
+ghost use Rattle.vdb_c.specs.Codes.{done};
+ghost use Rattle.vdb_c.specs.Values.{accessor_of, value_of};
+
+use crate::values::accessor;
+use crate::voxels::cell_write;
+use vdb_coord::Coord;
+use vdb_grid::Grid;
+use vdb_pool::Steps;
+use vdb_scene::{ACCESSORS, AnyGrid, GridValue, Scalar, write_in_leaf};
+use vdb_tree::Write;
+use vdb_value::Kind;
+
+/// Sets the value and the state of a voxel, if the leaf that ends the path of an accessor holds it, and the type has the value. Returns
+/// whether it does; if not, nothing changes.
+#[inline(always)]
+pub(crate) fn set_near(
+    grid: &mut AnyGrid,
+    number: i32,
+    at: Coord,
+    given: i64,
+    on: bool,
+    steps: &mut Steps,
+) -> bool
+    ensures written { IsTrue result → Writes (accessor_of number) at (option_map (write_of on) (value_of (grid_kind grid.old) given)) grid.old grid.new done }
+    ensures untouched { result ≡ false → grid.new ≡ grid.old }
+{
+    let Some(Some(k)) = accessor(number) else {
+        return false;
+    };
+    match grid {
+        AnyGrid::Bool(held) => {
+            write_in_leaf_if(held, k, at, cell_write(Kind::Bool, given, on), steps)
+        }
+        AnyGrid::I32(held) => {
+            write_in_leaf_if(held, k, at, cell_write(Kind::I32, given, on), steps)
+        }
+        AnyGrid::I64(held) => {
+            write_in_leaf_if(held, k, at, cell_write(Kind::I64, given, on), steps)
+        }
+    }
+}
+
+/// Does a write, if one is given, in the leaf that ends an accessor's path, if that leaf holds the voxel. Returns whether both are so; if
+/// not, nothing changes.
+#[inline(always)]
+fn write_in_leaf_if<V: GridValue>(
+    grid: &mut Grid<V, ACCESSORS>,
+    k: usize,
+    at: Coord,
+    change: Option<Write<Scalar>>,
+    steps: &mut Steps,
+) -> bool
+    requires within { k < ACCESSORS }
+    requires fits { IsWriteFor V.KIND change }
+    ensures written { IsTrue result → IsWrittenBy grid.old.tree.limit at change (as_field_of V.as_scalar (field_of vdb grid.old.tree)) (as_field_of V.as_scalar (field_of vdb grid.new.tree)) (Ok tt) }
+    ensures limit { grid.new.tree.limit ≡ grid.old.tree.limit }
+    ensures untouched { result ≡ false → grid.new ≡ grid.old }
+{
+    match change {
+        Some(change) => write_in_leaf(grid, k, at, change, steps),
+        None => false,
+    }
+}
