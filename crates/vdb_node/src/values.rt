@@ -63,8 +63,19 @@ impl<V: Voxel> Values<V> {
     {
         match self.first.get(i as usize) {
             Some(value) => *value,
-            None => self.rest,
+            None => self.past_written(),
         }
+    }
+
+    /// Returns the value past the written ones. It is a call of its own so that a read of a written
+    /// value is a branch that is foretold: otherwise the compiler selects between two addresses,
+    /// and each read waits for the number of written values.
+    #[cold]
+    #[inline(never)]
+    fn past_written(&self) -> V
+        ensures { result ≡ self.now.rest }
+    {
+        self.rest
     }
 
     /// Copies the values from index `from` on to a slice of as many places as it has.
@@ -117,16 +128,14 @@ impl<V: Voxel> Values<V> {
         }
     }
 
-    /// Writes the values up to an index, and those that follow in its 64 values, to their places.
+    /// Writes the values below an index to their places, or all that have one if those are fewer.
     #[inline(never)]
-    fn write_around(&mut self, i: u32)
-        requires { i < capacity self.old }
+    fn write_below(&mut self, end: usize)
         ensures capacity { capacity self.old ≤ capacity self.new }
-        ensures written { i < length self.new.first.items }
-        ensures values { (j : ℕ) → value_of self.new j ≡ value_of self.old j }
+        ensures written { (i : ℕ) → i < end → i < capacity self.old → i < length self.new.first.items }
+        ensures values { (i : ℕ) → value_of self.new i ≡ value_of self.old i }
     {
         let rest = self.rest;
-        let end = (i / 64) as usize * 64 + 64;
         let to = end.min(self.first.capacity()).max(self.first.len());
         match self.first.resize(to, rest) {
             Ok(()) => {}
@@ -143,7 +152,7 @@ impl<V: Voxel> Values<V> {
         ensures others { (j : ℕ) → j ≢ i → value_of self.new j ≡ value_of self.old j }
     {
         if self.first.len() <= i as usize {
-            self.write_around(i);
+            self.write_below(i as usize / 512 * 512 + 512);
         }
         self.first[i as usize] = value;
     }
@@ -161,7 +170,7 @@ impl<V: Voxel> Values<V> {
         if to as usize <= self.first.len() {
             set_each(&mut self.first, from, to, value);
         } else if to - from < 64 {
-            self.write_around(to - 1);
+            self.write_below((to - 1) as usize / 64 * 64 + 64);
             set_each(&mut self.first, from, to, value);
         } else {
             self.set_long_run(from, to, value);
