@@ -14,8 +14,8 @@ returns-in_err-write_leaf-clause-err g c =
 pub returns-clause-ok : goal.returns-clause-ok
 returns-clause-ok g c =
     let s = g.S.NodeStore in
-    rw (← c.self.view_is) (root_writes_leaf s.bits s.leaf_bits s.place s.blocks s.IsPlace s.IsOneLeaf g.met.S.NodeStore.has_place g.met.S.NodeStore.leaf_block g.met.S.NodeStore.leaf_exact g.met.S.NodeStore.leaf_cells g.met.S.NodeStore.one_leaf (record { background = c.self.inside.background; limit = c.self.inside.limit; table = c.self.inside.table; nodes = c.self.inside.nodes }) c.write_leaf.new.self c.args.p _ c.args.slot
-    (rw (← c.self.view_is) at c.requires) c.self.invariant.owns c.in_ok-write_leaf.ensures.ok (λ t a. (g.met.S.NodeStore.same_block _ _ t (c.write_leaf.ensures.others t a)).keeps))
+    rw (← c.self.view_is) (root_writes_leaf s.bits s.leaf_bits s.place s.blocks s.IsPlace s.IsOneLeaf g.met.S.NodeStore.has_place g.met.S.NodeStore.leaf_block g.met.S.NodeStore.leaf_exact g.met.S.NodeStore.leaf_cells g.met.S.NodeStore.one_leaf (record { background = c.self.inside.background; limit = c.self.inside.limit; table = c.self.inside.table; nodes = c.self.inside.nodes }) c.write_leaf.new.self c.args.p c.args.slot
+    (rw (← c.self.view_is) at c.requires) c.self.invariant.owns (λ t a. (g.met.S.NodeStore.same_block _ _ t (c.write_leaf.ensures.others t a)).keeps) _ c.in_ok-write_leaf.ensures.ok)
 
 pub invariant_of-self : goal.invariant_of-self
 invariant_of-self g c = record {
