@@ -2,6 +2,7 @@ pub mod Owners
 pub mod Results
 pub mod Changes
 pub mod LeafChanges
+pub mod LeafWrites
 pub mod Prunes
 pub mod NodeReads
 pub mod Gives

@@ -170,7 +170,7 @@ module _ {V : Type 0} where
 
     module _ (P : List ℕ → Type 0) (within : (p : Coord) → P (place p)) where
       -- below an entry of the table, where the nodes of the other children stay
-      same_below : (t : Layout V S) (new : S) (p : Coord) → ((s : ℕ) → root_at t.table (key_of bits p) ≡ Some (Child s) → KeepsBlock P (blocks t.nodes) (blocks new) s)
+      pub same_below : (t : Layout V S) (new : S) (p : Coord) → ((s : ℕ) → root_at t.table (key_of bits p) ≡ Some (Child s) → KeepsBlock P (blocks t.nodes) (blocks new) s)
           → below_entry ((blocks new).cell (off t.background)) (entry_of_key t.background t.table (key_of bits p)) (place p) ≡ cell_at bits place blocks t p
       same_below t new p h =
           below_same ((blocks t.nodes).cell (off t.background)) ((blocks new).cell (off t.background)) (entry_of_key t.background t.table (key_of bits p)) (place p)

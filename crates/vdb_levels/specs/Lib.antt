@@ -21,3 +21,4 @@ pub mod Rules
 pub mod States
 pub mod Pairs
 pub mod PairRoots
+pub mod LeafWrites
