@@ -1,12 +1,13 @@
 -- First coordinates of blocks and of entries.
-use Rattle.std.proofs.Common.{◌≡◌, ℕ, ℤ, pos, zero, ◌+◌, ◌*◌, ◌<◌, ◌/◌, ◌%◌, ◌^◌, ◌+ℤ◌, ◌*ℤ◌, negsuc, int_le, Bool, true, arith, ap, refl, sym, ◌∙◌}
+use Rattle.std.proofs.Common.{◌≡◌, ℕ, ℤ, pos, zero, ◌+◌, ◌*◌, ◌<◌, ◌≤◌, ◌/◌, ◌%◌, ◌^◌, ◌+ℤ◌, ◌*ℤ◌, negsuc, int_le, Bool, true, SFits, w32, arith, ap, refl, sym, ◌∙◌}
 use Rattle.std.proofs.Math.Nat.{mod-lt}
+use Rattle.std.proofs.lemmas.Int.{ints}
 use Rattle.std.proofs.lemmas.Nat.{div_below, pow_pos}
-use Rattle.vdb_coord.specs.Components.{digit, first_of, number_at}
-use Rattle.vdb_coord.proofs.Digits.{digit_is, first_of_entry, number_of_entry, number_up}
+use Rattle.vdb_coord.specs.Components.{digit, first_of, last_of, number_at}
+use Rattle.vdb_coord.proofs.Digits.{digit_is, first_of_entry, inside_own, number_of_entry, number_up}
 use Rattle.vdb_coord.proofs.Division.{rest, rest_of}
 use Rattle.vdb_coord.proofs.Boxes.{and_true, both, three, together}
-use Rattle.vdb_coord.proofs.Meeting.{number_le}
+use Rattle.vdb_coord.proofs.Meeting.{number_le, numbered_fits}
 use Rattle.vdb_coord.specs.Space.{by_component, everywhere, is_between, is_inside}
 use Rattle.vdb_coord.specs.declared.Coord.{Coord}
 use Rattle.vdb_node.specs.Nodes.{entry_count}
@@ -93,6 +94,22 @@ pub key_parts : (bits : ℕ) (k : Coord) → IsKey bits k → let within : ℤ �
 key_parts bits k h =
     let within : ℤ → Bool = is_between (number_at bits (negsuc 2147483647)) (number_at bits (pos 2147483647)) in
     three (within k.x) (within k.y) (within k.z) h
+
+-- a coordinate in a block of a coordinate is in range
+pub in_range : (bits : ℕ) → bits ≤ 15 → (q : Coord) → IsKey bits (key_of bits q) → is_inside everywhere q ≡ true
+in_range bits few q h =
+    let least = negsuc 2147483647 in
+    let greatest = pos 2147483647 in
+    let parts = key_parts bits (key_of bits q) h in
+    together (is_between least greatest q.x) (is_between least greatest q.y) (is_between least greatest q.z) (component q.x parts.0) (component q.y parts.1) (component q.z parts.2)
+  where
+    between_ends : (a b x : ℤ) → SFits w32 a → SFits w32 b → is_between a b x ≡ true → is_between (negsuc 2147483647) (pos 2147483647) x ≡ true
+    between_ends a b x f g k = grind (arith, ints)
+
+    component : (x : ℤ) → is_between (number_at bits (negsuc 2147483647)) (number_at bits (pos 2147483647)) (number_at bits x) ≡ true → is_between (negsuc 2147483647) (pos 2147483647) x ≡ true
+    component x k =
+        let fits = numbered_fits bits (number_at bits x) few k in
+        between_ends (first_of bits (number_at bits x)) (last_of bits (number_at bits x)) x fits.0 fits.1 (inside_own bits x)
 
 -- the first coordinate of the block with a key
 pub first_coord_of : (bits : ℕ) (key q : Coord) → q ≡ by_component (first_of bits) key → IsCorner bits q × (key_of bits q ≡ key)

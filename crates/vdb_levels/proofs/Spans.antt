@@ -9,7 +9,7 @@ use Rattle.vdb_coord.specs.declared.Coord.{Coord}
 use Rattle.vdb_coord.proofs.Boxes.{and_true, both, le_through, not_true, three, together}
 use Rattle.vdb_coord.proofs.Digits.{inside_own, number_split}
 use Rattle.vdb_coord.proofs.Meeting.{number_le, number_of_first, number_of_last}
-use Rattle.vdb_levels.specs.Boxes.{IsCovered, MissesBox}
+use Rattle.vdb_levels.specs.Boxes.{IsCovered, IsMet, MissesBox}
 use Rattle.vdb_levels.specs.HasPlaces.{same_coord}
 use Rattle.vdb_levels.specs.Places.{joined, key_of, offset_of}
 use Rattle.vdb_levels.specs.Spans.{IsInSpan}
@@ -112,6 +112,36 @@ apart_of bits least greatest p h x e between =
       | inr after ↦ le_not_lt (number_at bits least) (number_at bits p) (subst (λ t. int_le (number_at bits least) t ≡ true) e (number_le bits least x hs.0)) after
     ]
 
+or_false : (a b : Bool) → (a || b) ≡ false → (a ≡ false) × (b ≡ false)
+or_false true b h = cc
+or_false false b h = (refl, h)
+
+no_less : (a b : ℤ) → int_le a b ≡ true → int_lt a b ≡ false → b ≡ a
+no_less a b h k = grind (arith, ints)
+
+other_way : (a b : ℤ) → int_le a b ≡ false → int_le b a ≡ true
+other_way a b h = grind (arith, ints)
+
+itself : (a : ℤ) → int_le a a ≡ true
+itself a = grind (arith, ints)
+
+-- the number of the range that is nearest to p lies in p's block
+pub meets_of : (bits : ℕ) (least greatest p : ℤ) → int_le least greatest ≡ true → (int_lt (number_at bits greatest) (number_at bits p) || int_lt (number_at bits p) (number_at bits least)) ≡ false
+    → (x : ℤ) × (number_at bits x ≡ number_at bits p) × (is_between least greatest x ≡ true)
+meets_of bits least greatest p ordered h =
+    let hs = or_false (int_lt (number_at bits greatest) (number_at bits p)) (int_lt (number_at bits p) (number_at bits least)) h in
+    elim (bool_cases (int_le least p)) [
+      | inr below ↦ (least, no_less (number_at bits p) (number_at bits least) (number_le bits p least (other_way least p below)) hs.1, and_true (int_le least least) (int_le least greatest) (itself least) ordered)
+      | inl on ↦ elim (bool_cases (int_le p greatest)) [
+        | inr past ↦ (greatest, sym (no_less (number_at bits greatest) (number_at bits p) (number_le bits greatest p (other_way p greatest past)) hs.0), and_true (int_le least greatest) (int_le greatest greatest) ordered (itself greatest))
+        | inl within ↦ (p, refl, and_true (int_le least p) (int_le p greatest) on within)
+      ]
+    ]
+  where
+    bool_cases : (b : Bool) → (b ≡ true) ⊎ (b ≡ false)
+    bool_cases true = inl refl
+    bool_cases false = inr refl
+
 pub misses_of : (bits : ℕ) (box : Box) (p : Coord) (x y z : Bool) → (x ≡ true → (t : ℤ) → number_at bits t ≡ number_at bits p.x → is_between box.min.x box.max.x t ≡ true → ⊥)
     → (y ≡ true → (t : ℤ) → number_at bits t ≡ number_at bits p.y → is_between box.min.y box.max.y t ≡ true → ⊥) → (z ≡ true → (t : ℤ) → number_at bits t ≡ number_at bits p.z → is_between box.min.z box.max.z t ≡ true → ⊥)
     → (x || y || z) ≡ true → (q : Coord) → key_of bits q ≡ key_of bits p → is_inside box q ≡ false
@@ -121,3 +151,17 @@ misses_of bits box p x y z hx hy hz h q e = not_true (is_inside box q) (λ insid
       | inr k ↦ hz k q.z (ap (λ (c : Coord). c.z) e) hs.2
       | inl l ↦ elim (or_true x y l) [ inl k ↦ hx k q.x (ap (λ (c : Coord). c.x) e) hs.0 | inr k ↦ hy k q.y (ap (λ (c : Coord). c.y) e) hs.1 ]
     ])
+
+pub met_of : (bits : ℕ) (box : Box) (p : Coord) (x y z : Bool)
+    → (x ≡ false → (t : ℤ) × (number_at bits t ≡ number_at bits p.x) × (is_between box.min.x box.max.x t ≡ true))
+    → (y ≡ false → (t : ℤ) × (number_at bits t ≡ number_at bits p.y) × (is_between box.min.y box.max.y t ≡ true))
+    → (z ≡ false → (t : ℤ) × (number_at bits t ≡ number_at bits p.z) × (is_between box.min.z box.max.z t ≡ true))
+    → (x || y || z) ≡ false → IsMet bits box p
+met_of bits box p x y z hx hy hz h =
+    let outer = or_false (x || y) z h in
+    let inner = or_false x y outer.0 in
+    let a = hx inner.0 in
+    let b = hy inner.1 in
+    let c = hz outer.1 in
+    let q : Coord = record { x = a.0; y = b.0; z = c.0 } in
+    (q, same_coord (key_of bits q) (key_of bits p) a.1 b.1 c.1, together (is_between box.min.x box.max.x q.x) (is_between box.min.y box.max.y q.y) (is_between box.min.z box.max.z q.z) a.2 b.2 c.2)

@@ -1,8 +1,9 @@
 -- Steps of a walk: from the level below to the node above, and from entry to entry.
 use Rattle.std.proofs.Common.{◌≡◌, ◌≢◌, ◌⊎◌, inl, inr, ◌<◌, ◌≤◌, ◌+◌, ◌*◌, ℕ, suc, List, [], ◌∷◌, Bool, true, refl, sym, ap, subst, ◌∙◌, arith}
 use Rattle.std.specs.Prelude.{Option, Some, None, IfSome, is_some, slice_index_or, false}
-use Rattle.std.proofs.Math.Nat.{add-mul, mul-le-mul_right, suc-mul}
+use Rattle.std.proofs.Math.Nat.{mul-le-mul_right, suc-mul}
 use Rattle.std.proofs.lemmas.Bool.Decides.{eqb_tells}
+use Rattle.vdb_coord.specs.Space.{Box, is_inside}
 use Rattle.vdb_coord.specs.declared.Coord.{Coord}
 use Rattle.vdb_node.specs.Entries.{HasChild, IsFirstWithout, IsInactiveTile, IsNextChild, IsTileOf}
 use Rattle.vdb_node.specs.Leaf.{Leaf as LeafOf}
@@ -13,8 +14,9 @@ use Rattle.vdb_pool.specs.Live.{IsLive, place_slot}
 use Rattle.vdb_pool.specs.declared.place.Place.{Place}
 use Rattle.vdb_value.specs.declared.Cell.{Cell}
 use Rattle.vdb_levels.specs.Blocks.{Blocks, below_entry, entry_in, leaf_of_entry, node_blocks}
-use Rattle.vdb_levels.specs.HasPlaces.{key_up, same_offset}
-use Rattle.vdb_levels.specs.Places.{IsNodePlace, key_of, offset_of}
+use Rattle.vdb_levels.specs.Boxes.{MissesBox}
+use Rattle.vdb_levels.specs.HasPlaces.{key_up, same_below, same_offset}
+use Rattle.vdb_levels.specs.Places.{key_of, offset_of}
 use Rattle.vdb_levels.specs.Same.{ends_below}
 use Rattle.vdb_levels.specs.Sound.{IsChildAt}
 use Rattle.vdb_levels.specs.Walks.{ArePassedEntries, HasContent, IsBefore, IsCorner, IsEarlier, IsFrom, IsInBelow, IsPartOf, IsPassed, IsSkippedTile, LivesAt, OnLeaf, OnTile, OnTileEntry, Skips, above, end_below}
@@ -238,6 +240,28 @@ module _ {V L P : Type 0} (low bits : ℕ) (place : Coord → List ℕ) (Passed 
       by None h here below = passed_entry_too Passed at index rest i early between (λ e. here e tt) below
       by (Some part) h here below = absurd (true_false refl h)
 
+module _ {V L P : Type 0} (low bits : ℕ) (place : Coord → List ℕ) (Passed : List ℕ → Type 0) (p start : Coord) (box : Box) (o : Option (Part V L P)) (index : ℕ) where
+  -- what the search of an entry says of a coordinate of the box in it
+  pub in_entry : {Place : List ℕ → Type 0} → ((q : Coord) → Place (place q)) → ((q : Coord) (at : List ℕ) → IsCorner low q → Place at → IsFrom (place q) at)
+      → offset_of low bits start ≡ index → key_of (low + bits) start ≡ key_of (low + bits) p → (offset_of low bits p ≡ index → start ≡ p) → (offset_of low bits p ≢ index → IsCorner low start)
+      → ((q : Coord) → key_of low q ≡ key_of low start → is_inside box q ≡ true → IsFrom (place start) (place q) → IsEarlier place o (place q) → Passed (index ∷ place q))
+      → (q : Coord) → key_of (low + bits) q ≡ key_of (low + bits) p → is_inside box q ≡ true → IsFrom (offset_of low bits p ∷ place p) (offset_of low bits q ∷ place q)
+      → offset_of low bits q ≡ index → IsEarlier place o (place q) → Passed (offset_of low bits q ∷ place q)
+  in_entry has_place first at block here there passed q around inside h e earlier =
+      subst (λ j. Passed (j ∷ place q)) (sym e)
+      (passed q (same_below low bits q start (around ∙ sym block) (e ∙ sym at)) inside
+      (from_start place (IsCorner low) first (offset_of low bits p) index p start here there (place q) (has_place q) (subst (λ j. IsFrom (offset_of low bits p ∷ place p) (j ∷ place q)) e h)) earlier)
+
+  -- without a part in the entry, what lies before the next entry that meets the box was passed over
+  pub passed_to_next : (from to : ℕ) (q : Coord) → (offset_of low bits q < from → Passed (offset_of low bits q ∷ place q)) → (from ≤ offset_of low bits q → offset_of low bits q < index → Passed (offset_of low bits q ∷ place q))
+      → is_some o ≡ false → (offset_of low bits q ≡ index → IsEarlier place o (place q) → Passed (offset_of low bits q ∷ place q))
+      → MissesBox low bits box p (index + 1) to → key_of (low + bits) q ≡ key_of (low + bits) p → is_inside box q ≡ true → offset_of low bits q < to → Passed (offset_of low bits q ∷ place q)
+  passed_to_next from to q early between none here missed around inside less =
+      elim (less_or (offset_of low bits q) (suc index)) [
+        | inl up_to ↦ passed_without low bits place Passed o from index (place q) (offset_of low bits q) early between none here up_to
+        | inr later ↦ absurd (true_false inside (missed q around (omega (arith, later)) less))
+      ]
+
 -- what the whole search passed over, if it ended without a part
 pub passed_all : (Passed : List ℕ → Type 0) (at n : ℕ) (rest : List ℕ) (i : ℕ) → (i < at → Passed (i ∷ rest)) → (at ≤ i → i < n → Passed (i ∷ rest)) → i < n → Passed (i ∷ rest)
 passed_all Passed at n rest i early late below = elim (less_or i at) [ inl less ↦ early less | inr more ↦ late more below ]
@@ -245,11 +269,12 @@ passed_all Passed at n rest i early late below = elim (less_or i at) [ inl less 
 -- ---- visits
 
 -- one more entry was searched
-pub visits_next : (init s0 s1 s2 v at x : ℕ) → s0 ≤ init + at * (v + 1) → s1 ≤ s0 + 1 → s2 ≤ s1 + v → at ≤ x → s2 ≤ init + (x + 1) * (v + 1)
-visits_next init s0 s1 s2 v at x a b c le =
+pub visits_next : (init s0 s1 s2 v at x next : ℕ) → s0 ≤ init + at * (v + 1) → s1 ≤ s0 + 1 → s2 ≤ s1 + v → at ≤ x → suc x ≤ next → s2 ≤ init + next * (v + 1)
+visits_next init s0 s1 s2 v at x next a b c le on =
     let m : at * (v + 1) ≤ x * (v + 1) = mul-le-mul_right (v + 1) le in
-    let d = add-mul x 1 (v + 1) in
-    omega (arith, a, b, c, m, d)
+    let l : suc x * (v + 1) ≤ next * (v + 1) = mul-le-mul_right (v + 1) on in
+    let d = suc-mul x (v + 1) in
+    omega (arith, a, b, c, m, l, d)
 
 -- the search came to its end, with a part in the last entry or without one
 pub visits_found : (init s0 s1 s2 v at n : ℕ) → s0 ≤ init + at * (v + 1) → s1 ≤ s0 + 1 → s2 ≤ s1 + v → at < n → s2 ≤ init + (n * (v + 1) + 1)
@@ -288,8 +313,3 @@ before_in_entry o j first place rest part e h k =
           let s = same.0 in
           elim h [ inl less ↦ absurd (omega (arith, less, s, e)) | inr also ↦ (also.0, also.1, same.1) ]
     ]
-
--- each place of a node has an index
-pub by_index : {n : ℕ} {Below : List ℕ → Type 0} (P : List ℕ → Type 0) → ((i : ℕ) (rest : List ℕ) → i < n → Below rest → P (i ∷ rest)) → (at : List ℕ) → IsNodePlace n Below at → P at
-by_index P each [] k = absurd k
-by_index P each (i ∷ rest) k = each i rest k.0 k.1

@@ -11,6 +11,10 @@ use Rattle.vdb_levels.specs.Places.{IsPrefixOf, key_of, offset_of}
 abbrev pub IsCovered : ℕ → Box → Coord → Type 0
 IsCovered bits box p = (q : Coord) → key_of bits q ≡ key_of bits p → is_inside box q ≡ true
 
+-- a coordinate of this block lies in the box
+abbrev pub IsMet : ℕ → Box → Coord → Type 0
+IsMet bits box p = (q : Coord) × (key_of bits q ≡ key_of bits p) × (is_inside box q ≡ true)
+
 -- no entry of the node around p, from one index on and below another, has a coordinate in the box
 abbrev pub MissesBox : ℕ → ℕ → Box → Coord → ℕ → ℕ → Type 0
 MissesBox low bits box p from to =

@@ -4,7 +4,7 @@ ghost use Rattle.vdb_coord.specs.Components.{digit, first_of, last_of, number_at
 ghost use Rattle.vdb_coord.specs.Space.{is_between, is_inside};
 ghost use Rattle.vdb_coord.specs.declared.Coord.{Coord};
 ghost use Rattle.vdb_node.specs.Nodes.{entry_count};
-ghost use Rattle.vdb_levels.specs.Boxes.{IsCovered, MissesBox};
+ghost use Rattle.vdb_levels.specs.Boxes.{IsCovered, IsMet, MissesBox};
 ghost use Rattle.vdb_levels.specs.Places.{joined, key_of};
 ghost use Rattle.vdb_levels.specs.Spans.{IsInSpan};
 
@@ -160,8 +160,10 @@ pub(crate) fn next_met(bounds: Bounds, p: Coord, from: u32, low: u32, bits: u32)
 
 /// Whether no number from `least` to `greatest` lies in p's block.
 fn is_apart(least: i32, greatest: i32, p: i32, bits: u32) -> bool
-    requires { bits ≤ 15 }
-    ensures { IsTrue result → (x : ℤ) → number_at bits x ≡ number_at bits p → IsTrue (is_between least greatest x) → ⊥ }
+    requires bits { bits ≤ 15 }
+    requires ordered { IsTrue (int_le least greatest) }
+    ensures apart { IsTrue result → (x : ℤ) → number_at bits x ≡ number_at bits p → IsTrue (is_between least greatest x) → ⊥ }
+    ensures meets { result ≡ false → (x : ℤ) × (number_at bits x ≡ number_at bits p) × IsTrue (is_between least greatest x) }
 {
     let own = number_at(p, bits);
     (number_at(greatest, bits) < own) | (own < number_at(least, bits))
@@ -170,7 +172,8 @@ fn is_apart(least: i32, greatest: i32, p: i32, bits: u32) -> bool
 /// Whether the box holds no coordinate of p's block of 2 to the power `bits` along each axis.
 pub(crate) fn misses(bounds: Bounds, p: Coord, bits: u32) -> bool
     requires { bits ≤ 15 }
-    ensures { IsTrue result → (q : Coord) → key_of bits q ≡ key_of bits p → is_inside bounds q ≡ false }
+    ensures misses { IsTrue result → (q : Coord) → key_of bits q ≡ key_of bits p → is_inside bounds q ≡ false }
+    ensures meets { result ≡ false → IsMet bits bounds p }
 {
     let (min, max) = (bounds.min(), bounds.max());
     let x = is_apart(min.x, max.x, p.x, bits);

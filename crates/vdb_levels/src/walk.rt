@@ -1,11 +1,13 @@
-//! Walks over the parts of a block, in block order.
-ghost use Rattle.std.specs.Prelude.{◌≡◌, ◌≢◌, ◌⊎◌, ◌+◌, ◌*◌, ◌∷◌, ◌<◌, ◌≤◌, ℕ, List, IfNone, IfSome, IsSome, true};
+//! Walks over the parts of a block that meet a box, in block order.
+ghost use Rattle.std.specs.Prelude.{◌≡◌, ◌≢◌, ◌⊎◌, ◌+◌, ◌*◌, ◌∷◌, ◌<◌, ◌≤◌, ℕ, List, IfNone, IfSome, IsSome, IsTrue, true};
+ghost use Rattle.vdb_coord.specs.Space.{is_inside};
 ghost use Rattle.vdb_coord.specs.declared.Coord.{Coord};
 ghost use Rattle.vdb_node.specs.Entries.{IsFirstWithout};
 ghost use Rattle.vdb_node.specs.Nodes.{entry_count};
 ghost use Rattle.vdb_node.specs.declared.Entry.{Entry};
 ghost use Rattle.vdb_pool.specs.Contents.{node_at};
 ghost use Rattle.vdb_levels.specs.Blocks.{entry_in, node_blocks};
+ghost use Rattle.vdb_levels.specs.Boxes.{IsMet};
 ghost use Rattle.vdb_levels.specs.Places.{IsNodePlace, key_of, offset_of};
 ghost use Rattle.vdb_levels.specs.Same.{ends_below};
 ghost use Rattle.vdb_levels.specs.Sound.{AreSoundNodes, IsNode};
@@ -13,12 +15,13 @@ ghost use Rattle.vdb_levels.specs.Walks.{above, ArePassedEntries, end_below, Has
 
 use crate::NodeStore;
 use crate::corners::{corner, entry_corner};
+use crate::in_box::{misses, next_met};
 use crate::internal_store::{InternalStore, NodePath};
 use crate::leaf_store::LeafStore;
 use crate::offsets::{entries, offset};
 use crate::part::{Content, Part, Skip};
 use crate::pools::held_place;
-use vdb_coord::Coord;
+use vdb_coord::{Bounds, Coord};
 use vdb_node::{Entry, Internal, Leaf, Stored};
 use vdb_pool::{Place, Steps};
 use vdb_value::{Cell, Voxel};
@@ -34,12 +37,13 @@ pub trait WalkStore<V: Voxel>: NodeStore<V> {
     /// How many visits a call makes at most, which passes over all nodes of a block but the last.
     ghost visits: { ℕ };
 
-    /// Returns the part around `p` of the block in a slot, or the first one after it if the walk passes over that; none if it passes
-    /// over all of these.
+    /// Returns the first part from the one around `p` on, of the block in a slot, that meets the box and that the walk doesn't pass
+    /// over. It visits no node whose block the box misses.
     fn part_from(
         &self,
         slot: u32,
         p: Coord,
+        bounds: Bounds,
         skip: &Skip<V>,
         steps: &mut Steps,
     ) -> Option<Part<V, &Self::Leaf, Self::Path>>
@@ -48,16 +52,18 @@ pub trait WalkStore<V: Voxel>: NodeStore<V> {
         ensures part { IfSome result (IsPartOf Self.bits end_bits Self.place (Self.Lives self.now slot) p) }
         ensures content { IfSome result (HasContent (λ leaf. Self.seen leaf.now) IsIn Self.ends_in_leaf Self.place skip.now (Self.blocks self.now) slot) }
         ensures from_on { IfSome result (λ part. IsIn part.path (Self.place part.first) (Self.place p) ⊎ IsBefore (Self.place p) (Self.place part.first)) }
-        ensures passed { (at : List ℕ) → Self.IsPlace at → IsFrom (Self.place p) at → IsEarlier Self.place result at → IsPassed skip.now (Self.blocks self.now) slot at }
+        ensures meets { IfSome result (λ part. IsMet part.bits bounds part.first) }
+        ensures passed { (q : Coord) → key_of Self.bits q ≡ key_of Self.bits p → IsTrue (is_inside bounds q) → IsFrom (Self.place p) (Self.place q) → IsEarlier Self.place result (Self.place q) → IsPassed skip.now (Self.blocks self.now) slot (Self.place q) }
         ensures near { IfSome result (λ part. IsIn part.path (Self.place part.first) (Self.place p) → steps.new ≤ steps.old + Self.levels) }
         ensures steps { steps.new ≤ steps.old + visits };
 
-    /// Returns the first part after the one in which a path to `p` ends that the walk doesn't pass over. It visits the nodes of the
-    /// path from the last one up to the first one that has such a part.
+    /// Returns the first part after the one in which a path to `p` ends that meets the box and that the walk doesn't pass over. It
+    /// visits the nodes of the path from the last one up to the first one that has such a part.
     fn part_after(
         &self,
         path: &Self::Path,
         p: Coord,
+        bounds: Bounds,
         skip: &Skip<V>,
         steps: &mut Steps,
     ) -> Option<Part<V, &Self::Leaf, Self::Path>>
@@ -65,10 +71,11 @@ pub trait WalkStore<V: Voxel>: NodeStore<V> {
         requires lives { (slot : ℕ) × Self.Lives self.now slot path.now (Self.place p) }
         ensures part { (slot : ℕ) → Self.Lives self.now slot path.now (Self.place p) → IfSome result (IsPartOf Self.bits end_bits Self.place (Self.Lives self.now slot) p) }
         ensures content { (slot : ℕ) → Self.Lives self.now slot path.now (Self.place p) → IfSome result (HasContent (λ leaf. Self.seen leaf.now) IsIn Self.ends_in_leaf Self.place skip.now (Self.blocks self.now) slot) }
+        ensures meets { IfSome result (λ part. IsMet part.bits bounds part.first) }
         ensures after { IfSome result (λ part. IsBefore (Self.place p) (Self.place part.first)) }
         ensures apart { IfSome result (λ part. IsIn path.now (Self.place p) (Self.place part.first) → ⊥) }
-        ensures passed { (slot : ℕ) → Self.Lives self.now slot path.now (Self.place p) → (at : List ℕ) → Self.IsPlace at → IsFrom (Self.place p) at → IsEarlier Self.place result at
-            → IsIn path.now (Self.place p) at ⊎ IsPassed skip.now (Self.blocks self.now) slot at }
+        ensures passed { (slot : ℕ) → Self.Lives self.now slot path.now (Self.place p) → (q : Coord) → key_of Self.bits q ≡ key_of Self.bits p → IsTrue (is_inside bounds q) → IsFrom (Self.place p) (Self.place q) → IsEarlier Self.place result (Self.place q)
+            → IsIn path.now (Self.place p) (Self.place q) ⊎ IsPassed skip.now (Self.blocks self.now) slot (Self.place q) }
         ensures steps { steps.new ≤ steps.old + visits };
 
     /// The first coordinate of a block has the first place.
@@ -93,9 +100,13 @@ impl<V: Stored<W>, const LOG2: u32, const W: usize> WalkStore<V> for LeafStore<V
         &self,
         slot: u32,
         p: Coord,
+        bounds: Bounds,
         _skip: &Skip<V>,
         steps: &mut Steps,
     ) -> Option<Part<V, &Leaf<V, LOG2, W>, Place<Leaf<V, LOG2, W>>>> {
+        if misses(bounds, p, LOG2) {
+            return None;
+        }
         let path = held_place(&self.pool, slot);
         Some(Part {
             first: corner(p, LOG2),
@@ -109,6 +120,7 @@ impl<V: Stored<W>, const LOG2: u32, const W: usize> WalkStore<V> for LeafStore<V
         &self,
         _path: &Place<Leaf<V, LOG2, W>>,
         _p: Coord,
+        _bounds: Bounds,
         _skip: &Skip<V>,
         _steps: &mut Steps,
     ) -> Option<Part<V, &Leaf<V, LOG2, W>, Place<Leaf<V, LOG2, W>>>> {
@@ -137,27 +149,32 @@ impl<V: Stored<W>, const LOG2: u32, const W: usize, Below: WalkStore<V>> WalkSto
         &self,
         slot: u32,
         p: Coord,
+        bounds: Bounds,
         skip: &Skip<V>,
         steps: &mut Steps,
     ) -> Option<Part<V, &Below::Leaf, NodePath<Place<Internal<V, LOG2, W>>, Below::Path>>> {
-        let from = offset(p, self.below.bits(), LOG2);
-        self.next_part(slot, from, p, skip, steps)
+        let low = self.below.bits();
+        if misses(bounds, p, low + LOG2) {
+            return None;
+        }
+        self.next_part(slot, offset(p, low, LOG2), p, bounds, skip, steps)
     }
 
     fn part_after(
         &self,
         path: &NodePath<Place<Internal<V, LOG2, W>>, Below::Path>,
         p: Coord,
+        bounds: Bounds,
         skip: &Skip<V>,
         steps: &mut Steps,
     ) -> Option<Part<V, &Below::Leaf, NodePath<Place<Internal<V, LOG2, W>>, Below::Path>>> {
         let slot = path.place.slot();
         let next = offset(p, self.below.bits(), LOG2) + 1;
         match &path.below {
-            None => self.next_part(slot, next, p, skip, steps),
-            Some(below) => match self.below.part_after(below, p, skip, steps) {
+            None => self.next_part(slot, next, p, bounds, skip, steps),
+            Some(below) => match self.below.part_after(below, p, bounds, skip, steps) {
                 Some(part) => Some(part_above(path.place, part)),
-                None => self.next_part(slot, next, p, skip, steps),
+                None => self.next_part(slot, next, p, bounds, skip, steps),
             },
         }
     }
@@ -190,13 +207,14 @@ impl<V: Stored<W>, const LOG2: u32, const W: usize, Below: WalkStore<V>> Interna
     W,
     Below,
 > {
-    /// Returns the first part from the entry at `from` on that the walk doesn't pass over. In the entry that holds `p` it begins
-    /// at `p`.
+    /// Returns the first part from the entry at `from` on that meets the box and that the walk doesn't pass over. In the entry that
+    /// holds `p` it begins at `p`.
     fn next_part(
         &self,
         slot: u32,
         from: u32,
         p: Coord,
+        bounds: Bounds,
         skip: &Skip<V>,
         steps: &mut Steps,
     ) -> Option<Part<V, &Below::Leaf, NodePath<Place<Internal<V, LOG2, W>>, Below::Path>>>
@@ -206,31 +224,36 @@ impl<V: Stored<W>, const LOG2: u32, const W: usize, Below: WalkStore<V>> Interna
         requires within { from ≤ entry_count LOG2 }
         ensures part { IfSome result (IsPartOf (Below.bits + LOG2) (λ path. end_below Below.end_bits Below.bits path.below) (λ q. offset_of Below.bits LOG2 q ∷ Below.place q) (LivesAt (entry_count LOG2) (Below.Lives self.now.below) self.now.pool slot) p) }
         ensures content { IfSome result (HasContent (λ leaf. Below.seen leaf.now) (λ path. IsInBelow Below.IsIn path.below) (λ path. ends_below Below.ends_in_leaf path.below) (λ q. offset_of Below.bits LOG2 q ∷ Below.place q) skip.now (node_blocks (Below.blocks self.now.below) self.now.pool) slot) }
+        ensures meets { IfSome result (λ part. IsMet part.bits bounds part.first) }
         ensures order { IfSome result (λ part. from ≤ offset_of Below.bits LOG2 part.first) }
         ensures from_on { IfSome result (λ part. IsInBelow Below.IsIn part.path.below (offset_of Below.bits LOG2 part.first ∷ Below.place part.first) (offset_of Below.bits LOG2 p ∷ Below.place p) ⊎ IsBefore (offset_of Below.bits LOG2 p ∷ Below.place p) (offset_of Below.bits LOG2 part.first ∷ Below.place part.first)) }
-        ensures passed { (i : ℕ) (at : List ℕ) → i < entry_count LOG2 → Below.IsPlace at → from ≤ i → IsFrom (offset_of Below.bits LOG2 p ∷ Below.place p) (i ∷ at) → IsEarlier (λ q. offset_of Below.bits LOG2 q ∷ Below.place q) result (i ∷ at) → IsPassed skip.now (node_blocks (Below.blocks self.now.below) self.now.pool) slot (i ∷ at) }
+        ensures passed { (q : Coord) → key_of (Below.bits + LOG2) q ≡ key_of (Below.bits + LOG2) p → IsTrue (is_inside bounds q) → from ≤ offset_of Below.bits LOG2 q → IsFrom (offset_of Below.bits LOG2 p ∷ Below.place p) (offset_of Below.bits LOG2 q ∷ Below.place q)
+            → IsEarlier (λ r. offset_of Below.bits LOG2 r ∷ Below.place r) result (offset_of Below.bits LOG2 q ∷ Below.place q) → IsPassed skip.now (node_blocks (Below.blocks self.now.below) self.now.pool) slot (offset_of Below.bits LOG2 q ∷ Below.place q) }
         ensures near { IfSome result (λ part. IsInBelow Below.IsIn part.path.below (offset_of Below.bits LOG2 part.first ∷ Below.place part.first) (offset_of Below.bits LOG2 p ∷ Below.place p) → steps.new ≤ steps.old + (Below.levels + 1)) }
         ensures steps { steps.new ≤ steps.old + (entry_count LOG2 * (Below.visits + 1) + 1) }
     {
+        let low = self.below.bits();
         let mut at = from;
         'entries: while let Some((index, entry)) = self.next_entry(slot, at, skip, steps) {
             let start = self.start(index, p);
-            let part = self.part_in(slot, index, &entry, start, skip, steps);
+            let part = self.part_in(slot, index, &entry, start, bounds, skip, steps);
             if part.is_some() {
                 return part;
             }
-            at = index + 1;
+            let next = next_met(bounds, p, index + 1, low, LOG2)?;
+            at = next;
         }
         None
     }
 
-    /// Returns the first part of the entry at an index, from `start` on, that the walk doesn't pass over.
+    /// Returns the first part of the entry at an index, from `start` on, that meets the box and that the walk doesn't pass over.
     fn part_in(
         &self,
         slot: u32,
         index: u32,
         entry: &Entry<V>,
         start: Coord,
+        bounds: Bounds,
         skip: &Skip<V>,
         steps: &mut Steps,
     ) -> Option<Part<V, &Below::Leaf, NodePath<Place<Internal<V, LOG2, W>>, Below::Path>>>
@@ -242,9 +265,10 @@ impl<V: Stored<W>, const LOG2: u32, const W: usize, Below: WalkStore<V>> Interna
         requires start { offset_of Below.bits LOG2 start ≡ index }
         ensures part { IfSome result (IsPartOf (Below.bits + LOG2) (λ path. end_below Below.end_bits Below.bits path.below) (λ q. offset_of Below.bits LOG2 q ∷ Below.place q) (LivesAt (entry_count LOG2) (Below.Lives self.now.below) self.now.pool slot) start) }
         ensures content { IfSome result (HasContent (λ leaf. Below.seen leaf.now) (λ path. IsInBelow Below.IsIn path.below) (λ path. ends_below Below.ends_in_leaf path.below) (λ q. offset_of Below.bits LOG2 q ∷ Below.place q) skip.now (node_blocks (Below.blocks self.now.below) self.now.pool) slot) }
+        ensures meets { IfSome result (λ part. IsMet part.bits bounds part.first) }
         ensures index { IfSome result (λ part. offset_of Below.bits LOG2 part.first ≡ index) }
         ensures from_on { IfSome result (λ part. IsInBelow Below.IsIn part.path.below (index ∷ Below.place part.first) (index ∷ Below.place start) ⊎ IsBefore (Below.place start) (Below.place part.first)) }
-        ensures passed { (at : List ℕ) → Below.IsPlace at → IsFrom (Below.place start) at → IsEarlier Below.place result at → IsPassed skip.now (node_blocks (Below.blocks self.now.below) self.now.pool) slot (index ∷ at) }
+        ensures passed { (q : Coord) → key_of Below.bits q ≡ key_of Below.bits start → IsTrue (is_inside bounds q) → IsFrom (Below.place start) (Below.place q) → IsEarlier Below.place result (Below.place q) → IsPassed skip.now (node_blocks (Below.blocks self.now.below) self.now.pool) slot (index ∷ Below.place q) }
         ensures near { IfSome result (λ part. IsInBelow Below.IsIn part.path.below (index ∷ Below.place part.first) (index ∷ Below.place start) → steps.new ≤ steps.old + Below.levels) }
         ensures steps { steps.new ≤ steps.old + Below.visits }
     {
@@ -252,6 +276,9 @@ impl<V: Stored<W>, const LOG2: u32, const W: usize, Below: WalkStore<V>> Interna
         match entry {
             Entry::Tile(cell) => {
                 let bits = self.below.bits();
+                if misses(bounds, start, bits) {
+                    return None;
+                }
                 Some(Part {
                     first: corner(start, bits),
                     bits,
@@ -260,7 +287,7 @@ impl<V: Stored<W>, const LOG2: u32, const W: usize, Below: WalkStore<V>> Interna
                 })
             }
             Entry::Child(child) => {
-                let part = self.below.part_from(*child, start, skip, steps)?;
+                let part = self.below.part_from(*child, start, bounds, skip, steps)?;
                 Some(part_above(place, part))
             }
         }

@@ -33,7 +33,7 @@ pub returns-then-misses-clause-done : goal.returns-then-misses-clause-done
 returns-then-misses-clause-done g c = λ p e.
     let s = g.S.NodeStore in
     let t = c.args.self.now in
-    let missed = rw c.bits.ensures.value at (c.misses.ensures c.if-misses.true) in
+    let missed = rw c.bits.ensures.value at (c.misses.ensures.misses c.if-misses.true) in
     tile_over s.bits s.place s.IsPlace s.blocks g.met.S.NodeStore.has_place c.args.bounds c.args.cell.now t p c.args.tile (ap (root_at t.table) e ∙ tile_at_key t.background t.table c.args.key c.args.tile c.requires.entered c.requires.tile) (λ inside. absurd (true_false inside (missed p (e ∙ sym c.requires.first))))
 
 pub split-requires : goal.split-requires
