@@ -1,6 +1,6 @@
 -- A leaf is written whole, or its states are set.
 use Rattle.std.proofs.Common.{◌≡◌, ◌≢◌, inl, inr, ℕ, List, [], ◌∷◌, refl, sym, ap, subst, ◌∙◌, get_or-set_same}
-use Rattle.std.specs.Prelude.{Bool, Option, Some, None, if◌then◌else◌, slice_index_or}
+use Rattle.std.specs.Prelude.{Bool, Some, None, if◌then◌else◌, slice_index_or}
 use Rattle.std.proofs.lemmas.Bool.Decides.{eqb_tells}
 use Rattle.vdb_coord.specs.Space.{coord_eq}
 use Rattle.vdb_coord.specs.declared.Coord.{Coord}

@@ -1,11 +1,9 @@
-use Rattle.std.proofs.Common.{◌≡◌, ◌∙◌}
-use Rattle.vdb_coord.specs.declared.Coord.{Coord}
+use Rattle.std.proofs.Common.{◌∙◌}
 use Rattle.vdb_node.specs.Nodes.{entry_count}
 use Rattle.vdb_levels.specs.EntryFacts.{true_false}
 use Rattle.vdb_levels.specs.HasPlaces.{same_offset}
-use Rattle.vdb_levels.specs.Places.{key_of, offset_of}
+use Rattle.vdb_levels.specs.Places.{offset_of}
 use Rattle.vdb_levels.specs.Sound.{IsChildAt}
-use Rattle.vdb_levels.specs.Walks.{IsCorner}
 use Rattle.vdb_levels.proofs.WalkSteps.{child_passed, content_up, from_not_before, part_up, tile_content, tile_part}
 use Rattle.vdb_levels.proofs.internal_store.InternalStore.part_in.Goals as goal
 

@@ -1,4 +1,4 @@
-use Rattle.std.proofs.Common.{◌≡◌, inl, inr, subst}
+use Rattle.std.proofs.Common.{inl, inr, subst}
 use Rattle.std.specs.Prelude.{IsSome}
 use Rattle.vdb_coord.specs.declared.Coord.{Coord}
 use Rattle.vdb_levels.specs.Places.{key_of}

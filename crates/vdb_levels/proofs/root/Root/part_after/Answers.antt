@@ -1,6 +1,5 @@
-use Rattle.std.proofs.Common.{SFits, w32, rules, ap, subst, sym}
+use Rattle.std.proofs.Common.{SFits, w32, rules, subst, sym}
 use Rattle.vdb_coord.proofs.Meeting.{fits_everywhere}
-use Rattle.vdb_levels.specs.Places.{key_of}
 use Rattle.vdb_levels.specs.Table.{IsKey}
 use Rattle.vdb_levels.proofs.FirstNumbers.{in_range, key_within}
 use Rattle.vdb_levels.proofs.root.Root.part_after.Goals as goal

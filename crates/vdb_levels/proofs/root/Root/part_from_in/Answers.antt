@@ -1,4 +1,3 @@
-use Rattle.std.proofs.Common.{◌≡◌, ◌∙◌}
 use Rattle.vdb_levels.proofs.RootWalkSteps.{child_part, passed_in}
 use Rattle.vdb_levels.proofs.root.Root.part_from_in.Goals as goal
 

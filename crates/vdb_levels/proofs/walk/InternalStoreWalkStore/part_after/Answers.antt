@@ -1,5 +1,4 @@
-use Rattle.std.proofs.Common.{◌≡◌, ◌⊎◌, inl, inr, ◌+◌, ◌≤◌, ◌∷◌, ℕ, List, suc, sym, subst, ◌∙◌, arith}
-use Rattle.vdb_coord.specs.declared.Coord.{Coord}
+use Rattle.std.proofs.Common.{inl, inr, ◌∷◌, sym, subst, ◌∙◌, arith}
 use Rattle.vdb_node.specs.Nodes.{entry_count}
 use Rattle.vdb_levels.specs.Blocks.{node_blocks}
 use Rattle.vdb_levels.specs.HasPlaces.{same_below, same_offset}

@@ -1,4 +1,3 @@
-use Rattle.std.proofs.Common.{◌≡◌, ◌+◌, ◌∙◌}
 use Rattle.vdb_levels.specs.Places.{offset_of}
 use Rattle.vdb_levels.specs.EntryFacts.{true_false}
 use Rattle.vdb_levels.proofs.WalkSteps.{from_index}
