@@ -3,6 +3,7 @@ mod boxes;
 mod calls;
 mod copies;
 mod layouts;
+mod leaves;
 mod limits;
 mod nodes;
 mod states;

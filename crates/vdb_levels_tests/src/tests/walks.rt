@@ -1,10 +1,10 @@
 //! Tests of walks over the parts of a tree: its leaves and tiles.
 
-use super::calls::{fill, write};
+use super::calls::{bounds, fill, write};
 use super::layouts::{deep, smaller, standard, tiny};
 use super::{all, at, off, on};
 use std::process::Abort;
-use vdb_coord::Coord;
+use vdb_coord::{Bounds, Coord};
 use vdb_levels::{BoxStore, Content, Part, Root, Skip, WalkStore, Write};
 use vdb_pool::Steps;
 use vdb_value::Cell;
@@ -53,6 +53,46 @@ fn expect_parts<S: WalkStore<i32>>(
     for (number, part) in parts.iter().enumerate() {
         assert_eq!(rt; found, Some(*part), "part {number}");
         found = next_listed(tree, part.0, skip, steps);
+    }
+    assert_eq!(rt; found, None);
+}
+
+fn first_in<S: WalkStore<i32>>(
+    tree: &Root<i32, S>,
+    bounds: Bounds,
+    skip: &Skip<i32>,
+    steps: &mut Steps,
+) -> Option<Listed> {
+    let part = tree.part_past_in(None, bounds, skip, steps)?;
+    Some(listed(part))
+}
+
+// Returns the part of a box after the one around a coordinate.
+fn next_in<S: WalkStore<i32>>(
+    tree: &Root<i32, S>,
+    p: Coord,
+    bounds: Bounds,
+    skip: &Skip<i32>,
+    steps: &mut Steps,
+) -> Option<Listed> {
+    let part = tree.part_from_in(p, bounds, skip, steps)?;
+    let next = tree.next_part_in(&part.path, part.first, bounds, skip, steps)?;
+    Some(listed(next))
+}
+
+// Checks that the walk in a box yields these parts and no other.
+fn expect_parts_in<S: WalkStore<i32>>(
+    rt: &impl Abort,
+    tree: &Root<i32, S>,
+    bounds: Bounds,
+    skip: &Skip<i32>,
+    parts: &[Listed],
+    steps: &mut Steps,
+) {
+    let mut found = first_in(tree, bounds, skip, steps);
+    for (number, part) in parts.iter().enumerate() {
+        assert_eq!(rt; found, Some(*part), "part {number}");
+        found = next_in(tree, part.0, bounds, skip, steps);
     }
     assert_eq!(rt; found, None);
 }
@@ -198,12 +238,40 @@ fn expect_prepared<S: WalkStore<i32>>(
     expect_parts(rt, tree, &Skip::Tiles, &leaves, steps);
 }
 
+// Checks the parts in a box around the origin, and in one that meets a tile alone.
+fn expect_prepared_in<S: WalkStore<i32>>(
+    rt: &impl Abort,
+    tree: &Root<i32, S>,
+    spans: (i32, i32, i32),
+    bits: (u32, u32, u32),
+    steps: &mut Steps,
+) {
+    let (leaf, block, root) = spans;
+    let before = all(0i32.wrapping_sub(leaf));
+    let around = bounds(rt, all(-1), at(0, 0, leaf));
+    let parts = [
+        (before, bits.0, None),
+        (all(0), bits.0, Some(on(5))),
+        (at(0, 0, leaf), bits.0, None),
+    ];
+    expect_parts_in(rt, tree, around, &Skip::Inactive, &parts, steps);
+    let leaves = [(before, bits.0, None), (at(0, 0, leaf), bits.0, None)];
+    expect_parts_in(rt, tree, around, &Skip::Tiles, &leaves, steps);
+    let far = bounds(rt, at(1, 1, block), all(root));
+    let parts = [
+        (at(0, 0, block), bits.1, Some(on(3))),
+        (all(root), bits.2, Some(on(4))),
+    ];
+    expect_parts_in(rt, tree, far, &Skip::Inactive, &parts, steps);
+}
+
 #[test]
 fn parts_of_a_standard_tree(rt: HostRuntime) {
     let mut steps = Steps::new(&rt);
     let mut tree = standard(rt.alloc(), 3);
     prepare(&rt, &mut tree, (8, 128, 4096), &mut steps);
     expect_prepared(&rt, &tree, (8, 128, 4096), (3, 7, 12), &mut steps);
+    expect_prepared_in(&rt, &tree, (8, 128, 4096), (3, 7, 12), &mut steps);
 }
 
 #[test]
@@ -212,6 +280,7 @@ fn parts_of_a_smaller_tree(rt: HostRuntime) {
     let mut tree = smaller(rt.alloc(), 3);
     prepare(&rt, &mut tree, (8, 64, 1024), &mut steps);
     expect_prepared(&rt, &tree, (8, 64, 1024), (3, 6, 10), &mut steps);
+    expect_prepared_in(&rt, &tree, (8, 64, 1024), (3, 6, 10), &mut steps);
 }
 
 #[test]
@@ -220,6 +289,7 @@ fn parts_of_a_tiny_tree(rt: HostRuntime) {
     let mut tree = tiny(rt.alloc(), 3);
     prepare(&rt, &mut tree, (2, 4, 8), &mut steps);
     expect_prepared(&rt, &tree, (2, 4, 8), (1, 2, 3), &mut steps);
+    expect_prepared_in(&rt, &tree, (2, 4, 8), (1, 2, 3), &mut steps);
 }
 
 #[test]
@@ -228,4 +298,5 @@ fn parts_of_a_deep_tree(rt: HostRuntime) {
     let mut tree = deep(rt.alloc(), 3);
     prepare(&rt, &mut tree, (8, 64, 2048), &mut steps);
     expect_prepared(&rt, &tree, (8, 64, 2048), (3, 6, 11), &mut steps);
+    expect_prepared_in(&rt, &tree, (8, 64, 2048), (3, 6, 11), &mut steps);
 }
