@@ -4,7 +4,7 @@ use super::layouts::{DeepNodes, SmallerNodes, StandardNodes, TinyNodes};
 use super::{all, at, off, on};
 use std::alloc::Global;
 use std::process::Abort;
-use vdb_levels::{ConstantStore, NodeStore, Write, one_cell};
+use vdb_levels::{ConstantStore, NodeStore, PathStore, Write, one_cell};
 use vdb_pool::Steps;
 
 // Checks how many nodes there are: on the first level, on the next one, and leaves.
@@ -121,4 +121,32 @@ fn blocks_of_one_cell(rt: HostRuntime) {
     one(&rt, alloc, SmallerNodes::<i32>::new(alloc), &mut steps);
     one(&rt, alloc, TinyNodes::<i32>::new(alloc), &mut steps);
     one(&rt, alloc, DeepNodes::<i32>::new(alloc), &mut steps);
+}
+
+// A path that goes from one leaf to another, and back by the nodes that hold both.
+fn follow<S: PathStore<i32>>(rt: &impl Abort, alloc: Global, mut nodes: S, steps: &mut Steps)
+    requires { S.IsSound nodes }
+{
+    let slot = nodes.make(alloc, &off(0)).expect(rt, "memory");
+    nodes
+        .write(alloc, slot, all(0), &Write::On(7), steps)
+        .expect(rt, "memory");
+    nodes
+        .write(alloc, slot, all(-1), &Write::On(8), steps)
+        .expect(rt, "memory");
+    let path = nodes.path(slot, all(0), steps);
+    assert_eq!(rt; nodes.cell_near(&path, all(0), all(-1), steps), on(8));
+    let path = nodes.path_near(&path, all(0), all(-1), steps);
+    assert_eq!(rt; nodes.cell_near(&path, all(-1), all(-1), steps), on(8));
+    assert_eq!(rt; nodes.cell_near(&path, all(-1), all(0), steps), on(7));
+}
+
+#[test]
+fn a_path_follows_a_coordinate(rt: HostRuntime) {
+    let mut steps = Steps::new(&rt);
+    let alloc = rt.alloc();
+    follow(&rt, alloc, StandardNodes::<i32>::new(alloc), &mut steps);
+    follow(&rt, alloc, SmallerNodes::<i32>::new(alloc), &mut steps);
+    follow(&rt, alloc, TinyNodes::<i32>::new(alloc), &mut steps);
+    follow(&rt, alloc, DeepNodes::<i32>::new(alloc), &mut steps);
 }
