@@ -1,36 +1,19 @@
 -- Fields that a call writes voxel by voxel.
 use Rattle.std.proofs.Common.{◌≡◌, refl, sym, ap, ◌∙◌, subst, Bool, true, false, cond, IsTrue, ℕ, ℤ, ◌+◌, ◌&&◌, tests, rules}
-use Rattle.std.specs.Prelude.{IsOk, Option, Some, Result, Ok, Err, is_err, nat_lt}
-use Rattle.vdb_coord.specs.Blocks.{vdb}
+use Rattle.std.specs.Prelude.{Option, Some, nat_lt}
 use Rattle.vdb_coord.specs.Space.{Box, coord_eq, everywhere, is_inside, volume}
 use Rattle.vdb_coord.specs.declared.Coord.{Coord}
 use Rattle.vdb_coord.proofs.Members.{coord_exact}
 use Rattle.vdb_value.specs.declared.Cell.{Cell}
-use Rattle.vdb_tree.specs.Field.{Field, field, write, written}
+use Rattle.vdb_tree.specs.Field.{Field, as_cell_of, as_field_of, field, write, written}
 use Rattle.vdb_tree.specs.declared.Write.{Write}
 use Rattle.vdb_tree.proofs.Fields.{cell_inside, same_cells}
-use Rattle.vdb_tree.specs.Outcome.{ObeysLimit}
-use Rattle.vdb_tree.specs.declared.refusal.TreeRefusal.{TreeRefusal}
-use Rattle.vdb_scene.specs.Grids.{grid_field, grid_root_limit}
-use Rattle.vdb_scene.specs.Scalars.{scalar_eq}
-use Rattle.vdb_scene.specs.Step.{write_takes_memory}
-use Rattle.vdb_scene.specs.declared.any_grid.AnyGrid.{AnyGrid}
-use Rattle.vdb_scene.specs.declared.any_grid.AnyGrid.TheVariants as grids
 use Rattle.vdb_scene.specs.declared.scalar.Scalar.{Scalar}
 use Rattle.vdb_c.specs.BoxWrites.{is_first, rank, with_writes, written_any}
-use Rattle.vdb_c.specs.Calls.{IsWritten}
-use Rattle.vdb_c.specs.Codes.{tree_code}
-use Rattle.vdb_c.specs.Many.{IsRefused}
 use Rattle.vdb_c.proofs.Ranks.{first_all, first_not, first_now, first_other}
 
 twice : {V : Type 0} (background : V) (c : Coord → Cell V) → field background (field background c).cell ≡ field background c
 twice background c = same_cells background (field background c).cell c (λ p i. cell_inside background c p i)
-
--- the field of a grid is one of its cells
-own_cells : (g : AnyGrid) → field (grid_field g).background (grid_field g).cell ≡ grid_field g
-own_cells (grids.Bool g) = twice _ _
-own_cells (grids.I32 g) = twice _ _
-own_cells (grids.I64 g) = twice _ _
 
 module _ (b : Box) (change : Coord → Option (Write Scalar)) where
   first_none : (q : Coord) → is_first b 0 q ≡ false
@@ -40,13 +23,13 @@ module _ (b : Box) (change : Coord → Option (Write Scalar)) where
       by true = search (rules, tests)
       by false = refl
 
-  pub writes_none : (g : AnyGrid) (n : ℕ) → n ≡ 0 → grid_field g ≡ with_writes (is_first b n) change (grid_field g)
-  writes_none g n e =
-      let f = grid_field g in
+  pub writes_none : {V : Type 0} (make : V → Scalar) (g : Field V) (n : ℕ) → n ≡ 0 → as_field_of make g ≡ with_writes (is_first b n) change (as_field_of make g)
+  writes_none make g n e =
+      let f = as_field_of make g in
       rw e
       (sym
       (same_cells f.background (λ q. cond (is_first b 0 q) (written_any (change q) (f.cell q)) (f.cell q)) f.cell (λ q _. rw (first_none q) refl)
-      ∙ own_cells g))
+      ∙ twice (make g.background) (λ q. as_cell_of make (g.cell q))))
 
   module _ (f : Field Scalar) where
     pub writes_all : (n : ℕ) → n ≡ volume b → with_writes (is_first b n) change f ≡ with_writes (is_inside b) change f
@@ -77,32 +60,3 @@ module _ (b : Box) (change : Coord → Option (Write Scalar)) where
 
       pub writes_next : write p w (with_writes (is_first b n) change f) ≡ with_writes (is_first b (n + 1)) change f
       writes_next = same_cells f.background (λ q. cond (coord_eq p q) (written w (so_far.cell q)) (so_far.cell q)) (λ q. cond (is_first b (n + 1) q) (written_any (change q) (f.cell q)) (f.cell q)) (λ q i. at q i (coord_eq p q) refl)
-
--- ---- one write
-
--- a write that succeeds
-pub succeeded : (p : Coord) (w : Write Scalar) (old new : AnyGrid) (r : Result (Unit {0}) TreeRefusal) → is_err r ≡ false → IsWritten p w old new r → grid_field new ≡ write p w (grid_field old)
-succeeded p w old new (Ok u) e h = h.0.0
-succeeded p w old new (Err refusal) e h = absurd cc
-
--- a write that fails
-module _ (p : Coord) (w : Write Scalar) (old new : AnyGrid) where
-  pub stayed : (r : Result (Unit {0}) TreeRefusal) → is_err r ≡ true → IsWritten p w old new r → grid_field new ≡ grid_field old
-  stayed (Ok u) e h = absurd cc
-  stayed (Err refusal) e h = h.0.0
-
-  pub refused : (r : Result (Unit {0}) TreeRefusal) (code : ℤ) → is_err r ≡ true → code ≡ tree_code r → grid_root_limit new ≡ grid_root_limit old → IsWritten p w old new r
-      → (change : Option (Write Scalar)) → change ≡ Some w → IsRefused p change new code
-  refused (Ok u) code e is limit h change given = absurd cc
-  refused (Err refusal) code e is limit h change given =
-      let same : grid_field new ≡ grid_field old = h.0.0 in
-      let obeys : ObeysLimit scalar_eq vdb (grid_root_limit old) (write p w (grid_field new)) (Err refusal) = subst (λ (f : Field Scalar). ObeysLimit scalar_eq vdb (grid_root_limit old) (write p w f) (Err refusal)) (sym same) h.0.1 in
-      let here : IsRefused p (Some w) new code = (
-        refusal,
-        is,
-        (
-          (refl, subst (λ (n : ℕ). ObeysLimit scalar_eq vdb n (write p w (grid_field new)) (Err refusal)) (sym limit) obeys),
-          subst (λ (f : Field Scalar). write_takes_memory f p w ≡ false → IsOk {T = Unit {0}} (Err refusal)) (sym same) h.1,
-        ),
-      ) in
-      subst (λ (o : Option (Write Scalar)). IsRefused p o new code) (sym given) here

@@ -1,9 +1,10 @@
 -- Arrays that calls fill row by row.
-use Rattle.std.proofs.Common.{◌≡◌, ◌<◌, ◌≤◌, ◌≢◌, ◌⊎◌, inl, inr, ℕ, ℤ, zero, suc, ◌+◌, ◌*◌, refl, sym, ◌∙◌, ap, subst, Bool, true, ◌||◌, IsTrue, List, length, set, get_or, arith, add-one, get_or-set_same, get_or-set_other, Option, Some}
+use Rattle.std.proofs.Common.{◌≡◌, ◌<◌, ◌≤◌, ◌≢◌, ◌⊎◌, inl, inr, ℕ, ℤ, zero, suc, ◌+◌, ◌*◌, refl, sym, ◌∙◌, ap, subst, Bool, true, ◌||◌, IsTrue, List, length, set, get_or, arith, rules, add-one, get_or-set_same, get_or-set_other, Option, Some}
 use Rattle.std.specs.Prelude.{nat_eq}
 use Rattle.std.proofs.lemmas.Bool.{cases_eq}
 use Rattle.std.proofs.lemmas.Bool.Decides.{nat_tests}
-use Rattle.std.proofs.lemmas.List.{length-set}
+use Rattle.std.proofs.lemmas.List.{length-set, places}
+use borrow.Rule.Slice.PartMut.{put_mid}
 use Rattle.std.proofs.Math.Nat.{mul-suc}
 use Rattle.std.proofs.lemmas.Nat.{mul-le}
 use Rattle.vdb_coord.specs.declared.Coord.{Coord}
@@ -47,6 +48,24 @@ module _ {X : Type 0} where
 
   pub run_as : (first size : ℕ) (run to : ℕ → X → Type 0) (xs ys : List X) → ((i : ℕ) (x : X) → i < size → run i x → to i x) → HasRun first size run xs ys → HasRun first size to xs ys
   run_as first size run to xs ys f h = record { len = h.len; elements = λ i d l lt. f i (get_or ys (first + i) d) l (h.elements i d l lt); before = h.before; after = h.after }
+
+  -- a run put in its place
+  module _ (first size k : ℕ) (run : ℕ → X → Type 0) (old mid : List X) (all : k ≡ size) (room : first + size ≤ length old) (len : length mid ≡ size)
+      (each : (i : ℕ) (d : X) → i < size → run i (get_or mid i d)) where
+    at_run : (i : ℕ) (d : X) → i < size → get_or (put_mid first k old mid) (first + i) d ≡ get_or mid i d
+    at_run i d l = search (rules, places)
+
+    before_run : (i : ℕ) (d : X) → i < first → get_or (put_mid first k old mid) i d ≡ get_or old i d
+    before_run i d l = search (rules, places)
+
+    after_run : (i : ℕ) (d : X) → first + size ≤ i → get_or (put_mid first k old mid) i d ≡ get_or old i d
+    after_run i d l = search (rules, places)
+
+    same_len : length (put_mid first k old mid) ≡ length old
+    same_len = search (rules, places)
+
+    pub run_put : HasRun first size run old (put_mid first k old mid)
+    run_put = record { len = same_len; elements = λ i d l _. subst (run i) (sym (at_run i d l)) (each i d l); before = before_run; after = after_run }
 
   -- ---- rows
 

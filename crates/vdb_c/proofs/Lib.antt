@@ -11,8 +11,10 @@ pub mod Laid
 pub mod PartsRead
 pub mod BoxReads
 pub mod ManyWrites
+pub mod ElementWrites
 pub mod LeafRows
 pub mod Ranks
 pub mod BoxFields
+pub mod RowFields
 pub mod LeafCopies
 pub mod VoxelCalls

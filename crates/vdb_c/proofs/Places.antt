@@ -121,6 +121,12 @@ module _ (b : Box) (s : Strides) where
         let z = same_gap b.min.z b.max.z p.z q.z (axes p i).2 (axes q j).2 third.0 in
         λ k. record { x = x k; y = y k; z = z k }
 
+-- no voxel lies past the end of its row
+pub not_past_z : (b : Box) (p : Coord) → IsTrue (is_inside b p) → int_le p.z b.max.z ≡ true
+not_past_z b p inside =
+    let axes = three (is_between b.min.x b.max.x p.x) (is_between b.min.y b.max.y p.y) (is_between b.min.z b.max.z p.z) inside in
+    (both (int_le b.min.z p.z) (int_le p.z b.max.z) axes.2).1
+
 -- what the parts of an element come to
 pub parts : (b : Box) (s : Strides) (p : Coord) → IsTrue (is_inside b p) → place b s b.max < 2 ^ 64
     → (g h k : ℕ) → g ≡ int_gap b.min.x p.x → h ≡ int_gap b.min.y p.y → k ≡ int_gap b.min.z p.z
@@ -137,6 +143,12 @@ parts b s p inside reach g h k x y z =
 -- the corners of a box are in order
 pub ordered : (b : Box) → IsTrue (is_bounds b) → (int_le b.min.x b.max.x ≡ true) × (int_le b.min.y b.max.y ≡ true) × (int_le b.min.z b.max.z ≡ true)
 ordered b h = three (int_le b.min.x b.max.x) (int_le b.min.y b.max.y) (int_le b.min.z b.max.z) (both (is_box b) (is_within b everywhere) h).0
+
+pub max_inside : (b : Box) → IsTrue (is_bounds b) → IsTrue (is_inside b b.max)
+max_inside b h = let o = ordered b h in rw (o.0, o.1, o.2, self b.max.x, self b.max.y, self b.max.z) refl
+  where
+    self : (x : ℤ) → int_le x x ≡ true
+    self x = grind (arith, ints)
 
 pub extent_is : (low high : ℤ) → int_le low high ≡ true → (g : ℕ) → g ≡ int_gap low high → g + 1 ≡ extent low high
 extent_is low high h g e = ap (λ (n : ℕ). n + 1) e ∙ sym (rw h refl)

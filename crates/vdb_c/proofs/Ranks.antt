@@ -75,7 +75,7 @@ ends_alike m n h k = omega (arith, ints, h, k)
 gap_end : (low high n : ℤ) → low ≤ℤ n → n ≤ℤ high → high ≤ℤ n → extent low high ≡ int_gap low n + 1
 gap_end low high n h k l = sym (extent_is low high (test_of low high (le_le low n high h k)) (int_gap low n) (ap (int_gap low) (ends_alike n high k l)))
 
-which : (m n : ℤ) → (m <ℤ n) ⊎ (n ≤ℤ m)
+pub which : (m n : ℤ) → (m <ℤ n) ⊎ (n ≤ℤ m)
 which m n = elim (either_way (int_le n m)) [ inl h ↦ inr (from_test n m h) | inr h ↦ inl (from_no_test n m h) ]
   where
     from_test : (x y : ℤ) → int_le x y ≡ true → x ≤ℤ y

@@ -1,6 +1,6 @@
 -- What a call that writes a box of voxels does.
-use Rattle.std.specs.Prelude.{◌≡◌, ◌⊎◌, ◌*◌, ◌&&◌, ℕ, ℤ, Bool, IsSome, IsTrue, List, Option, Some, None, if◌then◌else◌, nat_eq, nat_lt}
-use Rattle.vdb_coord.specs.Space.{Box, extent, is_inside, volume}
+use Rattle.std.specs.Prelude.{◌≡◌, ◌⊎◌, ◌*◌, ◌&&◌, ◌+ℤ◌, ℕ, ℤ, pos, Bool, IsSome, IsTrue, List, Option, Some, None, if◌then◌else◌, nat_eq, nat_lt}
+use Rattle.vdb_coord.specs.Space.{Box, coord, extent, is_inside, volume}
 use Rattle.vdb_coord.specs.declared.Coord.{Coord}
 use Rattle.vdb_value.specs.declared.Cell.{Cell}
 use Rattle.vdb_value.specs.declared.Kind.{Kind}
@@ -12,7 +12,7 @@ use Rattle.vdb_scene.specs.declared.scalar.Scalar.{Scalar}
 use Rattle.vdb_c.specs.BoxArrays.{box_beside}
 use Rattle.vdb_c.specs.Codes.{done, out_of_range}
 use Rattle.vdb_c.specs.Elements.{place}
-use Rattle.vdb_c.specs.Many.{IsRefused, change_at}
+use Rattle.vdb_c.specs.Many.{IsRefusedIn, change_at}
 use Rattle.vdb_c.specs.declared.elements.Strides.{Strides}
 use Rattle.vdb_c.specs.declared.values.Corners.{Corners}
 
@@ -45,12 +45,21 @@ written_any (Some w) c = written w c
 abbrev pub with_writes : (Coord → Bool) → (Coord → Option (Write Scalar)) → Field Scalar → Field Scalar
 with_writes within change f = field f.background (λ p. if within p then written_any (change p) (f.cell p) else f.cell p)
 
--- each voxel of the box was written, which are n; or the first n were, and the write of the one after them fails
-unfoldable pub WritesBoxUpTo : Box → (Coord → Option (Write Scalar)) → AnyGrid → AnyGrid → ℕ → ℤ → Type 0
-WritesBoxUpTo b change old new n code =
-    (grid_root_limit new ≡ grid_root_limit old)
-    × (((code ≡ done) × (n ≡ volume b) × (grid_field new ≡ with_writes (is_inside b) change (grid_field old)))
-    ⊎ ((p : Coord) × IsTrue (is_inside b p) × (n ≡ rank b p) × (grid_field new ≡ with_writes (is_first b n) change (grid_field old)) × IsRefused p (change p) new code))
+-- the voxels from one on along z
+abbrev pub along_z : Coord → ℕ → Coord
+along_z p n = coord p.x p.y (p.z +ℤ pos n)
+
+-- each voxel of the box was written in a field with a root limit, which are n; or the first n were, and the write of the one after them
+-- fails
+unfoldable pub WritesBoxUpToIn : Box → (Coord → Option (Write Scalar)) → ℕ → ℕ → Field Scalar → Field Scalar → ℕ → ℤ → Type 0
+WritesBoxUpToIn b change limit limit' old new n code =
+    (limit' ≡ limit)
+    × (((code ≡ done) × (n ≡ volume b) × (new ≡ with_writes (is_inside b) change old))
+    ⊎ ((p : Coord) × IsTrue (is_inside b p) × (n ≡ rank b p) × (new ≡ with_writes (is_first b n) change old) × IsRefusedIn limit' p (change p) new code))
+
+-- the same for a grid
+abbrev pub WritesBoxUpTo : Box → (Coord → Option (Write Scalar)) → AnyGrid → AnyGrid → ℕ → ℤ → Type 0
+WritesBoxUpTo b change old new n code = WritesBoxUpToIn b change (grid_root_limit old) (grid_root_limit new) (grid_field old) (grid_field new) n code
 
 -- the voxels of the box were written, if each has a write; otherwise nothing changes
 unfoldable pub WritesBox : Box → (Coord → Option (Write Scalar)) → AnyGrid → AnyGrid → ℕ → ℕ → ℤ → Type 0

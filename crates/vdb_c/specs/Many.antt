@@ -66,10 +66,6 @@ abbrev pub IsRefusedIn : ℕ → Coord → Option (Write Scalar) → Field Scala
 IsRefusedIn limit p None f code = ⊥
 IsRefusedIn limit p (Some w) f code = (refusal : TreeRefusal) × (code ≡ tree_code (Err refusal)) × IsWrittenIn limit p w f f (Err refusal)
 
--- the same for a grid
-abbrev pub IsRefused : Coord → Option (Write Scalar) → AnyGrid → ℤ → Type 0
-IsRefused p change g code = IsRefusedIn (grid_root_limit g) p change (grid_field g) code
-
 -- the first n of these writes to a field with a root limit happened: all of them, or those before one that fails
 unfoldable pub WritesFirstIn : ℕ → (ℕ → Coord) → (ℕ → Option (Write Scalar)) → ℕ → ℕ → Field Scalar → Field Scalar → ℕ → ℤ → Type 0
 WritesFirstIn count voxel change limit limit' old new n code =

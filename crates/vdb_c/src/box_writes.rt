@@ -1,21 +1,29 @@
 //! A box of voxels written from arrays.
+ghost use Rattle.std.specs.Int.{int_gap};
 ghost use Rattle.std.specs.Prelude.{◌≡◌, ◌+◌, ◌<◌, ◌^◌, ◌⊎◌, ℕ, IfSome, IsSome, IsTrue, None, Some, length};
-ghost use Rattle.vdb_coord.specs.Space.{is_inside};
+ghost use Rattle.vdb_coord.specs.Blocks.{vdb};
+ghost use Rattle.vdb_coord.specs.Space.{coord, is_inside};
 ghost use Rattle.vdb_coord.specs.declared.Coord.{Coord};
-ghost use Rattle.vdb_c.specs.BoxWrites.{WritesBox, WritesBoxUpTo, box_written, change_of_voxel};
+ghost use Rattle.vdb_tree.specs.Field.{as_field_of};
+ghost use Rattle.vdb_tree.specs.Layout.{field_of};
+ghost use Rattle.vdb_c.specs.BoxWrites.{WritesBox, WritesBoxUpTo, WritesBoxUpToIn, along_z, box_written, change_of_voxel};
 ghost use Rattle.vdb_c.specs.Calls.{OnHeld, OnValid, grid_kind};
 ghost use Rattle.vdb_c.specs.Elements.{are_apart as are_voxels_apart, place as place_of};
+ghost use Rattle.vdb_c.specs.Many.{WritesFirstIn};
 ghost use Rattle.vdb_c.specs.Values.{accessor_of};
 
 use crate::box_arrays::bounds_beside;
 use crate::box_voxels::next_voxel;
 use crate::codes::{DONE, EMPTY, OUT_OF_RANGE, tree_code};
-use crate::elements::{Strides, place};
+use crate::element_writes::write_element;
+use crate::elements::{Strides, gap, place};
 use crate::handles::GridHandle;
-use crate::many::change_at;
+use crate::many::{change_at, has_all_numbers};
+use crate::numbers::Number;
 use crate::values::{Corners, accessor};
 use std::alloc::Global;
 use vdb_coord::{Bounds, Coord};
+use vdb_grid::Grid;
 use vdb_pool::Steps;
 use vdb_scene::{ACCESSORS, AnyGrid};
 use vdb_value::Kind;
@@ -117,6 +125,10 @@ fn missing_voxel(
     ensures some { IfSome result (λ p. IsTrue (is_inside bounds p) × (change_of_voxel kind bounds strides.now values.now states.now p ≡ None)) }
     ensures none { result ≡ None → (p : Coord) → IsTrue (is_inside bounds p) → IsSome (change_of_voxel kind bounds strides.now values.now states.now p) }
 {
+    let last = place(bounds, strides, bounds.max());
+    if has_all_numbers(kind) && (last < values.len() || last < states.len()) {
+        return None;
+    }
     let mut p = bounds.min();
     'voxels: loop {
         let index = place(bounds, strides, p);
@@ -131,7 +143,6 @@ fn missing_voxel(
 }
 
 /// Writes the voxels of a box one after another until a write fails.
-#[tactic(auto, unfolding(crate::specs::BoxWrites::WritesBoxUpTo))]
 fn write_voxels(
     grid: &mut AnyGrid,
     accessor: Option<usize>,
@@ -148,26 +159,124 @@ fn write_voxels(
     requires given { (p : Coord) → IsTrue (is_inside bounds p) → IsSome (change_of_voxel (grid_kind grid.old) bounds strides.now values.now states.now p) }
     ensures { WritesBoxUpTo bounds (change_of_voxel (grid_kind grid.old) bounds strides.now values.now states.now) grid.old grid.new written.new result }
 {
-    let kind = grid.kind();
+    match grid {
+        AnyGrid::Bool(held) => write_rows(
+            held, accessor, bounds, strides, values, states, written, steps,
+        ),
+        AnyGrid::I32(held) => write_rows(
+            held, accessor, bounds, strides, values, states, written, steps,
+        ),
+        AnyGrid::I64(held) => write_rows(
+            held, accessor, bounds, strides, values, states, written, steps,
+        ),
+    }
+}
+
+/// Writes the voxels of a box of a grid of one type, row by row, until a write fails.
+#[tactic(auto, unfolding(crate::specs::BoxWrites::WritesBoxUpToIn))]
+fn write_rows<V: Number>(
+    grid: &mut Grid<V, ACCESSORS>,
+    accessor: Option<usize>,
+    bounds: Bounds,
+    strides: &Strides,
+    values: &[i64],
+    states: &[u8],
+    written: &mut usize,
+    steps: &mut Steps,
+) -> i32
+    requires within { (k : ℕ) → accessor ≡ Some k → k < ACCESSORS }
+    requires apart { IsTrue (are_voxels_apart bounds strides.now) }
+    requires reach { place_of bounds strides.now bounds.max + 1 < 2 ^ 64 }
+    requires given { (p : Coord) → IsTrue (is_inside bounds p) → IsSome (change_of_voxel V.KIND bounds strides.now values.now states.now p) }
+    ensures { WritesBoxUpToIn bounds (change_of_voxel V.KIND bounds strides.now values.now states.now) grid.old.tree.limit grid.new.tree.limit
+        (as_field_of V.as_scalar (field_of vdb grid.old.tree)) (as_field_of V.as_scalar (field_of vdb grid.new.tree)) written.new result }
+{
     let mut p = bounds.min();
     let mut count = 0;
-    'voxels: loop {
-        let index = place(bounds, strides, p);
-        let Some(change) = change_at(kind, values, states, index) else {
-            unreachable!()
-        };
-        let outcome = grid.write(accessor, p, change, steps);
-        if outcome.is_err() {
+    'rows: loop {
+        let mut done = 0;
+        let code = write_row(
+            grid, accessor, bounds, strides, p, values, states, &mut done, steps,
+        );
+        count += done;
+        if code != DONE {
             *written = count;
-            return tree_code(outcome);
+            return code;
         }
-        count += 1;
-        match next_voxel(bounds, p) {
+        match next_voxel(bounds, row_end(bounds, p)) {
             Some(next) => p = next,
             None => {
                 *written = count;
                 return DONE;
             }
         }
+    }
+}
+
+/// Returns the last voxel of a box along z from one on.
+fn row_end(bounds: Bounds, p: Coord) -> Coord
+    requires { IsTrue (is_inside bounds p) }
+    ensures value { result ≡ coord p.x p.y bounds.max.z }
+    ensures inside { IsTrue (is_inside bounds result) }
+{
+    let max = bounds.max();
+    Coord {
+        x: p.x,
+        y: p.y,
+        z: max.z,
+    }
+}
+
+/// Returns how many voxels a box has along z from one on.
+fn row_size(bounds: Bounds, p: Coord) -> usize
+    requires { IsTrue (is_inside bounds p) }
+    ensures value { result ≡ int_gap p.z bounds.max.z + 1 }
+    ensures small { result < 2 ^ 33 }
+{
+    let max = bounds.max();
+    gap(p.z, max.z) + 1
+}
+
+/// Writes the voxels of a box of a grid of one type from one on along z, one after another, until a write fails. It writes to `written`
+/// how many voxels it has set.
+#[inline(never)]
+#[tactic(auto, unfolding(crate::specs::Many::WritesFirstIn))]
+fn write_row<V: Number>(
+    grid: &mut Grid<V, ACCESSORS>,
+    accessor: Option<usize>,
+    bounds: Bounds,
+    strides: &Strides,
+    p: Coord,
+    values: &[i64],
+    states: &[u8],
+    written: &mut usize,
+    steps: &mut Steps,
+) -> i32
+    requires within { (k : ℕ) → accessor ≡ Some k → k < ACCESSORS }
+    requires inside { IsTrue (is_inside bounds p) }
+    requires reach { place_of bounds strides.now bounds.max + 1 < 2 ^ 64 }
+    requires given { (q : Coord) → IsTrue (is_inside bounds q) → IsSome (change_of_voxel V.KIND bounds strides.now values.now states.now q) }
+    ensures { WritesFirstIn (int_gap p.z bounds.max.z + 1) (along_z p) (λ i. change_of_voxel V.KIND bounds strides.now values.now states.now (along_z p i)) grid.old.tree.limit grid.new.tree.limit
+        (as_field_of V.as_scalar (field_of vdb grid.old.tree)) (as_field_of V.as_scalar (field_of vdb grid.new.tree)) written.new result }
+{
+    let size = row_size(bounds, p);
+    let stride = strides.z;
+    let mut index = place(bounds, strides, p);
+    let mut z = p.z;
+    let mut count = 0;
+    'voxels: loop {
+        let at = Coord { x: p.x, y: p.y, z };
+        let outcome = write_element(grid, accessor, at, values, states, index, steps);
+        if outcome.is_err() {
+            *written = count;
+            return tree_code(outcome);
+        }
+        count += 1;
+        if count == size {
+            *written = count;
+            return DONE;
+        }
+        z += 1;
+        index += stride;
     }
 }

@@ -35,10 +35,16 @@ fn gaps(from: Coord, to: Coord) -> (usize, usize, usize)
     ensures z { result.2 ≡ int_gap from.z to.z }
     ensures small { (result.0 < 2 ^ 32) × (result.1 < 2 ^ 32) × (result.2 < 2 ^ 32) }
 {
-    let x = to.x.abs_diff(from.x) as usize;
-    let y = to.y.abs_diff(from.y) as usize;
-    let z = to.z.abs_diff(from.z) as usize;
-    (x, y, z)
+    (gap(from.x, to.x), gap(from.y, to.y), gap(from.z, to.z))
+}
+
+/// Returns how far a number is past another one.
+pub(crate) fn gap(from: i32, to: i32) -> usize
+    requires { IsTrue (int_le from to) }
+    ensures value { result ≡ int_gap from to }
+    ensures small { result < 2 ^ 32 }
+{
+    to.abs_diff(from) as usize
 }
 
 /// Returns whether a row of the box ends before the next one begins, and a plane, so that no two voxels share an element.

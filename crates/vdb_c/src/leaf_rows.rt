@@ -85,9 +85,7 @@ fn copy_values<V: Number>(leaf: &Leaf<V, 3, 8>, k: usize, values: &mut [i64])
         return;
     }
     let first = 512 * k;
-    for i in 0..512u32 {
-        values[first + i as usize] = leaf.entry(i).value.number();
-    }
+    V::copy_numbers(leaf, &mut values[first..first + 512]);
 }
 
 /// Copies the words of a leaf's states to the row of this number, unless the array is empty.

@@ -10,6 +10,7 @@
 //! - `codes`, `values`: codes, types, values, states, accessors and boxes as they cross.
 //! - `numbers`, `cells`: the value and the state of a voxel, as they cross.
 //! - `grid_life`, `voxels`, `regions`: calls on one grid.
+//! - `element_writes`: one voxel written from arrays.
 //! - `arrays`, `many`: calls on many voxels, given by their coordinates.
 //! - `elements`, `box_voxels`, `reading`, `box_arrays`, `box_writes`: calls on a box of voxels as arrays.
 //! - `pairs`: calls that combine two grids.
@@ -25,6 +26,7 @@ mod box_voxels;
 mod box_writes;
 mod cells;
 mod codes;
+mod element_writes;
 mod elements;
 mod found;
 mod grid_life;

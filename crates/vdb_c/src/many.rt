@@ -5,12 +5,14 @@ ghost use Rattle.vdb_scene.specs.Grids.{grid_field, grid_root_limit};
 ghost use Rattle.vdb_tree.specs.Field.{as_field_of};
 ghost use Rattle.vdb_tree.specs.Layout.{field_of};
 ghost use Rattle.vdb_tree.specs.Paths.{Lives};
+ghost use Rattle.vdb_value.specs.declared.Kind.TheVariants.{I64};
 ghost use Rattle.vdb_c.specs.Calls.{IsWriteFor, OnHeld, OnValid, Reads, grid_kind};
 ghost use Rattle.vdb_c.specs.Many.{IsReadAt, WritesFirst, WritesFirstIn, WritesMany, accessor_beside, byte_at, change_at as change_of_element, change_of as change_of_parts, is_beside, number_at, voxel_at};
 ghost use Rattle.vdb_c.specs.Values.{state_byte};
 
 use crate::arrays::store;
 use crate::codes::{DONE, EMPTY, OUT_OF_RANGE, tree_code};
+use crate::element_writes::write_element;
 use crate::handles::GridHandle;
 use crate::numbers::Number;
 use crate::values::{Corner, accessor, coord, is_byte_on, value, value_number};
@@ -18,7 +20,7 @@ use std::alloc::Global;
 use vdb_coord::Coord;
 use vdb_grid::Grid;
 use vdb_pool::Steps;
-use vdb_scene::{ACCESSORS, AnyGrid, GridValue, Scalar, write_voxel};
+use vdb_scene::{ACCESSORS, AnyGrid, Scalar};
 use vdb_tree::{Path, Tree, Write};
 use vdb_value::{Cell, Kind};
 
@@ -231,12 +233,25 @@ fn missing_change(kind: Kind, count: usize, values: &[i64], states: &[u8]) -> Op
     ensures some { IfSome result (λ k. (k < count) × (change_of_element kind values.now states.now k ≡ None)) }
     ensures none { result ≡ None → (k : ℕ) → k < count → IsSome (change_of_element kind values.now states.now k) }
 {
+    if has_all_numbers(kind) && (count <= values.len() || count <= states.len()) {
+        return None;
+    }
     for k in 0..count {
         if change_at(kind, values, states, k).is_none() {
             return Some(k);
         }
     }
     None
+}
+
+/// Returns whether a type has each number.
+pub(crate) fn has_all_numbers(kind: Kind) -> bool
+    ensures { IsTrue result → kind ≡ I64 }
+{
+    match kind {
+        Kind::I64 => true,
+        _ => false,
+    }
 }
 
 /// Returns the write of one element of each array.
@@ -299,7 +314,7 @@ fn write_first(
 
 /// Writes the voxels of a grid of one type, one after another, until a write fails.
 #[tactic(auto, unfolding(crate::specs::Many::WritesFirstIn))]
-fn write_voxels<V: GridValue>(
+fn write_voxels<V: Number>(
     grid: &mut Grid<V, ACCESSORS>,
     accessor: Option<usize>,
     at: &[Corner],
@@ -314,10 +329,7 @@ fn write_voxels<V: GridValue>(
         (as_field_of V.as_scalar (field_of vdb grid.old.tree)) (as_field_of V.as_scalar (field_of vdb grid.new.tree)) written.new result }
 {
     for k in 0..at.len() {
-        let Some(change) = change_at(V::KIND, values, states, k) else {
-            unreachable!()
-        };
-        let outcome = write_voxel(grid, accessor, coord(&at[k]), change, steps);
+        let outcome = write_element(grid, accessor, coord(&at[k]), values, states, k, steps);
         if outcome.is_err() {
             *written = k;
             return tree_code(outcome);
