@@ -26,19 +26,18 @@ module _ {T : Type 0} where
   count-push : (xs : List (Slot T)) (new : Slot T) → count_by is_some (map node_of (xs ++ new ∷ [])) ≡ count_by is_some (map node_of xs) + cond (is_some (node_of new)) 1 0
   count-push xs new = ap (count_by is_some) (map_push node_of xs new) ∙ sum_by_push (λ o. cond (is_some o) 1 0) (map node_of xs) (node_of new)
 
-  module _ {len : ℕ} (cs : List (Chunk T)) (ps : List Ptr) (xs : List (Slot T)) (used total held : ℕ) (top : Option ℕ) (ok : IsSound len cs ps xs used total held top) where
+  module _ {len most : ℕ} (cs : List (Chunk T)) (ps : List Ptr) (xs : List (Slot T)) (used total held : ℕ) (top : Option ℕ) (ok : IsSound len most cs ps xs used total held top) where
     abbrev stack : List ℕ
     stack = linked (used - held) top xs
 
     -- another node in a held slot
     pub rewritten : (i : ℕ) (x w : T) → slice_get xs i ≡ Some (Held x)
-        → IsSound len cs ps (set xs i (Held w)) used total held top × (linked (used - held) top (set xs i (Held w)) ≡ stack)
+        → IsSound len most cs ps (set xs i (Held w)) used total held top × (linked (used - held) top (set xs i (Held w)) ≡ stack)
     rewritten i x w found =
         let xs' : List (Slot T) = set xs i (Held w) in
         let k = kept (used - held) top xs i (Held w) ok.stack (off_held (used - held) top xs i x ok.stack found) in (
           record {
-            some = ok.some;
-            divides = ok.divides;
+            all = ok.all;
             used_is = ok.used_is ∙ sym (length-set xs i (Held w));
             total_is = ok.total_is;
             total_fits = ok.total_fits;
@@ -55,7 +54,7 @@ module _ {T : Type 0} where
 
     -- a held slot is vacated
     pub vacated : (i : ℕ) (x : T) → slice_get xs i ≡ Some (Held x)
-        → IsSound len cs ps (set xs i (Vacant top)) used total (held - 1) (Some i) × (linked (used - (held - 1)) (Some i) (set xs i (Vacant top)) ≡ i ∷ stack)
+        → IsSound len most cs ps (set xs i (Vacant top)) used total (held - 1) (Some i) × (linked (used - (held - 1)) (Some i) (set xs i (Vacant top)) ≡ i ∷ stack)
     vacated i x found =
         let xs' : List (Slot T) = set xs i (Vacant top) in
         let n : ℕ = used - held in
@@ -68,8 +67,7 @@ module _ {T : Type 0} where
         let on_top : IsStack (suc n) (Some i) xs' = (i, top, refl, there, (λ m. off (subst (IsAmong i) k.0 m)), k.1) in
         let list : linked (used - (held - 1)) (Some i) xs' ≡ i ∷ stack = ap (λ m. linked m (Some i) xs') (sym more) ∙ linked_top n (Some i) xs' i top refl there ∙ ap (λ l. i ∷ l) k.0 in (
           record {
-            some = ok.some;
-            divides = ok.divides;
+            all = ok.all;
             used_is = ok.used_is ∙ sym (length-set xs i (Vacant top));
             total_is = ok.total_is;
             total_fits = ok.total_fits;
@@ -86,7 +84,7 @@ module _ {T : Type 0} where
 
     -- the slot that was vacated last is held again
     pub refilled : (i : ℕ) (next : Option ℕ) (x : T) → top ≡ Some i → slice_get xs i ≡ Some (Vacant next)
-        → IsSound len cs ps (set xs i (Held x)) used total (held + 1) next × (stack ≡ i ∷ linked (used - (held + 1)) next (set xs i (Held x)))
+        → IsSound len most cs ps (set xs i (Held x)) used total (held + 1) next × (stack ≡ i ∷ linked (used - (held + 1)) next (set xs i (Held x)))
     refilled i next x e found =
         let xs' : List (Slot T) = set xs i (Held x) in
         let within : i < length xs = slice_get_within xs i (Vacant next) found in
@@ -98,8 +96,7 @@ module _ {T : Type 0} where
         let less : m ≡ used - (held + 1) = omega arith in
         let rest : linked m next xs ≡ linked (used - (held + 1)) next xs' = sym k.0 ∙ ap (λ j. linked j next xs') less in (
           record {
-            some = ok.some;
-            divides = ok.divides;
+            all = ok.all;
             used_is = ok.used_is ∙ sym (length-set xs i (Held x));
             total_is = ok.total_is;
             total_fits = ok.total_fits;
@@ -116,7 +113,7 @@ module _ {T : Type 0} where
 
     -- a slot is held for the first time, which leaves the stack as it is
     pub extended : (x : T) → used < total
-        → IsSound len cs ps (xs ++ Held x ∷ []) (used + 1) total (held + 1) top × (linked ((used + 1) - (held + 1)) top (xs ++ Held x ∷ []) ≡ stack)
+        → IsSound len most cs ps (xs ++ Held x ∷ []) (used + 1) total (held + 1) top × (linked ((used + 1) - (held + 1)) top (xs ++ Held x ∷ []) ≡ stack)
     extended x lt =
         let xs' : List (Slot T) = xs ++ Held x ∷ [] in
         let k = pushed (used - held) top xs (Held x) ok.stack in
@@ -125,8 +122,7 @@ module _ {T : Type 0} where
         let still : used - held ≡ (used + 1) - (held + 1) = omega arith in
         let list : linked ((used + 1) - (held + 1)) top xs' ≡ stack = ap (λ j. linked j top xs') (sym still) ∙ k.0 in (
           record {
-            some = ok.some;
-            divides = ok.divides;
+            all = ok.all;
             used_is = omega (arith, length-append xs (Held x ∷ []));
             total_is = ok.total_is;
             total_fits = ok.total_fits;
@@ -143,7 +139,7 @@ module _ {T : Type 0} where
 
     -- a slot that was never held is vacant, and on top of the stack
     pub extended_vacant : used < total
-        → IsSound len cs ps (xs ++ Vacant top ∷ []) (used + 1) total held (Some used) × (linked ((used + 1) - held) (Some used) (xs ++ Vacant top ∷ []) ≡ used ∷ stack)
+        → IsSound len most cs ps (xs ++ Vacant top ∷ []) (used + 1) total held (Some used) × (linked ((used + 1) - held) (Some used) (xs ++ Vacant top ∷ []) ≡ used ∷ stack)
     extended_vacant lt =
         let xs' : List (Slot T) = xs ++ Vacant top ∷ [] in
         let n : ℕ = used - held in
@@ -156,8 +152,7 @@ module _ {T : Type 0} where
         let on_top : IsStack (suc n) (Some used) xs' = (used, top, refl, there, (λ m. off (subst (IsAmong used) k.0 m)), k.1) in
         let list : linked ((used + 1) - held) (Some used) xs' ≡ used ∷ stack = ap (λ m. linked m (Some used) xs') (sym more) ∙ linked_top n (Some used) xs' used top refl there ∙ ap (λ l. used ∷ l) k.0 in (
           record {
-            some = ok.some;
-            divides = ok.divides;
+            all = ok.all;
             used_is = omega (arith, length-append xs (Vacant top ∷ []));
             total_is = ok.total_is;
             total_fits = ok.total_fits;

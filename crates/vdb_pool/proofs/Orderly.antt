@@ -19,7 +19,7 @@ module _ {T : Type 0} where
       get_or-map node_of xs i (Vacant next) None (slice_get_within xs i (Vacant next) found) ∙ ap node_of (get_or_from_slice_get xs i (Vacant next) (Vacant next) found)
 
   -- the list of vacant slots is in order
-  pub orderly : {len : ℕ} (cs : List (Chunk T)) (ps : List Ptr) (xs : List (Slot T)) (used total held : ℕ) (top : Option ℕ) → IsSound len cs ps xs used total held top
+  pub orderly : {len most : ℕ} (cs : List (Chunk T)) (ps : List Ptr) (xs : List (Slot T)) (used total held : ℕ) (top : Option ℕ) → IsSound len most cs ps xs used total held top
       → IsOrderly (record { nodes = map node_of xs; vacant = linked (used - held) top xs; places = ps })
   orderly cs ps xs used total held top ok =
       let used_is = ok.used_is in let total_is = ok.total_is in let within = ok.within in let fits = ok.total_fits in

@@ -1,8 +1,8 @@
 -- The addresses of the slots of the chunks.
-use Rattle.std.proofs.Common.{◌≡◌, ℕ, zero, suc, ◌+◌, ◌*◌, ◌/◌, ◌%◌, ◌^◌, ◌<◌, List, [], ◌∷◌, ◌++◌, length, get_or, refl, sym, ap, subst, ◌∙◌, arith, length-append, append-nil, append_assoc, Option}
+use Rattle.std.proofs.Common.{◌≡◌, ℕ, zero, suc, ◌+◌, ◌-◌, ◌*◌, ◌/◌, ◌%◌, ◌^◌, ◌<◌, ◌≤◌, List, [], ◌∷◌, ◌++◌, length, get_or, refl, sym, ap, subst, ◌∙◌, arith, length-append, append-nil, append_assoc, Option}
 use native.Mathlib.Nat.{zero-mul, suc-mul}
-use Rattle.std.proofs.Math.Nat.{div-lt_iff_lt-mul, lt_of_mul-lt-mul_right, mul-le-mul_right}
-use Rattle.std.proofs.lemmas.Nat.{div-add-mod'}
+use Rattle.std.proofs.Math.Nat.{div-lt_iff_lt-mul, lt_of_mul-lt-mul_right, mul-le-mul_right, mul_comm, mul_assoc, add-mul, mod-lt}
+use Rattle.std.proofs.lemmas.Nat.{div-add-mod', div-mul-add}
 use lib.ListN.{get_or-append}
 use lib.Seq.{get_or-append-add}
 use Rattle.std.proofs.Common.{Global}
@@ -80,17 +80,16 @@ module _ {T : Type 0} (len : ℕ) where
   whole_push [] c w h = (h, tt)
   whole_push (d ∷ cs) c w h = (w.0, whole_push cs c w.1 h)
 
-  pub grown : (cs cs' : List (Chunk T)) (ps ps' qs : List Ptr) (xs xs' : List (Slot T)) (used total held : ℕ) (top : Option ℕ) (c : Chunk T) → IsSound len cs ps xs used total held top → total + len < 2 ^ 32
+  pub grown : (most : ℕ) (cs cs' : List (Chunk T)) (ps ps' qs : List Ptr) (xs xs' : List (Slot T)) (used total held : ℕ) (top : Option ℕ) (c : Chunk T) → IsSound len most cs ps xs used total held top → total + len < 2 ^ 32
       → qs ≡ row_from c.block.stride c.base.pointer len → (c.block.at ≡ c.base.pointer) × (c.block.len ≡ len)
-      → ps' ≡ ps ++ qs → xs' ≡ xs → cs' ≡ cs ++ c ∷ [] → IsSound len cs' ps' xs' used (total + len) held top
-  grown cs cs' ps ps' qs xs xs' used total held top c ok fits qs_is h ps_is xs_is cs_is =
+      → ps' ≡ ps ++ qs → xs' ≡ xs → cs' ≡ cs ++ c ∷ [] → IsSound len most cs' ps' xs' used (total + len) held top
+  grown most cs cs' ps ps' qs xs xs' used total held top c ok fits qs_is h ps_is xs_is cs_is =
       let row : List Ptr = row_from c.block.stride c.base.pointer len in
       let long : length qs ≡ len = ap length qs_is ∙ length-row c.block.stride c.base.pointer len in
       let longer : length ps' ≡ length ps + length qs = ap length ps_is ∙ length-append ps qs in
       let total_is = ok.total_is in let within = ok.within in
-      let sound : IsSound len (cs ++ c ∷ []) ps' xs used (total + len) held top = record {
-        some = ok.some;
-        divides = ok.divides;
+      let sound : IsSound len most (cs ++ c ∷ []) ps' xs used (total + len) held top = record {
+        all = ok.all;
         used_is = ok.used_is;
         total_is = omega arith;
         total_fits = fits;
@@ -102,19 +101,40 @@ module _ {T : Type 0} (len : ℕ) where
         stack = ok.stack;
         listed = ok.listed;
       } in
-      subst (λ (l : List (Slot T)). IsSound len cs' ps' l used (total + len) held top) (sym xs_is)
-      (subst (λ (l : List (Chunk T)). IsSound len l ps' xs used (total + len) held top) (sym cs_is) sound)
+      subst (λ (l : List (Slot T)). IsSound len most cs' ps' l used (total + len) held top) (sym xs_is)
+      (subst (λ (l : List (Chunk T)). IsSound len most l ps' xs used (total + len) held top) (sym cs_is) sound)
 
   pub whole_last : (cs : List (Chunk T)) (c : Chunk T) → AreWhole len (cs ++ c ∷ []) → AreWhole len cs × ((c.block.at ≡ c.base.pointer) × (c.block.len ≡ len))
   whole_last [] c w = (tt, w.0)
   whole_last (d ∷ cs) c w = let r = whole_last cs c w.1 in ((w.0, r.0), r.1)
 
--- the chunks of a pool have room for one more, if their length divides 4,294,967,295 and they have fewer slots
-pub one_more_fits : (len n : ℕ) → 4294967295 % len ≡ 0 → n * len < 4294967295 → n * len + len < 4294967296
-one_more_fits len n divides below =
-    let parts = div-add-mod' 4294967295 len in
-    let fewer : n < 4294967295 / len = lt_of_mul-lt-mul_right len (omega (arith, parts, divides, below)) in
-    omega (arith, suc-mul n len, mul-le-mul_right len fewer, parts, divides)
+-- a pool's chunks have slots
+pub some_of : (len most : ℕ) → len * most ≡ 4294967295 → 0 < len
+some_of zero most all = absurd (omega (arith, zero-mul most, all))
+some_of (suc len) most all = omega arith
+
+-- a slot divided by the slots of a chunk, by the most chunks
+pub quotient_is : (len most n : ℕ) → len * most ≡ 4294967295 → n < 4294967296 → (n + 1) * most / 4294967296 ≡ n / len
+quotient_is len most n all fits =
+    let some = some_of len most all in
+    let q : ℕ = n / len in let r : ℕ = n % len in let t : ℕ = (r + 1) * most in
+    let parts : n ≡ q * len + r = sym (div-add-mod' n len) in
+    let short : q * len < suc most * len = omega (arith, parts, suc-mul most len, mul_comm len most, all, fits, some) in
+    let least : q ≤ most = omega (arith, lt_of_mul-lt-mul_right len short) in
+    let from : most ≤ t = omega (arith, suc-mul r most) in
+    let within : r + 1 ≤ len = omega (arith, mod-lt n some) in
+    let past : t ≤ 4294967295 = omega (arith, mul-le-mul_right most within, all) in
+    let split : q * len + r + 1 ≡ q * len + (r + 1) = omega arith in
+    let times : q * len * most ≡ q * 4294967295 = mul_assoc q len most ∙ ap (λ k. q * k) all in
+    let whole : (n + 1) * most ≡ q * 4294967296 + (t - q) =
+    ap (λ k. (k + 1) * most) parts ∙ ap (λ k. k * most) split ∙ add-mul (q * len) (r + 1) most ∙ omega (arith, times, least, from) in
+    ap (λ k. k / 4294967296) whole ∙ div-mul-add q 4294967296 (t - q) (omega (arith, past))
+
+-- the chunks of a pool have room for one more, if they have fewer slots than 4,294,967,295
+pub one_more_fits : (len most n : ℕ) → len * most ≡ 4294967295 → n * len < 4294967295 → n * len + len < 4294967296
+one_more_fits len most n all below =
+    let fewer : n < most = lt_of_mul-lt-mul_right len (omega (arith, mul_comm len most, all, below)) in
+    omega (arith, suc-mul n len, mul-le-mul_right len fewer, mul_comm len most, all)
 
 pub one_global : (a b : Global) → a ≡ b
 one_global a b = refl

@@ -1,5 +1,5 @@
 //! The chunks of a pool: blocks with equally many slots each.
-ghost use Rattle.std.specs.Prelude.{◌≡◌, ◌<◌, ◌/◌, ◌%◌, length, get_or};
+ghost use Rattle.std.specs.Prelude.{◌≡◌, ◌<◌, ◌*◌, ◌/◌, ◌%◌, length, get_or};
 ghost use denote.RawPtr.{null_ptr};
 ghost use Rattle.vdb_pool.specs.internal.Chunks.{AreWhole, rows_of, slots_of};
 
@@ -26,36 +26,16 @@ pub(crate) fn slots_of(bytes: usize) -> u32
     }
 }
 
-/// Returns the chunk of a slot and its index there, by the slots of a chunk.
+/// Returns the chunk of a slot and its index there, by the slots of a chunk and the most chunks that a pool may have. These two give
+/// 4,294,967,295 together, so that a multiplication and a shift divide.
 #[inline(always)]
-fn chunk_and_index(slot: u32, len: u32) -> (u32, u32)
-    requires { 0 < len }
+fn chunk_and_index(slot: u32, len: u32, most: u32) -> (u32, u32)
+    requires { len * most ≡ 4294967295 }
     ensures chunk { result.0 ≡ slot / len }
     ensures index { result.1 ≡ slot % len }
 {
-    let chunk = quotient(slot, len);
+    let chunk = (((slot as u64 + 1) * most as u64) >> 32) as u32;
     (chunk, slot - chunk * len)
-}
-
-/// Returns the quotient of two numbers. For the divisors that a pool has, a multiplication and a shift give it.
-#[inline(always)]
-fn quotient(number: u32, divisor: u32) -> u32
-    requires { 0 < divisor }
-    ensures { result ≡ number / divisor }
-{
-    let number = number as u64;
-    let quotient = match divisor {
-        255 => (number * 2155905153) >> 39,
-        85 => (number * 3233857729) >> 38,
-        51 => (number * 2694881441) >> 37,
-        17 => (number * 4042322161) >> 36,
-        15 => (number * 2290649225) >> 35,
-        5 => (number * 3435973837) >> 34,
-        3 => (number * 2863311531) >> 33,
-        1 => number,
-        _ => number / divisor as u64,
-    };
-    quotient as u32
 }
 
 /// A block of slots, with its address.
@@ -64,14 +44,14 @@ pub struct Chunk<T> {
     pub(crate) block: Block<Slot<T>, Global>,
 }
 
-/// Returns the address of a slot, by the slots of a chunk.
-pub(crate) fn address_in<T>(chunks: &[Chunk<T>], len: u32, slot: u32) -> Address<Slot<T>>
-    requires some { 0 < len }
+/// Returns the address of a slot, by the slots of a chunk and the most chunks.
+pub(crate) fn address_in<T>(chunks: &[Chunk<T>], len: u32, most: u32, slot: u32) -> Address<Slot<T>>
+    requires all { len * most ≡ 4294967295 }
     requires whole { AreWhole len chunks.now }
     requires within { slot < length (rows_of len chunks.now) }
     ensures { result.pointer ≡ get_or (rows_of len chunks.now) slot null_ptr }
 {
-    let (chunk, index) = chunk_and_index(slot, len);
+    let (chunk, index) = chunk_and_index(slot, len, most);
     let chunk = &chunks[chunk as usize];
     chunk.block.place(chunk.base, index as usize)
 }

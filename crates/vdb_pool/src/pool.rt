@@ -32,6 +32,8 @@ pub struct Pool<T> {
     storage: Storage<Slot<T>>,
     // How many slots a chunk has.
     len: u32,
+    // How many chunks it may have.
+    most: u32,
     // How many slots were ever held. They are the first ones.
     used: u32,
     // How many slots the pool has.
@@ -60,7 +62,7 @@ impl<T> Model for Pool<T> {
       places = p.storage.places;
     } };
 
-    ghost invariant = { λ p. IsSound p.len p.chunks.items p.storage.places p.storage.items p.used p.total p.held p.top };
+    ghost invariant = { λ p. IsSound p.len p.most p.chunks.items p.storage.places p.storage.items p.used p.total p.held p.top };
 }
 
 impl<T> Pool<T> {
@@ -71,11 +73,13 @@ impl<T> Pool<T> {
     pub fn new(alloc: Global) -> Pool<T>
         ensures { result ≡ record { nodes = []; vacant = []; places = [] } }
     {
+        let len = slots_of(place_bytes::<Slot<T>>());
         Pool {
             alloc,
             chunks: Vec::new(alloc),
             storage: Storage::new(),
-            len: slots_of(place_bytes::<Slot<T>>()),
+            len,
+            most: u32::MAX / len,
             used: 0,
             total: 0,
             held: 0,
@@ -103,7 +107,7 @@ impl<T> Pool<T> {
         requires { slot < length self.now.places }
         ensures { result.pointer ≡ get_or self.now.places slot null_ptr }
     {
-        address_in(self.chunks.as_slice(), self.len, slot)
+        address_in(self.chunks.as_slice(), self.len, self.most, slot)
     }
 
     /// Returns the place of a slot that is held, and `None` for any other number. It counts no visit.
@@ -320,6 +324,7 @@ impl<T: Drop> Drop for Pool<T> {
             mut chunks,
             mut storage,
             len,
+            most,
             used,
             total: _,
             held: _,
@@ -328,7 +333,7 @@ impl<T: Drop> Drop for Pool<T> {
         let mut slot = used;
         while slot > 0 {
             slot -= 1;
-            drop(storage.pop(address_in(chunks.as_slice(), len, slot)));
+            drop(storage.pop(address_in(chunks.as_slice(), len, most, slot)));
         }
         let size = len as usize;
         while let Some(chunk) = chunks.pop() {

@@ -64,6 +64,7 @@ impl<
     }
 
     /// Returns the entry of the upper node around p, in this slot, that holds p.
+    #[inline(always)]
     pub(crate) fn upper_entry(&self, upper: u32, p: Coord, steps: &mut Steps) -> Entry<V>
         requires { root_entry (bits_of U L F) self.now p ≡ Child upper }
         ensures value { upper_entry (bits_of U L F) self.now p ≡ result }
@@ -91,6 +92,7 @@ impl<
     }
 
     /// Returns the entry of the lower node around p, in this slot, that holds p.
+    #[inline(always)]
     pub(crate) fn lower_entry(&self, lower: u32, p: Coord, steps: &mut Steps) -> Entry<V>
         requires { upper_entry (bits_of U L F) self.now p ≡ Child lower }
         ensures value { lower_entry (bits_of U L F) self.now p ≡ result }
@@ -118,6 +120,7 @@ impl<
     }
 
     /// Returns the voxel p of the leaf around it, in this slot.
+    #[inline(always)]
     #[tactic(auto, unfolding(crate::specs::Layout::cell_at))]
     pub(crate) fn voxel(&self, leaf: u32, p: Coord, steps: &mut Steps) -> Cell<V>
         requires { lower_entry (bits_of U L F) self.now p ≡ Child leaf }
