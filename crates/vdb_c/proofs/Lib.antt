@@ -8,6 +8,7 @@ pub mod Filled
 pub mod NextVoxels
 pub mod Places
 pub mod Laid
+pub mod RowsLaid
 pub mod PartsRead
 pub mod BoxReads
 pub mod ManyWrites

@@ -70,7 +70,31 @@ fn is_written_near<V: Number>(
     }
 }
 
-/// Writes the elements to a voxel, if they have a write, by the descent from the lowest node of the accessor's path that contains it, or from the root.
+/// Moves the accessor to a voxel, and writes the elements to it, if a leaf holds it. Returns whether one does; if not, no node changes.
+#[inline(always)]
+fn is_written_beside<V: Number>(
+    grid: &mut Grid<V, ACCESSORS>,
+    accessor: Option<usize>,
+    at: Coord,
+    values: &[i64],
+    states: &[u8],
+    index: usize,
+    steps: &mut Steps,
+) -> bool
+    requires within { (k : ℕ) → accessor ≡ Some k → k < ACCESSORS }
+    ensures written { IsTrue result → IsWrittenBy grid.old.tree.limit at (change_of_element V.KIND values.now states.now index) (as_field_of V.as_scalar (field_of vdb grid.old.tree)) (as_field_of V.as_scalar (field_of vdb grid.new.tree)) (Ok tt) }
+    ensures limit { grid.new.tree.limit ≡ grid.old.tree.limit }
+    ensures untouched { result ≡ false → grid.new.tree ≡ grid.old.tree }
+{
+    let Some(k) = accessor else {
+        return false;
+    };
+    let _ = grid.go_to(k, copied(at), steps);
+    is_written_near(grid, accessor, at, values, states, index, steps)
+}
+
+/// Writes the elements to a voxel, if they have a write, by the descent from the lowest node of the accessor's path that contains it, or
+/// from the root.
 #[inline(never)]
 fn write_far<V: Number>(
     grid: &mut Grid<V, ACCESSORS>,
@@ -85,6 +109,9 @@ fn write_far<V: Number>(
     ensures outcome { IsSome (change_of_element V.KIND values.now states.now index) → IsWrittenBy grid.old.tree.limit at (change_of_element V.KIND values.now states.now index) (as_field_of V.as_scalar (field_of vdb grid.old.tree)) (as_field_of V.as_scalar (field_of vdb grid.new.tree)) result }
     ensures limit { grid.new.tree.limit ≡ grid.old.tree.limit }
 {
+    if is_written_beside(grid, accessor, copied(at), values, states, index, steps) {
+        return Ok(());
+    }
     let Some(change) = change_at(V::KIND, values, states, index) else {
         return Ok(());
     };
