@@ -67,3 +67,9 @@ returns-in_ok-longs-in-2-clause-given g c = λ n m within. c.in_ok-longs-in-2.en
 
 pub returns-in_ok-longs-in-2-clause-unused : goal.returns-in_ok-longs-in-2-clause-unused
 returns-in_ok-longs-in-2-clause-unused g c = λ k. (c.from_tree-in-2.ensures.last k, c.from_tree-in-2.ensures.empty k)
+
+pub returns-in_ok-truths-in-0-clause-total : goal.returns-in_ok-truths-in-0-clause-total
+returns-in_ok-truths-in-0-clause-total g c = λ n h. c.take_tree.ensures.total n (c.take_u8.ensures.total n h)
+
+pub returns-in_ok-truths-in-0-clause-given : goal.returns-in_ok-truths-in-0-clause-given
+returns-in_ok-truths-in-0-clause-given g c = λ n m h. c.take_tree.ensures.given n m (c.take_u8.ensures.given n m h)
