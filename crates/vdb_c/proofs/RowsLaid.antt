@@ -1,13 +1,10 @@
 -- Arrays that a call fills row by row.
-use Rattle.std.proofs.Common.{◌≡◌, ◌<◌, ◌<ℤ◌, ◌+ℤ◌, pos, true, SFits, w32, to_z, of_z, ℕ, sym, ap, ◌∙◌, Bool, IsTrue, List, length, get_or, set, refl}
+use Rattle.std.proofs.Common.{◌≡◌, ◌<ℤ◌, ◌+ℤ◌, pos, true, SFits, w32, to_z, of_z, ℕ, sym, ap, Bool, IsTrue, List, set, refl}
 use Rattle.std.specs.Prelude.{Some, None}
-use Rattle.std.proofs.lemmas.List.{get_or_default}
-use Rattle.vdb_coord.specs.Blocks.{offset, vdb}
 use lib.Signed.{lt_z}
 use Rattle.std.proofs.lemmas.Int.{to_z-of_z}
 use Rattle.vdb_coord.specs.Space.{Box, coord, is_inside}
 use Rattle.vdb_coord.specs.declared.Coord.{Coord}
-use Rattle.vdb_coord.specs.declared.Level.TheVariants.{Leaf as leaf_level}
 use Rattle.vdb_c.specs.Elements.{IsLaid, are_apart, place}
 use Rattle.vdb_c.specs.BoxVoxels.{IsNextVoxel, IsUpTo}
 use Rattle.vdb_c.specs.declared.elements.Strides.{Strides}
@@ -31,28 +28,25 @@ module _ (part : Box) (p m : Coord) (inside : IsTrue (is_inside part p)) (x : SF
   pub same_next : coord p.x p.y (p.z +ℤ pos 1) ≡ coord (to_z w32 (of_z w32 p.x)) (to_z w32 (of_z w32 p.y)) (to_z w32 (of_z w32 (to_z w32 (of_z w32 p.z) +ℤ pos 1)))
   same_next = λ i. coord (sym (to_z-of_z w32 p.x x) i) (sym (to_z-of_z w32 p.y y) i) (sym (one_more p.z z further_fits) i)
 
-module _ {X : Type 0} (b : Box) (s : Strides) (part : Box) where
+module _ {D X : Type 0} (b : Box) (s : Strides) (part : Box) (of : D → Coord → X) where
   -- the voxels of the part before p are laid, and the array's next element is p's
-  pub record AreLaidUpTo (max p : Coord) (index : ℕ) (from old new : List X) : Type 0 where
+  pub record AreLaidUpTo (max p : Coord) (index : ℕ) (old new : List X) : Type 0 where
     pub max_is : max ≡ part.max
     pub inside : IsTrue (is_inside part p)
     pub at : index ≡ place b s p
-    pub laid : (passed : Coord → Bool) × IsUpTo part p passed × ((d : X) → IsLaid b s passed (λ q. get_or from (offset vdb leaf_level q) d) old new)
+    pub laid : (passed : Coord → Bool) × IsUpTo part p passed × ((d : D) → IsLaid b s passed (of d) old new)
 
-  pub laid_at_first : (max p : Coord) (index : ℕ) (from xs : List X) → max ≡ part.max → IsTrue (is_inside part p) → p ≡ part.min → index ≡ place b s p → AreLaidUpTo max p index from xs xs
-  laid_at_first max p index from xs max_is inside at_min at = record {
+  pub laid_at_first : (max p : Coord) (index : ℕ) (xs : List X) → max ≡ part.max → IsTrue (is_inside part p) → p ≡ part.min → index ≡ place b s p → AreLaidUpTo max p index xs xs
+  laid_at_first max p index xs max_is inside at_min at = record {
     max_is = max_is;
     inside = inside;
     at = at;
     laid = (none, up_to_min part p at_min, λ d. laid_none b s _ _ _ (λ q. refl));
   }
 
-  module _ (apart : IsTrue (are_apart b s)) (within : (q : Coord) → IsTrue (is_inside part q) → IsTrue (is_inside b q)) (max p : Coord) (index : ℕ) (from old ys zs : List X) (h : AreLaidUpTo max p index from old ys)
-      (offset_is : ℕ) (at_offset : offset_is ≡ offset vdb leaf_level p) (below : offset_is < length from) (x : X) (is : x ≡ get_or from offset_is x) (stored : zs ≡ set ys index x) where
-    read : (d : X) → x ≡ get_or from (offset vdb leaf_level p) d
-    read d = is ∙ get_or_default from offset_is x d below ∙ ap (λ (i : ℕ). get_or from i d) at_offset
-
-    pub laid_on : (next : Coord) (index' : ℕ) → IsNextVoxel part p (Some next) → index' ≡ place b s next → AreLaidUpTo max next index' from old zs
+  module _ (apart : IsTrue (are_apart b s)) (within : (q : Coord) → IsTrue (is_inside part q) → IsTrue (is_inside b q)) (max p : Coord) (index : ℕ) (old ys zs : List X) (h : AreLaidUpTo max p index old ys)
+      (x : X) (is : (d : D) → x ≡ of d p) (stored : zs ≡ set ys index x) where
+    pub laid_on : (next : Coord) (index' : ℕ) → IsNextVoxel part p (Some next) → index' ≡ place b s next → AreLaidUpTo max next index' old zs
     laid_on next index' n e =
         let so_far = h.laid in
         record {
@@ -62,11 +56,9 @@ module _ {X : Type 0} (b : Box) (s : Strides) (part : Box) where
           laid = (
             with_voxel so_far.0 p,
             up_to_next part p h.inside so_far.0 so_far.1 next n,
-            λ d. laid_voxel b s apart part within p h.inside so_far.0 so_far.1 (λ q. get_or from (offset vdb leaf_level q) d) old ys zs index x h.at (read d) stored (so_far.2 d),
+            λ d. laid_voxel b s apart part within p h.inside so_far.0 so_far.1 (of d) old ys zs index x h.at (is d) stored (so_far.2 d),
           );
         }
 
-    pub laid_last : IsNextVoxel part p None → (d : X) → IsLaid b s (is_inside part) (λ q. get_or from (offset vdb leaf_level q) d) old zs
-    laid_last last d =
-        let so_far = h.laid in
-        laid_part b s apart part within p h.inside so_far.0 so_far.1 (λ q. get_or from (offset vdb leaf_level q) d) old ys zs index x h.at (read d) stored (so_far.2 d) last
+    pub laid_last : IsNextVoxel part p None → (d : D) → IsLaid b s (is_inside part) (of d) old zs
+    laid_last last d = let so_far = h.laid in laid_part b s apart part within p h.inside so_far.0 so_far.1 (of d) old ys zs index x h.at (is d) stored (so_far.2 d) last

@@ -1,6 +1,6 @@
 //! A box of a tree read into arrays.
 ghost use Rattle.std.specs.Option.{option_map};
-ghost use Rattle.std.specs.Prelude.{◌≡◌, ◌<◌, ◌^◌, ◌&&◌, IfSome, IsSome, IsTrue, get_or, length, not};
+ghost use Rattle.std.specs.Prelude.{◌≡◌, ◌<◌, ◌^◌, ◌&&◌, IfSome, IsSome, IsTrue, length, not};
 ghost use Rattle.vdb_coord.specs.Blocks.{key, offset, vdb};
 ghost use Rattle.vdb_coord.specs.Space.{is_inside};
 ghost use Rattle.vdb_coord.specs.Walk.{coordinates_after};
@@ -81,40 +81,7 @@ fn lay_tile<T: Copy>(value: T, bounds: Bounds, strides: &Strides, part: Bounds, 
     }
 }
 
-/// Writes what an array has for a leaf's voxels, by their offsets, to the elements of a part of a box, row by row along z.
-fn lay_rows<T: Copy>(from: &[T], bounds: Bounds, strides: &Strides, part: Bounds, out: &mut [T])
-    requires size { length from.now ≡ 512 }
-    requires within { (q : Coord) → IsTrue (is_inside part q) → IsTrue (is_inside bounds q) }
-    requires apart { IsTrue (are_apart bounds strides.now) }
-    requires reach { place_of bounds strides.now bounds.max < 2 ^ 64 }
-    ensures { (d : T) → IsLaid bounds strides.now (is_inside part) (λ p. get_or from.now (offset vdb leaf_level p) d) out.old out.new }
-{
-    let max = part.max();
-    let stride = strides.z;
-    let mut p = part.min();
-    let mut index = place(bounds, strides, p);
-    'rows: loop {
-        'row: while p.z < max.z {
-            store(out, index, from[p.offset(Level::Leaf) as usize]);
-            p = Coord {
-                x: p.x,
-                y: p.y,
-                z: p.z + 1,
-            };
-            index += stride;
-        }
-        store(out, index, from[p.offset(Level::Leaf) as usize]);
-        match next_voxel(part, p) {
-            Some(next) => {
-                index = place(bounds, strides, next);
-                p = next;
-            }
-            None => return,
-        }
-    }
-}
-
-/// Writes the values that a leaf has in its part of a box to the part's elements.
+/// Writes the values that a leaf has in its part of a box to the part's elements, row by row along z.
 fn lay_values<V: Number>(
     leaf: &Leaf<V, 3, 8>,
     bounds: Bounds,
@@ -130,12 +97,34 @@ fn lay_values<V: Number>(
     if out.len() == 0 {
         return;
     }
-    let mut numbers = [0; 512];
-    V::copy_numbers(leaf, &mut numbers);
-    lay_rows(&numbers, bounds, strides, part, out);
+    let max = part.max();
+    let stride = strides.z;
+    let mut p = part.min();
+    let mut index = place(bounds, strides, p);
+    'rows: loop {
+        'row: while p.z < max.z {
+            let cell = leaf.entry(p.offset(Level::Leaf) as u32);
+            store(out, index, cell.value.number());
+            p = Coord {
+                x: p.x,
+                y: p.y,
+                z: p.z + 1,
+            };
+            index += stride;
+        }
+        let cell = leaf.entry(p.offset(Level::Leaf) as u32);
+        store(out, index, cell.value.number());
+        match next_voxel(part, p) {
+            Some(next) => {
+                index = place(bounds, strides, next);
+                p = next;
+            }
+            None => return,
+        }
+    }
 }
 
-/// Writes the states that a leaf has in its part of a box to the part's elements.
+/// Writes the states that a leaf has in its part of a box to the part's elements, row by row along z.
 fn lay_states<V: Number>(
     leaf: &Leaf<V, 3, 8>,
     bounds: Bounds,
@@ -151,15 +140,27 @@ fn lay_states<V: Number>(
     if out.len() == 0 {
         return;
     }
+    let max = part.max();
+    let stride = strides.z;
     let mut p = part.min();
     let mut index = place(bounds, strides, p);
-    'voxels: loop {
+    'rows: loop {
+        'row: while p.z < max.z {
+            let cell = leaf.entry(p.offset(Level::Leaf) as u32);
+            store(out, index, u8::from(cell.on));
+            p = Coord {
+                x: p.x,
+                y: p.y,
+                z: p.z + 1,
+            };
+            index += stride;
+        }
         let cell = leaf.entry(p.offset(Level::Leaf) as u32);
         store(out, index, u8::from(cell.on));
-        match next_place(bounds, strides, part, p, index) {
-            Some((next, following)) => {
+        match next_voxel(part, p) {
+            Some(next) => {
+                index = place(bounds, strides, next);
                 p = next;
-                index = following;
             }
             None => return,
         }

@@ -1,0 +1,20 @@
+use Rattle.std.proofs.Common.{◌≤◌}
+use Rattle.vdb_coord.specs.Blocks.{offset, vdb}
+use Rattle.vdb_coord.specs.Walk.{coordinates_after}
+use Rattle.vdb_coord.specs.declared.Level.TheVariants.{Leaf as leaf_level}
+use Rattle.vdb_node.specs.Leaf.{cell_in}
+use Rattle.vdb_value.specs.declared.Cell.{Cell}
+use Rattle.vdb_c.proofs.RowsLaid.{AreLaidUpTo}
+use Rattle.vdb_c.proofs.reading.lay_values.Given as goal
+
+abbrev pub invariant-row : goal.invariant-row
+invariant-row g l = AreLaidUpTo {D = Cell g.row.V.Denot} l.bounds l.strides l.part (λ d q. g.V.Number.number_of (cell_in d l.leaf (offset vdb leaf_level q)).value) l.max l.p l.index l.fn.out l.out × (coordinates_after l.p ≤ coordinates_after l.initial.p)
+
+abbrev pub decreases-row : goal.decreases-row
+decreases-row g l = coordinates_after l.p
+
+abbrev pub invariant-rows : goal.invariant-rows
+invariant-rows g l = AreLaidUpTo {D = Cell g.row.V.Denot} l.bounds l.strides l.part (λ d q. g.V.Number.number_of (cell_in d l.leaf (offset vdb leaf_level q)).value) l.max l.p l.index l.fn.out l.out
+
+abbrev pub decreases-rows : goal.decreases-rows
+decreases-rows g l = coordinates_after l.p
