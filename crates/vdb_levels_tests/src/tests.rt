@@ -7,6 +7,8 @@ mod layouts;
 mod leaves;
 mod limits;
 mod nodes;
+mod pairs;
+mod states;
 mod voxels;
 mod walks;
 
