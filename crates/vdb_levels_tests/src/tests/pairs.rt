@@ -28,7 +28,14 @@ fn run<S: PairStore<i32, bool, O>, O: NodeStore<bool>>(
     requires other_configured { O.IsConfigured }
 {
     match act {
-        PairAct::ByEachRule => by_each_rule::<S, O>(rt, alloc, spans, steps),
+        PairAct::ByEachRule => by_each_rule::<i32, bool, S, O>(
+            rt,
+            alloc,
+            (0, [5, 9, 6, 7]),
+            (false, true),
+            spans,
+            steps,
+        ),
         PairAct::RefusedUnion => refused_union::<S, O>(rt, alloc, spans, steps),
     }
 }
@@ -163,4 +170,60 @@ pub(super) fn each_pair(rt: &impl Abort, alloc: Global, act: PairAct, steps: &mu
     smaller_pair(rt, alloc, act, steps);
     tiny_pair(rt, alloc, act, steps);
     deep_pair(rt, alloc, act, steps);
+}
+
+// A pair of tiny trees, of which the first one has booleans.
+fn run_booleans<S: PairStore<bool, i32, O>, O: NodeStore<i32>>(
+    rt: &impl Abort,
+    alloc: Global,
+    steps: &mut Steps,
+)
+    requires configured { S.IsConfigured }
+    requires other_configured { O.IsConfigured }
+{
+    let values = (false, [true, true, false, true]);
+    by_each_rule::<bool, i32, S, O>(rt, alloc, values, (0, -1), [2, 4, 8, 8], steps)
+}
+
+fn one_level_of_booleans<Below: PairStore<bool, i32, Other>, Other: NodeStore<i32>>(
+    rt: &impl Abort,
+    alloc: Global,
+    steps: &mut Steps,
+)
+    requires bits { Below.bits ≤ 10 }
+    requires below { Below.IsConfigured }
+    requires size { type_size Below.row ≤ 1000 }
+    requires align { type_align Below.row ≤ 8 }
+    requires other_bits { Other.bits ≤ 10 }
+    requires other_below { Other.IsConfigured }
+    requires other_size { type_size Other.row ≤ 1000 }
+    requires other_align { type_align Other.row ≤ 8 }
+{
+    run_booleans::<InternalStore<bool, 1, 1, Below>, InternalStore<i32, 1, 1, Other>>(
+        rt, alloc, steps,
+    )
+}
+
+fn two_levels_of_booleans<Below: PairStore<bool, i32, Other>, Other: NodeStore<i32>>(
+    rt: &impl Abort,
+    alloc: Global,
+    steps: &mut Steps,
+)
+    requires bits { Below.bits ≤ 9 }
+    requires below { Below.IsConfigured }
+    requires size { type_size Below.row ≤ 800 }
+    requires align { type_align Below.row ≤ 8 }
+    requires other_bits { Other.bits ≤ 9 }
+    requires other_below { Other.IsConfigured }
+    requires other_size { type_size Other.row ≤ 800 }
+    requires other_align { type_align Other.row ≤ 8 }
+{
+    one_level_of_booleans::<InternalStore<bool, 1, 1, Below>, InternalStore<i32, 1, 1, Other>>(
+        rt, alloc, steps,
+    )
+}
+
+/// Combines the states of tiny trees, of which the first one has booleans and the other one has numbers.
+pub(super) fn tiny_booleans(rt: &impl Abort, alloc: Global, steps: &mut Steps) {
+    two_levels_of_booleans::<LeafStore<bool, 1, 1>, LeafStore<i32, 1, 1>>(rt, alloc, steps)
 }

@@ -1,49 +1,50 @@
 //! Tests of the states of two trees combined, whose values have two types.
 
 use super::calls::{expect, write};
-use super::pairs::{PairAct, each_pair};
+use super::pairs::{PairAct, each_pair, tiny_booleans};
 use super::{all, at, off, on};
 use std::alloc::Global;
 use std::process::Abort;
 use vdb_coord::Coord;
 use vdb_levels::{NodeStore, PairStore, Refusal, Root, StateRule, Write};
 use vdb_pool::Steps;
-use vdb_value::Cell;
+use vdb_value::{Cell, Voxel};
 
 const RULES: [StateRule; 3] = [StateRule::Unite, StateRule::Subtract, StateRule::Intersect];
 
 // Returns voxels with their cells in the first tree, and whether they are active in the other one. The spans are those of a leaf
 // and of the nodes above it, the root blocks last. A span away from the leaf that both trees have, one tree alone has nodes.
-fn voxels(spans: [i32; 4]) -> [(Coord, Cell<i32>, bool); 18] {
+fn voxels<V: Copy>(background: V, values: [V; 4], spans: [i32; 4]) -> [(Coord, Cell<V>, bool); 18] {
+    let [first, second, third, fourth] = values;
     let [leaf, block, further, root] = spans;
     let last = leaf.wrapping_sub(1);
     [
-        (all(0), on(5), true),
-        (at(0, 0, 1), on(5), false),
-        (at(0, 1, 0), off(9), true),
-        (at(0, 1, 1), off(9), false),
-        (at(1, 0, 0), off(0), true),
-        (all(last), off(0), false),
-        (at(0, leaf, 0), on(6), false),
-        (at(0, leaf, 1), off(7), false),
-        (at(0, 0, leaf), off(0), true),
-        (at(0, 1, leaf), off(0), false),
-        (at(0, block, 0), on(6), false),
-        (at(0, 0, block), off(0), true),
-        (at(0, further, 0), on(6), false),
-        (at(0, 0, further), off(0), true),
-        (at(root, 0, 0), on(6), false),
-        (at(root, 0, 1), off(7), false),
-        (at(-1, 0, 0), off(0), true),
-        (all(-1), off(0), false),
+        (all(0), on(first), true),
+        (at(0, 0, 1), on(first), false),
+        (at(0, 1, 0), off(second), true),
+        (at(0, 1, 1), off(second), false),
+        (at(1, 0, 0), off(background), true),
+        (all(last), off(background), false),
+        (at(0, leaf, 0), on(third), false),
+        (at(0, leaf, 1), off(fourth), false),
+        (at(0, 0, leaf), off(background), true),
+        (at(0, 1, leaf), off(background), false),
+        (at(0, block, 0), on(third), false),
+        (at(0, 0, block), off(background), true),
+        (at(0, further, 0), on(third), false),
+        (at(0, 0, further), off(background), true),
+        (at(root, 0, 0), on(third), false),
+        (at(root, 0, 1), off(fourth), false),
+        (at(-1, 0, 0), off(background), true),
+        (all(-1), off(background), false),
     ]
 }
 
 // Gives the first tree its voxels. One with the cell of the background stays in a tile, if no leaf is around it.
-fn prepare<S: NodeStore<i32>>(
+fn prepare<V: Voxel, S: NodeStore<V>>(
     rt: &impl Abort,
-    tree: &mut Root<i32, S>,
-    voxels: &[(Coord, Cell<i32>, bool)],
+    tree: &mut Root<V, S>,
+    voxels: &[(Coord, Cell<V>, bool)],
     steps: &mut Steps,
 ) {
     for (p, cell, _) in voxels {
@@ -56,16 +57,17 @@ fn prepare<S: NodeStore<i32>>(
     }
 }
 
-// Gives the other tree its voxels, of which the active ones have a value beside that of the background.
-fn prepare_other<O: NodeStore<bool>>(
+// Gives the other tree its voxels, of which the active ones have this value.
+fn prepare_other<V: Voxel, U: Voxel, O: NodeStore<U>>(
     rt: &impl Abort,
-    other: &mut Root<bool, O>,
-    voxels: &[(Coord, Cell<i32>, bool)],
+    other: &mut Root<U, O>,
+    value: U,
+    voxels: &[(Coord, Cell<V>, bool)],
     steps: &mut Steps,
 ) {
     for (p, _, on) in voxels {
         let change = if *on {
-            Write::On(true)
+            Write::On(value)
         } else {
             Write::State(false)
         };
@@ -73,7 +75,7 @@ fn prepare_other<O: NodeStore<bool>>(
     }
 }
 
-fn combined(rule: StateRule, cell: Cell<i32>, other: bool) -> Cell<i32> {
+fn combined<V>(rule: StateRule, cell: Cell<V>, other: bool) -> Cell<V> {
     let on = match rule {
         StateRule::Unite => cell.on | other,
         StateRule::Subtract => cell.on & !other,
@@ -86,10 +88,10 @@ fn combined(rule: StateRule, cell: Cell<i32>, other: bool) -> Cell<i32> {
 }
 
 // Checks the voxels of the first tree before the rule, or after it.
-fn expect_voxels<S: NodeStore<i32>>(
+fn expect_voxels<V: Voxel, S: NodeStore<V>>(
     rt: &impl Abort,
-    tree: &Root<i32, S>,
-    voxels: &[(Coord, Cell<i32>, bool)],
+    tree: &Root<V, S>,
+    voxels: &[(Coord, Cell<V>, bool)],
     rule: Option<StateRule>,
     steps: &mut Steps,
 ) {
@@ -102,28 +104,27 @@ fn expect_voxels<S: NodeStore<i32>>(
     }
 }
 
-// Checks the voxels of the other tree.
-fn expect_other<O: NodeStore<bool>>(
+// Checks the voxels of the other tree, of which the active ones have this value.
+fn expect_other<V: Voxel, U: Voxel, O: NodeStore<U>>(
     rt: &impl Abort,
-    other: &Root<bool, O>,
-    voxels: &[(Coord, Cell<i32>, bool)],
+    other: &Root<U, O>,
+    background: U,
+    value: U,
+    voxels: &[(Coord, Cell<V>, bool)],
     steps: &mut Steps,
 ) {
-    for (p, _, on) in voxels {
-        let wanted = Cell {
-            value: *on,
-            on: *on,
-        };
+    for (p, _, active) in voxels {
+        let wanted = if *active { on(value) } else { off(background) };
         assert!(rt; other.get(*p, steps) == wanted, "at {p:?}");
     }
 }
 
-// Combines the states of the first tree with those of the other one twice, which is once for the voxels.
-fn combine<S: PairStore<i32, bool, O>, O: NodeStore<bool>>(
+// Combines the states of the first tree with those of the other one. A second run of the rule changes nothing.
+fn combine<V: Voxel, U: Voxel, S: PairStore<V, U, O>, O: NodeStore<U>>(
     rt: &impl Abort,
-    tree: &mut Root<i32, S>,
-    other: &Root<bool, O>,
-    voxels: &[(Coord, Cell<i32>, bool)],
+    tree: &mut Root<V, S>,
+    other: &Root<U, O>,
+    voxels: &[(Coord, Cell<V>, bool)],
     rule: StateRule,
     steps: &mut Steps,
 ) {
@@ -132,26 +133,29 @@ fn combine<S: PairStore<i32, bool, O>, O: NodeStore<bool>>(
         tree.combine_states(other, rule, steps).expect(rt, "states");
         expect_voxels(rt, tree, voxels, Some(rule), steps);
     }
-    expect_other(rt, other, voxels, steps);
 }
 
-/// Combines the states of two trees by each rule.
-pub(super) fn by_each_rule<S: PairStore<i32, bool, O>, O: NodeStore<bool>>(
+/// Combines the states of two trees by each rule. The first tree has these values and the other one has one, beside their
+/// backgrounds.
+pub(super) fn by_each_rule<V: Voxel, U: Voxel, S: PairStore<V, U, O>, O: NodeStore<U>>(
     rt: &impl Abort,
     alloc: Global,
+    values: (V, [V; 4]),
+    other_values: (U, U),
     spans: [i32; 4],
     steps: &mut Steps,
 )
     requires configured { S.IsConfigured }
     requires other_configured { O.IsConfigured }
 {
-    let voxels = voxels(spans);
+    let voxels = voxels(values.0, values.1, spans);
     for rule in RULES {
-        let mut tree = Root::<i32, S>::new(alloc, 0, 5);
+        let mut tree = Root::<V, S>::new(alloc, values.0, 5);
         prepare(rt, &mut tree, &voxels, steps);
-        let mut other = Root::<bool, O>::new(alloc, false, 3);
-        prepare_other(rt, &mut other, &voxels, steps);
+        let mut other = Root::<U, O>::new(alloc, other_values.0, 3);
+        prepare_other(rt, &mut other, other_values.1, &voxels, steps);
         combine(rt, &mut tree, &other, &voxels, rule, steps);
+        expect_other(rt, &other, other_values.0, other_values.1, &voxels, steps);
     }
 }
 
@@ -187,6 +191,12 @@ pub(super) fn refused_union<S: PairStore<i32, bool, O>, O: NodeStore<bool>>(
 #[test]
 fn states_of_two_trees(rt: HostRuntime) {
     each_pair(&rt, rt.alloc(), PairAct::ByEachRule, &mut Steps::new(&rt));
+}
+
+// The first tree has booleans, and the other one has numbers.
+#[test]
+fn states_of_trees_of_booleans(rt: HostRuntime) {
+    tiny_booleans(&rt, rt.alloc(), &mut Steps::new(&rt));
 }
 
 #[test]
