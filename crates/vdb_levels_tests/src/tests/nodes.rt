@@ -128,6 +128,10 @@ pub(super) fn follow<S: PathStore<i32>>(rt: &impl Abort, alloc: Global, steps: &
     let path = nodes.path_near(&path, p, q, steps);
     assert_eq!(rt; nodes.cell_near(&path, q, q, steps), on(8));
     assert_eq!(rt; nodes.cell_near(&path, q, p, steps), on(7));
+    let written = nodes.write_near(&path, q, &Write::Off(5), steps);
+    assert!(rt; written);
+    assert_eq!(rt; nodes.cell(slot, q, steps), off(5));
+    assert_eq!(rt; nodes.cell(slot, p, steps), on(7));
 }
 
 #[test]
