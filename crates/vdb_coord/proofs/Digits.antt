@@ -1,5 +1,5 @@
 -- One component of a coordinate: its blocks and its entries in them.
-use Rattle.std.proofs.Common.{◌≡◌, ℕ, ℤ, pos, negsuc, suc, ◌+◌, ◌-◌, ◌*◌, ◌<◌, ◌≤◌, ◌%◌, ◌/◌, ◌^◌, ◌+ℤ◌, ◌-ℤ◌, ◌*ℤ◌, ◌≤ℤ◌, true, SFits, w32, arith, ap, sym, subst, ◌∙◌, mul_comm}
+use Rattle.std.proofs.Common.{◌≡◌, ℕ, ℤ, pos, negsuc, suc, ◌+◌, ◌-◌, ◌*◌, ◌<◌, ◌≤◌, ◌%◌, ◌/◌, ◌^◌, ◌+ℤ◌, ◌*ℤ◌, ◌≤ℤ◌, true, SFits, w32, arith, ap, sym, subst, ◌∙◌, mul_comm}
 use Rattle.std.specs.Int.{int_gap}
 use lib.IntN.{neg_ℤ}
 use Rattle.std.proofs.Math.Nat.{suc-mul, mod-lt, div-one, div-mul-le_self, mul-le-mul_right}

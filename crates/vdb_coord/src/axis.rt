@@ -52,8 +52,8 @@ pub(crate) fn digit(component: i32, low: u32, bits: u32) -> u32
     ensures bound { result < 2 ^ bits }
 {
     let entry = number_at(component, low);
-    let block = number_at(component, low + bits);
-    (entry - block * power(bits)) as u32
+    // compiles to one mask: the block's number comes from the entry's, not from the component
+    (entry - first_around(entry, bits)) as u32
 }
 
 /// Returns how many entries a node of `bits` bits has along an axis.
