@@ -26,8 +26,8 @@ pub(crate) fn slots_of(bytes: usize) -> u32
     }
 }
 
-/// Returns the chunk of a slot and its index there, by the slots of a chunk and the most chunks that a pool may have. These two give
-/// 4,294,967,295 together, so that a multiplication and a shift divide.
+/// Returns the chunk of a slot and its index there, by the slots of a chunk and the most chunks that a pool may have. The product of
+/// these two is 4,294,967,295, so that a multiplication and a shift divide.
 #[inline(always)]
 fn chunk_and_index(slot: u32, len: u32, most: u32) -> (u32, u32)
     requires { len * most ≡ 4294967295 }

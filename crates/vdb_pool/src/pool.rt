@@ -124,15 +124,17 @@ impl<T> Pool<T> {
         }
     }
 
-    /// Returns the node at a live place, by one visit.
+    /// Returns the node at a live place, by one visit. The visit counts after the slot is tested, so that the compiler drops this test
+    /// behind that of `place`.
     #[inline(always)]
     pub fn at(&self, place: Place<T>, steps: &mut Steps) -> &T
         requires { IsLive self.now place }
         ensures node { node_at self.now (place_slot place) ≡ Some result.now }
         ensures step { steps.new ≡ min (steps.old + 1) (2 ^ 64 - 1) }
     {
+        let node = self.storage.get(place.address, place.slot).node();
         steps.step(); // a node is read
-        self.storage.get(place.address, place.slot).node()
+        node
     }
 
     /// Returns the node at a live place for writing, by one visit. Places stay live, and nothing else changes.
@@ -143,8 +145,9 @@ impl<T> Pool<T> {
         ensures node { node_at self.old (place_slot place) ≡ Some result.now }
         ensures step { steps.new ≡ min (steps.old + 1) (2 ^ 64 - 1) }
     {
+        let node = self.storage.get_mut(place.address, place.slot).node_mut();
         steps.step(); // a node is borrowed
-        self.storage.get_mut(place.address, place.slot).node_mut()
+        node
     }
 
     /// Makes sure of capacity for `n` inserts, by as many chunks as that takes.

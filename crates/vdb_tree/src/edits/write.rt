@@ -75,6 +75,7 @@ impl<
     }
 
     /// Writes a voxel whose cell changes and that lies in a tile. It starts from the holder of that tile.
+    #[inline(never)]
     fn write_tile(
         &mut self,
         holder: Holder,

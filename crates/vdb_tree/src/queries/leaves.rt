@@ -156,6 +156,7 @@ impl<
     }
 
     /// Writes the voxel p of the leaf around it, in this slot.
+    #[inline(always)]
     pub(crate) fn write_voxel(&mut self, leaf: u32, p: Coord, change: Write<V>, steps: &mut Steps)
         requires { lower_entry (bits_of U L F) self.old p ≡ Child leaf }
         ensures changes { Changes (bits_of U L F) self.old self.new p (written change (cell_at (bits_of U L F) self.old p)) }
@@ -164,16 +165,8 @@ impl<
         ensures paths { (path : TreePath V) (q : Coord) → IsWhole (bits_of U L F) self.old path q → IsWhole (bits_of U L F) self.new path q }
         ensures steps { steps.new ≤ steps.old + 1 }
     {
-        let background_cell = Cell {
-            value: self.background,
-            on: false,
-        };
-        let offset = self.offset(p, Level::Leaf);
         let place = held_place(&self.leaves, leaf);
-        let leaf = self.leaves.at_mut(place, steps);
-        let cell = change.applied(leaf.entry(offset));
-        leaf.set(offset, cell);
-        self.swept = self.swept && cell != background_cell;
+        self.write_voxel_at(place, p, change, steps);
     }
 
     /// Writes the voxel p of the leaf around it, at its place.

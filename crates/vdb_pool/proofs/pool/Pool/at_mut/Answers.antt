@@ -22,7 +22,7 @@ returns g c =
       (refl, λ w. rw (← c.self.view_is) (λ i. record { nodes = map-set node_of p.storage.items slot (Held w) i; vacant = (rewritten p.chunks.items p.storage.places p.storage.items p.used p.total p.held p.top c.self.invariant slot there.0 w there.1).1 i; places = p.storage.places })),
       record {
         writes_back = tt;
-        node = rw (← c.self.view_is) (get_or-map node_of p.storage.items slot c.get_mut.result.now None within ∙ ap node_of (sym c.get_mut.ensures.value) ∙ c.node_mut.ensures.value);
+        node = rw (← c.self.view_is) (get_or-map node_of p.storage.items slot c.get_mut.result.now None within ∙ ap node_of (sym c.get_mut.ensures.value) ∙ c.node_mut-node.ensures.value);
         step = c.step.ensures;
       },
     )
