@@ -9,7 +9,7 @@ ghost use Rattle.vdb_script.specs.Grammar.{name_of, kind_named, state_of, litera
 
 use crate::metas::{meta_command, metas_command, unmeta_command};
 use crate::numbers::number_of;
-use crate::tokens::{first_token, split_tokens};
+use crate::tokens::{ARGUMENT_LIMIT, Tokens, first_token};
 use crate::turns::{dilate_command, erode_command};
 use crate::two_grids::{
     difference_command, intersect_command, max_command, min_command, replace_command, sum_command,
@@ -481,9 +481,16 @@ pub fn parse(alloc: Global, line: &[u8]) -> Result<Option<Command>, Refusal>
     if is_comment(word) {
         return Ok(None);
     }
-    let Some(tokens) = split_tokens(alloc, rest) else {
-        return Err(Refusal::Syntax);
-    };
+    // filled here, since a list that another function returns is moved byte by byte
+    let mut tokens = Tokens::new(alloc);
+    let mut left = rest;
+    while let Some((token, behind)) = first_token(left) {
+        if tokens.len() == ARGUMENT_LIMIT {
+            return Err(Refusal::Syntax);
+        }
+        tokens.push_reserved(token);
+        left = behind;
+    }
     match command_of(word, tokens.as_slice()) {
         Some(command) => Ok(Some(command)),
         None => Err(Refusal::Syntax),

@@ -4,7 +4,6 @@ ghost use Rattle.std.specs.List.{take_while};
 ghost use Rattle.vdb_script.specs.Lines.{is_separator, tokens};
 
 use smallvec::SmallVec;
-use std::alloc::Global;
 
 /// The maximum number of tokens after the word of a command.
 pub const ARGUMENT_LIMIT: usize = 9;
@@ -48,22 +47,4 @@ pub fn first_token(line: &[u8]) -> Option<(&[u8], &[u8])>
         return None;
     }
     Some(text.split_at(bytes_before_separator(text)))
-}
-
-/// Returns the tokens of a line: `None` if the line has more than `ARGUMENT_LIMIT`.
-pub fn split_tokens<'a>(alloc: Global, line: &'a [u8]) -> Option<Tokens<'a>>
-    ensures some { IfSome result (λ found. map (λ t. t.now) found.items ≡ tokens line.entry.now) }
-    ensures few { IfSome result (λ found. length found.items ≤ ARGUMENT_LIMIT) }
-    ensures none { IfNone result (ARGUMENT_LIMIT < length (tokens line.entry.now)) }
-{
-    let mut found = SmallVec::new(alloc);
-    let mut rest = line;
-    while let Some((token, behind)) = first_token(rest) {
-        if found.len() == ARGUMENT_LIMIT {
-            return None;
-        }
-        found.push_reserved(token);
-        rest = behind;
-    }
-    Some(found)
 }
