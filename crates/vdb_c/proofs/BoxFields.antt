@@ -1,5 +1,5 @@
 -- Fields that a call writes voxel by voxel.
-use Rattle.std.proofs.Common.{◌≡◌, refl, sym, ap, ◌∙◌, subst, Bool, true, false, cond, IsTrue, ℕ, ℤ, ◌+◌, ◌&&◌, tests, rules}
+use Rattle.std.proofs.Common.{◌≡◌, refl, sym, ap, ◌∙◌, subst, Bool, true, false, cond, IsTrue, ℕ, ◌+◌, ◌&&◌, tests, rules}
 use Rattle.std.specs.Prelude.{Option, Some, nat_lt}
 use Rattle.vdb_coord.specs.Space.{Box, coord_eq, everywhere, is_inside, volume}
 use Rattle.vdb_coord.specs.declared.Coord.{Coord}

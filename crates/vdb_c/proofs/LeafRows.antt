@@ -1,5 +1,5 @@
 -- Arrays that calls fill row by row.
-use Rattle.std.proofs.Common.{◌≡◌, ◌<◌, ◌≤◌, ◌≢◌, ◌⊎◌, inl, inr, ℕ, ℤ, zero, suc, ◌+◌, ◌*◌, refl, sym, ◌∙◌, ap, subst, Bool, true, ◌||◌, IsTrue, List, length, set, get_or, arith, rules, add-one, get_or-set_same, get_or-set_other, Option, Some}
+use Rattle.std.proofs.Common.{◌≡◌, ◌<◌, ◌≤◌, ◌≢◌, ◌⊎◌, inl, inr, ℕ, zero, suc, ◌+◌, ◌*◌, refl, sym, ◌∙◌, ap, subst, true, ◌||◌, IsTrue, List, length, set, get_or, arith, rules, add-one, get_or-set_same, get_or-set_other, Option, Some}
 use Rattle.std.specs.Prelude.{nat_eq}
 use Rattle.std.proofs.lemmas.Bool.{cases_eq}
 use Rattle.std.proofs.lemmas.Bool.Decides.{nat_tests}

@@ -17,5 +17,6 @@ pub mod LeafRows
 pub mod Ranks
 pub mod BoxFields
 pub mod RowFields
+pub mod CopiedRows
 pub mod LeafCopies
 pub mod VoxelCalls

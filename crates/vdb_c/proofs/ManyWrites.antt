@@ -1,5 +1,5 @@
 -- Writes of many voxels, one after another.
-use Rattle.std.proofs.Common.{◌≡◌, refl, sym, ap, ◌∙◌, subst, ℕ, suc, ◌+◌, ℤ, true, false, Result, Ok, Err}
+use Rattle.std.proofs.Common.{◌≡◌, refl, sym, ap, ◌∙◌, subst, ℕ, ◌+◌, ℤ, true, false, Result, Ok, Err}
 use Rattle.std.specs.Prelude.{Option, Some, None, is_err}
 use Rattle.std.proofs.Math.Numerals.{suc-eq-add-one}
 use Rattle.vdb_coord.specs.declared.Coord.{Coord}

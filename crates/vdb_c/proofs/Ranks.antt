@@ -1,16 +1,15 @@
 -- The voxels of a box by their number.
-use Rattle.std.proofs.Common.{◌≡◌, ◌≢◌, add-one, ◌⊎◌, inl, inr, ◌+◌, ◌*◌, ◌^◌, ◌<◌, ◌≤◌, ℕ, ℤ, pos, ◌+ℤ◌, ◌≤ℤ◌, ◌<ℤ◌, refl, sym, ap, ◌∙◌, subst, Bool, true, false, ◌&&◌, ◌||◌, IsTrue, arith, tests, rules, int_le, Some, None}
+use Rattle.std.proofs.Common.{◌≡◌, ◌≢◌, add-one, ◌⊎◌, inl, inr, ◌+◌, ◌*◌, ◌<◌, ◌≤◌, ℕ, ℤ, pos, ◌+ℤ◌, ◌≤ℤ◌, ◌<ℤ◌, refl, sym, ap, ◌∙◌, subst, Bool, true, false, ◌&&◌, IsTrue, arith, tests, rules, int_le, Some, None}
 use Rattle.std.specs.Prelude.{nat_le, nat_lt}
 use Rattle.std.specs.Int.{int_gap}
 use Rattle.std.proofs.lemmas.Int.{ints}
 use Rattle.std.proofs.Math.Nat.{mul_assoc, suc-mul, zero-mul}
 use Rattle.std.proofs.lemmas.Nat.{mul-le}
-use Rattle.vdb_coord.specs.Boxes.{is_bounds}
 use Rattle.vdb_coord.specs.Space.{Box, coord, coord_eq, extent, is_inside, volume}
 use Rattle.vdb_coord.specs.Walk.{IsBefore}
 use Rattle.vdb_coord.specs.declared.Coord.{Coord}
 use Rattle.vdb_coord.proofs.BlockOrder.{before_not_past, before_not_same, which_before}
-use Rattle.vdb_coord.proofs.Members.{coord_equiv, coord_exact}
+use Rattle.vdb_coord.proofs.Members.{coord_equiv}
 use Rattle.vdb_coord.proofs.Walk.{inside_from, inside_parts, up_to_x}
 use Rattle.vdb_c.specs.BoxVoxels.{IsNextVoxel}
 use Rattle.vdb_c.specs.BoxWrites.{dense, is_first, rank}

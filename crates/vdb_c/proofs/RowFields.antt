@@ -1,5 +1,5 @@
 -- Fields that a call writes row by row.
-use Rattle.std.proofs.Common.{◌≡◌, ◌+◌, ◌*◌, ◌^◌, ◌<◌, ◌≤◌, ◌⊎◌, inl, inr, refl, sym, ap, ◌∙◌, subst, true, IsTrue, ℕ, zero, suc, ℤ, pos, ◌+ℤ◌, ◌≤ℤ◌, ◌<ℤ◌, SFits, w32, to_z, of_z, arith}
+use Rattle.std.proofs.Common.{◌≡◌, ◌+◌, ◌*◌, ◌^◌, ◌<◌, ◌≤◌, inl, inr, refl, sym, ap, ◌∙◌, subst, true, IsTrue, ℕ, zero, suc, ℤ, pos, ◌+ℤ◌, ◌≤ℤ◌, ◌<ℤ◌, SFits, w32, to_z, of_z, arith}
 use Rattle.std.specs.Prelude.{Err, IsSome, Option, Some, None, int_le}
 use Rattle.std.specs.Int.{int_gap}
 use Rattle.std.proofs.lemmas.Int.{ints, to_z-of_z}
@@ -9,7 +9,7 @@ use Rattle.vdb_coord.specs.Space.{Box, coord, is_inside}
 use Rattle.vdb_coord.specs.Walk.{IsBefore, coordinates_after}
 use Rattle.vdb_coord.specs.declared.Coord.{Coord}
 use Rattle.vdb_coord.proofs.Walk.{inside_from, inside_parts}
-use Rattle.vdb_tree.specs.Field.{Field, write}
+use Rattle.vdb_tree.specs.Field.{Field}
 use Rattle.vdb_tree.specs.declared.Write.{Write}
 use Rattle.vdb_tree.specs.declared.refusal.TreeRefusal.{TreeRefusal}
 use Rattle.vdb_tree.specs.declared.refusal.TreeRefusal.TheVariants.{Memory, RootLimit}
@@ -109,7 +109,7 @@ module _ (b : Box) (p : Coord) (inside : IsTrue (is_inside b p)) where
   length_is : p.z +ℤ pos (int_gap p.z b.max.z) ≡ b.max.z
   length_is = reached p.z b.max.z (not_past_z b p inside)
 
-  end_is : along_z p (int_gap p.z b.max.z) ≡ coord p.x p.y b.max.z
+  pub end_is : along_z p (int_gap p.z b.max.z) ≡ coord p.x p.y b.max.z
   end_is = ap (coord p.x p.y) length_is
 
   last_inside : IsTrue (is_inside b (along_z p (int_gap p.z b.max.z)))

@@ -5,7 +5,6 @@ use Rattle.vdb_coord.specs.Space.{everywhere, is_inside}
 use Rattle.vdb_coord.specs.declared.Coord.{Coord}
 use Rattle.vdb_coord.specs.declared.Level.TheVariants.{Leaf}
 use Rattle.vdb_mask.specs.Mask.{has_bit}
-use Rattle.vdb_tree.specs.Field.{Field}
 use Rattle.vdb_tree.specs.Leaves.{IsNextLeaf}
 use Rattle.vdb_tree.specs.Smallest.{counts_of}
 use Rattle.vdb_scene.specs.Grids.{grid_field}

@@ -1,9 +1,11 @@
 //! The voxels of a box, one after another.
-ghost use Rattle.std.specs.Prelude.{◌<◌, IfSome, IsTrue};
-ghost use Rattle.vdb_coord.specs.Space.{is_inside};
+ghost use Rattle.std.specs.Int.{int_gap};
+ghost use Rattle.std.specs.Prelude.{◌≡◌, ◌+◌, ◌<◌, ◌^◌, IfSome, IsTrue};
+ghost use Rattle.vdb_coord.specs.Space.{coord, is_inside};
 ghost use Rattle.vdb_coord.specs.Walk.{coordinates_after};
 ghost use Rattle.vdb_c.specs.BoxVoxels.{IsNextVoxel};
 
+use crate::elements::gap;
 use vdb_coord::{Bounds, Coord};
 
 /// Returns the next voxel of a box, by x, then y, then z: `None` after the last one.
@@ -35,4 +37,28 @@ pub(crate) fn next_voxel(bounds: Bounds, p: Coord) -> Option<Coord>
         });
     }
     None
+}
+
+/// Returns the last voxel of a box along z from one on.
+pub(crate) fn row_end(bounds: Bounds, p: Coord) -> Coord
+    requires { IsTrue (is_inside bounds p) }
+    ensures value { result ≡ coord p.x p.y bounds.max.z }
+    ensures inside { IsTrue (is_inside bounds result) }
+{
+    let max = bounds.max();
+    Coord {
+        x: p.x,
+        y: p.y,
+        z: max.z,
+    }
+}
+
+/// Returns how many voxels a box has along z from one on.
+pub(crate) fn row_size(bounds: Bounds, p: Coord) -> usize
+    requires { IsTrue (is_inside bounds p) }
+    ensures value { result ≡ int_gap p.z bounds.max.z + 1 }
+    ensures small { result < 2 ^ 33 }
+{
+    let max = bounds.max();
+    gap(p.z, max.z) + 1
 }

@@ -2,7 +2,7 @@
 ghost use Rattle.std.specs.Int.{int_gap};
 ghost use Rattle.std.specs.Prelude.{◌≡◌, ◌+◌, ◌<◌, ◌^◌, ◌⊎◌, ℕ, IfSome, IsSome, IsTrue, None, Some, length};
 ghost use Rattle.vdb_coord.specs.Blocks.{vdb};
-ghost use Rattle.vdb_coord.specs.Space.{coord, is_inside};
+ghost use Rattle.vdb_coord.specs.Space.{is_inside};
 ghost use Rattle.vdb_coord.specs.declared.Coord.{Coord};
 ghost use Rattle.vdb_tree.specs.Field.{as_field_of};
 ghost use Rattle.vdb_tree.specs.Layout.{field_of};
@@ -13,10 +13,10 @@ ghost use Rattle.vdb_c.specs.Many.{WritesFirstIn};
 ghost use Rattle.vdb_c.specs.Values.{accessor_of};
 
 use crate::box_arrays::bounds_beside;
-use crate::box_voxels::next_voxel;
+use crate::box_voxels::{next_voxel, row_end, row_size};
 use crate::codes::{DONE, EMPTY, OUT_OF_RANGE, tree_code};
 use crate::element_writes::write_element;
-use crate::elements::{Strides, gap, place};
+use crate::elements::{Strides, place};
 use crate::handles::GridHandle;
 use crate::many::{change_at, has_all_numbers};
 use crate::numbers::Number;
@@ -211,30 +211,6 @@ fn write_rows<V: Number>(
             }
         }
     }
-}
-
-/// Returns the last voxel of a box along z from one on.
-fn row_end(bounds: Bounds, p: Coord) -> Coord
-    requires { IsTrue (is_inside bounds p) }
-    ensures value { result ≡ coord p.x p.y bounds.max.z }
-    ensures inside { IsTrue (is_inside bounds result) }
-{
-    let max = bounds.max();
-    Coord {
-        x: p.x,
-        y: p.y,
-        z: max.z,
-    }
-}
-
-/// Returns how many voxels a box has along z from one on.
-fn row_size(bounds: Bounds, p: Coord) -> usize
-    requires { IsTrue (is_inside bounds p) }
-    ensures value { result ≡ int_gap p.z bounds.max.z + 1 }
-    ensures small { result < 2 ^ 33 }
-{
-    let max = bounds.max();
-    gap(p.z, max.z) + 1
 }
 
 /// Writes the voxels of a box of a grid of one type from one on along z, one after another, until a write fails. It writes to `written`

@@ -1,5 +1,5 @@
-use Rattle.std.proofs.Common.{◌≡◌, ◌∙◌, ap, refl, Bool, true, false, ◌&&◌, rules, SFits, w64}
-use Rattle.std.proofs.lemmas.Int.{to_z-of_z}
+use Rattle.std.proofs.Common.{◌≡◌, ap, refl, Bool, true, false, ◌&&◌}
+use Rattle.vdb_tree.specs.Field.{off}
 use Rattle.vdb_c.proofs.Laid.{laid_none, laid_same, laid_within}
 use Rattle.vdb_c.proofs.reading.lay_start.Goals as goal
 
@@ -19,8 +19,7 @@ returns-then-is_in_root_block-clause-states g c = laid_none _ _ _ _ _ (λ p. and
 
 pub returns-clause-values : goal.returns-clause-values
 returns-clause-values g c =
-    let fits : SFits w64 c.number.result = search rules in
-    laid_within _ _ _ _ _ _ _ (λ p. and_true _) (laid_same _ _ _ _ _ _ _ (λ p i. to_z-of_z w64 c.number.result fits ∙ c.number.ensures ∙ ap g.V.Number.number_of c.background.ensures) c.lay_tile.ensures)
+    laid_within _ _ _ _ _ _ _ (λ p. and_true _) (laid_same _ _ _ _ _ _ _ (λ p i. ap g.V.Number.number_of c.background.ensures) (c.lay_part.ensures.values (off c.background.result)))
 
 pub returns-clause-states : goal.returns-clause-states
-returns-clause-states g c = laid_within _ _ _ _ _ _ _ (λ p. and_true _) c.lay_tile-2.ensures
+returns-clause-states g c = laid_within _ _ _ _ _ _ _ (λ p. and_true _) (c.lay_part.ensures.states (off c.background.result))

@@ -1,98 +1,11 @@
-use Rattle.std.proofs.Common.{◌∙◌, ◌+◌, ap, arith, rules, set, sym, SFits, w32, w64}
-use Rattle.std.proofs.lemmas.Int.{to_z-of_z}
-use Rattle.vdb_coord.proofs.Boxes.{both}
-use Rattle.vdb_coord.proofs.Walk.{min_inside}
+use Rattle.std.proofs.Common.{subst, sym}
+use Rattle.vdb_coord.specs.Space.{is_inside}
 use Rattle.vdb_node.specs.Leaf.{cell_in}
-use Rattle.vdb_tree.proofs.Sizes.{leaf_small}
-use Rattle.vdb_value.specs.declared.Cell.{Cell}
-use Rattle.vdb_c.specs.Elements.{place}
-use Rattle.vdb_c.proofs.Laid.{laid_empty}
-use Rattle.vdb_c.proofs.Places.{next_along}
-use Rattle.vdb_c.proofs.RowsLaid.{further, further_fits, laid_at_first, laid_last, laid_on, moved, same_next}
+use Rattle.vdb_c.specs.BoxReads.{content_cell}
+use Rattle.vdb_c.specs.Elements.{IsLaid}
 use Rattle.vdb_c.proofs.reading.lay_values.Goals as goal
 
-pub returns-then-out-eq0 : goal.returns-then-out-eq0
-returns-then-out-eq0 g c = λ d. laid_empty c.args.bounds c.args.strides.now _ _ _ (search rules)
-
-pub place-index-requires-clause-inside : goal.place-index-requires-clause-inside
-place-index-requires-clause-inside g c = c.requires.within c.min-p.result (rw c.min-p.ensures.corner (min_inside c.args.part (both _ _ c.min-p.ensures.bounds).0))
-
-pub rows-init : goal.rows-init
-rows-init g c =
-    laid_at_first c.args.bounds c.args.strides.now c.args.part _ c.max-max.result c.min-p.result c.place-index.result c.args.out.now c.max-max.ensures.corner
-    (rw c.min-p.ensures.corner (min_inside c.args.part (both _ _ c.min-p.ensures.bounds).0)) c.min-p.ensures.corner c.place-index.ensures
-
-pub entry-cell-requires : goal.entry-cell-requires
-entry-cell-requires g c = let small = g.met.V.Stored-3.row_small in (leaf_small _ _ 8 _ (omega arith) small.1 small.1 small.0, c.offset.ensures.bound)
-
-pub overflow_add-p : goal.overflow_add-p
-overflow_add-p g c =
-    let p = c.row.p in
-    let m = c.max-max.result in
-    let x : SFits w32 c.row.p.x = search rules in
-    let y : SFits w32 c.row.p.y = search rules in
-    let z : SFits w32 c.row.p.z = search rules in
-    let end : SFits w32 c.max-max.result.z = search rules in
-    let h = c.row.invariant.0 in
-    rw (to_z-of_z w32 p.z z) (further_fits c.args.part p m h.inside x y z end c.max-max.ensures.corner c.row-test.true)
-
-pub overflow_add-index : goal.overflow_add-index
-overflow_add-index g c =
-    let p = c.row.p in
-    let m = c.max-max.result in
-    let x : SFits w32 c.row.p.x = search rules in
-    let y : SFits w32 c.row.p.y = search rules in
-    let z : SFits w32 c.row.p.z = search rules in
-    let end : SFits w32 c.max-max.result.z = search rules in
-    let h = c.row.invariant.0 in
-    let all = next_along c.args.bounds c.args.strides.now c.args.part c.requires.within p h.inside (further c.args.part p m h.inside x y z end c.max-max.ensures.corner c.row-test.true) c.requires.reach c.row.index h.at in
-    omega (arith, all.0)
-
-pub row-smaller : goal.row-smaller
-row-smaller g c =
-    let p = c.row.p in
-    let m = c.max-max.result in
-    let x : SFits w32 c.row.p.x = search rules in
-    let y : SFits w32 c.row.p.y = search rules in
-    let z : SFits w32 c.row.p.z = search rules in
-    let end : SFits w32 c.max-max.result.z = search rules in
-    let h = c.row.invariant.0 in
-    (moved c.args.part p m h.inside x y z end c.max-max.ensures.corner c.row-test.true).1
-
-pub row-preserved : goal.row-preserved
-row-preserved g c =
-    let p = c.row.p in
-    let m = c.max-max.result in
-    let x : SFits w32 c.row.p.x = search rules in
-    let y : SFits w32 c.row.p.y = search rules in
-    let z : SFits w32 c.row.p.z = search rules in
-    let end : SFits w32 c.max-max.result.z = search rules in
-    let h = c.row.invariant.0 in
-    let fits : SFits w64 c.number.result = search rules in
-    let read = λ (d : Cell g.row.V.Denot). c.number.ensures ∙ ap (λ (a : Cell g.row.V.Denot). g.V.Number.number_of a.value) (sym (c.entry-cell.ensures d) ∙ ap (cell_in d c.args.leaf.now) c.offset.ensures.value) in
-    let next = moved c.args.part p m h.inside x y z end c.max-max.ensures.corner c.row-test.true in
-    let along = next_along c.args.bounds c.args.strides.now c.args.part c.requires.within p h.inside (further c.args.part p m h.inside x y z end c.max-max.ensures.corner c.row-test.true) c.requires.reach c.row.index h.at in (
-      laid_on c.args.bounds c.args.strides.now c.args.part _ c.requires.apart c.requires.within m p c.row.index c.args.out.now c.row.out c.store.new.out h c.number.result read (c.store.ensures ∙ ap (set c.row.out c.row.index) (to_z-of_z w64 c.number.result fits))
-          _ (c.row.index + c.args.strides.now.z) next.0 (along.1 ∙ ap (place c.args.bounds c.args.strides.now) (same_next c.args.part p m h.inside x y z end c.max-max.ensures.corner c.row-test.true)),
-      omega (arith, next.1, c.row.invariant.1),
-    )
-
-pub entry-cell-requires-in-rows : goal.entry-cell-requires-in-rows
-entry-cell-requires-in-rows g c = let small = g.met.V.Stored-3.row_small in (leaf_small _ _ 8 _ (omega arith) small.1 small.1 small.0, c.offset-in-rows.ensures.bound)
-
-pub place-index-requires-in-Some-clause-inside : goal.place-index-requires-in-Some-clause-inside
-place-index-requires-in-Some-clause-inside g c = c.requires.within c.in-Some.next c.in-Some.ensures.next.0
-
-pub rows-preserved : goal.rows-preserved
-rows-preserved g c =
-    let fits : SFits w64 c.number-in-rows.result = search rules in
-    let read = λ (d : Cell g.row.V.Denot). c.number-in-rows.ensures ∙ ap (λ (a : Cell g.row.V.Denot). g.V.Number.number_of a.value) (sym (c.entry-cell-in-rows.ensures d) ∙ ap (cell_in d c.args.leaf.now) c.offset-in-rows.ensures.value) in
-    laid_on c.args.bounds c.args.strides.now c.args.part _ c.requires.apart c.requires.within c.max-max.result c.row.p c.row.index c.args.out.now c.row.out c.store-in-rows.new.out c.row.invariant.0 c.number-in-rows.result read (c.store-in-rows.ensures ∙ ap (set c.row.out c.row.index) (to_z-of_z w64 c.number-in-rows.result fits))
-    c.in-Some.next c.place-index-in-Some.result c.in-Some.ensures.next c.place-index-in-Some.ensures
-
-pub returns-in-None : goal.returns-in-None
-returns-in-None g c =
-    let fits : SFits w64 c.number-in-rows.result = search rules in
-    let read = λ (d : Cell g.row.V.Denot). c.number-in-rows.ensures ∙ ap (λ (a : Cell g.row.V.Denot). g.V.Number.number_of a.value) (sym (c.entry-cell-in-rows.ensures d) ∙ ap (cell_in d c.args.leaf.now) c.offset-in-rows.ensures.value) in
-    laid_last c.args.bounds c.args.strides.now c.args.part _ c.requires.apart c.requires.within c.max-max.result c.row.p c.row.index c.args.out.now c.row.out c.store-in-rows.new.out c.row.invariant.0 c.number-in-rows.result read (c.store-in-rows.ensures ∙ ap (set c.row.out c.row.index) (to_z-of_z w64 c.number-in-rows.result fits))
-    c.in-None.ensures.next
+pub returns-in-Leaf : goal.returns-in-Leaf
+returns-in-Leaf g c = λ d.
+    subst (λ content. IsLaid c.args.bounds c.args.strides.now (is_inside c.args.part) (λ p. g.V.Number.number_of (content_cell (λ leaf. cell_in d leaf.now) content p).value) c.args.out.now c.lay_rows.new.out) (sym c.in-Leaf.is)
+    (c.lay_rows.ensures d)

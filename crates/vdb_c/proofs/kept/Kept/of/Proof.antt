@@ -16,7 +16,7 @@ use denote.Exit.{no}
 use denote.Param.{param, layout, bounded}
 use denote.Param.Laws.{param_laws}
 use denote.RattleType.{RattleType, owns}
-use denote.RawPtr.{Ptr, RawPtr, block_ptr, ptr_val}
+use denote.RawPtr.{Ptr, RawPtr, block_ptr}
 use denote.Signature.{types_at, plain}
 use denote.Steps.{nothing, only, heard}
 use denote.Struct.Tuple.{Tuple}

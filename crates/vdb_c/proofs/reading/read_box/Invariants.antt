@@ -5,7 +5,7 @@ use Rattle.vdb_tree.specs.declared.queries.parts.Skip.TheVariants.{Absent}
 use Rattle.vdb_c.specs.Elements.{IsLaid}
 use Rattle.vdb_c.specs.Values.{state_byte}
 use Rattle.vdb_c.proofs.PartsRead.{done, so_far}
-use Rattle.vdb_c.proofs.reading.read_parts.Given as goal
+use Rattle.vdb_c.proofs.reading.read_box.Given as goal
 
 abbrev pub invariant-rest : goal.invariant-rest
 invariant-rest g l =

@@ -3,7 +3,7 @@ use Rattle.std.proofs.lemmas.Int.{to_z-of_z}
 use Rattle.vdb_coord.specs.Space.{coord, is_inside}
 use Rattle.vdb_coord.specs.declared.Coord.{Coord}
 use Rattle.vdb_c.proofs.RowFields.{end_inside}
-use Rattle.vdb_c.proofs.box_writes.row_end.Goals as goal
+use Rattle.vdb_c.proofs.box_voxels.row_end.Goals as goal
 
 pub returns-clause-inside : goal.returns-clause-inside
 returns-clause-inside c =

@@ -3,7 +3,7 @@ use Rattle.std.specs.Int.{int_gap}
 use Rattle.std.proofs.lemmas.Int.{to_z-of_z}
 use Rattle.vdb_coord.specs.declared.Coord.{Coord}
 use Rattle.vdb_c.proofs.Places.{not_past_z}
-use Rattle.vdb_c.proofs.box_writes.row_size.Goals as goal
+use Rattle.vdb_c.proofs.box_voxels.row_size.Goals as goal
 
 pub gap-requires : goal.gap-requires
 gap-requires c =
