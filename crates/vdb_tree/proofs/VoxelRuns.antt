@@ -90,6 +90,15 @@ module _ (p last q : Coord) (from : IsBefore q p → ⊥) (to : IsBefore last q 
 all_within : (b : Box) (q : Coord) → IsWithin b.min.x b.max.x q.x → IsWithin b.min.y b.max.y q.y → IsWithin b.min.z b.max.z q.z → is_inside b q ≡ true
 all_within b q x y z = inside_from b q x.0 x.1 y.0 y.1 z.0 z.1
 
+-- a box with a coordinate has its least one
+pub least_inside : (b : Box) (p : Coord) → is_inside b p ≡ true → is_inside b b.min ≡ true
+least_inside b p h =
+    let at = inside_parts b p h in
+    inside_from b b.min (itself b.min.x) (through _ _ _ at.0.0 at.0.1) (itself b.min.y) (through _ _ _ at.1.0 at.1.1) (itself b.min.z) (through _ _ _ at.2.0 at.2.1)
+  where
+    itself : (x : ℤ) → x ≤ℤ x
+    itself x = omega (arith, ints)
+
 module _ (bits : Bits) (part : Box) (p : Coord) (inside : is_inside part p ≡ true) where
   abbrev block : Box
   block = block_around bits Leaf p

@@ -1,9 +1,11 @@
 //! Painting of a leaf's voxels within a box.
 
 ghost use Rattle.std.specs.Prelude.{◌≡◌, ◌<◌, ◌≤◌, IfSome, IsTrue};
+ghost use Rattle.vdb_coord.specs.Blocks.{block_number};
 ghost use Rattle.vdb_coord.specs.Entries.{AreBits};
 ghost use Rattle.vdb_coord.specs.Space.{is_inside};
 ghost use Rattle.vdb_coord.specs.Walk.{IsNextBlock, coordinates_after};
+ghost use Rattle.vdb_coord.specs.declared.Coord.{Coord};
 ghost use Rattle.vdb_coord.specs.declared.Level.TheVariants.{Leaf as leaf_level};
 ghost use Rattle.vdb_tree.specs.internal.Paints.{IsRun, PaintsVoxels, voxels};
 
@@ -22,6 +24,7 @@ pub(crate) fn paint_voxels<V: Stored<W>, const F: u32, const W: usize>(
     requires configured { AreBits bits }
     requires leaf { bits.leaf ≡ F }
     requires few_words { W ≤ 512 }
+    requires one { (q : Coord) → IsTrue (is_inside part q) → block_number bits leaf_level part.min ≡ block_number bits leaf_level q }
     ensures { PaintsVoxels bits part cell leaf.old leaf.new }
 {
     let mut p = part.min();
@@ -39,16 +42,17 @@ pub(crate) fn paint_voxels<V: Stored<W>, const F: u32, const W: usize>(
 
 /// Returns the last coordinate of the run from p: within p's leaf extent, `part` has each coordinate from p up to it. The run
 /// ends with p's row along z. If `part` spans the extent in z, the run ends with p's plane of x. If `part` spans y too, it ends
-/// with `part`.
+/// with `part`. What `part` spans doesn't depend on p, so a loop over runs finds it once.
 #[inline(always)]
 fn run_end(bits: Bits, part: Bounds, p: Coord) -> Coord
     requires configured { AreBits bits }
     requires inside { IsTrue (is_inside part p) }
+    requires one { block_number bits leaf_level part.min ≡ block_number bits leaf_level p }
     ensures { IsRun bits part p result }
 {
     let low = part.min();
     let high = part.max();
-    let block = p.block_in(bits, Level::Leaf);
+    let block = low.block_in(bits, Level::Leaf);
     let first = block.min();
     let last = block.max();
     let z = high.z.min(last.z);

@@ -1,9 +1,10 @@
 use Rattle.std.proofs.Common.{◌≡◌, ◌∙◌, ◌<◌, ◌≤◌, ◌+◌, ℕ, SFits, ap, arith, rules, w32}
 use Rattle.vdb_coord.specs.Blocks.{entries}
 use Rattle.vdb_coord.specs.declared.Level.TheVariants.{Leaf}
+use Rattle.vdb_coord.proofs.Boxes.{both}
 use Rattle.vdb_coord.proofs.Positions.{entries_is}
 use Rattle.vdb_node.specs.Nodes.{entry_count}
-use Rattle.vdb_tree.proofs.PaintedVoxels.{voxels_all, voxels_next}
+use Rattle.vdb_tree.proofs.PaintedVoxels.{voxels_all, voxels_next, voxels_none}
 use Rattle.vdb_tree.proofs.Sizes.{leaf_small}
 use Rattle.vdb_tree.proofs.VoxelRuns.{not_further, run_from}
 use Rattle.vdb_tree.proofs.boxes.paint_voxels.paint_voxels.Goals as goal
@@ -13,6 +14,9 @@ in_order a b x y e f h = omega (arith, e, f, h)
 
 within : (a b m n : ℕ) → a ≡ b → b < m → m ≡ n → a + 1 ≤ n
 within a b m n e h k = omega (arith, e, h, k)
+
+pub loop-next-init : goal.loop-next-init
+loop-next-init g c = rw c.min-p.ensures.corner (voxels_none c.args.bits c.args.part c.args.cell c.args.leaf.now (both _ _ c.min-p.ensures.bounds).0)
 
 pub run_end-last-requires-clause-inside : goal.run_end-last-requires-clause-inside
 run_end-last-requires-clause-inside g c = c.loop-next.invariant.inside

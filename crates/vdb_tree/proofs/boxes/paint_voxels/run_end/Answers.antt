@@ -1,8 +1,11 @@
 use Rattle.std.proofs.Common.{◌≡◌, ◌∙◌, ℤ, SFits, ap, of_z, rules, sym, to_z, w32}
 use Rattle.std.specs.Int.{int_min}
 use Rattle.std.proofs.lemmas.Int.{to_z-of_z}
+use Rattle.vdb_coord.specs.Blocks.{block, block_around, block_number}
 use Rattle.vdb_coord.specs.Space.{Box}
+use Rattle.vdb_coord.specs.declared.Bits.{Bits}
 use Rattle.vdb_coord.specs.declared.Coord.{Coord}
+use Rattle.vdb_coord.specs.declared.Level.TheVariants.{Leaf}
 use Rattle.vdb_tree.proofs.VoxelRuns.{plane_to, row_to, whole_to}
 use Rattle.vdb_tree.proofs.boxes.paint_voxels.run_end.Goals as goal
 
@@ -13,12 +16,16 @@ least a b r f g e x y h k = (rw (to_z-of_z w32 a f, to_z-of_z w32 b g) at e) ∙
 same : (a b : ℤ) → SFits w32 a → SFits w32 b → to_z w32 (of_z w32 a) ≡ to_z w32 (of_z w32 b) → (x y : ℤ) → a ≡ x → b ≡ y → x ≡ y
 same a b f g e x y h k = sym h ∙ (rw (to_z-of_z w32 a f, to_z-of_z w32 b g) at e) ∙ k
 
+-- the block around a part's least corner is that around p
+around : (bits : Bits) (min p low : Coord) (b : Box) → low ≡ min → b ≡ block_around bits Leaf low → block_number bits Leaf min ≡ block_number bits Leaf p → b ≡ block_around bits Leaf p
+around bits min p low b at is one = is ∙ ap (block_around bits Leaf) at ∙ ap (block bits Leaf) one
+
 pub returns-then-not-is_range : goal.returns-then-not-is_range
 returns-then-not-is_range c =
     let fit_z : SFits w32 c.min-z.result = search rules in
     let end_z : SFits w32 c.max-last.result.z = search rules in
     let high_fit_z : SFits w32 c.max-high.result.z = search rules in
-    let at_z = least _ _ _ high_fit_z end_z c.min-z.ensures.value _ _ (ap (λ (t : Coord). t.z) c.max-high.ensures.corner) (ap (λ (t : Coord). t.z) c.max-last.ensures.corner ∙ ap (λ (b : Box). b.max.z) c.block_in-block.ensures) in
+    let at_z = least _ _ _ high_fit_z end_z c.min-z.ensures.value _ _ (ap (λ (t : Coord). t.z) c.max-high.ensures.corner) (ap (λ (t : Coord). t.z) c.max-last.ensures.corner ∙ ap (λ (b : Box). b.max.z) (around c.args.bits c.args.part.min c.args.p c.min-low.result _ c.min-low.ensures.corner c.block_in-block.ensures c.requires.one)) in
     let own_x : SFits w32 c.args.p.x = search rules in
     let own_y : SFits w32 c.args.p.y = search rules in
     row_to c.args.bits c.args.part c.args.p c.requires.inside _ _ _ (to_z-of_z w32 c.args.p.x own_x) (to_z-of_z w32 c.args.p.y own_y) (to_z-of_z w32 c.min-z.result fit_z ∙ at_z)
@@ -28,16 +35,16 @@ returns-then-not-is_range-2 c =
     let fit_z : SFits w32 c.min-z.result = search rules in
     let end_z : SFits w32 c.max-last.result.z = search rules in
     let high_fit_z : SFits w32 c.max-high.result.z = search rules in
-    let at_z = least _ _ _ high_fit_z end_z c.min-z.ensures.value _ _ (ap (λ (t : Coord). t.z) c.max-high.ensures.corner) (ap (λ (t : Coord). t.z) c.max-last.ensures.corner ∙ ap (λ (b : Box). b.max.z) c.block_in-block.ensures) in
+    let at_z = least _ _ _ high_fit_z end_z c.min-z.ensures.value _ _ (ap (λ (t : Coord). t.z) c.max-high.ensures.corner) (ap (λ (t : Coord). t.z) c.max-last.ensures.corner ∙ ap (λ (b : Box). b.max.z) (around c.args.bits c.args.part.min c.args.p c.min-low.result _ c.min-low.ensures.corner c.block_in-block.ensures c.requires.one)) in
     let first_z : SFits w32 c.min-first.result.z = search rules in
     let low_fit_z : SFits w32 c.min-low.result.z = search rules in
     let on_z = c.is_range.ensures c.if-not-is_range.false in
-    let low_z = same _ _ low_fit_z first_z on_z.0 _ _ (ap (λ (t : Coord). t.z) c.min-low.ensures.corner) (ap (λ (t : Coord). t.z) c.min-first.ensures.corner ∙ ap (λ (b : Box). b.min.z) c.block_in-block.ensures) in
-    let high_z = same _ _ high_fit_z end_z on_z.1 _ _ (ap (λ (t : Coord). t.z) c.max-high.ensures.corner) (ap (λ (t : Coord). t.z) c.max-last.ensures.corner ∙ ap (λ (b : Box). b.max.z) c.block_in-block.ensures) in
+    let low_z = same _ _ low_fit_z first_z on_z.0 _ _ (ap (λ (t : Coord). t.z) c.min-low.ensures.corner) (ap (λ (t : Coord). t.z) c.min-first.ensures.corner ∙ ap (λ (b : Box). b.min.z) (around c.args.bits c.args.part.min c.args.p c.min-low.result _ c.min-low.ensures.corner c.block_in-block.ensures c.requires.one)) in
+    let high_z = same _ _ high_fit_z end_z on_z.1 _ _ (ap (λ (t : Coord). t.z) c.max-high.ensures.corner) (ap (λ (t : Coord). t.z) c.max-last.ensures.corner ∙ ap (λ (b : Box). b.max.z) (around c.args.bits c.args.part.min c.args.p c.min-low.result _ c.min-low.ensures.corner c.block_in-block.ensures c.requires.one)) in
     let fit_y : SFits w32 c.min-y.result = search rules in
     let end_y : SFits w32 c.max-last.result.y = search rules in
     let high_fit_y : SFits w32 c.max-high.result.y = search rules in
-    let at_y = least _ _ _ high_fit_y end_y c.min-y.ensures.value _ _ (ap (λ (t : Coord). t.y) c.max-high.ensures.corner) (ap (λ (t : Coord). t.y) c.max-last.ensures.corner ∙ ap (λ (b : Box). b.max.y) c.block_in-block.ensures) in
+    let at_y = least _ _ _ high_fit_y end_y c.min-y.ensures.value _ _ (ap (λ (t : Coord). t.y) c.max-high.ensures.corner) (ap (λ (t : Coord). t.y) c.max-last.ensures.corner ∙ ap (λ (b : Box). b.max.y) (around c.args.bits c.args.part.min c.args.p c.min-low.result _ c.min-low.ensures.corner c.block_in-block.ensures c.requires.one)) in
     let own_x : SFits w32 c.args.p.x = search rules in
     plane_to c.args.bits c.args.part c.args.p c.requires.inside low_z high_z _ _ _ (to_z-of_z w32 c.args.p.x own_x) (to_z-of_z w32 c.min-y.result fit_y ∙ at_y) (to_z-of_z w32 c.min-z.result fit_z ∙ at_z)
 
@@ -46,23 +53,23 @@ returns c =
     let fit_z : SFits w32 c.min-z.result = search rules in
     let end_z : SFits w32 c.max-last.result.z = search rules in
     let high_fit_z : SFits w32 c.max-high.result.z = search rules in
-    let at_z = least _ _ _ high_fit_z end_z c.min-z.ensures.value _ _ (ap (λ (t : Coord). t.z) c.max-high.ensures.corner) (ap (λ (t : Coord). t.z) c.max-last.ensures.corner ∙ ap (λ (b : Box). b.max.z) c.block_in-block.ensures) in
+    let at_z = least _ _ _ high_fit_z end_z c.min-z.ensures.value _ _ (ap (λ (t : Coord). t.z) c.max-high.ensures.corner) (ap (λ (t : Coord). t.z) c.max-last.ensures.corner ∙ ap (λ (b : Box). b.max.z) (around c.args.bits c.args.part.min c.args.p c.min-low.result _ c.min-low.ensures.corner c.block_in-block.ensures c.requires.one)) in
     let first_z : SFits w32 c.min-first.result.z = search rules in
     let low_fit_z : SFits w32 c.min-low.result.z = search rules in
     let on_z = c.is_range.ensures c.if-not-is_range.false in
-    let low_z = same _ _ low_fit_z first_z on_z.0 _ _ (ap (λ (t : Coord). t.z) c.min-low.ensures.corner) (ap (λ (t : Coord). t.z) c.min-first.ensures.corner ∙ ap (λ (b : Box). b.min.z) c.block_in-block.ensures) in
-    let high_z = same _ _ high_fit_z end_z on_z.1 _ _ (ap (λ (t : Coord). t.z) c.max-high.ensures.corner) (ap (λ (t : Coord). t.z) c.max-last.ensures.corner ∙ ap (λ (b : Box). b.max.z) c.block_in-block.ensures) in
+    let low_z = same _ _ low_fit_z first_z on_z.0 _ _ (ap (λ (t : Coord). t.z) c.min-low.ensures.corner) (ap (λ (t : Coord). t.z) c.min-first.ensures.corner ∙ ap (λ (b : Box). b.min.z) (around c.args.bits c.args.part.min c.args.p c.min-low.result _ c.min-low.ensures.corner c.block_in-block.ensures c.requires.one)) in
+    let high_z = same _ _ high_fit_z end_z on_z.1 _ _ (ap (λ (t : Coord). t.z) c.max-high.ensures.corner) (ap (λ (t : Coord). t.z) c.max-last.ensures.corner ∙ ap (λ (b : Box). b.max.z) (around c.args.bits c.args.part.min c.args.p c.min-low.result _ c.min-low.ensures.corner c.block_in-block.ensures c.requires.one)) in
     let fit_y : SFits w32 c.min-y.result = search rules in
     let end_y : SFits w32 c.max-last.result.y = search rules in
     let high_fit_y : SFits w32 c.max-high.result.y = search rules in
-    let at_y = least _ _ _ high_fit_y end_y c.min-y.ensures.value _ _ (ap (λ (t : Coord). t.y) c.max-high.ensures.corner) (ap (λ (t : Coord). t.y) c.max-last.ensures.corner ∙ ap (λ (b : Box). b.max.y) c.block_in-block.ensures) in
+    let at_y = least _ _ _ high_fit_y end_y c.min-y.ensures.value _ _ (ap (λ (t : Coord). t.y) c.max-high.ensures.corner) (ap (λ (t : Coord). t.y) c.max-last.ensures.corner ∙ ap (λ (b : Box). b.max.y) (around c.args.bits c.args.part.min c.args.p c.min-low.result _ c.min-low.ensures.corner c.block_in-block.ensures c.requires.one)) in
     let first_y : SFits w32 c.min-first.result.y = search rules in
     let low_fit_y : SFits w32 c.min-low.result.y = search rules in
     let on_y = c.is_range-2.ensures c.if-not-is_range-2.false in
-    let low_y = same _ _ low_fit_y first_y on_y.0 _ _ (ap (λ (t : Coord). t.y) c.min-low.ensures.corner) (ap (λ (t : Coord). t.y) c.min-first.ensures.corner ∙ ap (λ (b : Box). b.min.y) c.block_in-block.ensures) in
-    let high_y = same _ _ high_fit_y end_y on_y.1 _ _ (ap (λ (t : Coord). t.y) c.max-high.ensures.corner) (ap (λ (t : Coord). t.y) c.max-last.ensures.corner ∙ ap (λ (b : Box). b.max.y) c.block_in-block.ensures) in
+    let low_y = same _ _ low_fit_y first_y on_y.0 _ _ (ap (λ (t : Coord). t.y) c.min-low.ensures.corner) (ap (λ (t : Coord). t.y) c.min-first.ensures.corner ∙ ap (λ (b : Box). b.min.y) (around c.args.bits c.args.part.min c.args.p c.min-low.result _ c.min-low.ensures.corner c.block_in-block.ensures c.requires.one)) in
+    let high_y = same _ _ high_fit_y end_y on_y.1 _ _ (ap (λ (t : Coord). t.y) c.max-high.ensures.corner) (ap (λ (t : Coord). t.y) c.max-last.ensures.corner ∙ ap (λ (b : Box). b.max.y) (around c.args.bits c.args.part.min c.args.p c.min-low.result _ c.min-low.ensures.corner c.block_in-block.ensures c.requires.one)) in
     let fit_x : SFits w32 c.min-x.result = search rules in
     let end_x : SFits w32 c.max-last.result.x = search rules in
     let high_fit_x : SFits w32 c.max-high.result.x = search rules in
-    let at_x = least _ _ _ high_fit_x end_x c.min-x.ensures.value _ _ (ap (λ (t : Coord). t.x) c.max-high.ensures.corner) (ap (λ (t : Coord). t.x) c.max-last.ensures.corner ∙ ap (λ (b : Box). b.max.x) c.block_in-block.ensures) in
+    let at_x = least _ _ _ high_fit_x end_x c.min-x.ensures.value _ _ (ap (λ (t : Coord). t.x) c.max-high.ensures.corner) (ap (λ (t : Coord). t.x) c.max-last.ensures.corner ∙ ap (λ (b : Box). b.max.x) (around c.args.bits c.args.part.min c.args.p c.min-low.result _ c.min-low.ensures.corner c.block_in-block.ensures c.requires.one)) in
     whole_to c.args.bits c.args.part c.args.p c.requires.inside low_z high_z low_y high_y _ _ _ (to_z-of_z w32 c.min-x.result fit_x ∙ at_x) (to_z-of_z w32 c.min-y.result fit_y ∙ at_y) (to_z-of_z w32 c.min-z.result fit_z ∙ at_z)
