@@ -4,7 +4,8 @@
 rt ci runs as many tasks side by side as there are processors. So must-fail edits and proofs of tests compete with the proofs that all other
 crates wait for. Here they give way to those proofs, and each task reports how long it took (lanes.py). Everything else is rt's own: what is
 proved, run and tried, and what fails. If the kit's rt lacks the functions that this script replaces, it runs rt ci unchanged. With names of
-crates it checks these and the crates below them, on a copy of their files.
+crates it checks these and the crates below them, on a copy of their files. Kits whose rt ci keeps nothing between runs and takes no names
+lack these two things: kept.py and part_of bring them.
 """
 import contextlib
 import importlib.machinery
@@ -12,8 +13,11 @@ import importlib.util
 import os
 import shutil
 import sys
+import tempfile
 import time
 
+import kept
+from crates import crates_of
 from lanes import in_turn
 
 BEGUN = time.time()
@@ -75,9 +79,39 @@ def in_lanes(tasks):
         )
 
 
+def part_of(names, room):
+    """Copies the crates of these names and those below them into a folder, as a repository of its own."""
+    ordered, below = crates_of(".")
+    lost = [it for it in names if it not in ordered]
+    if lost:
+        sys.exit(f"prove.py: no crate is called {lost[0]}")
+    needed = set(names)
+    for name in reversed(ordered):
+        if name in needed:
+            needed.update(below[name])
+    for name in needed:
+        shutil.copytree(f"crates/{name}", f"{room}/crates/{name}", ignore=shutil.ignore_patterns("out"))
+    shutil.copy2("HANDLES", room)
+    with open("crates.txt", encoding="utf-8") as lines, open(f"{room}/crates.txt", "w", encoding="utf-8") as file:
+        file.writelines(it for it in lines if it.partition(":")[0].split()[:1] and it.partition(":")[0].split()[0] in needed)
+
+
+def check(names):
+    """Runs rt ci on the crates of these names and those below, or on all crates, and returns its status."""
+    if hasattr(rt, "ending"):  # a kit that keeps what it proves, and takes names
+        return rt.main(["ci", *names])
+    kept.add_to(rt)
+    if not names:
+        return rt.main(["ci"])
+    with tempfile.TemporaryDirectory(prefix="prove-") as room:
+        part_of(names, room)
+        os.chdir(room)
+        return rt.main(["ci"])
+
+
 rt = load()
 if all(hasattr(rt, name) for name in ("in_lanes", "processors", "free")):
     rt.in_lanes = in_lanes
 else:
     print("rt itself orders the tasks: its functions have other names than this script knows", flush=True)
-sys.exit(rt.main(["ci", *sys.argv[1:]]))
+sys.exit(check(sys.argv[1:]))
