@@ -1,6 +1,7 @@
-//! Calls that change a grid beyond a voxel: each changes the tree, and then traces the path of each accessor again.
+//! Calls that change a grid beyond a voxel: each changes the tree, and then, unless every path stays, traces the path of
+//! each accessor again.
 
-ghost use Rattle.std.specs.Prelude.{◌≡◌, ◌≤◌, Err, IfErr, OnErr, OnOk, true};
+ghost use Rattle.std.specs.Prelude.{◌≡◌, ◌+◌, ◌≤◌, Err, false, IfErr, IsOk, IsTrue, OnErr, OnOk, true};
 ghost use Rattle.vdb_coord.specs.Blocks.{vdb};
 ghost use Rattle.vdb_coord.specs.declared.Coord.{Coord};
 ghost use Rattle.vdb_coord.specs.declared.Level.{Level};
@@ -8,9 +9,10 @@ ghost use Rattle.vdb_node.specs.declared.Entry.TheVariants.{Tile};
 ghost use Rattle.vdb_tree.specs.Changes.{AddsNodes};
 ghost use Rattle.vdb_tree.specs.Field.{clip as clipped, combine, dilate as dilation, erode as erosion, fill as filled, intersect as intersected, replace as replaced, subtract as subtracted, turns as turned, unite as united};
 ghost use Rattle.vdb_tree.specs.Layout.{entry_over, field_of};
-ghost use Rattle.vdb_tree.specs.Leaves.{HasLeaves};
+ghost use Rattle.vdb_tree.specs.Leaves.{HasLeaves, IsLeafAround, with_leaf};
 ghost use Rattle.vdb_tree.specs.Nodes.{IsActiveIn, MakesNoKey, MakesOnly};
 ghost use Rattle.vdb_tree.specs.Outcome.{IsOutcome};
+ghost use Rattle.vdb_tree.specs.Paths.{in_leaf};
 ghost use Rattle.vdb_tree.specs.Smallest.{IsLeast};
 ghost use Rattle.vdb_tree.specs.SplitBox.{IsCovered};
 ghost use Rattle.vdb_tree.specs.declared.refusal.TreeRefusal.TheVariants.{Memory};
@@ -20,8 +22,8 @@ ghost use Rattle.vdb_morph.specs.Growth.{IsGrowth};
 use crate::Grid;
 use crate::accessors::retrace;
 use vdb_composite::SumRefusal;
-use vdb_coord::Bounds;
-use vdb_node::Stored;
+use vdb_coord::{Bounds, Coord};
+use vdb_node::{Leaf, Stored};
 use vdb_pool::Steps;
 use vdb_tree::{Tree, TreeRefusal};
 use vdb_value::Cell;
@@ -89,6 +91,36 @@ impl<V: Stored<512> + Stored<64> + Stored<8>, const K: usize> Grid<V, K> {
         let outcome = self.tree.voxelise(bounds, steps);
         retrace(&self.tree, &self.coords, &mut self.paths, steps);
         outcome
+    }
+
+    /// Puts a leaf into the leaf extent around a coordinate, as the tree's `touch_leaf` does. No cell changes. It fails
+    /// with `RootLimit` or `Memory`.
+    pub fn touch_leaf(&mut self, p: Coord, steps: &mut Steps) -> Result<(), TreeRefusal>
+        ensures field { field_of vdb self.new.tree ≡ field_of vdb self.old.tree }
+        ensures limit { self.new.tree.limit ≡ self.old.tree.limit }
+        ensures made { OnOk result (IsTrue (in_leaf vdb self.new.tree p)) }
+        ensures leaves { (q : Coord) → IsTrue (in_leaf vdb self.old.tree q) → IsTrue (in_leaf vdb self.new.tree q) }
+        ensures there { IsTrue (in_leaf vdb self.old.tree p) → IsOk result }
+        ensures last { self.new.coords ≡ self.old.coords }
+    {
+        let outcome = self.tree.touch_leaf(p, steps);
+        retrace(&self.tree, &self.coords, &mut self.paths, steps);
+        outcome
+    }
+
+    /// Exchanges the leaf around a coordinate with another leaf, as the tree's `swap_leaf` does. It takes no memory.
+    /// Returns whether the coordinate has a leaf; if not, nothing changes.
+    pub fn swap_leaf(&mut self, p: Coord, leaf: &mut Leaf<V, 3, 8>, steps: &mut Steps) -> bool
+        ensures answer { result ≡ in_leaf vdb self.old.tree p }
+        ensures field { IsTrue result → field_of vdb self.new.tree ≡ with_leaf vdb p leaf.old (field_of vdb self.old.tree) }
+        ensures taken { IsTrue result → IsLeafAround vdb (field_of vdb self.old.tree) p leaf.new }
+        ensures leaves { (q : Coord) → in_leaf vdb self.new.tree q ≡ in_leaf vdb self.old.tree q }
+        ensures untouched { result ≡ false → (self.new ≡ self.old) × (leaf.new ≡ leaf.old) }
+        ensures limit { self.new.tree.limit ≡ self.old.tree.limit }
+        ensures last { self.new.coords ≡ self.old.coords }
+        ensures steps { steps.new ≤ steps.old + 3 }
+    {
+        self.tree.swap_leaf(p, leaf, steps) // each path stays whole, so none is traced again
     }
 
     /// Activates each voxel that is active in the other tree, as `vdb_topology::unite` does. It fails with

@@ -7,7 +7,7 @@
 //! The modules, from below:
 //! - `accessors`: paths traced again after a change of the tree.
 //! - `grid`: the grid, its probes and its writes.
-//! - `edits`: all calls beyond a voxel: fill, clip, prune, voxelise, the calls on two grids, dilate and erode.
+//! - `edits`: all calls beyond a voxel: fill, clip, prune, voxelise, whole leaves, the calls on two grids, dilate and erode.
 #![tactic(auto)]
 
 mod accessors;

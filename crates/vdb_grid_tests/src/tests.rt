@@ -5,6 +5,7 @@ mod random;
 use std::process::Abort;
 use vdb_coord::{Bounds, Coord};
 use vdb_grid::Grid;
+use vdb_node::Leaf;
 use vdb_pool::Steps;
 use vdb_tree::{TreeRefusal, Write};
 use vdb_value::Cell;
@@ -69,6 +70,28 @@ impl Trial {
     fn refuses_to_fill(&mut self, rt: &impl Abort, cell: Cell<i32>) {
         let outcome = self.grid.fill(Bounds::all(), cell, &mut self.steps);
         assert_eq!(rt; outcome, Err(TreeRefusal::RootLimit));
+    }
+
+    // Puts a leaf around a voxel, and expects this outcome.
+    fn touches(&mut self, rt: &impl Abort, p: Coord, wanted: Result<(), TreeRefusal>) {
+        let outcome = self.grid.touch_leaf(p, &mut self.steps);
+        assert_eq!(rt; outcome, wanted, "at {p:?}");
+    }
+
+    // Exchanges the leaf around a voxel with a leaf, and expects this answer and this many visits.
+    fn swaps(
+        &mut self,
+        rt: &impl Abort,
+        p: Coord,
+        leaf: &mut Leaf<i32, 3, 8>,
+        there: bool,
+        visits: u64,
+    ) {
+        let before = self.steps.count();
+        let answer = self.grid.swap_leaf(p, leaf, &mut self.steps);
+        assert_eq!(rt; answer, there, "at {p:?}");
+        let made = self.steps.count().wrapping_sub(before);
+        assert_eq!(rt; made, visits, "at {p:?}");
     }
 
     // Expects this as the coordinate that an accessor was last given.
@@ -171,4 +194,41 @@ fn swept_nodes_are_forgotten(rt: HostRuntime) {
     it.writes_from_the_root(&rt, at(-1, -1, -1), Write::On(1));
     it.probes(&rt, 0, at(0, 0, 0), off(0), 1);
     it.probes(&rt, 0, at(-1, -1, -1), on(1), 3);
+}
+
+// A leaf put around a voxel that an accessor was given: its path then leads to the new leaf. A leaf that fails in a
+// second upper extent leaves the paths.
+#[test]
+fn new_leaves_are_cached(rt: HostRuntime) {
+    let mut it = fresh(&rt, 1);
+    it.writes(&rt, 0, at(0, 0, 0), Write::On(1), 24 + 4 * 8);
+    it.probes(&rt, 1, at(8, 0, 0), off(0), 3);
+    it.probes(&rt, 2, at(0, 0, 200), off(0), 3);
+    it.touches(&rt, at(15, 7, 7), Ok(()));
+    it.probes(&rt, 1, at(8, 0, 7), off(0), 1);
+    it.writes(&rt, 1, at(8, 7, 7), Write::On(2), 1);
+    it.touches(&rt, at(-1, -1, -1), Err(TreeRefusal::RootLimit));
+    it.touches(&rt, at(0, 0, 200), Ok(()));
+    it.writes(&rt, 2, at(7, 7, 207), Write::On(3), 1);
+    it.probes(&rt, 0, at(7, 7, 7), off(0), 1);
+    it.has_cached(&rt, 3, None);
+}
+
+// A leaf exchanged with the grid's: accessors of it read the new cells by one visit. Where there is no leaf, nothing changes.
+#[test]
+fn exchanged_leaves_stay_cached(rt: HostRuntime) {
+    let mut it = fresh(&rt, 1);
+    it.writes(&rt, 0, at(0, 0, 0), Write::On(1), 24 + 4 * 8);
+    it.probes(&rt, 1, at(8, 0, 0), off(0), 3);
+    let mut leaf = Leaf::new_constant(rt.alloc(), off(6)).expect(&rt, "a leaf");
+    leaf.set(83, on(7)); // the voxel `at(1, 2, 3)` of its extent
+    it.swaps(&rt, at(8, 0, 0), &mut leaf, false, 2);
+    it.swaps(&rt, at(-1, 0, 0), &mut leaf, false, 0);
+    it.swaps(&rt, at(7, 7, 7), &mut leaf, true, 3);
+    assert_eq!(rt; leaf.entry(0), on(1));
+    assert_eq!(rt; leaf.entry(83), off(0));
+    it.probes(&rt, 0, at(1, 2, 3), on(7), 1);
+    it.probes(&rt, 0, at(0, 0, 0), off(6), 1);
+    it.probes(&rt, 1, at(8, 0, 7), off(0), 1);
+    it.has_cached(&rt, 2, None);
 }

@@ -1,22 +1,24 @@
-//! Writes of a whole leaf at once.
+//! Leaves made, exchanged and written as a whole.
 
-ghost use Rattle.std.specs.Prelude.{◌≡◌, ◌+◌, ◌≤◌, IfErr, IsErr, IsOk, IsTrue, OnOk};
+ghost use Rattle.std.specs.Prelude.{◌≡◌, ◌+◌, ◌≤◌, false, IfErr, IsErr, IsOk, IsTrue, OnOk};
 ghost use Rattle.vdb_coord.specs.Blocks.{block_around, key};
+ghost use Rattle.vdb_coord.specs.declared.Coord.{Coord};
 ghost use Rattle.vdb_coord.specs.declared.Level.TheVariants.{Leaf as leaf_level};
 ghost use Rattle.vdb_node.specs.declared.Entry.TheVariants.{Child, Tile};
 ghost use Rattle.vdb_tree.specs.Table.{HasCapacity};
-ghost use Rattle.vdb_tree.specs.Changes.{Keeps};
+ghost use Rattle.vdb_tree.specs.Changes.{Keeps, SameDescent};
 ghost use Rattle.vdb_tree.specs.Field.{fill};
 ghost use Rattle.vdb_tree.specs.Layout.{bits_of, field_of, lower_entry, upper_entry};
-ghost use Rattle.vdb_tree.specs.Leaves.{with_leaf};
+ghost use Rattle.vdb_tree.specs.Leaves.{IsLeafAround, with_leaf};
 ghost use Rattle.vdb_tree.specs.Outcome.{IsOutcome};
-ghost use Rattle.vdb_tree.specs.Paths.{in_leaf};
+ghost use Rattle.vdb_tree.specs.Paths.{in_leaf, IsWhole, TreePath};
 ghost use Rattle.vdb_tree.specs.SplitBox.{IsSplit};
 ghost use Rattle.vdb_tree.specs.declared.refusal.TreeRefusal.TheVariants.{Memory};
 ghost use Rattle.vdb_value.specs.declared.Cell.{Cell};
 
 use crate::nodes::{held_place, insert_node};
 use crate::{TreeOf, TreeRefusal};
+use std::mem;
 use vdb_coord::{Bounds, Coord, Level};
 use vdb_node::{Entry, Leaf, Stored};
 use vdb_pool::Steps;
@@ -81,6 +83,63 @@ impl<
             }
             Entry::Tile(cell) => self.add_leaf(lower, p, cell, leaf, steps),
         }
+    }
+
+    /// Puts a leaf into the leaf extent around a coordinate, unless it has one, with the nodes above it (OpenVDB's
+    /// `Tree::touchLeaf`). No cell changes, and no node is removed.
+    ///
+    /// `RootLimit`: the root table has no entry for the coordinate and as many entries as the limit allows; it isn't swept.
+    /// `Memory`: an allocation failed; some nodes may have been made. Neither error occurs if the leaf extent already has a
+    /// leaf.
+    pub fn touch_leaf(&mut self, p: Coord, steps: &mut Steps) -> Result<(), TreeRefusal>
+        ensures field { field_of (bits_of U L F) self.new ≡ field_of (bits_of U L F) self.old }
+        ensures limit { self.new.limit ≡ self.old.limit }
+        ensures made { OnOk result (IsTrue (in_leaf (bits_of U L F) self.new p)) }
+        ensures leaves { (q : Coord) → IsTrue (in_leaf (bits_of U L F) self.old q) → IsTrue (in_leaf (bits_of U L F) self.new q) }
+        ensures there { IsTrue (in_leaf (bits_of U L F) self.old p) → IsOk result }
+        ensures capacity { HasCapacity self.old (key (bits_of U L F) p) → IfErr result (λ refusal. refusal ≡ Memory) }
+    {
+        if !self.has_capacity(p) {
+            return Err(TreeRefusal::RootLimit);
+        }
+        let _ = self.leaf_around(p, steps)?;
+        Ok(())
+    }
+
+    /// Exchanges the leaf around a coordinate with another leaf, by at most three node visits. It takes no memory, and no
+    /// other node and no entry changes. Returns whether the coordinate has a leaf; if not, nothing changes.
+    pub fn swap_leaf(&mut self, p: Coord, leaf: &mut Leaf<V, F, WF>, steps: &mut Steps) -> bool
+        ensures answer { result ≡ in_leaf (bits_of U L F) self.old p }
+        ensures field { IsTrue result → field_of (bits_of U L F) self.new ≡ with_leaf (bits_of U L F) p leaf.old (field_of (bits_of U L F) self.old) }
+        ensures taken { IsTrue result → IsLeafAround (bits_of U L F) (field_of (bits_of U L F) self.old) p leaf.new }
+        ensures same { (q : Coord) → SameDescent (bits_of U L F) self.old self.new q }
+        ensures untouched { result ≡ false → (self.new ≡ self.old) × (leaf.new ≡ leaf.old) }
+        ensures limit { self.new.limit ≡ self.old.limit }
+        ensures paths { (path : TreePath V) (q : Coord) → IsWhole (bits_of U L F) self.old path q → IsWhole (bits_of U L F) self.new path q }
+        ensures steps { steps.new ≤ steps.old + 3 }
+    {
+        match self.leaf_entry(p, steps) {
+            Entry::Child(slot) => {
+                self.exchange_leaf(slot, p, leaf, steps);
+                true
+            }
+            Entry::Tile(_) => false,
+        }
+    }
+
+    /// Exchanges the leaf around p, in this slot, with another.
+    fn exchange_leaf(&mut self, slot: u32, p: Coord, leaf: &mut Leaf<V, F, WF>, steps: &mut Steps)
+        requires { lower_entry (bits_of U L F) self.old p ≡ Child slot }
+        ensures field { field_of (bits_of U L F) self.new ≡ with_leaf (bits_of U L F) p leaf.old (field_of (bits_of U L F) self.old) }
+        ensures taken { IsLeafAround (bits_of U L F) (field_of (bits_of U L F) self.old) p leaf.new }
+        ensures same { (q : Coord) → SameDescent (bits_of U L F) self.old self.new q }
+        ensures limit { self.new.limit ≡ self.old.limit }
+        ensures paths { (path : TreePath V) (q : Coord) → IsWhole (bits_of U L F) self.old path q → IsWhole (bits_of U L F) self.new path q }
+        ensures steps { steps.new ≤ steps.old + 1 }
+    {
+        self.swept = false;
+        let place = held_place(&self.leaves, slot);
+        mem::swap(self.leaves.at_mut(place, steps), leaf);
     }
 
     /// Puts a copy of the leaf in the place of p's tile in a lower node.

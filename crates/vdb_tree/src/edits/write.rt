@@ -214,7 +214,7 @@ impl<
     }
 
     /// Returns whether p's upper extent has an entry or the table has capacity for one.
-    fn has_capacity(&self, p: Coord) -> bool
+    pub(crate) fn has_capacity(&self, p: Coord) -> bool
         ensures { IsTrue result ↔ HasCapacity self.now (key (bits_of U L F) p) }
     {
         self.root.len() < self.limit as usize || self.root.get(self.key(p)).is_some()

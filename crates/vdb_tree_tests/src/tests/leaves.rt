@@ -312,3 +312,106 @@ fn leaves_written_at_once(rt: HostRuntime) {
     ];
     play::run_numbers(&rt, &mut tree, &acts, &mut steps);
 }
+
+// Puts a leaf around each coordinate in turn, and expects these outcomes.
+fn touch_leaves(
+    rt: &impl Abort,
+    tree: &mut Tree<i32>,
+    cases: &[(Coord, Result<(), TreeRefusal>)],
+    steps: &mut Steps,
+) {
+    for (p, wanted) in cases {
+        assert_eq!(rt; tree.touch_leaf(*p, steps), *wanted, "at {p:?}");
+    }
+}
+
+// Leaves put where there is no entry, below a lower node, in a tile and where there is a leaf. In a second upper extent it fails,
+// although the first has no cell but the background's: a full table isn't swept.
+#[test]
+fn leaves_put_around_coordinates(rt: HostRuntime) {
+    let mut steps = Steps::new(&rt);
+    let mut tree = play::new_numbers(rt.alloc(), 3, 1);
+    let cases = [
+        (at(1, 2, 3), Ok(())),
+        (all(7), Ok(())),
+        (all(-1), Err(TreeRefusal::RootLimit)),
+        (at(0, 0, 200), Ok(())),
+    ];
+    touch_leaves(&rt, &mut tree, &cases, &mut steps);
+    let acts = [
+        Act::Counts([1, 1, 2, 2]),
+        Act::Leaf(all(0), true),
+        Act::Leaf(at(7, 7, 199), false),
+        Act::Leaf(at(7, 7, 200), true),
+        Act::Cell(all(7), off(3)),
+        Act::Cell(at(0, 0, 207), off(3)),
+        Act::Cell(all(-1), off(3)),
+        Act::Paint(all(8), all(15), on(5)),
+        Act::Leaf(all(8), false),
+    ];
+    play::run_numbers(&rt, &mut tree, &acts, &mut steps);
+    touch_leaves(&rt, &mut tree, &[(all(9), Ok(()))], &mut steps);
+    let acts = [
+        Act::Counts([1, 1, 2, 3]),
+        Act::Active(all(8), Some(512)),
+        Act::Cell(all(8), on(5)),
+        Act::Cell(all(15), on(5)),
+        Act::Cell(all(16), off(3)),
+    ];
+    play::run_numbers(&rt, &mut tree, &acts, &mut steps);
+}
+
+// Exchanges the leaf around each coordinate in turn with a leaf, and expects this answer and this number of visits.
+fn swap_leaves(
+    rt: &impl Abort,
+    tree: &mut Tree<i32>,
+    leaf: &mut Leaf<i32, 3, 8>,
+    cases: &[(Coord, bool, u64)],
+    steps: &mut Steps,
+) {
+    for (p, there, visits) in cases {
+        let before = steps.count();
+        assert_eq!(rt; tree.swap_leaf(*p, leaf, steps), *there, "at {p:?}");
+        assert_eq!(rt; steps.count().wrapping_sub(before), *visits, "at {p:?}");
+    }
+}
+
+// A leaf exchanged with the tree's, where there is one, and not where there is a tile or no entry. A leaf of one cell stays a leaf.
+#[test]
+fn leaves_exchanged(rt: HostRuntime) {
+    let mut steps = Steps::new(&rt);
+    let mut tree = play::new_numbers(rt.alloc(), 0, 1);
+    let acts = [
+        Act::Write(at(1, 2, 4), Write::On(9)),
+        Act::Write(all(8), Write::On(4)),
+    ];
+    play::run_numbers(&rt, &mut tree, &acts, &mut steps);
+    let mut leaf = leaf_of(&rt, off(6), on(7));
+    let cases = [
+        (all(16), false, 2),
+        (all(200), false, 1),
+        (all(-1), false, 0),
+        (all(7), true, 3),
+    ];
+    swap_leaves(&rt, &mut tree, &mut leaf, &cases, &mut steps);
+    assert_eq!(rt; leaf.entry(84), on(9)); // the voxel `at(1, 2, 4)` of its extent
+    assert_eq!(rt; leaf.entry(83), off(0));
+    let acts = [
+        Act::Cell(at(1, 2, 3), on(7)),
+        Act::Cells(all(0), 8, off(6), 511),
+        Act::Cells(all(8), 8, off(0), 511),
+        Act::Cell(all(8), on(4)),
+        Act::Cell(at(17, 18, 19), off(0)),
+        Act::Cell(at(-7, -6, -5), off(0)),
+        Act::Counts([1, 1, 1, 2]),
+    ];
+    play::run_numbers(&rt, &mut tree, &acts, &mut steps);
+    let mut full = leaf_of(&rt, on(5), on(5));
+    swap_leaves(&rt, &mut tree, &mut full, &[(all(0), true, 3)], &mut steps);
+    let acts = [
+        Act::Cells(all(0), 8, on(5), 512),
+        Act::Cell(all(8), on(4)),
+        Act::Counts([1, 1, 1, 2]),
+    ];
+    play::run_numbers(&rt, &mut tree, &acts, &mut steps);
+}

@@ -1,0 +1,27 @@
+use Rattle.std.proofs.Common.{◌∙◌, ap, refl, sym}
+use Rattle.vdb_node.specs.declared.Entry.TheVariants.{Child}
+use Rattle.vdb_tree.proofs.LeafBlocks.{leaf_around}
+use Rattle.vdb_tree.proofs.LeafWrites.{leaf_field, leaf_sound, whole_after}
+use Rattle.vdb_tree.proofs.Passes.{descent_by}
+use Rattle.vdb_tree.proofs.SweptTables.{not_known}
+use Rattle.vdb_tree.proofs.tree.TreeOf.exchange_leaf.Goals as goal
+
+pub invariant_of-self : goal.invariant_of-self
+invariant_of-self g c = (c.self.invariant.0, leaf_sound _ _ _ _ _ c.at_mut.ensures.node c.self.invariant.1, not_known)
+
+pub returns-clause-field : goal.returns-clause-field
+returns-clause-field g c =
+    rw (← c.self.view_is, ← c.swap.ensures.x_after)
+    (leaf_field _ _ _ _ _ c.at_mut.ensures.node c.args.p
+    ((rw (← c.self.view_is) at c.requires) ∙ ap Child (sym c.held_place-place.ensures.slot)) c.self.invariant.1)
+
+pub returns-clause-taken : goal.returns-clause-taken
+returns-clause-taken g c =
+    rw (← c.self.view_is, c.swap.ensures.y_after)
+    (leaf_around _ _ c.args.p _ _ ((rw (← c.self.view_is) at c.requires) ∙ ap Child (sym c.held_place-place.ensures.slot)) c.at_mut.ensures.node)
+
+pub returns-clause-same : goal.returns-clause-same
+returns-clause-same g c = rw (← c.self.view_is) (λ q. descent_by _ _ _ q refl refl refl)
+
+pub returns-clause-paths : goal.returns-clause-paths
+returns-clause-paths g c = rw (← c.self.view_is) (λ path q h. whole_after _ _ _ _ _ c.at_mut.ensures.node path q h)
