@@ -350,7 +350,8 @@ int32_t vdb_grid_read_box(vdb_grid *grid, const vdb_box *box, const vdb_strides 
 /* Sets each voxel of a box to the value and the state of its element, by x, then y, then z, through an accessor or without one.
  * VDB_RANGE: no such accessor, corners out of order, rows that overlap by their strides, an array that is neither of length 0 nor long
  * enough, both of length 0, or a value outside the type; then nothing has changed. VDB_ROOT_LIMIT, VDB_MEMORY: the first *written voxels
- * of the box in that order are set, and the one after them failed. After VDB_OK, *written is the number of voxels of the box. */
+ * of the box in that order are set, and the one after them failed. After VDB_OK, *written is the number of voxels of the box. A box of
+ * at least 8 voxels along each axis takes the least time: it is written leaf by leaf. */
 int32_t vdb_grid_write_box(vdb_grid *grid, int32_t accessor, const vdb_box *box, const vdb_strides *strides, const int64_t *values,
                            size_t values_len, const uint8_t *states, size_t states_len, size_t *written);
 

@@ -42,8 +42,11 @@ class Step:
 
     `outs` are the results, with the values that they must have after the code 0, in the order of `results`. `refusals` are the
     codes of which one must be returned, if there are any; otherwise `commit` changes the map and returns the code. `prefix` makes
-    in the map the writes before the one that failed, if the call writes in turn.
+    in the map the writes before the one that failed, if the call writes in turn. A call that `goes_on` may return OK though an
+    allocation failed.
     """
+
+    goes_on = False
 
     def __init__(self, name, arguments, outs=(), refusals=(), commit=None, results=None, grids=(), prefix=None):
         self.name, self.arguments, self.outs, self.refusals = name, arguments, outs, set(refusals)
@@ -120,6 +123,11 @@ class Session:
             sides = [self.side(self.near, 3) for _ in range(3)]
             sides[self.chance.randrange(3)] = self.side(self.voxels, 1)
         return tuple(zip(*sides))
+
+    def wide_box(self):
+        """A box of 8 to 12 voxels along each axis."""
+        firsts = [self.chance.randrange(len(self.voxels) - 11) for _ in range(3)]
+        return tuple(zip(*((self.voxels[it], self.voxels[it + self.chance.randrange(7, 12)]) for it in firsts)))
 
     def box_argument(self, box):
         """The box as an argument; rarely one with its corners out of order, for which the second value is True."""
@@ -298,6 +306,9 @@ class Session:
 
     def dense(self):
         slot, box = self.grid(), self.box(small=True)
+        is_wide = self.lattice is VOXELS and self.rarely(0.1)
+        if is_wide:
+            box = self.wide_box()
         if any(self.lattice.sides[it] > 1 for a, b in zip(*box) for it in range(a, b + 1)):
             at = self.place()
             box = at, at
@@ -321,7 +332,9 @@ class Session:
         if self.rarely(0.5):
             accessor = self.accessor()
             wrong = wrong or not -1 <= accessor < 8
-            return self.writes("vdb_grid_write_box", [accessor, *arguments], wrong, slot, places, elements, (values, states, lengths))
+            step = self.writes("vdb_grid_write_box", [accessor, *arguments], wrong, slot, places, elements, (values, states, lengths))
+            step.goes_on = is_wide  # without a leaf it writes voxel by voxel
+            return step
 
         def results(grid):
             found = [list(values) if lengths[0] else [], list(states) if lengths[1] else []]
@@ -650,6 +663,8 @@ class Session:
             if not self.failed.value:
                 break
             self.failures += 1
+            if not code and step.goes_on:
+                break
             need(code, f"returns OK, though allocation {number} failed")
             codes.append(code)
             if step.prefix is None or code not in (MEMORY, ROOT_LIMIT):

@@ -19,4 +19,5 @@ pub mod BoxFields
 pub mod RowFields
 pub mod CopiedRows
 pub mod LeafCopies
+pub mod LeafFields
 pub mod VoxelCalls

@@ -162,6 +162,18 @@ not_before_itself p h = elim h [
     itself : (n : ℤ) → n ≤ℤ n
     itself n = omega (arith, ints)
 
+pub earlier : (q r s : Coord) → IsBefore q r → IsBefore r s → IsBefore q s
+earlier q r s a c = elim a [
+  | inl x ↦ elim c [ inl x' ↦ inl (omega (arith, ints, x, x')) | inr c' ↦ inl (omega (arith, ints, x, c'.0)) ]
+  | inr a' ↦ elim c [
+    | inl x' ↦ inl (omega (arith, ints, a'.0, x'))
+    | inr c' ↦ elim a'.1 [
+      | inl y ↦ elim c'.1 [ inl y' ↦ inr (a'.0 ∙ c'.0, inl (omega (arith, ints, y, y'))) | inr d' ↦ inr (a'.0 ∙ c'.0, inl (omega (arith, ints, y, d'.0))) ]
+      | inr d ↦ elim c'.1 [ inl y' ↦ inr (a'.0 ∙ c'.0, inl (omega (arith, ints, d.0, y'))) | inr d' ↦ inr (a'.0 ∙ c'.0, inr (d.0 ∙ d'.0, omega (arith, ints, d.1, d'.1))) ]
+    ]
+  ]
+]
+
 -- none comes before the least corner
 pub up_to_min : (b : Box) (p : Coord) → p ≡ b.min → IsUpTo b p none
 up_to_min b p at_min = record {
@@ -197,18 +209,6 @@ module _ (b : Box) (p : Coord) (inside : IsTrue (is_inside b p)) (passed : Coord
       | inr e ↦ or_second (passed q) (coord_eq p q) (subst (λ (r : Coord). IsTrue (coord_eq p r)) (sym e) (coord_equiv.refl p))
     ];
   }
-    where
-      earlier : (q r s : Coord) → IsBefore q r → IsBefore r s → IsBefore q s
-      earlier q r s a c = elim a [
-        | inl x ↦ elim c [ inl x' ↦ inl (omega (arith, ints, x, x')) | inr c' ↦ inl (omega (arith, ints, x, c'.0)) ]
-        | inr a' ↦ elim c [
-          | inl x' ↦ inl (omega (arith, ints, a'.0, x'))
-          | inr c' ↦ elim a'.1 [
-            | inl y ↦ elim c'.1 [ inl y' ↦ inr (a'.0 ∙ c'.0, inl (omega (arith, ints, y, y'))) | inr d' ↦ inr (a'.0 ∙ c'.0, inl (omega (arith, ints, y, d'.0))) ]
-            | inr d ↦ elim c'.1 [ inl y' ↦ inr (a'.0 ∙ c'.0, inl (omega (arith, ints, d.0, y'))) | inr d' ↦ inr (a'.0 ∙ c'.0, inr (d.0 ∙ d'.0, omega (arith, ints, d.1, d'.1))) ]
-          ]
-        ]
-      ]
 
   pub all_passed : IsNextVoxel b p None → (q : Coord) → IsTrue (is_inside b q) → IsTrue (with_voxel passed p q)
   all_passed h q i = elim (h q i) [

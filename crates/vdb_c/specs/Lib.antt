@@ -15,4 +15,5 @@ pub mod BoxArrays
 pub mod HeldView
 pub mod Views
 pub mod BoxWrites
+pub mod LeafWrites
 pub mod Leaves

@@ -5,7 +5,7 @@ ghost use Rattle.vdb_coord.specs.Space.{coord, is_inside};
 ghost use Rattle.vdb_coord.specs.Walk.{coordinates_after};
 ghost use Rattle.vdb_c.specs.BoxVoxels.{IsNextVoxel};
 
-use crate::elements::gap;
+use crate::elements::{gap, gaps};
 use vdb_coord::{Bounds, Coord};
 
 /// Returns the next voxel of a box, by x, then y, then z: `None` after the last one.
@@ -61,4 +61,11 @@ pub(crate) fn row_size(bounds: Bounds, p: Coord) -> usize
 {
     let max = bounds.max();
     gap(p.z, max.z) + 1
+}
+
+/// Returns whether a box has as many voxels along each axis as a leaf, or more.
+pub(crate) fn is_wide(bounds: Bounds) -> bool {
+    let min = bounds.min();
+    let (dx, dy, dz) = gaps(min, bounds.max());
+    dx >= 7 && (dy >= 7 && dz >= 7)
 }

@@ -18,6 +18,7 @@ use crate::codes::{DONE, EMPTY, OUT_OF_RANGE, tree_code};
 use crate::element_writes::write_element;
 use crate::elements::{Strides, place};
 use crate::handles::GridHandle;
+use crate::leaf_writes::write_leaves;
 use crate::many::{change_at, has_all_numbers};
 use crate::numbers::Number;
 use crate::values::{Corners, accessor};
@@ -160,16 +161,46 @@ fn write_voxels(
     ensures { WritesBoxUpTo bounds (change_of_voxel (grid_kind grid.old) bounds strides.now values.now states.now) grid.old grid.new written.new result }
 {
     match grid {
-        AnyGrid::Bool(held) => write_rows(
+        AnyGrid::Bool(held) => write_cells(
             held, accessor, bounds, strides, values, states, written, steps,
         ),
-        AnyGrid::I32(held) => write_rows(
+        AnyGrid::I32(held) => write_cells(
             held, accessor, bounds, strides, values, states, written, steps,
         ),
-        AnyGrid::I64(held) => write_rows(
+        AnyGrid::I64(held) => write_cells(
             held, accessor, bounds, strides, values, states, written, steps,
         ),
     }
+}
+
+/// Writes the voxels of a box of a grid of one type: a wide box leaf by leaf, if no allocation and no root limit is in the way, and any
+/// other one row by row, until a write fails.
+#[tactic(auto, unfolding(crate::specs::BoxWrites::WritesBoxUpToIn))]
+fn write_cells<V: Number>(
+    grid: &mut Grid<V, ACCESSORS>,
+    accessor: Option<usize>,
+    bounds: Bounds,
+    strides: &Strides,
+    values: &[i64],
+    states: &[u8],
+    written: &mut usize,
+    steps: &mut Steps,
+) -> i32
+    requires within { (k : ℕ) → accessor ≡ Some k → k < ACCESSORS }
+    requires apart { IsTrue (are_voxels_apart bounds strides.now) }
+    requires reach { place_of bounds strides.now bounds.max + 1 < 2 ^ 64 }
+    requires given { (p : Coord) → IsTrue (is_inside bounds p) → IsSome (change_of_voxel V.KIND bounds strides.now values.now states.now p) }
+    ensures { WritesBoxUpToIn bounds (change_of_voxel V.KIND bounds strides.now values.now states.now) grid.old.tree.limit grid.new.tree.limit
+        (as_field_of V.as_scalar (field_of vdb grid.old.tree)) (as_field_of V.as_scalar (field_of vdb grid.new.tree)) written.new result }
+{
+    if write_leaves(grid, bounds, strides, values, states, steps) {
+        let _ = bounds.max(); // the proof learns from it that the corners are in order
+        *written = bounds.volume() as usize;
+        return DONE;
+    }
+    write_rows(
+        grid, accessor, bounds, strides, values, states, written, steps,
+    )
 }
 
 /// Writes the voxels of a box of a grid of one type, row by row, until a write fails.

@@ -120,7 +120,11 @@ fn write_far<V: Number>(
 
 /// Returns the write of one element of each array: `None` if neither has it, or the type doesn't have the number.
 #[inline(always)]
-fn element_write<V: Number>(values: &[i64], states: &[u8], index: usize) -> Option<Write<V>>
+pub(crate) fn element_write<V: Number>(
+    values: &[i64],
+    states: &[u8],
+    index: usize,
+) -> Option<Write<V>>
     ensures { option_map (as_write_of V.as_scalar) result ≡ change_of_element V.KIND values.now states.now index }
 {
     let number = element(values, index);

@@ -26,7 +26,7 @@ pub(crate) fn place(bounds: Bounds, strides: &Strides, p: Coord) -> usize
 }
 
 /// Returns how far a coordinate is past another one along each axis.
-fn gaps(from: Coord, to: Coord) -> (usize, usize, usize)
+pub(crate) fn gaps(from: Coord, to: Coord) -> (usize, usize, usize)
     requires x { IsTrue (int_le from.x to.x) }
     requires y { IsTrue (int_le from.y to.y) }
     requires z { IsTrue (int_le from.z to.z) }

@@ -12,7 +12,7 @@
 //! - `grid_life`, `voxels`, `regions`: calls on one grid.
 //! - `element_writes`: one voxel written from arrays.
 //! - `arrays`, `many`: calls on many voxels, given by their coordinates.
-//! - `elements`, `box_voxels`, `reading`, `box_arrays`, `box_writes`: calls on a box of voxels as arrays.
+//! - `elements`, `box_voxels`, `reading`, `box_arrays`, `leaf_writes`, `box_writes`: calls on a box of voxels as arrays.
 //! - `pairs`: calls that combine two grids.
 //! - `scene_files`, `scene_grids`, `scene_moves`: calls on a scene and on its grids.
 //! - `leaf_rows`, `leaves`: calls on the leaves of a grid.
@@ -36,6 +36,7 @@ mod held_scene;
 mod held_view;
 mod kept;
 mod leaf_rows;
+mod leaf_writes;
 mod leaves;
 mod many;
 mod near_writes;
