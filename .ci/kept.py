@@ -1,9 +1,9 @@
 """Keeps what CI proved on this machine, for kits whose rt ci proves everything anew in each run.
 
 A proof of a crate, a proof of its tests and its refused must-fail edits are kept under a sum of all that they depend on: the kit, the files
-of the crate and of the crates below, the built libraries below, byte by byte, and the texts of the edits. So a run takes from here only what
-it would prove again in the same way, and says so. Failures are never kept. The folder is the variable VDB_KEPT, else ~/.cache/vdb-ci:
-remove it to prove everything anew.
+of the crate and of the crates below, the built libraries below, byte by byte, the texts of the edits and the handles allowed. So a run takes
+from here only what it would prove again in the same way, and says so. Failures are never kept. The folder is the variable VDB_KEPT, else
+~/.cache/vdb-ci: remove it to prove everything anew.
 """
 import hashlib
 import json
@@ -34,7 +34,7 @@ def sum_of(*parts):
 
 def place_of(rt, crate, *action):
     """The folder of what is kept of an action on a crate, whose libraries below are built."""
-    return f"{FOLDER}/{sum_of(open(f'{rt.KIT}/KIT-ID').read(), crate.stamp(), *(files_in(it.rlib) for it in crate.below()), *action)}"
+    return f"{FOLDER}/{sum_of(open(f'{rt.KIT}/KIT-ID').read(), crate.stamp(), *(files_in(it.rlib) for it in crate.below()), *action, *crate.allowed)}"
 
 
 def keep(place, files):
