@@ -13,7 +13,7 @@ use Rattle.vdb_coord.specs.declared.Coord.{Coord}
 use Rattle.vdb_coord.specs.declared.Level.TheVariants.{Leaf as leaf_level}
 use Rattle.vdb_coord.proofs.Boxes.{both}
 use Rattle.vdb_coord.proofs.Division.{parts, rest, rest_below}
-use Rattle.vdb_c.specs.BoxReads.{IsInOneLeaf}
+use Rattle.vdb_tree.specs.Parts.{IsInOneLeaf}
 use Rattle.vdb_c.specs.BoxVoxels.{IsNextVoxel}
 use Rattle.vdb_c.specs.BoxWrites.{along_z, dense, is_first, rank}
 use Rattle.vdb_c.specs.Elements.{IsLaid, are_apart, place}
@@ -213,7 +213,7 @@ module _ {X : Type 0} (b : Box) (s : Strides) (part : Box) (of : Coord → X) (e
 part_size : {A : Type 0} (xs : List A) (first n : ℕ) → first + n ≤ length xs → length (take (first + n - first) (drop first xs)) ≡ n
 part_size xs first n h = let rest = length-drop first xs in let is : first + n - first ≡ n = omega arith in length-take-le (first + n - first) (drop first xs) (omega (arith, h, rest)) ∙ is
 
-module _ {X : Type 0} (b : Box) (s : Strides) (apart : IsTrue (are_apart b s)) (along : s.z ≡ 1) (part : Box) (within : (q : Coord) → IsTrue (is_inside part q) → IsTrue (is_inside b q)) (block : IsInOneLeaf part)
+module _ {X : Type 0} (b : Box) (s : Strides) (apart : IsTrue (are_apart b s)) (along : s.z ≡ 1) (part : Box) (within : (q : Coord) → IsTrue (is_inside part q) → IsTrue (is_inside b q)) (block : IsInOneLeaf vdb part)
     (p : Coord) (inside : IsTrue (is_inside part p)) (xs ys : List X) (places : place b s b.max < length xs) (same : length ys ≡ length xs) (first n : ℕ) (at : first ≡ place b s p) (many : n ≡ int_gap p.z part.max.z + 1) where
   pub row_room : first + n ≤ length ys
   row_room = let all = room_of b s apart along part within p inside (length xs) places in omega (arith, all, at, many, same)

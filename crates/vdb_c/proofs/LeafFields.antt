@@ -25,7 +25,7 @@ use Rattle.vdb_tree.proofs.Descents.{lower_by_block}
 use Rattle.vdb_tree.proofs.Fields.{cell_inside, same_cells}
 use Rattle.vdb_tree.proofs.Levels.{like_coords, unlike_coords, coord_cases}
 use Rattle.vdb_scene.specs.declared.scalar.Scalar.{Scalar}
-use Rattle.vdb_c.specs.BoxReads.{IsInOneLeaf}
+use Rattle.vdb_tree.specs.Parts.{IsInOneLeaf}
 use Rattle.vdb_c.specs.BoxVoxels.{IsNextVoxel, IsUpTo}
 use Rattle.vdb_c.specs.BoxWrites.{with_writes, written_any}
 use Rattle.vdb_c.specs.Elements.{are_apart, place}
@@ -56,7 +56,7 @@ module _ (b part : Box) (p : Coord) (is : (q : Coord) → is_inside part q ≡ (
   pub beside_part : (q : Coord) → IsBeside b p q → IsTrue (is_inside part q)
   beside_part q h = is q ∙ rw (h.0, inside_numbered vdb leaf_level (block_number vdb leaf_level p) q h.1) refl
 
-  pub part_block : IsInOneLeaf part
+  pub part_block : IsInOneLeaf vdb part
   part_block q r i k = (part_beside q i).1 ∙ sym (part_beside r k).1
 
 pub no_part : (b : Box) (p : Coord) → ((q : Coord) → (is_inside b q && is_inside (block_around vdb leaf_level p) q) ≡ false) → (q : Coord) → IsBeside b p q → ⊥
@@ -69,7 +69,7 @@ module _ {V : Type 0} (make : V → Scalar) (change : Coord → Option (Write Sc
   -- ---- in a leaf
 
   -- one more voxel
-  module _ (part : Box) (block : IsInOneLeaf part) (p : Coord) (inside : IsTrue (is_inside part p)) (passed : Coord → Bool) (so_far : IsUpTo part p passed) (old mid new : Leaf V)
+  module _ (part : Box) (block : IsInOneLeaf vdb part) (p : Coord) (inside : IsTrue (is_inside part p)) (passed : Coord → Bool) (so_far : IsUpTo part p passed) (old mid new : Leaf V)
       (h : AreLaid make change (λ q. IsTrue (passed q)) old mid)
       (voxel : (d : Cell V) → IsWritten make (change p) (cell_in d mid (offset vdb leaf_level p)) (cell_in d new (offset vdb leaf_level p)))
       (others : (d : Cell V) (i : ℕ) → offset vdb leaf_level p ≢ i → cell_in d new i ≡ cell_in d mid i) where
@@ -213,7 +213,7 @@ module _ {V : Type 0} (make : V → Scalar) (elements : ℕ → Option (Write Sc
     laid = (none, up_to_min part p at_min, record { voxels = λ d q k. absurd (false_true false refl k); others = λ d i out. refl });
   }
 
-  module _ (block : IsInOneLeaf part) (max p : Coord) (index : ℕ) (old mid new : Leaf V) (h : AreLaidUpTo max p index old mid)
+  module _ (block : IsInOneLeaf vdb part) (max p : Coord) (index : ℕ) (old mid new : Leaf V) (h : AreLaidUpTo max p index old mid)
       (voxel : (d : Cell V) → IsWritten make (elements index) (cell_in d mid (offset vdb leaf_level p)) (cell_in d new (offset vdb leaf_level p)))
       (others : (d : Cell V) (i : ℕ) → offset vdb leaf_level p ≢ i → cell_in d new i ≡ cell_in d mid i) where
     voxel_here : (d : Cell V) → IsWritten make (change p) (cell_in d mid (offset vdb leaf_level p)) (cell_in d new (offset vdb leaf_level p))

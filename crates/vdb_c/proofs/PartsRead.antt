@@ -10,14 +10,13 @@ use Rattle.vdb_coord.proofs.Boxes.{both}
 use Rattle.vdb_node.specs.Leaf.{cell_in, Leaf as LeafOf}
 use Rattle.vdb_tree.specs.Field.{Field, off}
 use Rattle.vdb_tree.specs.Layout.{Layout, background_cell, field_of, root_at}
-use Rattle.vdb_tree.specs.Parts.{IsPartOfLeaf, IsSkipped, OnLeaf, OnTile, Passes, TreeWalk, YieldsBox, is_left}
+use Rattle.vdb_tree.specs.Parts.{IsPartOfLeaf, IsSkipped, OnLeaf, OnTile, Passes, TreeWalk, YieldsBox, content_cell, is_left}
 use Rattle.vdb_tree.specs.declared.queries.parts.Content.{Content}
 use Rattle.vdb_tree.specs.declared.queries.parts.Content.TheVariants.{Leaf, Tile}
 use Rattle.vdb_tree.specs.declared.queries.parts.Skip.{Skip}
 use Rattle.vdb_tree.specs.declared.queries.parts.Skip.TheVariants.{Absent, Background}
 use Rattle.vdb_tree.proofs.PartWalks.{absent_skipped}
 use Rattle.vdb_value.specs.declared.Cell.{Cell}
-use Rattle.vdb_c.specs.BoxReads.{content_cell}
 use Rattle.vdb_c.specs.Elements.{IsLaid, are_apart}
 use Rattle.vdb_c.specs.declared.elements.Strides.{Strides}
 use Rattle.vdb_c.proofs.Laid.{either_way, false_true, laid_over, laid_same, laid_within}
@@ -41,7 +40,7 @@ on_leaf P Q (Leaf leaf) f h = f leaf h
 
 -- its cells are those of the field
 pub content_is : {V L : Type 0} (now : L → LeafOf V) (f : Field V) (part : Box) (content : Content V L) → OnTile content (λ cell. (q : Coord) → IsTrue (is_inside part q) → f.cell q ≡ cell)
-    → OnLeaf content (λ leaf. IsPartOfLeaf vdb f part (now leaf)) → (q : Coord) → IsTrue (is_inside part q) → content_cell (λ leaf. cell_in (off f.background) (now leaf)) content q ≡ f.cell q
+    → OnLeaf content (λ leaf. IsPartOfLeaf vdb f part (now leaf)) → (q : Coord) → IsTrue (is_inside part q) → content_cell vdb (λ leaf. cell_in (off f.background) (now leaf)) content q ≡ f.cell q
 content_is now f part (Tile cell) tile leaf q i = sym (tile q i)
 content_is now f part (Leaf l) tile leaf q i = sym (leaf.cells q i)
 

@@ -10,7 +10,6 @@ pub mod Regions
 pub mod Many
 pub mod Elements
 pub mod BoxVoxels
-pub mod BoxReads
 pub mod BoxArrays
 pub mod HeldView
 pub mod Views

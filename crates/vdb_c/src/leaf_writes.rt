@@ -9,7 +9,7 @@ ghost use Rattle.vdb_tree.specs.Field.{as_field_of};
 ghost use Rattle.vdb_tree.specs.Layout.{field_of};
 ghost use Rattle.vdb_tree.specs.Paths.{in_leaf};
 ghost use Rattle.vdb_value.specs.declared.Cell.{Cell};
-ghost use Rattle.vdb_c.specs.BoxReads.{IsInOneLeaf};
+ghost use Rattle.vdb_tree.specs.Parts.{IsInOneLeaf};
 ghost use Rattle.vdb_c.specs.BoxWrites.{change_of_voxel, with_writes};
 ghost use Rattle.vdb_c.specs.Elements.{place as place_of};
 ghost use Rattle.vdb_c.specs.LeafWrites.{AreLaid, AreWritten, IsBeside, IsReady, IsWritten};
@@ -208,7 +208,7 @@ fn lay<V: Number>(
 )
     requires within { (q : Coord) → IsTrue (is_inside part q) → IsTrue (is_inside bounds q) }
     requires reach { place_of bounds strides.now bounds.max + 1 < 2 ^ 64 }
-    requires block { IsInOneLeaf part }
+    requires block { IsInOneLeaf vdb part }
     ensures { AreLaid V.as_scalar (change_of_voxel V.KIND bounds strides.now values.now states.now) (λ q. IsTrue (is_inside part q)) leaf.old leaf.new }
 {
     let max = part.max();

@@ -6,9 +6,8 @@ ghost use Rattle.vdb_coord.specs.declared.Coord.{Coord};
 ghost use Rattle.vdb_coord.specs.declared.Level.TheVariants.{Leaf as leaf_level};
 ghost use Rattle.vdb_node.specs.Leaf.{cell_in};
 ghost use Rattle.vdb_tree.specs.Layout.{field_of, root_at};
-ghost use Rattle.vdb_tree.specs.Parts.{OnLeaf};
+ghost use Rattle.vdb_tree.specs.Parts.{IsInOneLeaf, OnLeaf, content_cell};
 ghost use Rattle.vdb_value.specs.declared.Cell.{Cell};
-ghost use Rattle.vdb_c.specs.BoxReads.{IsInOneLeaf, content_cell};
 ghost use Rattle.vdb_c.specs.Elements.{IsLaid, are_apart, has_places, place as place_of};
 ghost use Rattle.vdb_c.specs.Values.{state_byte};
 
@@ -59,7 +58,7 @@ impl<V: Number> Element<V> for u8 {
 /// Returns the cell that a tile or a leaf has at a voxel.
 #[inline(always)]
 fn cell_at<V: Number>(content: &Content<V, &Leaf<V, 3, 8>>, p: Coord) -> Cell<V>
-    ensures { (d : Cell V) → content_cell (λ leaf. cell_in d leaf.now) content.now p ≡ result }
+    ensures { (d : Cell V) → content_cell vdb (λ leaf. cell_in d leaf.now) content.now p ≡ result }
 {
     match content {
         Content::Tile(cell) => *cell,
@@ -78,7 +77,7 @@ fn lay_voxels<V: Number, T: Element<V>>(
     requires within { (q : Coord) → IsTrue (is_inside part q) → IsTrue (is_inside bounds q) }
     requires apart { IsTrue (are_apart bounds strides.now) }
     requires reach { place_of bounds strides.now bounds.max < 2 ^ 64 }
-    ensures { (d : Cell V) → IsLaid bounds strides.now (is_inside part) (λ p. T.of (content_cell (λ leaf. cell_in d leaf.now) content.now p)) out.old out.new }
+    ensures { (d : Cell V) → IsLaid bounds strides.now (is_inside part) (λ p. T.of (content_cell vdb (λ leaf. cell_in d leaf.now) content.now p)) out.old out.new }
 {
     let max = part.max();
     let stride = strides.z;
@@ -117,7 +116,7 @@ fn lay_rows<V: Number>(
     requires apart { IsTrue (are_apart bounds strides.now) }
     requires places { place_of bounds strides.now bounds.max < length out.old }
     requires along { strides.now.z ≡ 1 }
-    requires block { IsInOneLeaf part }
+    requires block { IsInOneLeaf vdb part }
     ensures { (d : Cell V) → IsLaid bounds strides.now (is_inside part) (λ p. V.number_of (cell_in d leaf.now (offset vdb leaf_level p)).value) out.old out.new }
 {
     let mut p = part.min();
@@ -143,8 +142,8 @@ fn lay_values<V: Number>(
     requires within { (q : Coord) → IsTrue (is_inside part q) → IsTrue (is_inside bounds q) }
     requires apart { IsTrue (are_apart bounds strides.now) }
     requires places { place_of bounds strides.now bounds.max < length out.old }
-    requires block { OnLeaf content.now (λ leaf. IsInOneLeaf part) }
-    ensures { (d : Cell V) → IsLaid bounds strides.now (is_inside part) (λ p. V.number_of (content_cell (λ leaf. cell_in d leaf.now) content.now p).value) out.old out.new }
+    requires block { OnLeaf content.now (λ leaf. IsInOneLeaf vdb part) }
+    ensures { (d : Cell V) → IsLaid bounds strides.now (is_inside part) (λ p. V.number_of (content_cell vdb (λ leaf. cell_in d leaf.now) content.now p).value) out.old out.new }
 {
     match content {
         Content::Leaf(leaf) if strides.z == 1 => lay_rows(leaf, bounds, strides, part, out),
@@ -165,9 +164,9 @@ fn lay_part<V: Number>(
     requires apart { IsTrue (are_apart bounds strides.now) }
     requires values { IsTrue (has_places bounds strides.now (length values.old)) }
     requires states { IsTrue (has_places bounds strides.now (length states.old)) }
-    requires block { OnLeaf content.now (λ leaf. IsInOneLeaf part) }
-    ensures values { (d : Cell V) → IsLaid bounds strides.now (is_inside part) (λ p. V.number_of (content_cell (λ leaf. cell_in d leaf.now) content.now p).value) values.old values.new }
-    ensures states { (d : Cell V) → IsLaid bounds strides.now (is_inside part) (λ p. state_byte (content_cell (λ leaf. cell_in d leaf.now) content.now p).on) states.old states.new }
+    requires block { OnLeaf content.now (λ leaf. IsInOneLeaf vdb part) }
+    ensures values { (d : Cell V) → IsLaid bounds strides.now (is_inside part) (λ p. V.number_of (content_cell vdb (λ leaf. cell_in d leaf.now) content.now p).value) values.old values.new }
+    ensures states { (d : Cell V) → IsLaid bounds strides.now (is_inside part) (λ p. state_byte (content_cell vdb (λ leaf. cell_in d leaf.now) content.now p).on) states.old states.new }
 {
     if values.len() != 0 {
         lay_values(content, bounds, strides, part, values);

@@ -2,10 +2,11 @@
 //! each accessor again.
 
 ghost use Rattle.std.specs.Prelude.{◌≡◌, ◌+◌, ◌≤◌, Err, false, IfErr, IsOk, IsTrue, OnErr, OnOk, true};
-ghost use Rattle.vdb_coord.specs.Blocks.{vdb};
+ghost use Rattle.vdb_coord.specs.Blocks.{key, vdb};
 ghost use Rattle.vdb_coord.specs.declared.Coord.{Coord};
 ghost use Rattle.vdb_coord.specs.declared.Level.{Level};
 ghost use Rattle.vdb_node.specs.declared.Entry.TheVariants.{Tile};
+ghost use Rattle.vdb_tree.specs.Capacity.{HasCapacity};
 ghost use Rattle.vdb_tree.specs.Changes.{AddsNodes};
 ghost use Rattle.vdb_tree.specs.Field.{clip as clipped, combine, dilate as dilation, erode as erosion, fill as filled, intersect as intersected, replace as replaced, subtract as subtracted, turns as turned, unite as united};
 ghost use Rattle.vdb_tree.specs.Layout.{entry_over, field_of};
@@ -94,13 +95,14 @@ impl<V: Stored<512> + Stored<64> + Stored<8>, const K: usize> Grid<V, K> {
     }
 
     /// Puts a leaf into the leaf extent around a coordinate, as the tree's `touch_leaf` does. No cell changes. It fails
-    /// with `RootLimit` or `Memory`.
+    /// with `RootLimit`, but not if the root table has an entry for the coordinate or room for one, or with `Memory`.
     pub fn touch_leaf(&mut self, p: Coord, steps: &mut Steps) -> Result<(), TreeRefusal>
         ensures field { field_of vdb self.new.tree ≡ field_of vdb self.old.tree }
         ensures limit { self.new.tree.limit ≡ self.old.tree.limit }
         ensures made { OnOk result (IsTrue (in_leaf vdb self.new.tree p)) }
         ensures leaves { (q : Coord) → IsTrue (in_leaf vdb self.old.tree q) → IsTrue (in_leaf vdb self.new.tree q) }
         ensures there { IsTrue (in_leaf vdb self.old.tree p) → IsOk result }
+        ensures capacity { HasCapacity self.old.tree (key vdb p) → IfErr result (λ refusal. refusal ≡ Memory) }
         ensures last { self.new.coords ≡ self.old.coords }
     {
         let outcome = self.tree.touch_leaf(p, steps);

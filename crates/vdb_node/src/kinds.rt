@@ -133,6 +133,7 @@ impl<const W: usize> Stored<W> for i32 {
         row.at(i)
     }
 
+    #[inline(always)]
     fn copy_values(row: &Values<i32>, from: u32, into: &mut [i32]) {
         row.copy_out(from, into);
     }
@@ -208,6 +209,7 @@ impl<const W: usize> Stored<W> for i64 {
         row.at(i)
     }
 
+    #[inline(always)]
     fn copy_values(row: &Values<i64>, from: u32, into: &mut [i64]) {
         row.copy_out(from, into);
     }

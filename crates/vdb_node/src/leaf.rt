@@ -101,6 +101,7 @@ impl<V: Stored<W>, const LOG2: u32, const W: usize> Leaf<V, LOG2, W> {
 
     /// Copies the values from index `from` on to a slice of as many places as it has.
     /// `LeafNode::buffer().data()`, of which it copies a run.
+    #[inline(always)]
     pub fn copy_values(&self, from: u32, into: &mut [V])
         requires { from + length into.old ≤ entry_count LOG2 }
         ensures length { length into.new ≡ length into.old }
@@ -117,8 +118,8 @@ impl<V: Stored<W>, const LOG2: u32, const W: usize> Leaf<V, LOG2, W> {
         requires { i < entry_count LOG2 }
         ensures { SetsVoxel self.old self.new i cell }
     {
-        V::set_value(&mut self.row, i, cell.value);
         put(&mut self.states, i, cell.on);
+        V::set_value(&mut self.row, i, cell.value); // last, so that a call behind it needs no registers kept
     }
 
     /// Sets the cell at each index from `from` on and below `to`; every other stays. What

@@ -79,7 +79,25 @@ impl<V: Voxel> Values<V> {
     }
 
     /// Copies the values from index `from` on to a slice of as many places as it has.
+    #[inline(always)]
     pub(crate) fn copy_out(&self, from: u32, into: &mut [V])
+        requires { from + length into.old ≤ 32768 }
+        ensures length { length into.new ≡ length into.old }
+        ensures values { (i : ℕ) (d : V) → i < length into.old
+            → slice_index_or into.new i d ≡ value_of self.now (from + i) }
+    {
+        let first = from as usize;
+        let end = first + into.len();
+        if end <= self.first.len() {
+            into.copy_from_slice(&self.first[first..end]);
+        } else {
+            self.copy_out_past_written(from, into);
+        }
+    }
+
+    /// Does what `copy_out` does, also where values past the written ones are copied.
+    #[inline(never)]
+    fn copy_out_past_written(&self, from: u32, into: &mut [V])
         requires { from + length into.old ≤ 32768 }
         ensures length { length into.new ≡ length into.old }
         ensures values { (i : ℕ) (d : V) → i < length into.old
@@ -151,9 +169,24 @@ impl<V: Voxel> Values<V> {
         ensures here { value_of self.new i ≡ value }
         ensures others { (j : ℕ) → j ≢ i → value_of self.new j ≡ value_of self.old j }
     {
-        if self.first.len() <= i as usize {
-            self.write_below(i as usize / 512 * 512 + 512);
+        if (i as usize) < self.first.len() {
+            self.first[i as usize] = value;
+        } else {
+            self.set_past_written(i, value);
         }
+    }
+
+    /// Sets the value at an index, with those below the next multiple of 512 written to their places.
+    /// It is a call of its own, after which `set` does nothing, so that `set` keeps no registers for it.
+    #[cold]
+    #[inline(never)]
+    fn set_past_written(&mut self, i: u32, value: V)
+        requires within { i < capacity self.old }
+        ensures capacity { capacity self.old ≤ capacity self.new }
+        ensures here { value_of self.new i ≡ value }
+        ensures others { (j : ℕ) → j ≢ i → value_of self.new j ≡ value_of self.old j }
+    {
+        self.write_below(i as usize / 512 * 512 + 512);
         self.first[i as usize] = value;
     }
 

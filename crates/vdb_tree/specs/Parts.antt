@@ -81,9 +81,18 @@ abbrev pub OnLeaf : {V L : Type 0} → Content V L → (L → Type 0) → Type 0
 OnLeaf (Tile cell) P = Unit {0}
 OnLeaf (Leaf leaf) P = P leaf
 
+-- the cell that a tile or a leaf has at a coordinate, by the cells that the leaf has at its offsets
+abbrev pub content_cell : {V L : Type 0} → Bits → (L → ℕ → Cell V) → Content V L → Coord → Cell V
+content_cell bits cells (Tile cell) p = cell
+content_cell bits cells (Leaf leaf) p = cells leaf (offset bits leaf_level p)
+
+-- the box lies in one leaf extent
+abbrev pub IsInOneLeaf : Bits → Box → Type 0
+IsInOneLeaf bits box = (q r : Coord) → IsTrue (is_inside box q) → IsTrue (is_inside box r) → block_number bits leaf_level q ≡ block_number bits leaf_level r
+
 -- the box lies in one leaf extent, and the leaf has its cells
 pub record IsPartOfLeaf {V : Type 0} (bits : Bits) (f : Field V) (box : Box) (leaf : LeafOf V) : Type 0 where
-  pub block : (q r : Coord) → IsTrue (is_inside box q) → IsTrue (is_inside box r) → block_number bits leaf_level q ≡ block_number bits leaf_level r
+  pub block : IsInOneLeaf bits box
   pub cells : (q : Coord) → IsTrue (is_inside box q) → f.cell q ≡ cell_in (off f.background) leaf (offset bits leaf_level q)
 
 -- ---- ends of descents; only the calls of this crate speak of them

@@ -185,14 +185,16 @@ impl<
         ensures paths { (path : TreePath V) (q : Coord) → IsWhole (bits_of U L F) self.old path q → IsWhole (bits_of U L F) self.new path q }
         ensures steps { steps.new ≤ steps.old + 1 }
     {
-        let background_cell = Cell {
-            value: self.background,
-            on: false,
-        };
         let offset = self.offset(p, Level::Leaf);
         let leaf = self.leaves.at_mut(leaf, steps);
         let cell = change.applied(leaf.entry(offset));
+        if self.swept {
+            let background_cell = Cell {
+                value: self.background,
+                on: false,
+            };
+            self.swept = cell != background_cell;
+        }
         leaf.set(offset, cell);
-        self.swept = self.swept && cell != background_cell;
     }
 }

@@ -3,9 +3,8 @@ use Rattle.vdb_coord.specs.Blocks.{vdb}
 use Rattle.vdb_coord.specs.Space.{Box, is_inside}
 use Rattle.vdb_tree.specs.Field.{off}
 use Rattle.vdb_tree.specs.Layout.{field_of}
-use Rattle.vdb_tree.specs.Parts.{IsPartOfLeaf}
+use Rattle.vdb_tree.specs.Parts.{IsInOneLeaf, IsPartOfLeaf}
 use Rattle.vdb_value.specs.declared.Cell.{Cell}
-use Rattle.vdb_c.specs.BoxReads.{IsInOneLeaf}
 use Rattle.vdb_c.specs.Elements.{has_places}
 use Rattle.vdb_c.specs.Values.{state_byte}
 use Rattle.vdb_c.proofs.PartsRead.{content_is, on_leaf, read_end, read_next, read_start}
@@ -33,7 +32,7 @@ lay_part-requires g c =
       apart = c.requires.apart;
       values = subst (λ (n : ℕ). IsTrue (has_places c.args.bounds c.args.strides.now n)) (sym inv.values.size) c.requires.values;
       states = subst (λ (n : ℕ). IsTrue (has_places c.args.bounds c.args.strides.now n)) (sym inv.states.size) c.requires.states;
-      block = on_leaf (λ leaf. IsPartOfLeaf vdb (field_of vdb c.args.tree.now) c.in-Some.part.bounds leaf.now) (λ leaf. IsInOneLeaf c.in-Some.part.bounds) c.in-Some.part.content (λ leaf part. part.block) c.in-Some.ensures.leaf;
+      block = on_leaf (λ leaf. IsPartOfLeaf vdb (field_of vdb c.args.tree.now) c.in-Some.part.bounds leaf.now) (λ leaf. IsInOneLeaf vdb c.in-Some.part.bounds) c.in-Some.part.content (λ leaf part. part.block) c.in-Some.ensures.leaf;
     }
 
 pub rest-preserved : goal.rest-preserved

@@ -12,15 +12,16 @@ invariant_of-self g c =
     let exact = exact_by g.V.PartialEq.eq g.V.Ord.cmp g.met.V.Ord.matches_eq g.met.V.Voxel.exact in (
       c.self.invariant.0,
       leaf_sound _ _ _ _ _ c.at_mut-leaf.ensures.node c.self.invariant.1,
+      -- a changed tree is the tuple of its fields, of which `swept` is the sixth
       λ known. elim c.if-self.branch [
         | then-self w ↦
             changed_swept _ _ _ (λ k h. h) c.args.p _
             (write_gives _ _ _ _ _ c.at_mut-leaf.ensures.node c.args.p
             (rw (← c.self.view_is) at c.requires.child)
             _ c.offset-offset.ensures.value c.args.change _ _ c.entry.ensures c.applied-cell.ensures c.set.ensures c.self.invariant.1)
-            (λ same. never (w.ne-self-inside.ensures ∙ ap not (cell_same g.V.PartialEq.eq exact g.met.V.Eq.laws.refl _ _ same)) (sym w.self-is ∙ known))
+            (λ same. never (w.ne-self-inside.ensures ∙ ap not (cell_same g.V.PartialEq.eq exact g.met.V.Eq.laws.refl _ _ same)) (sym (ap (λ t. t.1.1.1.1.1.0) w.self-inside-is) ∙ known))
             (c.self.invariant.2 w.if-self.true)
-        | else-self w ↦ absurd (never (w.self-is ∙ w.if-self.false) known)
+        | else-self w ↦ absurd (never (ap (λ t. t.1.1.1.1.1.0) w.self-inside-is ∙ w.if-self.false) known)
       ],
     )
 
