@@ -1,5 +1,6 @@
 pub mod Kept
 pub mod HeldGrid
+pub mod LendsGrid
 pub mod HeldScene
 pub mod Codes
 pub mod Values

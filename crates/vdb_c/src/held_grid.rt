@@ -1,5 +1,6 @@
 //! A grid that C holds: the pointer of its box, in a struct that crosses to C.
 ghost use Rattle.std.specs.Prelude.{◌≡◌, Option, Some, None};
+ghost use Rattle.std.specs.Borrow.{sem};
 ghost use Rattle.std.specs.Option.{option_map};
 ghost use Rattle.vdb_c.specs.HeldGrid.{coded_held, owns_held};
 ghost use Rattle.vdb_scene.specs.declared.any_grid.AnyGrid.{AnyGrid};
@@ -22,6 +23,21 @@ impl Model for HeldGrid {
 }
 
 impl HeldGrid {
+    ghost use Rattle.vdb_c.specs.LendsGrid.{lends_grid};
+
+    /// Lends the grid, if there is one, without a write to the handle.
+    #[inline(always)]
+    pub(crate) fn grid_mut(&mut self) -> Option<&mut AnyGrid>
+        ensures* writes_back { sem 𝓛 (lends_grid self.entry result) }
+        ensures value { option_map (λ grid. grid.now) result ≡ self.old.held }
+    {
+        let at = self.at as *mut AnyGrid;
+        if at.is_null() {
+            return None;
+        }
+        Some(unsafe { &mut *at })
+    }
+
     /// Holds what is kept.
     #[inline(always)]
     fn of(kept: Kept<AnyGrid, Global>) -> HeldGrid
