@@ -12,7 +12,6 @@ use crate::elements::{Strides, are_apart, has_places};
 use crate::handles::GridHandle;
 use crate::reading::read_box;
 use crate::values::{Corners, bounds};
-use std::alloc::Global;
 use vdb_coord::Bounds;
 use vdb_pool::Steps;
 use vdb_scene::AnyGrid;
@@ -21,7 +20,6 @@ use vdb_scene::AnyGrid;
 /// empty array stays so.
 #[unsafe(no_mangle)]
 pub extern "C" fn vdb_grid_read_box(
-    alloc: Global,
     handle: &mut GridHandle,
     corners: &Corners,
     strides: &Strides,
@@ -32,16 +30,14 @@ pub extern "C" fn vdb_grid_read_box(
         OnValid (box_beside corners.now strides.now (length values.old) (length states.old)) g h result ((values.new ≡ values.old) × (states.new ≡ states.old)) (λ box.
         Reads g h result (IsLaid box strides.now (is_inside box) (number_at (grid_field g)) values.old values.new × IsLaid box strides.now (is_inside box) (byte_at (grid_field g)) states.old states.new))) }
 {
-    let Some(grid) = handle.grid.take(alloc) else {
+    let Some(grid) = handle.grid.grid_mut() else {
         return EMPTY;
     };
-    let mut code = OUT_OF_RANGE;
-    if let Some(bounds) = bounds_beside(corners, strides, values.len(), states.len()) {
-        read(&grid, bounds, strides, values, states, &mut handle.steps);
-        code = DONE;
-    }
-    handle.grid.put(alloc, grid);
-    code
+    let Some(bounds) = bounds_beside(corners, strides, values.len(), states.len()) else {
+        return OUT_OF_RANGE;
+    };
+    read(grid, bounds, strides, values, states, &mut handle.steps);
+    DONE
 }
 
 /// Returns the box of two corners: `None` if they aren't in order, or an array doesn't fit the box.

@@ -22,7 +22,6 @@ use crate::leaf_writes::write_leaves;
 use crate::many::{change_at, has_all_numbers};
 use crate::numbers::Number;
 use crate::values::{Corners, accessor};
-use std::alloc::Global;
 use vdb_coord::{Bounds, Coord};
 use vdb_grid::Grid;
 use vdb_pool::Steps;
@@ -33,7 +32,6 @@ use vdb_value::Kind;
 /// root. If one of the arrays is empty, the voxels keep that part. It writes to `written` how many voxels it has set.
 #[unsafe(no_mangle)]
 pub extern "C" fn vdb_grid_write_box(
-    alloc: Global,
     handle: &mut GridHandle,
     number: i32,
     corners: &Corners,
@@ -47,28 +45,25 @@ pub extern "C" fn vdb_grid_write_box(
         OnValid (box_written corners.now strides.now (length values.now) (length states.now)) g h result (written.new ≡ written.old) (λ box.
         WritesBox box (change_of_voxel (grid_kind g) box strides.now values.now states.now) g h written.old written.new result))) }
 {
-    let Some(mut grid) = handle.grid.take(alloc) else {
+    let Some(grid) = handle.grid.grid_mut() else {
         return EMPTY;
     };
     let Some(accessor) = accessor(number) else {
-        handle.grid.put(alloc, grid);
         return OUT_OF_RANGE;
     };
-    let mut code = OUT_OF_RANGE;
-    if let Some(bounds) = bounds_written(corners, strides, values.len(), states.len()) {
-        code = write_box(
-            &mut grid,
-            accessor,
-            bounds,
-            strides,
-            values,
-            states,
-            written,
-            &mut handle.steps,
-        );
-    }
-    handle.grid.put(alloc, grid);
-    code
+    let Some(bounds) = bounds_written(corners, strides, values.len(), states.len()) else {
+        return OUT_OF_RANGE;
+    };
+    write_box(
+        grid,
+        accessor,
+        bounds,
+        strides,
+        values,
+        states,
+        written,
+        &mut handle.steps,
+    )
 }
 
 /// Returns the box of two corners: `None` if they aren't in order, an array doesn't fit the box, or both are empty.

@@ -13,7 +13,6 @@ use crate::codes::{DONE, EMPTY, OUT_OF_RANGE};
 use crate::handles::GridHandle;
 use crate::reports::corner;
 use crate::values::{Corner, Corners, bounds, coord, value_number};
-use std::alloc::Global;
 use vdb_coord::{Bounds, Coord};
 use vdb_pool::Steps;
 use vdb_scene::{AnyGrid, Scalar};
@@ -22,7 +21,6 @@ use vdb_scene::{AnyGrid, Scalar};
 /// voxel of the box is active.
 #[unsafe(no_mangle)]
 pub extern "C" fn vdb_grid_first_active(
-    alloc: Global,
     handle: &mut GridHandle,
     corners: &Corners,
     at: &mut Corner,
@@ -32,19 +30,16 @@ pub extern "C" fn vdb_grid_first_active(
     ensures { OnHeld handle.old.grid.held handle.new.grid.held result ((at.new ≡ at.old) × (value.new ≡ value.old) × (found.new ≡ found.old)) (λ g h. (h ≡ g)
         × LooksPast None (corners_box corners.now) (grid_field g) at.old at.new value.old value.new found.old found.new result) }
 {
-    let Some(grid) = handle.grid.take(alloc) else {
+    let Some(grid) = handle.grid.grid_mut() else {
         return EMPTY;
     };
-    let code = look_past(&grid, corners, None, at, value, found, &mut handle.steps);
-    handle.grid.put(alloc, grid);
-    code
+    look_past(grid, corners, None, at, value, found, &mut handle.steps)
 }
 
 /// Writes the first active voxel of a box past `at` in block order to `at`, its value to `value` and 1 to `found`, or 0 to
 /// `found` if no such voxel exists.
 #[unsafe(no_mangle)]
 pub extern "C" fn vdb_grid_next_active(
-    alloc: Global,
     handle: &mut GridHandle,
     corners: &Corners,
     at: &mut Corner,
@@ -54,13 +49,11 @@ pub extern "C" fn vdb_grid_next_active(
     ensures { OnHeld handle.old.grid.held handle.new.grid.held result ((at.new ≡ at.old) × (value.new ≡ value.old) × (found.new ≡ found.old)) (λ g h. (h ≡ g)
         × LooksPast (Some (corner_coord at.old)) (corners_box corners.now) (grid_field g) at.old at.new value.old value.new found.old found.new result) }
 {
-    let Some(grid) = handle.grid.take(alloc) else {
+    let Some(grid) = handle.grid.grid_mut() else {
         return EMPTY;
     };
     let after = Some(coord(at));
-    let code = look_past(&grid, corners, after, at, value, found, &mut handle.steps);
-    handle.grid.put(alloc, grid);
-    code
+    look_past(grid, corners, after, at, value, found, &mut handle.steps)
 }
 
 /// Looks for the first active voxel of a box past `after` in block order, or for the first of all.

@@ -53,12 +53,10 @@ pub extern "C" fn vdb_grid_copy(alloc: Global, from: &mut GridHandle, to: &mut G
     ensures same { from.new.grid.held ≡ from.old.grid.held }
     ensures copied { IsCopied from.old.grid.held to.old.grid.held to.new.grid.held result }
 {
-    let Some(grid) = from.grid.take(alloc) else {
+    let Some(grid) = from.grid.grid_mut() else {
         return EMPTY;
     };
-    let copy = grid.try_copy();
-    from.grid.put(alloc, grid);
-    let Ok(copy) = copy else {
+    let Ok(copy) = grid.try_copy() else {
         return MEMORY;
     };
     let Ok(copy) = Box::new(alloc, copy) else {
@@ -70,43 +68,36 @@ pub extern "C" fn vdb_grid_copy(alloc: Global, from: &mut GridHandle, to: &mut G
 
 /// Writes the number of the type of the grid's values to `kind`.
 #[unsafe(no_mangle)]
-pub extern "C" fn vdb_grid_kind(alloc: Global, handle: &mut GridHandle, kind: &mut i32) -> i32
+pub extern "C" fn vdb_grid_kind(handle: &mut GridHandle, kind: &mut i32) -> i32
     ensures { OnHeld handle.old.grid.held handle.new.grid.held result (kind.new ≡ kind.old) (λ g h. Reads g h result (kind.new ≡ number_of_kind (grid_kind g))) }
 {
-    let Some(grid) = handle.grid.take(alloc) else {
+    let Some(grid) = handle.grid.grid_mut() else {
         return EMPTY;
     };
     *kind = kind_number(grid.kind());
-    handle.grid.put(alloc, grid);
     DONE
 }
 
 /// Writes the background to `value`: the value of a voxel that was never written.
 #[unsafe(no_mangle)]
-pub extern "C" fn vdb_grid_background(
-    alloc: Global,
-    handle: &mut GridHandle,
-    value: &mut i64,
-) -> i32
+pub extern "C" fn vdb_grid_background(handle: &mut GridHandle, value: &mut i64) -> i32
     ensures { OnHeld handle.old.grid.held handle.new.grid.held result (value.new ≡ value.old) (λ g h. Reads g h result (value.new ≡ number_of_value (grid_field g).background)) }
 {
-    let Some(grid) = handle.grid.take(alloc) else {
+    let Some(grid) = handle.grid.grid_mut() else {
         return EMPTY;
     };
     *value = value_number(grid.background());
-    handle.grid.put(alloc, grid);
     DONE
 }
 
 /// Writes the root limit to `limit`.
 #[unsafe(no_mangle)]
-pub extern "C" fn vdb_grid_limit(alloc: Global, handle: &mut GridHandle, limit: &mut u32) -> i32
+pub extern "C" fn vdb_grid_limit(handle: &mut GridHandle, limit: &mut u32) -> i32
     ensures { OnHeld handle.old.grid.held handle.new.grid.held result (limit.new ≡ limit.old) (λ g h. Reads g h result (limit.new ≡ grid_root_limit g)) }
 {
-    let Some(grid) = handle.grid.take(alloc) else {
+    let Some(grid) = handle.grid.grid_mut() else {
         return EMPTY;
     };
     *limit = grid.limit();
-    handle.grid.put(alloc, grid);
     DONE
 }

@@ -76,14 +76,4 @@ impl HeldGrid {
         let old = boxed(mem::replace(self, full).kept(alloc));
         drop(old);
     }
-    /// Holds this grid, in place of none.
-    #[inline(always)]
-    pub(crate) fn put_back(&mut self, alloc: Global, grid: Box<AnyGrid>)
-        requires { self.old.held ≡ None }
-        ensures { self.new.held ≡ Some grid.value }
-    {
-        let full = HeldGrid::of(Kept::of(grid));
-        let old = boxed(mem::replace(self, full).kept(alloc));
-        let None = old else { unreachable!() };
-    }
 }

@@ -10,25 +10,19 @@ use crate::codes::{DONE, EMPTY, OUT_OF_RANGE};
 use crate::handles::GridHandle;
 use crate::leaf_rows::{copy_leaves, has_rows};
 use crate::values::Corner;
-use std::alloc::Global;
 use vdb_coord::Coord;
 use vdb_pool::Steps;
 use vdb_scene::AnyGrid;
 
 /// Writes the number of leaves of the grid's tree to `count`.
 #[unsafe(no_mangle)]
-pub extern "C" fn vdb_grid_leaf_count(
-    alloc: Global,
-    handle: &mut GridHandle,
-    count: &mut u64,
-) -> i32
+pub extern "C" fn vdb_grid_leaf_count(handle: &mut GridHandle, count: &mut u64) -> i32
     ensures { OnHeld handle.old.grid.held handle.new.grid.held result (count.new ≡ count.old) (λ g h. Reads g h result (count.new ≡ leaf_count g)) }
 {
-    let Some(grid) = handle.grid.take(alloc) else {
+    let Some(grid) = handle.grid.grid_mut() else {
         return EMPTY;
     };
-    *count = count_leaves(&grid);
-    handle.grid.put(alloc, grid);
+    *count = count_leaves(grid);
     DONE
 }
 
@@ -47,7 +41,6 @@ fn count_leaves(grid: &AnyGrid) -> u64
 /// 512 values and its 8 words of states. `values` or `states` may be empty, and stays so. It writes to `copied` how many it copied.
 #[unsafe(no_mangle)]
 pub extern "C" fn vdb_grid_first_leaves(
-    alloc: Global,
     handle: &mut GridHandle,
     origins: &mut [Corner],
     values: &mut [i64],
@@ -57,26 +50,23 @@ pub extern "C" fn vdb_grid_first_leaves(
     ensures { OnHeld handle.old.grid.held handle.new.grid.held result ((copied.new ≡ copied.old) × (origins.new ≡ origins.old) × (values.new ≡ values.old) × (states.new ≡ states.old)) (λ g h. (h ≡ g)
         × CopiesLeaves g None copied.old copied.new origins.old origins.new values.old values.new states.old states.new result) }
 {
-    let Some(grid) = handle.grid.take(alloc) else {
+    let Some(grid) = handle.grid.grid_mut() else {
         return EMPTY;
     };
-    let code = copy_past(
-        &grid,
+    copy_past(
+        grid,
         None,
         origins,
         values,
         states,
         copied,
         &mut handle.steps,
-    );
-    handle.grid.put(alloc, grid);
-    code
+    )
 }
 
 /// Copies the leaves that begin past a coordinate in block order, such as past the first coordinate of the last leaf copied.
 #[unsafe(no_mangle)]
 pub extern "C" fn vdb_grid_next_leaves(
-    alloc: Global,
     handle: &mut GridHandle,
     x: i32,
     y: i32,
@@ -89,20 +79,18 @@ pub extern "C" fn vdb_grid_next_leaves(
     ensures { OnHeld handle.old.grid.held handle.new.grid.held result ((copied.new ≡ copied.old) × (origins.new ≡ origins.old) × (values.new ≡ values.old) × (states.new ≡ states.old)) (λ g h. (h ≡ g)
         × CopiesLeaves g (Some (coord x y z)) copied.old copied.new origins.old origins.new values.old values.new states.old states.new result) }
 {
-    let Some(grid) = handle.grid.take(alloc) else {
+    let Some(grid) = handle.grid.grid_mut() else {
         return EMPTY;
     };
-    let code = copy_past(
-        &grid,
+    copy_past(
+        grid,
         Some(Coord { x, y, z }),
         origins,
         values,
         states,
         copied,
         &mut handle.steps,
-    );
-    handle.grid.put(alloc, grid);
-    code
+    )
 }
 
 /// Copies the leaves past a coordinate, or the first ones, if there is room.

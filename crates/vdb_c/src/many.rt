@@ -16,7 +16,6 @@ use crate::element_writes::write_element;
 use crate::handles::GridHandle;
 use crate::numbers::Number;
 use crate::values::{Corner, accessor, coord, is_byte_on, value, value_number};
-use std::alloc::Global;
 use vdb_coord::Coord;
 use vdb_grid::Grid;
 use vdb_pool::Steps;
@@ -28,7 +27,6 @@ use vdb_value::{Cell, Kind};
 /// Each array has an element for each voxel, or is empty and stays so.
 #[unsafe(no_mangle)]
 pub extern "C" fn vdb_grid_get_many(
-    alloc: Global,
     handle: &mut GridHandle,
     number: i32,
     at: &[Corner],
@@ -39,15 +37,13 @@ pub extern "C" fn vdb_grid_get_many(
         OnValid (accessor_beside number (length at.now) (length values.old) (length states.old)) g h result ((values.new ≡ values.old) × (states.new ≡ states.old)) (λ _.
         Reads g h result (IsReadAt (number_at (grid_field g)) at.now values.old values.new × IsReadAt (byte_at (grid_field g)) at.now states.old states.new))) }
 {
-    let Some(mut grid) = handle.grid.take(alloc) else {
+    let Some(grid) = handle.grid.grid_mut() else {
         return EMPTY;
     };
     let Some(accessor) = accessor_of_many(number, at.len(), values.len(), states.len()) else {
-        handle.grid.put(alloc, grid);
         return OUT_OF_RANGE;
     };
-    read_many(&mut grid, accessor, at, values, states, &mut handle.steps);
-    handle.grid.put(alloc, grid);
+    read_many(grid, accessor, at, values, states, &mut handle.steps);
     DONE
 }
 
@@ -177,7 +173,6 @@ fn read_near<V: Number>(
 /// states of `states`. If one of these is empty, the voxels keep that part. It writes to `written` how many voxels it has set.
 #[unsafe(no_mangle)]
 pub extern "C" fn vdb_grid_write_many(
-    alloc: Global,
     handle: &mut GridHandle,
     number: i32,
     at: &[Corner],
@@ -189,23 +184,21 @@ pub extern "C" fn vdb_grid_write_many(
         OnValid (accessor_beside number (length at.now) (length values.now) (length states.now)) g h result (written.new ≡ written.old) (λ _.
         WritesMany (length at.now) (voxel_at at.now) (change_of_element (grid_kind g) values.now states.now) g h written.old written.new result)) }
 {
-    let Some(mut grid) = handle.grid.take(alloc) else {
+    let Some(grid) = handle.grid.grid_mut() else {
         return EMPTY;
     };
-    let mut code = OUT_OF_RANGE;
-    if let Some(accessor) = accessor_of_many(number, at.len(), values.len(), states.len()) {
-        code = write_many(
-            &mut grid,
-            accessor,
-            at,
-            values,
-            states,
-            written,
-            &mut handle.steps,
-        );
-    }
-    handle.grid.put(alloc, grid);
-    code
+    let Some(accessor) = accessor_of_many(number, at.len(), values.len(), states.len()) else {
+        return OUT_OF_RANGE;
+    };
+    write_many(
+        grid,
+        accessor,
+        at,
+        values,
+        states,
+        written,
+        &mut handle.steps,
+    )
 }
 
 /// Writes the voxels one after another, if each has a write.

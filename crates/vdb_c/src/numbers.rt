@@ -117,6 +117,10 @@ impl Number for i64 {
 
     #[inline(always)]
     fn copy_numbers_from(leaf: &Leaf<i64, 3, 8>, from: u32, into: &mut [i64]) {
-        leaf.copy_values(from, into);
+        if into.len() == 8 {
+            leaf.copy_values(from, &mut into[..8]); // a length that the compiler knows: four moves and no call
+        } else {
+            leaf.copy_values(from, into);
+        }
     }
 }

@@ -7,125 +7,82 @@ ghost use Rattle.vdb_c.specs.Calls.{Combines};
 
 use crate::codes::{EMPTY, scene_code};
 use crate::handles::GridHandle;
-use std::alloc::Global;
 use vdb_scene::{Composite, Operation};
 use vdb_tree::StateRule;
 
 /// Activates each voxel that is active in the other grid, and keeps the values. The types may differ.
 #[unsafe(no_mangle)]
-pub extern "C" fn vdb_grid_unite(
-    alloc: Global,
-    handle: &mut GridHandle,
-    other: &mut GridHandle,
-) -> i32
+pub extern "C" fn vdb_grid_unite(handle: &mut GridHandle, other: &mut GridHandle) -> i32
     ensures changed { Combines (States Unite) handle.old.grid.held other.old.grid.held handle.new.grid.held result }
     ensures other { other.new.grid.held ≡ other.old.grid.held }
 {
-    combine(alloc, handle, other, Operation::States(StateRule::Unite))
+    combine(handle, other, Operation::States(StateRule::Unite))
 }
 
 /// Deactivates each voxel that is active in the other grid, and keeps the values. The types may differ.
 #[unsafe(no_mangle)]
-pub extern "C" fn vdb_grid_subtract(
-    alloc: Global,
-    handle: &mut GridHandle,
-    other: &mut GridHandle,
-) -> i32
+pub extern "C" fn vdb_grid_subtract(handle: &mut GridHandle, other: &mut GridHandle) -> i32
     ensures changed { Combines (States Subtract) handle.old.grid.held other.old.grid.held handle.new.grid.held result }
     ensures other { other.new.grid.held ≡ other.old.grid.held }
 {
-    combine(alloc, handle, other, Operation::States(StateRule::Subtract))
+    combine(handle, other, Operation::States(StateRule::Subtract))
 }
 
 /// Deactivates each voxel that isn't active in the other grid, and keeps the values. The types may differ.
 #[unsafe(no_mangle)]
-pub extern "C" fn vdb_grid_intersect(
-    alloc: Global,
-    handle: &mut GridHandle,
-    other: &mut GridHandle,
-) -> i32
+pub extern "C" fn vdb_grid_intersect(handle: &mut GridHandle, other: &mut GridHandle) -> i32
     ensures changed { Combines (States Intersect) handle.old.grid.held other.old.grid.held handle.new.grid.held result }
     ensures other { other.new.grid.held ≡ other.old.grid.held }
 {
-    combine(
-        alloc,
-        handle,
-        other,
-        Operation::States(StateRule::Intersect),
-    )
+    combine(handle, other, Operation::States(StateRule::Intersect))
 }
 
 /// Sets each voxel to the greater of the two values, active if either is.
 #[unsafe(no_mangle)]
-pub extern "C" fn vdb_grid_maximum(
-    alloc: Global,
-    handle: &mut GridHandle,
-    other: &mut GridHandle,
-) -> i32
+pub extern "C" fn vdb_grid_maximum(handle: &mut GridHandle, other: &mut GridHandle) -> i32
     ensures changed { Combines (Values Maximum) handle.old.grid.held other.old.grid.held handle.new.grid.held result }
     ensures other { other.new.grid.held ≡ other.old.grid.held }
 {
-    combine(alloc, handle, other, Operation::Values(Composite::Maximum))
+    combine(handle, other, Operation::Values(Composite::Maximum))
 }
 
 /// Sets each voxel to the lesser of the two values, active if either is.
 #[unsafe(no_mangle)]
-pub extern "C" fn vdb_grid_minimum(
-    alloc: Global,
-    handle: &mut GridHandle,
-    other: &mut GridHandle,
-) -> i32
+pub extern "C" fn vdb_grid_minimum(handle: &mut GridHandle, other: &mut GridHandle) -> i32
     ensures changed { Combines (Values Minimum) handle.old.grid.held other.old.grid.held handle.new.grid.held result }
     ensures other { other.new.grid.held ≡ other.old.grid.held }
 {
-    combine(alloc, handle, other, Operation::Values(Composite::Minimum))
+    combine(handle, other, Operation::Values(Composite::Minimum))
 }
 
 /// Sets each voxel to the sum of the two values, active if either is.
 #[unsafe(no_mangle)]
-pub extern "C" fn vdb_grid_sum(
-    alloc: Global,
-    handle: &mut GridHandle,
-    other: &mut GridHandle,
-) -> i32
+pub extern "C" fn vdb_grid_sum(handle: &mut GridHandle, other: &mut GridHandle) -> i32
     ensures changed { Combines (Values Sum) handle.old.grid.held other.old.grid.held handle.new.grid.held result }
     ensures other { other.new.grid.held ≡ other.old.grid.held }
 {
-    combine(alloc, handle, other, Operation::Values(Composite::Sum))
+    combine(handle, other, Operation::Values(Composite::Sum))
 }
 
 /// Copies the other grid's active cells.
 #[unsafe(no_mangle)]
-pub extern "C" fn vdb_grid_replace(
-    alloc: Global,
-    handle: &mut GridHandle,
-    other: &mut GridHandle,
-) -> i32
+pub extern "C" fn vdb_grid_replace(handle: &mut GridHandle, other: &mut GridHandle) -> i32
     ensures changed { Combines (Values Replace) handle.old.grid.held other.old.grid.held handle.new.grid.held result }
     ensures other { other.new.grid.held ≡ other.old.grid.held }
 {
-    combine(alloc, handle, other, Operation::Values(Composite::Replace))
+    combine(handle, other, Operation::Values(Composite::Replace))
 }
 
 /// Combines two grids by an operation.
-fn combine(
-    alloc: Global,
-    handle: &mut GridHandle,
-    other: &mut GridHandle,
-    operation: Operation,
-) -> i32
+fn combine(handle: &mut GridHandle, other: &mut GridHandle, operation: Operation) -> i32
     ensures changed { Combines operation handle.old.grid.held other.old.grid.held handle.new.grid.held result }
     ensures other { other.new.grid.held ≡ other.old.grid.held }
 {
-    let Some(mut grid) = handle.grid.take(alloc) else {
+    let Some(grid) = handle.grid.grid_mut() else {
         return EMPTY;
     };
-    let Some(given) = other.grid.take(alloc) else {
-        handle.grid.put(alloc, grid);
+    let Some(given) = other.grid.grid_mut() else {
         return EMPTY;
     };
-    let code = scene_code(grid.combine(operation, &given, &mut handle.steps));
-    handle.grid.put(alloc, grid);
-    other.grid.put(alloc, given);
-    code
+    scene_code(grid.combine(operation, given, &mut handle.steps))
 }

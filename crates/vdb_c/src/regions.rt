@@ -13,7 +13,6 @@ ghost use Rattle.vdb_c.specs.Values.{corners_box};
 use crate::codes::{DONE, EMPTY, OUT_OF_RANGE, tree_code};
 use crate::handles::GridHandle;
 use crate::values::{Corners, bounds, is_on, value};
-use std::alloc::Global;
 use vdb_coord::Bounds;
 use vdb_pool::Steps;
 use vdb_scene::{AnyGrid, Scalar};
@@ -22,7 +21,6 @@ use vdb_value::Cell;
 /// Sets each voxel of a box to one cell.
 #[unsafe(no_mangle)]
 pub extern "C" fn vdb_grid_fill(
-    alloc: Global,
     handle: &mut GridHandle,
     corners: &Corners,
     given: i64,
@@ -30,15 +28,13 @@ pub extern "C" fn vdb_grid_fill(
 ) -> i32
     ensures { OnHeld handle.old.grid.held handle.new.grid.held result ⊤ (λ g h. OnValid (corners_box corners.now) g h result ⊤ (λ box. FillsWith box given active g h result)) }
 {
-    let Some(mut grid) = handle.grid.take(alloc) else {
+    let Some(grid) = handle.grid.grid_mut() else {
         return EMPTY;
     };
-    let mut code = OUT_OF_RANGE;
-    if let Some(bounds) = bounds(corners) {
-        code = fill_with(&mut grid, bounds, given, active, &mut handle.steps);
-    }
-    handle.grid.put(alloc, grid);
-    code
+    let Some(bounds) = bounds(corners) else {
+        return OUT_OF_RANGE;
+    };
+    fill_with(grid, bounds, given, active, &mut handle.steps)
 }
 
 /// Sets each voxel of a box to a number and a state, if the type has the number.
@@ -64,18 +60,16 @@ fn fill(grid: &mut AnyGrid, bounds: Bounds, cell: Cell<Scalar>, steps: &mut Step
 
 /// Sets each voxel outside a box to the background, inactive.
 #[unsafe(no_mangle)]
-pub extern "C" fn vdb_grid_clip(alloc: Global, handle: &mut GridHandle, corners: &Corners) -> i32
+pub extern "C" fn vdb_grid_clip(handle: &mut GridHandle, corners: &Corners) -> i32
     ensures { OnHeld handle.old.grid.held handle.new.grid.held result ⊤ (λ g h. OnValid (corners_box corners.now) g h result ⊤ (λ box. Clips box g h result)) }
 {
-    let Some(mut grid) = handle.grid.take(alloc) else {
+    let Some(grid) = handle.grid.grid_mut() else {
         return EMPTY;
     };
-    let mut code = OUT_OF_RANGE;
-    if let Some(bounds) = bounds(corners) {
-        code = clip(&mut grid, bounds, &mut handle.steps);
-    }
-    handle.grid.put(alloc, grid);
-    code
+    let Some(bounds) = bounds(corners) else {
+        return OUT_OF_RANGE;
+    };
+    clip(grid, bounds, &mut handle.steps)
 }
 
 /// Sets each voxel outside a box to the background, inactive.
@@ -88,68 +82,59 @@ fn clip(grid: &mut AnyGrid, bounds: Bounds, steps: &mut Steps) -> i32
 
 /// Makes the tree as small as its cells allow. No cell changes.
 #[unsafe(no_mangle)]
-pub extern "C" fn vdb_grid_prune(alloc: Global, handle: &mut GridHandle) -> i32
+pub extern "C" fn vdb_grid_prune(handle: &mut GridHandle) -> i32
     ensures { OnHeld handle.old.grid.held handle.new.grid.held result ⊤ (λ g h. Reads g h result (IsPruned h)) }
 {
-    let Some(mut grid) = handle.grid.take(alloc) else {
+    let Some(grid) = handle.grid.grid_mut() else {
         return EMPTY;
     };
     grid.prune(&mut handle.steps);
-    handle.grid.put(alloc, grid);
     DONE
 }
 
 /// Puts each active voxel of a box into a leaf. No cell changes.
 #[unsafe(no_mangle)]
-pub extern "C" fn vdb_grid_voxelise(
-    alloc: Global,
-    handle: &mut GridHandle,
-    corners: &Corners,
-) -> i32
+pub extern "C" fn vdb_grid_voxelise(handle: &mut GridHandle, corners: &Corners) -> i32
     ensures { OnHeld handle.old.grid.held handle.new.grid.held result ⊤ (λ g h. OnValid (corners_box corners.now) g h result ⊤ (λ box.
         Changes g h result (IsVoxelisedOr g h box))) }
 {
-    let Some(mut grid) = handle.grid.take(alloc) else {
+    let Some(grid) = handle.grid.grid_mut() else {
         return EMPTY;
     };
-    let mut code = OUT_OF_RANGE;
-    if let Some(bounds) = bounds(corners) {
-        code = tree_code(grid.voxelise(bounds, &mut handle.steps));
-    }
-    handle.grid.put(alloc, grid);
-    code
+    let Some(bounds) = bounds(corners) else {
+        return OUT_OF_RANGE;
+    };
+    tree_code(grid.voxelise(bounds, &mut handle.steps))
 }
 
 /// Activates, in each iteration, every voxel that has an active face neighbour, and keeps the values.
 #[unsafe(no_mangle)]
-pub extern "C" fn vdb_grid_dilate(alloc: Global, handle: &mut GridHandle, iterations: u32) -> i32
+pub extern "C" fn vdb_grid_dilate(handle: &mut GridHandle, iterations: u32) -> i32
     ensures { OnHeld handle.old.grid.held handle.new.grid.held result ⊤ (λ g h. OnValid (iterations_of iterations) g h result ⊤ (λ n.
         Changes g h result (IsGrowth scalar_eq vdb (grid_root_limit g) (grid_field g) (turns n dilate (grid_field g)) (grid_field h)))) }
 {
-    let Some(mut grid) = handle.grid.take(alloc) else {
+    let Some(grid) = handle.grid.grid_mut() else {
         return EMPTY;
     };
     let mut code = OUT_OF_RANGE;
     if iterations >= 1 && iterations <= 16 {
         code = tree_code(grid.dilate(iterations, &mut handle.steps));
     }
-    handle.grid.put(alloc, grid);
     code
 }
 
 /// Deactivates, in each iteration, every voxel that has an inactive face neighbour, and keeps the values.
 #[unsafe(no_mangle)]
-pub extern "C" fn vdb_grid_erode(alloc: Global, handle: &mut GridHandle, iterations: u32) -> i32
+pub extern "C" fn vdb_grid_erode(handle: &mut GridHandle, iterations: u32) -> i32
     ensures { OnHeld handle.old.grid.held handle.new.grid.held result ⊤ (λ g h. OnValid (iterations_of iterations) g h result ⊤ (λ n.
         Changes g h result (IsOutcome scalar_eq vdb (grid_root_limit g) (grid_field g) (turns n erode (grid_field g)) (grid_field h)))) }
 {
-    let Some(mut grid) = handle.grid.take(alloc) else {
+    let Some(grid) = handle.grid.grid_mut() else {
         return EMPTY;
     };
     let mut code = OUT_OF_RANGE;
     if iterations >= 1 && iterations <= 16 {
         code = tree_code(grid.erode(iterations, &mut handle.steps));
     }
-    handle.grid.put(alloc, grid);
     code
 }

@@ -11,7 +11,6 @@ ghost use Rattle.vdb_c.specs.Values.{corner_coord, corners_box};
 use crate::codes::{DONE, EMPTY, OUT_OF_RANGE};
 use crate::handles::GridHandle;
 use crate::values::{Corner, Corners, Count, Sizes, bounds};
-use std::alloc::Global;
 use vdb_coord::{Bounds, Coord};
 use vdb_pool::Steps;
 use vdb_scene::AnyGrid;
@@ -19,21 +18,19 @@ use vdb_walk::Census;
 
 /// Writes the number of active voxels to `count`.
 #[unsafe(no_mangle)]
-pub extern "C" fn vdb_grid_count(alloc: Global, handle: &mut GridHandle, count: &mut Count) -> i32
+pub extern "C" fn vdb_grid_count(handle: &mut GridHandle, count: &mut Count) -> i32
     ensures { OnHeld handle.old.grid.held handle.new.grid.held result (count.new ≡ count.old) (λ g h. Reads g h result (CountsActive (grid_field g) None count.new)) }
 {
-    let Some(grid) = handle.grid.take(alloc) else {
+    let Some(grid) = handle.grid.grid_mut() else {
         return EMPTY;
     };
-    *count = count_active(&grid, None, &mut handle.steps);
-    handle.grid.put(alloc, grid);
+    *count = count_active(grid, None, &mut handle.steps);
     DONE
 }
 
 /// Writes the number of active voxels of a box to `count`.
 #[unsafe(no_mangle)]
 pub extern "C" fn vdb_grid_count_in(
-    alloc: Global,
     handle: &mut GridHandle,
     corners: &Corners,
     count: &mut Count,
@@ -41,22 +38,19 @@ pub extern "C" fn vdb_grid_count_in(
     ensures { OnHeld handle.old.grid.held handle.new.grid.held result (count.new ≡ count.old) (λ g h. OnValid (corners_box corners.now) g h result (count.new ≡ count.old) (λ box.
         Reads g h result (CountsActive (grid_field g) (Some box) count.new))) }
 {
-    let Some(grid) = handle.grid.take(alloc) else {
+    let Some(grid) = handle.grid.grid_mut() else {
         return EMPTY;
     };
-    let mut code = OUT_OF_RANGE;
-    if let Some(bounds) = bounds(corners) {
-        *count = count_active(&grid, Some(bounds), &mut handle.steps);
-        code = DONE;
-    }
-    handle.grid.put(alloc, grid);
-    code
+    let Some(bounds) = bounds(corners) else {
+        return OUT_OF_RANGE;
+    };
+    *count = count_active(grid, Some(bounds), &mut handle.steps);
+    DONE
 }
 
 /// Writes the bounding box of the active voxels to `corners` and 1 to `found`, or 0 to `found` if no voxel is active.
 #[unsafe(no_mangle)]
 pub extern "C" fn vdb_grid_bounds(
-    alloc: Global,
     handle: &mut GridHandle,
     corners: &mut Corners,
     found: &mut i32,
@@ -64,21 +58,20 @@ pub extern "C" fn vdb_grid_bounds(
     ensures { OnHeld handle.old.grid.held handle.new.grid.held result ((corners.new ≡ corners.old) × (found.new ≡ found.old)) (λ g h.
         Reads g h result (IsBounds (grid_field g) corners.old corners.new found.new)) }
 {
-    let Some(grid) = handle.grid.take(alloc) else {
+    let Some(grid) = handle.grid.grid_mut() else {
         return EMPTY;
     };
-    *found = look_around(&grid, corners, &mut handle.steps);
-    handle.grid.put(alloc, grid);
+    *found = look_around(grid, corners, &mut handle.steps);
     DONE
 }
 
 /// Writes the size of the smallest tree of the grid's cells to `sizes`. It depends on the cells alone.
 #[unsafe(no_mangle)]
-pub extern "C" fn vdb_grid_census(alloc: Global, handle: &mut GridHandle, sizes: &mut Sizes) -> i32
+pub extern "C" fn vdb_grid_census(handle: &mut GridHandle, sizes: &mut Sizes) -> i32
     ensures { OnHeld handle.old.grid.held handle.new.grid.held result (sizes.new ≡ sizes.old) (λ g h.
         Reads g h result (sizes.new ≡ sizes_of (census_of scalar_eq vdb (grid_field g)))) }
 {
-    let Some(grid) = handle.grid.take(alloc) else {
+    let Some(grid) = handle.grid.grid_mut() else {
         return EMPTY;
     };
     let Census {
@@ -87,7 +80,6 @@ pub extern "C" fn vdb_grid_census(alloc: Global, handle: &mut GridHandle, sizes:
         lower,
         leaf,
     } = grid.census(&mut handle.steps);
-    handle.grid.put(alloc, grid);
     *sizes = Sizes {
         roots,
         upper,

@@ -16,7 +16,6 @@ use crate::codes::{DONE, EMPTY, OUT_OF_RANGE, tree_code};
 use crate::handles::GridHandle;
 use crate::near_writes::set_near;
 use crate::values::{accessor, is_on, state_number, value, value_number};
-use std::alloc::Global;
 use vdb_coord::Coord;
 use vdb_pool::Steps;
 use vdb_scene::{AnyGrid, Scalar};
@@ -26,7 +25,6 @@ use vdb_value::Kind;
 /// Writes the value and the state of a voxel to `value` and `active`, by the descent from the root.
 #[unsafe(no_mangle)]
 pub extern "C" fn vdb_grid_get(
-    alloc: Global,
     handle: &mut GridHandle,
     x: i32,
     y: i32,
@@ -37,11 +35,10 @@ pub extern "C" fn vdb_grid_get(
     ensures { OnHeld handle.old.grid.held handle.new.grid.held result ((value.new ≡ value.old) × (active.new ≡ active.old)) (λ g h. Reads g h result
         ((value.new ≡ number_of_value ((grid_field g).cell (coord x y z)).value) × (active.new ≡ number_of_state ((grid_field g).cell (coord x y z)).on))) }
 {
-    let Some(grid) = handle.grid.take(alloc) else {
+    let Some(grid) = handle.grid.grid_mut() else {
         return EMPTY;
     };
     let cell = grid.get(Coord { x, y, z }, &mut handle.steps);
-    handle.grid.put_back(alloc, grid);
     *value = value_number(cell.value);
     *active = state_number(cell.on);
     DONE
@@ -50,7 +47,6 @@ pub extern "C" fn vdb_grid_get(
 /// Writes the value and the state of a voxel to `value` and `active`, through an accessor or, with -1, from the root.
 #[unsafe(no_mangle)]
 pub extern "C" fn vdb_grid_probe(
-    alloc: Global,
     handle: &mut GridHandle,
     number: i32,
     x: i32,
@@ -63,13 +59,11 @@ pub extern "C" fn vdb_grid_probe(
         OnValid (accessor_of number) g h result ((value.new ≡ value.old) × (active.new ≡ active.old)) (λ _. Reads g h result
         ((value.new ≡ number_of_value ((grid_field g).cell (coord x y z)).value) × (active.new ≡ number_of_state ((grid_field g).cell (coord x y z)).on)))) }
 {
-    let Some(grid) = handle.grid.take(alloc) else {
+    let Some(grid) = handle.grid.grid_mut() else {
         return EMPTY;
     };
-    let near = near_cell(&grid, number, Coord { x, y, z }, &mut handle.steps);
-    handle.grid.put_back(alloc, grid);
-    let Some(cell) = near else {
-        return probe_far(alloc, handle, number, x, y, z, value, active);
+    let Some(cell) = near_cell(grid, number, Coord { x, y, z }, &mut handle.steps) else {
+        return probe_far(handle, number, x, y, z, value, active);
     };
     *value = cell.value;
     *active = state_number(cell.on);
@@ -79,7 +73,6 @@ pub extern "C" fn vdb_grid_probe(
 /// Returns what `vdb_grid_probe` returns, by the descent from the lowest node of the accessor's path that contains the voxel.
 #[inline(never)]
 fn probe_far(
-    alloc: Global,
     handle: &mut GridHandle,
     number: i32,
     x: i32,
@@ -90,15 +83,13 @@ fn probe_far(
 ) -> i32
     ensures { Probes number (coord x y z) value.old value.new active.old active.new handle.old.grid.held handle.new.grid.held result }
 {
-    let Some(mut grid) = handle.grid.take(alloc) else {
+    let Some(grid) = handle.grid.grid_mut() else {
         return EMPTY;
     };
     let Some(accessor) = accessor(number) else {
-        handle.grid.put_back(alloc, grid);
         return OUT_OF_RANGE;
     };
-    let cell = go_to(&mut grid, accessor, Coord { x, y, z }, &mut handle.steps);
-    handle.grid.put_back(alloc, grid);
+    let cell = go_to(grid, accessor, Coord { x, y, z }, &mut handle.steps);
     *value = cell.value;
     *active = state_number(cell.on);
     DONE
@@ -107,7 +98,6 @@ fn probe_far(
 /// Sets the value and the state of a voxel, through an accessor or, with -1, from the root.
 #[unsafe(no_mangle)]
 pub extern "C" fn vdb_grid_set(
-    alloc: Global,
     handle: &mut GridHandle,
     number: i32,
     x: i32,
@@ -118,28 +108,25 @@ pub extern "C" fn vdb_grid_set(
 ) -> i32
     ensures { OnHeld handle.old.grid.held handle.new.grid.held result ⊤ (λ g h. Writes (accessor_of number) (coord x y z) (option_map (write_of (number_is_on active)) (value_of (grid_kind g) given)) g h result) }
 {
-    let Some(mut grid) = handle.grid.take(alloc) else {
+    let Some(grid) = handle.grid.grid_mut() else {
         return EMPTY;
     };
-    let done = set_near(
-        &mut grid,
+    if set_near(
+        grid,
         number,
         Coord { x, y, z },
         given,
         is_on(active),
         &mut handle.steps,
-    );
-    handle.grid.put_back(alloc, grid);
-    if done {
+    ) {
         return DONE;
     }
-    set_far(alloc, handle, number, x, y, z, given, active)
+    set_far(handle, number, x, y, z, given, active)
 }
 
 /// Does what `vdb_grid_set` does, by the descent from the lowest node of the accessor's path that contains the voxel.
 #[inline(never)]
 fn set_far(
-    alloc: Global,
     handle: &mut GridHandle,
     number: i32,
     x: i32,
@@ -150,25 +137,16 @@ fn set_far(
 ) -> i32
     ensures { OnHeld handle.old.grid.held handle.new.grid.held result ⊤ (λ g h. Writes (accessor_of number) (coord x y z) (option_map (write_of (number_is_on active)) (value_of (grid_kind g) given)) g h result) }
 {
-    let Some(mut grid) = handle.grid.take(alloc) else {
+    let Some(grid) = handle.grid.grid_mut() else {
         return EMPTY;
     };
     let change = cell_write(grid.kind(), given, is_on(active));
-    let code = write(
-        &mut grid,
-        number,
-        Coord { x, y, z },
-        change,
-        &mut handle.steps,
-    );
-    handle.grid.put_back(alloc, grid);
-    code
+    write(grid, number, Coord { x, y, z }, change, &mut handle.steps)
 }
 
 /// Sets the value of a voxel and keeps its state.
 #[unsafe(no_mangle)]
 pub extern "C" fn vdb_grid_set_value(
-    alloc: Global,
     handle: &mut GridHandle,
     number: i32,
     x: i32,
@@ -178,25 +156,16 @@ pub extern "C" fn vdb_grid_set_value(
 ) -> i32
     ensures { OnHeld handle.old.grid.held handle.new.grid.held result ⊤ (λ g h. Writes (accessor_of number) (coord x y z) (option_map writes.Value (value_of (grid_kind g) given)) g h result) }
 {
-    let Some(mut grid) = handle.grid.take(alloc) else {
+    let Some(grid) = handle.grid.grid_mut() else {
         return EMPTY;
     };
     let change = value_write(grid.kind(), given);
-    let code = write(
-        &mut grid,
-        number,
-        Coord { x, y, z },
-        change,
-        &mut handle.steps,
-    );
-    handle.grid.put_back(alloc, grid);
-    code
+    write(grid, number, Coord { x, y, z }, change, &mut handle.steps)
 }
 
 /// Sets the state of a voxel and keeps its value.
 #[unsafe(no_mangle)]
 pub extern "C" fn vdb_grid_set_active(
-    alloc: Global,
     handle: &mut GridHandle,
     number: i32,
     x: i32,
@@ -206,19 +175,11 @@ pub extern "C" fn vdb_grid_set_active(
 ) -> i32
     ensures { OnHeld handle.old.grid.held handle.new.grid.held result ⊤ (λ g h. Writes (accessor_of number) (coord x y z) (Some (writes.State (number_is_on active))) g h result) }
 {
-    let Some(mut grid) = handle.grid.take(alloc) else {
+    let Some(grid) = handle.grid.grid_mut() else {
         return EMPTY;
     };
     let change = Some(Write::State(is_on(active)));
-    let code = write(
-        &mut grid,
-        number,
-        Coord { x, y, z },
-        change,
-        &mut handle.steps,
-    );
-    handle.grid.put_back(alloc, grid);
-    code
+    write(grid, number, Coord { x, y, z }, change, &mut handle.steps)
 }
 
 /// Returns the write of a number and a state: `None` if the type doesn't have the number.

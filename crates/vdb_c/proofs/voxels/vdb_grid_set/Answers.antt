@@ -1,4 +1,4 @@
-use Rattle.std.proofs.Common.{◌≡◌, ◌∙◌, ap, rules, subst, w32, w64, SFits, Some}
+use Rattle.std.proofs.Common.{◌∙◌, ap, rules, subst, w32, w64, SFits, Some}
 use Rattle.std.specs.Prelude.{⊤, Option}
 use Rattle.std.specs.Option.{option_map}
 use Rattle.std.proofs.lemmas.Int.{to_z-of_z}
@@ -17,7 +17,7 @@ returns c =
     let z : SFits w32 c.args.z = search rules in
     let given : SFits w64 c.args.given = search rules in
     let active : SFits w32 c.args.active = search rules in
-    let same = c.put_back.ensures ∙ ap Some (c.set_near-done.ensures.untouched c.if-done.false) ∙ ap Some c.deref_mut.ensures.value ∙ c.in-Some.ensures.value in
+    let same = ap Some (c.set_near.ensures.untouched c.if-set_near.false) ∙ c.in-Some.ensures.value in
     let far = (rw (to_z-of_z w32 c.args.number number, to_z-of_z w32 c.args.x x, to_z-of_z w32 c.args.y y, to_z-of_z w32 c.args.z z, to_z-of_z w64 c.args.given given, to_z-of_z w32 c.args.active active) at c.set_far.ensures) in
     rw (to_z-of_z w32 c.set_far.result fits)
     (subst (λ (o : Option AnyGrid). OnHeld o c.set_far.new.handle.grid.held c.set_far.result ⊤ (λ g h. Writes (accessor_of c.args.number) (coord c.args.x c.args.y c.args.z) (option_map (write_of (is_on c.args.active)) (value_of (grid_kind g) c.args.given)) g h c.set_far.result)) same far)
