@@ -7,9 +7,9 @@ ghost use Rattle.vdb_coord.specs.declared.Level.TheVariants.{Leaf as leaf_level}
 ghost use Rattle.vdb_node.specs.Leaf.{cell_in};
 ghost use Rattle.vdb_tree.specs.Field.{as_field_of};
 ghost use Rattle.vdb_tree.specs.Layout.{field_of};
+ghost use Rattle.vdb_tree.specs.Parts.{IsInOneLeaf};
 ghost use Rattle.vdb_tree.specs.Paths.{in_leaf};
 ghost use Rattle.vdb_value.specs.declared.Cell.{Cell};
-ghost use Rattle.vdb_tree.specs.Parts.{IsInOneLeaf};
 ghost use Rattle.vdb_c.specs.BoxWrites.{change_of_voxel, with_writes};
 ghost use Rattle.vdb_c.specs.Elements.{place as place_of};
 ghost use Rattle.vdb_c.specs.LeafWrites.{AreLaid, AreWritten, IsBeside, IsReady, IsWritten};

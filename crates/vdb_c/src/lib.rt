@@ -5,8 +5,8 @@
 //! voxels. Each call tests its arguments, so none has a condition; what C owes is stated in the header.
 //!
 //! The modules, from below:
-//! - `kept`: the pointer of a box, the one module that makes and follows it.
-//! - `view`, `held_grid`, `held_scene`, `held_view`, `handles`: what C holds.
+//! - `kept`: the pointer of a box, the one module that makes it and turns it back.
+//! - `view`, `held_grid`, `held_scene`, `held_view`, `handles`: what C holds. `held_grid` also lends the grid in place.
 //! - `codes`, `values`: codes, types, values, states, accessors and boxes as they cross.
 //! - `numbers`, `cells`: the value and the state of a voxel, as they cross.
 //! - `grid_life`, `voxels`, `regions`: calls on one grid.
