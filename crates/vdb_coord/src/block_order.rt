@@ -12,6 +12,7 @@ use crate::{Bits, Bounds, Coord, Level};
 impl Bounds {
     /// Returns the first coordinate of the box, in block order, past the level's block around `p`, a coordinate of
     /// the box. Returns `None` if no coordinate of the box comes past that block.
+    #[inline(always)]
     pub fn next_coord_in(self, bits: Bits, level: Level, p: Coord) -> Option<Coord>
         requires bits { AreBits bits }
         requires inside { IsTrue (is_inside self p) }
@@ -26,6 +27,7 @@ impl Bounds {
     }
 
     /// Returns the next coordinate past a leaf extent. It looks in the lower extent around `p` first.
+    #[inline(always)]
     fn coord_past_leaf(self, bits: Bits, p: Coord) -> Option<Coord>
         requires bits { AreBits bits }
         requires inside { IsTrue (is_inside self p) }

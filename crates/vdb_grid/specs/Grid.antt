@@ -3,7 +3,7 @@ use Rattle.std.specs.Prelude.{◌≡◌, ℕ, Bool, false, List, Option, Some, N
 use Rattle.vdb_coord.specs.Blocks.{vdb}
 use Rattle.vdb_coord.specs.declared.Coord.{Coord}
 use Rattle.vdb_tree.specs.Layout.{Layout}
-use Rattle.vdb_tree.specs.Paths.{IsWhole, TreePath, common, ends_in_leaf}
+use Rattle.vdb_tree.specs.Paths.{IsWhole, TreePath, common, ends_in_leaf, ends_in_lower}
 use Rattle.vdb_tree.specs.declared.path.PathOf.TheVariants.{Empty}
 
 -- a grid: a tree of the standard configuration, and for each accessor the coordinate that it was last given and a path
@@ -33,3 +33,8 @@ module _ {V : Type 0} where
   abbrev pub has_leaf : Option Coord → TreePath V → Coord → Bool
   has_leaf None cached p = false
   has_leaf (Some q) cached p = ends_in_leaf (common vdb q p cached)
+
+  -- whether the lowest node of that path that holds p is a lower node
+  abbrev pub has_lower : Option Coord → TreePath V → Coord → Bool
+  has_lower None cached p = false
+  has_lower (Some q) cached p = ends_in_lower (common vdb q p cached)

@@ -16,7 +16,7 @@ ghost use Rattle.vdb_tree.specs.Paths.{in_leaf};
 ghost use Rattle.vdb_tree.specs.Smallest.{IsLeast};
 ghost use Rattle.vdb_tree.specs.SplitBox.{IsCovered};
 ghost use Rattle.vdb_tree.specs.Table.{HasCapacity};
-ghost use Rattle.vdb_tree.specs.declared.refusal.TreeRefusal.TheVariants.{Memory};
+ghost use Rattle.vdb_tree.specs.declared.refusal.TreeRefusal.TheVariants.{Memory, RootLimit};
 ghost use Rattle.vdb_composite.specs.SumOutcome.{IsSumOutcome};
 ghost use Rattle.vdb_morph.specs.Growth.{IsGrowth};
 
@@ -95,7 +95,8 @@ impl<V: Stored<512> + Stored<64> + Stored<8>, const K: usize> Grid<V, K> {
     }
 
     /// Puts a leaf into the leaf extent around a coordinate, as the tree's `touch_leaf` does. No cell changes. It fails
-    /// with `RootLimit`, but not if the root table has an entry for the coordinate or room for one, or with `Memory`.
+    /// with `RootLimit` if the root table has neither an entry for the coordinate nor room for one, and with `Memory` if
+    /// an allocation fails.
     pub fn touch_leaf(&mut self, p: Coord, steps: &mut Steps) -> Result<(), TreeRefusal>
         ensures field { field_of vdb self.new.tree ≡ field_of vdb self.old.tree }
         ensures limit { self.new.tree.limit ≡ self.old.tree.limit }
@@ -103,6 +104,7 @@ impl<V: Stored<512> + Stored<64> + Stored<8>, const K: usize> Grid<V, K> {
         ensures leaves { (q : Coord) → IsTrue (in_leaf vdb self.old.tree q) → IsTrue (in_leaf vdb self.new.tree q) }
         ensures there { IsTrue (in_leaf vdb self.old.tree p) → IsOk result }
         ensures capacity { HasCapacity self.old.tree (key vdb p) → IfErr result (λ refusal. refusal ≡ Memory) }
+        ensures full { (HasCapacity self.old.tree (key vdb p) → ⊥) → (result ≡ Err RootLimit) × (self.new.tree ≡ self.old.tree) }
         ensures last { self.new.coords ≡ self.old.coords }
     {
         let outcome = self.tree.touch_leaf(p, steps);

@@ -1,6 +1,6 @@
 //! The grid: its tree, its probes and its writes.
 
-ghost use Rattle.std.specs.Prelude.{◌≡◌, ◌≢◌, ◌+◌, ◌-◌, ◌*◌, ◌<◌, ◌≤◌, ◌⊎◌, false, if◌then◌else◌, is_some, IfErr, IfOk, IfSome, IsOk, IsTrue, None, Ok, slice_set, Some, ℕ};
+ghost use Rattle.std.specs.Prelude.{◌≡◌, ◌≢◌, ◌&&◌, ◌+◌, ◌-◌, ◌*◌, ◌<◌, ◌≤◌, ◌⊎◌, false, if◌then◌else◌, is_some, IfErr, IfOk, IfSome, IsOk, IsTrue, None, Ok, slice_set, Some, ℕ};
 ghost use Rattle.vdb_coord.specs.Blocks.{block_around, block_number, key, vdb};
 ghost use Rattle.vdb_coord.specs.declared.Coord.{Coord};
 ghost use Rattle.vdb_coord.specs.declared.Level.TheVariants.{Leaf};
@@ -14,7 +14,7 @@ ghost use Rattle.vdb_tree.specs.Paths.{common, depth, down_count, in_leaf, IsWho
 ghost use Rattle.vdb_tree.specs.Table.{HasCapacity};
 ghost use Rattle.vdb_tree.specs.declared.path.PathOf.TheVariants.{Empty};
 ghost use Rattle.vdb_tree.specs.declared.refusal.TreeRefusal.TheVariants.{Memory};
-ghost use Rattle.vdb_grid.specs.Grid.{has_leaf, last, path};
+ghost use Rattle.vdb_grid.specs.Grid.{has_leaf, has_lower, last, path};
 
 use crate::accessors::retrace;
 use std::alloc::Global;
@@ -273,6 +273,41 @@ impl<V: Stored<512> + Stored<64> + Stored<8>, const K: usize> Grid<V, K> {
         let path = self.paths[k];
         let written = self.tree.write_near(&path, q, p, change, steps);
         let _ = self.tree.limit(); // no more upper extents than the limit hold anything but the background
+        written
+    }
+
+    /// Writes a voxel that has a leaf, if the accessor's path ends in a leaf whose lower node contains the voxel, by at
+    /// most two visits and without memory. The accessor then caches the path to the voxel. Returns whether this is so; if
+    /// not, nothing changes.
+    #[inline(always)]
+    pub fn write_in_lower(
+        &mut self,
+        k: usize,
+        p: Coord,
+        change: Write<V>,
+        steps: &mut Steps,
+    ) -> bool
+        requires { k < K }
+        ensures answer { result ≡ has_lower (last self.old.coords k) (path self.old.paths k) p && in_leaf vdb self.old.tree p }
+        ensures outcome { IsTrue result → IsOutcome V.eq vdb self.old.tree.limit (field_of vdb self.old.tree)
+            (write p change (field_of vdb self.old.tree)) (field_of vdb self.new.tree) (Ok tt) }
+        ensures limit { self.new.tree.limit ≡ self.old.tree.limit }
+        ensures alone { IsTrue result → IsVoxelWritten vdb self.old.tree self.new.tree p (written change ((field_of vdb self.old.tree).cell p)) }
+        ensures whole { IsTrue result → IsWhole vdb self.new.tree (path self.new.paths k) p }
+        ensures last { IsTrue result → self.new.coords ≡ slice_set self.old.coords k (Some p) }
+        ensures untouched { result ≡ false → self.new ≡ self.old }
+        ensures steps { steps.new ≤ steps.old + 2 }
+    {
+        let Some(near) = self.coords[k] else {
+            return false;
+        };
+        let mut path = self.paths[k];
+        let written = self.tree.write_in_lower(&mut path, near, p, change, steps);
+        let _ = self.tree.limit(); // no more upper extents than the limit hold anything but the background
+        if written {
+            self.paths[k] = path;
+            self.coords[k] = Some(p);
+        }
         written
     }
 

@@ -85,6 +85,7 @@ impl<V: Stored<W>, const LOG2: u32, const W: usize> Internal<V, LOG2, W> {
 
     /// Returns the entry at index `i`. `InternalNode::isChildMaskOn(i)` with `getChildNode(i)`, or
     /// `mNodes[i].getValue()` and `isValueMaskOn(i)`.
+    #[inline(always)]
     pub fn entry(&self, i: u32) -> Entry<V>
         requires { i < entry_count LOG2 }
         ensures { (d : Entry V) → slice_index_or self.now i d ≡ result }

@@ -111,6 +111,7 @@ impl<T> Pool<T> {
     }
 
     /// Returns the place of a slot that is held, and `None` for any other number. It counts no visit.
+    #[inline(always)]
     pub fn place(&self, slot: u32) -> Option<Place<T>>
         ensures { MatchOption result (node_at self.now slot ≡ None) (λ p. (place_slot p ≡ slot) × IsLive self.now p) }
     {

@@ -1,17 +1,18 @@
 //! Calls on a grid of one type of values, or on its tree, in the terms of a grid of any type.
 
-ghost use Rattle.std.specs.Prelude.{◌≡◌, ◌+◌, ◌*◌, ◌<◌, ◌≤◌, ℕ, Some, false, IfErr, IsOk, IsTrue, Ok};
+ghost use Rattle.std.specs.Prelude.{◌≡◌, ◌&&◌, ◌+◌, ◌*◌, ◌<◌, ◌≤◌, ℕ, Some, false, if◌then◌else◌, IfErr, IsOk, IsTrue, Ok};
 ghost use Rattle.std.specs.Option.{unwrap_or};
 ghost use Rattle.vdb_coord.specs.Blocks.{key, vdb};
 ghost use Rattle.vdb_coord.specs.Space.{everywhere};
 ghost use Rattle.vdb_tree.specs.Field.{as_cell_of, as_field_of, as_write_of, clip as clipped, dilate as dilation, erode as erosion, fill as filled, turns as turned, write};
 ghost use Rattle.vdb_tree.specs.Layout.{field_of};
 ghost use Rattle.vdb_tree.specs.Outcome.{IsOutcome};
+ghost use Rattle.vdb_tree.specs.Paths.{in_leaf};
 ghost use Rattle.vdb_tree.specs.Table.{HasCapacity};
 ghost use Rattle.vdb_tree.specs.ConstantBlocks.{count as active_count};
 ghost use Rattle.vdb_tree.specs.declared.refusal.TreeRefusal.TheVariants.{Memory};
 ghost use Rattle.vdb_morph.specs.Growth.{IsGrowth};
-ghost use Rattle.vdb_grid.specs.Grid.{has_leaf, last, path};
+ghost use Rattle.vdb_grid.specs.Grid.{has_leaf, has_lower, last, path};
 ghost use Rattle.vdb_scene.specs.Grids.{coords_after};
 ghost use Rattle.vdb_scene.specs.Scalars.{is_of, scalar_eq};
 ghost use Rattle.vdb_scene.specs.Step.{passes, write_takes_memory};
@@ -81,25 +82,31 @@ pub fn write<V: GridValue>(
     }
 }
 
-/// Writes a voxel in the leaf that ends an accessor's path, if that leaf holds the voxel. Returns whether it does; if not,
-/// nothing changes. The accessor keeps the coordinate that it was given.
+/// Writes a voxel in the leaf that ends an accessor's path or, if `in_lower`, in another leaf of the path's lower node. Returns
+/// whether that leaf holds the voxel; if not, nothing changes.
 #[inline(always)]
 pub fn write_in_leaf<V: GridValue>(
     grid: &mut Grid<V, ACCESSORS>,
     k: usize,
     at: Coord,
     change: Write<Scalar>,
+    in_lower: bool,
     steps: &mut Steps,
 ) -> bool
     requires kind { IsTrue (passes (is_of V.KIND) change) }
     requires within { k < ACCESSORS }
-    ensures answer { result ≡ has_leaf (last grid.old.coords k) (path grid.old.paths k) at }
+    ensures answer { result ≡ (if in_lower then has_lower (last grid.old.coords k) (path grid.old.paths k) at && in_leaf vdb grid.old.tree at else has_leaf (last grid.old.coords k) (path grid.old.paths k) at) }
     ensures outcome { IsTrue result → IsOutcome scalar_eq vdb grid.old.tree.limit (as_field_of V.as_scalar (field_of vdb grid.old.tree))
         (write at change (as_field_of V.as_scalar (field_of vdb grid.old.tree))) (as_field_of V.as_scalar (field_of vdb grid.new.tree)) (Ok tt) }
     ensures limit { grid.new.tree.limit ≡ grid.old.tree.limit }
     ensures untouched { result ≡ false → grid.new ≡ grid.old }
 {
-    grid.write_in_leaf(k, at, of_kind(change), steps)
+    let change = of_kind(change);
+    if in_lower {
+        grid.write_in_lower(k, at, change, steps)
+    } else {
+        grid.write_in_leaf(k, at, change, steps)
+    }
 }
 
 /// Sets each voxel of a box to one cell, with a value of the grid's type.

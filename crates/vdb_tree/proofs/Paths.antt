@@ -15,7 +15,7 @@ use Rattle.vdb_pool.specs.declared.place.Place.{Place}
 use Rattle.std.specs.Prelude.{List}
 use Rattle.vdb_tree.specs.declared.path.PathOf.TheVariants.{Empty, ToUpper, ToLower, ToLeaf}
 use Rattle.vdb_tree.specs.Layout.{Layout, lower_entry, root_entry, upper_entry}
-use Rattle.vdb_tree.specs.Paths.{IsChildAt, Lives, TreePath, common, common_lower, common_upper, ends_in_leaf}
+use Rattle.vdb_tree.specs.Paths.{IsChildAt, IsWhole, Lives, TreePath, common, common_lower, common_upper, ends_in_leaf}
 use Rattle.vdb_tree.proofs.Descents.{lower_by_block, root_by_block, upper_by_block}
 use Rattle.vdb_tree.proofs.Levels.{bool_cases}
 
@@ -36,6 +36,13 @@ module _ {V : Type 0} (bits : Bits) (t : Layout V) (q p : Coord) where
   -- the leaf in which a path to q ends holds p if one block holds both
   pub leaf_shared : (u l : Place (List (Entry V))) (f : Place (LeafOf V)) → Lives bits t (ToLeaf u l f) q → coord_eq (block_number bits Leaf q) (block_number bits Leaf p) ≡ true → IsChildAt t.leaves (lower_entry bits t p) f
   leaf_shared u l f h e = leaf_child f (coord_exact _ _ e) h.2
+
+  -- a path that lives and ends in a leaf is whole
+  pub leaf_whole : (u l : Place (List (Entry V))) (f : Place (LeafOf V)) → Lives bits t (ToLeaf u l f) p → IsWhole bits t (ToLeaf u l f) p
+  leaf_whole u l f h = record {
+    lives = h;
+    whole = let a = h.0.child in let b = h.1.child in let d = h.2.child in rw (d, b, a) refl;
+  }
 
   upper_lives : (u : Place (List (Entry V))) → Lives bits t (ToUpper u) q → Lives bits t (common_upper bits q p u) p
   upper_lives u h =

@@ -45,6 +45,13 @@ module _ {A B C : Type 0} where
   ends_in_leaf (ToLower u l) = false
   ends_in_leaf (ToLeaf u l f) = true
 
+  -- whether the path's last node is a lower node
+  abbrev pub ends_in_lower : PathOf A B C → Bool
+  ends_in_lower Empty = false
+  ends_in_lower (ToUpper u) = false
+  ends_in_lower (ToLower u l) = true
+  ends_in_lower (ToLeaf u l f) = false
+
   -- the nodes of a path to q that contain p
   module _ (bits : Bits) (q p : Coord) where
     abbrev pub common_upper : Place A → PathOf A B C

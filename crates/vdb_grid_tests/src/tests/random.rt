@@ -147,7 +147,11 @@ fn write(calls: &mut Calls, k: usize, p: Coord, draws: &mut Draws) {
     let it = &mut calls.it;
     let _ = if draws.below(4) > 0 && k < 8 {
         calls.given[k] = Some(p);
-        it.grid.write_by(k, p, change, &mut it.steps)
+        if it.grid.write_in_lower(k, p, change, &mut it.steps) {
+            Ok(())
+        } else {
+            it.grid.write_by(k, p, change, &mut it.steps)
+        }
     } else {
         it.grid.write(p, change, &mut it.steps)
     };

@@ -1,6 +1,6 @@
 //! Leaves made, exchanged and written as a whole.
 
-ghost use Rattle.std.specs.Prelude.{◌≡◌, ◌+◌, ◌≤◌, false, IfErr, IsErr, IsOk, IsTrue, OnOk};
+ghost use Rattle.std.specs.Prelude.{◌≡◌, ◌+◌, ◌≤◌, Err, false, IfErr, IsErr, IsOk, IsTrue, OnOk};
 ghost use Rattle.vdb_coord.specs.Blocks.{block_around, key};
 ghost use Rattle.vdb_coord.specs.declared.Coord.{Coord};
 ghost use Rattle.vdb_coord.specs.declared.Level.TheVariants.{Leaf as leaf_level};
@@ -13,7 +13,7 @@ ghost use Rattle.vdb_tree.specs.Leaves.{IsLeafAround, with_leaf};
 ghost use Rattle.vdb_tree.specs.Outcome.{IsOutcome};
 ghost use Rattle.vdb_tree.specs.Paths.{in_leaf, IsWhole, TreePath};
 ghost use Rattle.vdb_tree.specs.SplitBox.{IsSplit};
-ghost use Rattle.vdb_tree.specs.declared.refusal.TreeRefusal.TheVariants.{Memory};
+ghost use Rattle.vdb_tree.specs.declared.refusal.TreeRefusal.TheVariants.{Memory, RootLimit};
 ghost use Rattle.vdb_value.specs.declared.Cell.{Cell};
 
 use crate::nodes::{held_place, insert_node};
@@ -98,6 +98,7 @@ impl<
         ensures leaves { (q : Coord) → IsTrue (in_leaf (bits_of U L F) self.old q) → IsTrue (in_leaf (bits_of U L F) self.new q) }
         ensures there { IsTrue (in_leaf (bits_of U L F) self.old p) → IsOk result }
         ensures capacity { HasCapacity self.old (key (bits_of U L F) p) → IfErr result (λ refusal. refusal ≡ Memory) }
+        ensures full { (HasCapacity self.old (key (bits_of U L F) p) → ⊥) → (result ≡ Err RootLimit) × (self.new ≡ self.old) }
     {
         if !self.has_capacity(p) {
             return Err(TreeRefusal::RootLimit);

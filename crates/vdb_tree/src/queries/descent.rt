@@ -166,6 +166,7 @@ impl<
     }
 
     /// Returns the place of the leaf around p in this slot.
+    #[inline(always)]
     pub(crate) fn leaf_place(&self, slot: u32, p: Coord) -> Place<Leaf<V, F, WF>>
         requires { lower_entry (bits_of U L F) self.now p ≡ Child slot }
         ensures { IsChildAt self.now.leaves (lower_entry (bits_of U L F) self.now p) result }

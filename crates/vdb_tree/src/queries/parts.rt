@@ -290,6 +290,10 @@ impl<
         ensures skip { walk.new.skip ≡ walk.old.skip }
         ensures at { walk.new.at ≡ walk.old.at }
     {
+        if let Some(leaf) = self.leaf_in_lower(&mut walk.path, walk.near, p, steps) {
+            walk.near = p;
+            return End::Leaf(leaf.slot());
+        }
         let reached = self.reached(walk.path(), walk.near(), p, steps);
         walk.keep(reached.path, p);
         reached.end

@@ -29,6 +29,7 @@ impl<
 > TreeOf<V, U, L, F, WU, WL, WF> {
     /// Returns the first coordinate of the box past the part around `p`, given the end of the descent. The nodes of a path to
     /// `p` show which of their entries the walk passes over, for one visit each.
+    #[inline(always)]
     pub(crate) fn start_after(
         &self,
         bounds: Bounds,
@@ -50,6 +51,7 @@ impl<
         }
     }
 
+    #[inline(always)]
     fn start_past(
         &self,
         bounds: Bounds,
@@ -73,6 +75,7 @@ impl<
     }
 
     /// Returns the first coordinate past the leaf extent around `p`, which lies in a lower node.
+    #[inline(always)]
     fn start_after_leaf(
         &self,
         bounds: Bounds,
@@ -113,6 +116,7 @@ impl<
     }
 
     /// Returns the first coordinate past the leaf extent around `p` in the lower extent around it.
+    #[inline(always)]
     fn start_in_lower(
         &self,
         bounds: Bounds,
@@ -154,6 +158,7 @@ impl<
     }
 
     /// Returns the first coordinate past the leaf extent around `p` in this lower node around it.
+    #[inline(always)]
     fn start_in_lower_node(
         &self,
         bounds: Bounds,
@@ -337,6 +342,7 @@ impl<
     }
 
     /// Returns the first coordinate of the box past the level's block around `p` that lies in the outer block around `p`.
+    #[inline(always)]
     fn start_within(
         &self,
         bounds: Bounds,

@@ -17,6 +17,8 @@ enum Trial {
     Length(u32),
     /// Whether a write of the value 9 succeeds near another coordinate's path, and the voxel's cell after it.
     Near(Coord, bool, Cell<i32>),
+    /// Whether a write of the value 9 succeeds in the lower node of another coordinate's path, and the voxel's cell after it.
+    InLower(Coord, bool, Cell<i32>),
     /// The value in the leaf around it, after a walk has yielded the first leaf, and how many nodes this visits.
     NearFirst(Option<i32>, u64),
 }
@@ -44,6 +46,11 @@ fn is_written_near(tree: &mut Tree<i32>, from: Coord, to: Coord, steps: &mut Ste
     tree.write_near(&path, from, to, Write::Value(9), steps)
 }
 
+fn is_written_in_lower(tree: &mut Tree<i32>, from: Coord, to: Coord, steps: &mut Steps) -> bool {
+    let mut path = tree.trace(from, steps);
+    tree.write_in_lower(&mut path, from, to, Write::Value(9), steps)
+}
+
 fn value_near_first(tree: &Tree<i32>, p: Coord, steps: &mut Steps) -> (Option<i32>, u64) {
     let mut walk = tree.parts(Bounds::all(), Skip::Inactive);
     let _ = tree.next_part(&mut walk, steps);
@@ -63,6 +70,14 @@ fn expect_trial(rt: &impl Abort, tree: &mut Tree<i32>, p: Coord, trial: &Trial, 
         Trial::Length(nodes) => assert_eq!(rt; traced(tree, p, steps), *nodes, "at {p:?}"),
         Trial::Near(from, near, cell) => {
             assert_eq!(rt; is_written_near(tree, *from, p, steps), *near, "to {p:?}");
+            play::run_numbers(rt, tree, &[Act::Cell(p, *cell)], steps);
+        }
+        Trial::InLower(from, there, cell) => {
+            assert_eq!(rt;
+                is_written_in_lower(tree, *from, p, steps),
+                *there,
+                "to {p:?}"
+            );
             play::run_numbers(rt, tree, &[Act::Cell(p, *cell)], steps);
         }
         Trial::NearFirst(value, visits) => {
@@ -148,6 +163,23 @@ fn writes_in_the_leaf_of_a_path(rt: HostRuntime) {
         (nine, Trial::Near(at(15, 7, 7), true, on(9)), None),
         (all(0), Trial::Near(all(7), true, on(9)), None),
         (all(6), Trial::Near(all(0), true, off(9)), None),
+    ];
+    try_paths(&rt, &trials, &mut steps);
+}
+
+// The write needs a leaf, and a path whose lowest node around the voxel is a lower node.
+#[test]
+fn writes_in_the_lower_node_of_a_path(rt: HostRuntime) {
+    let mut steps = Steps::new(&rt);
+    let nine = at(9, 0, 0);
+    let empty = at(16, 0, 0);
+    let trials = [
+        (nine, Trial::InLower(all(0), true, on(9)), None),
+        (all(7), Trial::InLower(all(0), false, off(0)), None),
+        (empty, Trial::InLower(all(0), false, off(0)), None),
+        (at(200, 0, 0), Trial::InLower(all(0), false, on(5)), None),
+        (at(1, 2, 3), Trial::InLower(empty, true, off(9)), None),
+        (all(0), Trial::InLower(at(4096, 0, 0), false, on(5)), None),
     ];
     try_paths(&rt, &trials, &mut steps);
 }

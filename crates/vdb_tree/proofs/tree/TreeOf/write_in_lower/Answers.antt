@@ -1,0 +1,22 @@
+use Rattle.std.proofs.Common.{refl, rules, subst, sym}
+use Rattle.vdb_coord.proofs.Meeting.{fits_everywhere}
+use Rattle.vdb_tree.specs.Field.{written}
+use Rattle.vdb_tree.specs.Layout.{bits_of, cell_at}
+use Rattle.vdb_tree.specs.Leaves.{IsVoxelWritten}
+use Rattle.vdb_tree.proofs.Equations.{changes_field}
+use Rattle.vdb_tree.proofs.Fields.{cell_inside}
+use Rattle.vdb_tree.proofs.tree.TreeOf.write_in_lower.Goals as goal
+
+pub returns-in-Some-clause-field : goal.returns-in-Some-clause-field
+returns-in-Some-clause-field g c = λ _.
+    changes_field _ c.args.self.now c.write_voxel_at.new.self c.args.p c.args.change c.write_voxel_at.ensures.changes
+
+pub returns-in-Some-clause-alone : goal.returns-in-Some-clause-alone
+returns-in-Some-clause-alone g c = λ _.
+    let bits = bits_of g.row.U g.row.L g.row.F in
+    let here = fits_everywhere c.args.p (search rules) (search rules) (search rules) in
+    subst (λ cell. IsVoxelWritten bits c.args.self.now c.write_voxel_at.new.self c.args.p (written c.args.change cell))
+    (sym (cell_inside c.args.self.now.background (cell_at bits c.args.self.now) c.args.p here)) c.write_voxel_at.ensures.alone
+
+pub returns-in-Some-clause-whole : goal.returns-in-Some-clause-whole
+returns-in-Some-clause-whole g c = λ _. c.write_voxel_at.ensures.paths _ _ (c.in-Some.ensures.whole refl)
