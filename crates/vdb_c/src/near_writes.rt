@@ -17,8 +17,8 @@ use vdb_scene::{ACCESSORS, AnyGrid, GridValue, Scalar, write_in_leaf};
 use vdb_tree::Write;
 use vdb_value::Kind;
 
-/// Sets the value and the state of a voxel, if the type has the value, and the leaf that ends the path of an accessor holds the voxel or,
-/// if `in_lower`, another leaf of the path's lower node. Returns whether this is so; if not, nothing changes.
+/// Sets the value and the state of a voxel, if the leaf that ends the path of an accessor holds it, and the type has the value. Returns
+/// whether it does; if not, nothing changes.
 #[inline(always)]
 pub(crate) fn set_near(
     grid: &mut AnyGrid,
@@ -26,7 +26,6 @@ pub(crate) fn set_near(
     at: Coord,
     given: i64,
     on: bool,
-    in_lower: bool,
     steps: &mut Steps,
 ) -> bool
     ensures written { IsTrue result → Writes (accessor_of number) at (option_map (write_of on) (value_of (grid_kind grid.old) given)) grid.old grid.new done }
@@ -37,47 +36,25 @@ pub(crate) fn set_near(
     };
     match grid {
         AnyGrid::Bool(held) => {
-            write_in_leaf_if(
-                held,
-                k,
-                at,
-                cell_write(Kind::Bool, given, on),
-                in_lower,
-                steps,
-            )
+            write_in_leaf_if(held, k, at, cell_write(Kind::Bool, given, on), steps)
         }
         AnyGrid::I32(held) => {
-            write_in_leaf_if(
-                held,
-                k,
-                at,
-                cell_write(Kind::I32, given, on),
-                in_lower,
-                steps,
-            )
+            write_in_leaf_if(held, k, at, cell_write(Kind::I32, given, on), steps)
         }
         AnyGrid::I64(held) => {
-            write_in_leaf_if(
-                held,
-                k,
-                at,
-                cell_write(Kind::I64, given, on),
-                in_lower,
-                steps,
-            )
+            write_in_leaf_if(held, k, at, cell_write(Kind::I64, given, on), steps)
         }
     }
 }
 
-/// Does a write, if one is given, in the leaf that ends an accessor's path or, if `in_lower`, in another leaf of the path's lower node.
-/// Returns whether a write is given and that leaf holds the voxel; if not, nothing changes.
+/// Does a write, if one is given, in the leaf that ends an accessor's path, if that leaf holds the voxel. Returns whether both are so; if
+/// not, nothing changes.
 #[inline(always)]
 fn write_in_leaf_if<V: GridValue>(
     grid: &mut Grid<V, ACCESSORS>,
     k: usize,
     at: Coord,
     change: Option<Write<Scalar>>,
-    in_lower: bool,
     steps: &mut Steps,
 ) -> bool
     requires within { k < ACCESSORS }
@@ -87,7 +64,7 @@ fn write_in_leaf_if<V: GridValue>(
     ensures untouched { result ≡ false → grid.new ≡ grid.old }
 {
     match change {
-        Some(change) => write_in_leaf(grid, k, at, change, in_lower, steps),
+        Some(change) => write_in_leaf(grid, k, at, change, false, steps),
         None => false,
     }
 }

@@ -117,7 +117,6 @@ pub extern "C" fn vdb_grid_set(
         Coord { x, y, z },
         given,
         is_on(active),
-        false,
         &mut handle.steps,
     ) {
         return DONE;
@@ -141,17 +140,6 @@ fn set_far(
     let Some(grid) = handle.grid.grid_mut() else {
         return EMPTY;
     };
-    if set_near(
-        grid,
-        number,
-        Coord { x, y, z },
-        given,
-        is_on(active),
-        true,
-        &mut handle.steps,
-    ) {
-        return DONE;
-    }
     let change = cell_write(grid.kind(), given, is_on(active));
     write(grid, number, Coord { x, y, z }, change, &mut handle.steps)
 }
