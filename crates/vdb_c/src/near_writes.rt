@@ -17,10 +17,12 @@ use vdb_scene::{ACCESSORS, AnyGrid, GridValue, Scalar, write_in_leaf};
 use vdb_tree::Write;
 use vdb_value::Kind;
 
-/// Sets the value and the state of a voxel, if the leaf that ends the path of an accessor holds it, and the type has the value. Returns
-/// whether it does; if not, nothing changes.
+/// Sets the value and the state of a voxel, if the type has the value, and the leaf that ends the path of an accessor holds the voxel or,
+/// if `IN_LOWER`, another leaf of the path's lower node does. Returns whether this is so; if not, nothing changes.
+///
+/// This is a const parameter so that each of the two has one caller, into which LLVM then inlines it.
 #[inline(always)]
-pub(crate) fn set_near(
+pub(crate) fn set_near<const IN_LOWER: bool>(
     grid: &mut AnyGrid,
     number: i32,
     at: Coord,
@@ -36,21 +38,21 @@ pub(crate) fn set_near(
     };
     match grid {
         AnyGrid::Bool(held) => {
-            write_in_leaf_if(held, k, at, cell_write(Kind::Bool, given, on), steps)
+            write_in_leaf_if::<_, IN_LOWER>(held, k, at, cell_write(Kind::Bool, given, on), steps)
         }
         AnyGrid::I32(held) => {
-            write_in_leaf_if(held, k, at, cell_write(Kind::I32, given, on), steps)
+            write_in_leaf_if::<_, IN_LOWER>(held, k, at, cell_write(Kind::I32, given, on), steps)
         }
         AnyGrid::I64(held) => {
-            write_in_leaf_if(held, k, at, cell_write(Kind::I64, given, on), steps)
+            write_in_leaf_if::<_, IN_LOWER>(held, k, at, cell_write(Kind::I64, given, on), steps)
         }
     }
 }
 
-/// Does a write, if one is given, in the leaf that ends an accessor's path, if that leaf holds the voxel. Returns whether both are so; if
-/// not, nothing changes.
+/// Does a write, if one is given, in the leaf that ends an accessor's path or, if `IN_LOWER`, in another leaf of the path's lower node.
+/// Returns whether a write is given and that leaf holds the voxel; if not, nothing changes.
 #[inline(always)]
-fn write_in_leaf_if<V: GridValue>(
+fn write_in_leaf_if<V: GridValue, const IN_LOWER: bool>(
     grid: &mut Grid<V, ACCESSORS>,
     k: usize,
     at: Coord,
@@ -64,7 +66,7 @@ fn write_in_leaf_if<V: GridValue>(
     ensures untouched { result ≡ false → grid.new ≡ grid.old }
 {
     match change {
-        Some(change) => write_in_leaf(grid, k, at, change, false, steps),
+        Some(change) => write_in_leaf::<V, IN_LOWER>(grid, k, at, change, steps),
         None => false,
     }
 }

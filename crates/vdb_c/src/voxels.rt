@@ -111,7 +111,7 @@ pub extern "C" fn vdb_grid_set(
     let Some(grid) = handle.grid.grid_mut() else {
         return EMPTY;
     };
-    if set_near(
+    if set_near::<false>(
         grid,
         number,
         Coord { x, y, z },
@@ -140,6 +140,16 @@ fn set_far(
     let Some(grid) = handle.grid.grid_mut() else {
         return EMPTY;
     };
+    if set_near::<true>(
+        grid,
+        number,
+        Coord { x, y, z },
+        given,
+        is_on(active),
+        &mut handle.steps,
+    ) {
+        return DONE;
+    }
     let change = cell_write(grid.kind(), given, is_on(active));
     write(grid, number, Coord { x, y, z }, change, &mut handle.steps)
 }

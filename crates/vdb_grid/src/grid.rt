@@ -134,7 +134,6 @@ impl<V: Stored<512> + Stored<64> + Stored<8>, const K: usize> Grid<V, K> {
 
     /// Returns what `probe` returns, by the descent from the lowest node of the accessor's path that contains the voxel.
     /// The accessor then caches the path to the voxel.
-    #[inline(never)]
     pub fn go_to(&mut self, k: usize, p: Coord, steps: &mut Steps) -> Cell<V>
         requires { k < K }
         ensures cell { result ≡ (field_of vdb self.old.tree).cell p }
@@ -276,9 +275,9 @@ impl<V: Stored<512> + Stored<64> + Stored<8>, const K: usize> Grid<V, K> {
         written
     }
 
-    /// Writes a voxel that has a leaf, if the accessor's path ends in a leaf whose lower node contains the voxel, by at
-    /// most two visits and without memory. The accessor then caches the path to the voxel. Returns whether this is so; if
-    /// not, nothing changes.
+    /// Writes a voxel that has a leaf, if the lowest node of the accessor's path that contains the voxel is a lower node,
+    /// by two visits and without memory. The accessor then caches the path to the voxel. Returns whether this is so; if
+    /// not, nothing changes, and at most the lower node is visited.
     #[inline(always)]
     pub fn write_in_lower(
         &mut self,
@@ -296,7 +295,7 @@ impl<V: Stored<512> + Stored<64> + Stored<8>, const K: usize> Grid<V, K> {
         ensures whole { IsTrue result → IsWhole vdb self.new.tree (path self.new.paths k) p }
         ensures last { IsTrue result → self.new.coords ≡ slice_set self.old.coords k (Some p) }
         ensures untouched { result ≡ false → self.new ≡ self.old }
-        ensures steps { steps.new ≤ steps.old + 2 }
+        ensures steps { steps.new ≤ steps.old + ((if has_lower (last self.old.coords k) (path self.old.paths k) p then 1 else 0) + (if result then 1 else 0)) }
     {
         let Some(near) = self.coords[k] else {
             return false;

@@ -82,27 +82,26 @@ pub fn write<V: GridValue>(
     }
 }
 
-/// Writes a voxel in the leaf that ends an accessor's path or, if `in_lower`, in another leaf of the path's lower node. Returns
+/// Writes a voxel in the leaf that ends an accessor's path or, if `IN_LOWER`, in another leaf of the path's lower node. Returns
 /// whether that leaf holds the voxel; if not, nothing changes.
 #[inline(always)]
-pub fn write_in_leaf<V: GridValue>(
+pub fn write_in_leaf<V: GridValue, const IN_LOWER: bool>(
     grid: &mut Grid<V, ACCESSORS>,
     k: usize,
     at: Coord,
     change: Write<Scalar>,
-    in_lower: bool,
     steps: &mut Steps,
 ) -> bool
     requires kind { IsTrue (passes (is_of V.KIND) change) }
     requires within { k < ACCESSORS }
-    ensures answer { result ≡ (if in_lower then has_lower (last grid.old.coords k) (path grid.old.paths k) at && in_leaf vdb grid.old.tree at else has_leaf (last grid.old.coords k) (path grid.old.paths k) at) }
+    ensures answer { result ≡ (if IN_LOWER then has_lower (last grid.old.coords k) (path grid.old.paths k) at && in_leaf vdb grid.old.tree at else has_leaf (last grid.old.coords k) (path grid.old.paths k) at) }
     ensures outcome { IsTrue result → IsOutcome scalar_eq vdb grid.old.tree.limit (as_field_of V.as_scalar (field_of vdb grid.old.tree))
         (write at change (as_field_of V.as_scalar (field_of vdb grid.old.tree))) (as_field_of V.as_scalar (field_of vdb grid.new.tree)) (Ok tt) }
     ensures limit { grid.new.tree.limit ≡ grid.old.tree.limit }
     ensures untouched { result ≡ false → grid.new ≡ grid.old }
 {
     let change = of_kind(change);
-    if in_lower {
+    if IN_LOWER {
         grid.write_in_lower(k, at, change, steps)
     } else {
         grid.write_in_leaf(k, at, change, steps)

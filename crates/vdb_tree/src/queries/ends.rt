@@ -159,7 +159,8 @@ impl<
         }
     }
 
-    fn reached_from_lower(
+    #[inline(always)]
+    pub(crate) fn reached_from_lower(
         &self,
         upper: Place<Internal<V, U, WU>>,
         lower: Place<Internal<V, L, WL>>,

@@ -204,7 +204,7 @@ impl<
         (WU, WL, WF)
     }
 
-    /// Returns the next part of a walk, or `None` if no part is left. It takes no memory. It visits the internal nodes below
+    /// Returns the next part of a walk, or `None` if no part is left. It takes no memory. It visits the internal nodes from
     /// the lowest one that the part shares with the last, and those around what it passes over.
     pub fn next_part(
         &self,
@@ -290,9 +290,10 @@ impl<
         ensures skip { walk.new.skip ≡ walk.old.skip }
         ensures at { walk.new.at ≡ walk.old.at }
     {
-        if let Some(leaf) = self.leaf_in_lower(&mut walk.path, walk.near, p, steps) {
-            walk.near = p;
-            return End::Leaf(leaf.slot());
+        if let PathOf::ToLower(upper, lower) = self.shared(walk.path(), walk.near(), p) {
+            let reached = self.reached_from_lower(upper, lower, p, steps);
+            walk.keep(reached.path, p);
+            return reached.end;
         }
         let reached = self.reached(walk.path(), walk.near(), p, steps);
         walk.keep(reached.path, p);

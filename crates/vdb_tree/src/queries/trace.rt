@@ -1,16 +1,14 @@
 //! Paths of nodes, and reads and writes of cells by the paths that earlier calls returned.
 
 ghost use Rattle.std.specs.Option.{is_some};
-ghost use Rattle.std.specs.Prelude.{◌≡◌, ◌&&◌, ◌+◌, ◌-◌, ◌≤◌, false, if◌then◌else◌, IfSome, IsNone, IsSome, IsTrue};
+ghost use Rattle.std.specs.Prelude.{◌≡◌, ◌&&◌, ◌+◌, ◌-◌, ◌≤◌, false, if◌then◌else◌, IfSome, IsTrue};
 ghost use Rattle.vdb_coord.specs.Blocks.{block_number};
 ghost use Rattle.vdb_coord.specs.Space.{coord_eq};
 ghost use Rattle.vdb_coord.specs.declared.Coord.{Coord};
 ghost use Rattle.vdb_tree.specs.Field.{write, written};
 ghost use Rattle.vdb_tree.specs.Layout.{bits_of, cell_at, field_of, lower_entry, root_entry, upper_entry};
 ghost use Rattle.vdb_tree.specs.Leaves.{IsVoxelWritten};
-ghost use Rattle.vdb_tree.specs.Parts.{IsEnd};
 ghost use Rattle.vdb_tree.specs.Paths.{common, common_lower, common_upper, depth, down_count, ends_in_leaf, ends_in_lower, in_leaf, IsChildAt, IsWhole, Lives, TreePath};
-ghost use Rattle.vdb_tree.specs.declared.queries.ends.End.TheVariants.{Leaf as EndLeaf};
 
 use crate::{PathOf, TreeOf, Write};
 use vdb_coord::{Coord, Level};
@@ -130,45 +128,19 @@ impl<
         ensures untouched { result ≡ false → (self.new ≡ self.old) × (path.new ≡ path.old) }
         ensures limit { self.new.limit ≡ self.old.limit }
         ensures paths { (other : TreePath V) (r : Coord) → IsWhole (bits_of U L F) self.old other r → IsWhole (bits_of U L F) self.new other r }
-        ensures steps { steps.new ≤ steps.old + 2 }
-    {
-        match self.leaf_in_lower(path, q, p, steps) {
-            Some(place) => {
-                self.write_voxel_at(place, p, change, steps);
-                true
-            }
-            None => false,
-        }
-    }
-
-    /// Returns the leaf around `p`, if there is one, and the lowest node of the path to `q` that contains `p` is a lower node. `path`
-    /// is then the path to `p`.
-    #[inline(always)]
-    pub(crate) fn leaf_in_lower(
-        &self,
-        path: &mut PathOf<Internal<V, U, WU>, Internal<V, L, WL>, Leaf<V, F, WF>>,
-        q: Coord,
-        p: Coord,
-        steps: &mut Steps,
-    ) -> Option<Place<Leaf<V, F, WF>>>
-        requires { Lives (bits_of U L F) self.now path.old q }
-        ensures answer { is_some result ≡ (ends_in_lower (common (bits_of U L F) q p path.old) && in_leaf (bits_of U L F) self.now p) }
-        ensures leaf { IfSome result (λ leaf. IsChildAt self.now.leaves (lower_entry (bits_of U L F) self.now p) leaf) }
-        ensures end { IfSome result (λ leaf. IsEnd (bits_of U L F) self.now p (EndLeaf leaf.slot)) }
-        ensures whole { IsSome result → IsWhole (bits_of U L F) self.now path.new p }
-        ensures untouched { IsNone result → path.new ≡ path.old }
-        ensures steps { steps.new ≤ steps.old + 1 }
+        ensures steps { steps.new ≤ steps.old + ((if ends_in_lower (common (bits_of U L F) q p path.old) then 1 else 0) + (if result then 1 else 0)) }
     {
         match self.shared(*path, q, p) {
             PathOf::ToLower(upper, lower) => match self.lower_entry_at(lower, p, steps) {
                 Entry::Child(slot) => {
                     let leaf = self.leaf_place(slot, p);
                     *path = PathOf::ToLeaf(upper, lower, leaf);
-                    Some(leaf)
+                    self.write_voxel_at(leaf, p, change, steps);
+                    true
                 }
-                Entry::Tile(_) => None,
+                Entry::Tile(_) => false,
             },
-            _ => None,
+            _ => false,
         }
     }
 

@@ -13,7 +13,7 @@ use Rattle.vdb_c.proofs.VoxelCalls.{written_near}
 use Rattle.vdb_c.proofs.near_writes.set_near.Goals as goal
 
 pub returns-in-Bool-clause-written : goal.returns-in-Bool-clause-written
-returns-in-Bool-clause-written c = λ t.
+returns-in-Bool-clause-written g c = λ t.
     let given : SFits w64 c.args.given = search rules in
     let number : SFits w32 c.args.number = search rules in
     let old = grids.Bool c.in-Bool.held in
@@ -25,7 +25,7 @@ returns-in-Bool-clause-written c = λ t.
     rw c.in-Bool.is (written_near _ c.args.at _ old new (subst IsSome accessor refl) c.write_in_leaf_if.ensures.limit done)
 
 pub returns-in-I32-clause-written : goal.returns-in-I32-clause-written
-returns-in-I32-clause-written c = λ t.
+returns-in-I32-clause-written g c = λ t.
     let given : SFits w64 c.args.given = search rules in
     let number : SFits w32 c.args.number = search rules in
     let old = grids.I32 c.in-I32.held in
@@ -37,7 +37,7 @@ returns-in-I32-clause-written c = λ t.
     rw c.in-I32.is (written_near _ c.args.at _ old new (subst IsSome accessor refl) c.write_in_leaf_if-in-I32.ensures.limit done)
 
 pub returns-in-I64-clause-written : goal.returns-in-I64-clause-written
-returns-in-I64-clause-written c = λ t.
+returns-in-I64-clause-written g c = λ t.
     let given : SFits w64 c.args.given = search rules in
     let number : SFits w32 c.args.number = search rules in
     let old = grids.I64 c.in-I64.held in
