@@ -146,6 +146,10 @@ class Symbols(unittest.TestCase):
     def test_the_static_library_exports_the_calls_of_the_header_alone(self):
         self.assertEqual(symbols("-g", "--defined-only", prefix() / "lib" / "libvdb.a"), {*Header().calls})
 
+    def test_each_call_begins_a_line_of_the_cache(self):
+        for line in done(["nm", "-D", "--defined-only", prefix() / "lib" / "libvdb.so"]).splitlines():
+            self.assertEqual(int(line.split()[0], 16) % 64, 0, line)
+
     def test_the_libraries_call_the_system_for_memory_alone(self):
         self.assertLessEqual(symbols("-u", prefix() / "lib" / "libvdb.a"), {*SYSTEM, "_GLOBAL_OFFSET_TABLE_"})
 
