@@ -1,5 +1,0 @@
-//! Tests of the levels' public calls, in a crate of their own because a crate with tests is proved twice.
-#![tactic(auto)]
-
-#[cfg(test)]
-mod tests;
