@@ -1,14 +1,11 @@
-//! Leaves and internal nodes, each call at one type of values. tests/library/node.txt has the other types and sizes.
+//! Leaves and internal nodes of several types and sizes. tests/library/node.txt has the others, and further calls.
 
 mod trials;
 
 use std::alloc::AllocError;
-use trials::{
-    expect_leaf, try_blend, try_blend_with, try_box, try_internal, try_internal_copy, try_leaf,
-    try_leaf_copy, try_next_entries, try_runs, try_take_active,
-};
+use trials::{expect_leaf, try_box, try_internal, try_leaf};
 use vdb_node::Leaf;
-use vdb_value::{Blend, Cell};
+use vdb_value::Cell;
 
 #[test]
 fn leaves(rt: HostRuntime) -> Result<(), AllocError> {
@@ -22,27 +19,6 @@ fn internal_nodes(rt: HostRuntime) -> Result<(), AllocError> {
     try_internal::<bool, 5, 512>(&rt, rt.alloc(), false, true, 32768)?;
     try_internal::<i32, 2, 1>(&rt, rt.alloc(), i32::MIN, i32::MAX, 64)?;
     try_internal::<i64, 3, 8>(&rt, rt.alloc(), 0, -1, 512)
-}
-
-#[test]
-fn copies_and_searches(rt: HostRuntime) -> Result<(), AllocError> {
-    try_leaf_copy(&rt, rt.alloc(), 3, i32::MIN)?;
-    try_internal_copy(&rt, rt.alloc(), 3, i64::MIN)?;
-    try_next_entries(&rt, rt.alloc(), false, true)?;
-    try_runs(&rt, rt.alloc(), 3, i64::MIN)
-}
-
-#[test]
-fn combined_leaves(rt: HostRuntime) -> Result<(), AllocError> {
-    try_blend(&rt, rt.alloc(), Blend::Sum, [-2, 5], [-4, 3])?;
-    try_blend_with(
-        &rt,
-        rt.alloc(),
-        Blend::Greatest,
-        [false, true],
-        [false, true],
-    )?;
-    try_take_active(&rt, rt.alloc(), 3, i32::MIN)
 }
 
 // The voxel at (x, y, z) has index 64 x + 8 y + z: 83 is at (1, 2, 3), 488 at (7, 5, 0).
