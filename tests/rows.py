@@ -1,5 +1,6 @@
 #!/usr/bin/env python3
-"""Reads rows, which are scripts with their answers as text, and plays them through the program `vdb`. README.md has the form.
+"""Reads rows, which are scripts with their answers as text, and plays them through the program `vdb`. crates/vdb_rows/README.md
+describes the form.
 
 A row passes if the program gives its answers, its line on standard error and its exit status, and saves its bytes. Each row that
 fails is told by the place in its file of the first line that differs. The last line is 'N passed, M failed'.
@@ -15,7 +16,8 @@ from pathlib import Path
 from typing import List, NamedTuple, Optional
 
 TOP = Path(__file__).resolve().parent.parent
-CRATE = TOP / "crates" / "vdb_rows"
+FOLDER = TOP / "crates" / "vdb_rows" / "data"
+DATA = sorted(FOLDER.glob("*.rows"))
 PROGRAM = TOP / "crates" / "vdb" / "out" / "vdb"
 PATIENCE = 280  # seconds for one row
 HEAD = re.compile(r"(load|saved|status|stderr):(?: (.*))?\Z")
@@ -91,7 +93,7 @@ class Row:
     def status(self) -> int:
         if self.given_status is not None:
             return self.given_status
-        return int(any(it.text.startswith("error") for it in self.answers))
+        return int(any(it.text.startswith("error ") for it in self.answers))
 
 
 class Reader:
@@ -109,12 +111,12 @@ class Reader:
         """Returns the rows of a file's bytes."""
         self.line = 1
         self.need(text.startswith(b"# "), "the first line must say in a comment what the rows show")
-        for number, line in enumerate(text.split(b"\n"), 1):
-            self.line = number
-            self.need(line.isascii() and b"\r" not in line, "a byte is not ASCII text")
+        for self.line, line in enumerate(text.removesuffix(b"\n").split(b"\n"), 1):
+            self.need(all(0x20 <= byte <= 0x7E for byte in line), "a byte is not printable ASCII")
             if line:
                 self.take(line.decode())
         self.need(text.endswith(b"\n"), "the last line must end with a newline")
+        self.need(self.rows, "the file has no row")
         return self.rows
 
     def take(self, line: str) -> None:
@@ -210,24 +212,21 @@ def played(row: Row, program: str, folder: Path, named: bool) -> str:
         words += ["--load", str(load)]
     with open(os.devnull if named else script, "rb") as given:
         ran = subprocess.run(words, stdin=given, capture_output=True, timeout=PATIENCE)
-    ends = [("standard error", row.stderr, ran.stderr), ("the exit status", row.status, ran.returncode)]
-    if row.saves:
-        ends.append(("the saved file", row.saved, saved.read_bytes() if saved.exists() else None))
     if ran.stdout != row.answered:
         return different_answer(row, ran.stdout.decode("latin-1").split("\n"))
-    return next((f"{row.place}: {what} is {shown(found)}, not {shown(wanted)}" for what, wanted, found in ends if wanted != found), "")
+    found = saved.read_bytes() if row.saves and saved.exists() else None
+    ends = [("standard error", row.stderr, ran.stderr), ("the exit status", row.status, ran.returncode), ("the saved file", row.saved, found)]
+    return next((f"{row.place}: {what} is {found!r}, not {wanted!r}" for what, wanted, found in ends if wanted != found), "")
 
 
 def different_answer(row: Row, found: List[str]) -> str:
     """Returns the first answer that differs, by its line in the file."""
     for answer, text in zip(row.answers, found):
-        if answer.text != text:
+        if answer.text != text and text:
             return f"{row.file}:{answer.line}: {row.name}: the answer is {text!r}, not {answer.text!r}"
-    return f"{row.place}: there are {len(found) - 1} lines of answers, not {len(row.answers)}: {found[len(row.answers):][:1]}"
-
-
-def shown(value: object) -> str:
-    return "none" if value is None else value.hex() or "empty" if isinstance(value, bytes) and not value.isascii() else repr(value)
+    if len(found) <= len(row.answers) and not found[-1]:
+        return f"{row.place}: there is no answer {row.answers[len(found) - 1].text!r}"
+    return f"{row.place}: " + (f"there is a further answer {found[len(row.answers)]!r}" if found[len(row.answers):] else "the last answer has no newline")
 
 
 def main() -> None:
@@ -237,12 +236,15 @@ def main() -> None:
     )
     parser.add_argument("--program", default=str(PROGRAM), help="the program, crates/vdb/out/vdb by default")
     parser.add_argument("files", nargs="*", metavar="FILE", help="a file of rows; by default those of crates/vdb_rows/data and examples")
+    parser.add_argument("--names", action="store_true", help="print what crates/vdb_rows must print, and play nothing")
     words = parser.parse_args()
-    files = [Path(name) for name in words.files] or [*sorted(CRATE.glob("data/*.rows")), *sorted(TOP.glob("examples/*.rows"))]
+    files = [Path(name) for name in words.files] or DATA + ([] if words.names else sorted(TOP.glob("examples/*.rows")))
     try:
         rows = [row for file in files for row in read(file)]
     except (Malformed, OSError) as error:
         sys.exit(f"rows.py: {error}")
+    if words.names:
+        sys.exit(print("".join(f"{row.file.stem}: {row.name}\n" for row in rows) + f"{len(rows)} rows"))
     with tempfile.TemporaryDirectory() as folder:
         results = [played(row, words.program, Path(folder), number % 3 > 0) for number, row in enumerate(rows)]
     failed = [result for result in results if result]
