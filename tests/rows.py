@@ -23,13 +23,7 @@ PATIENCE = 280  # seconds for one row
 HEAD = re.compile(r"(load|saved|status|stderr):(?: (.*))?\Z")
 ESCAPE = re.compile(r"\\(n|r|t|\\|x[0-9a-f]{2})|\\")
 ESCAPED = {"n": "\n", "r": "\r", "t": "\t", "\\": "\\"}
-ALLOCATES_NOTHING = "(allocates nothing)"
-EPILOG = """\
-Example: play two files, and then all of them.
-
-  tests/rows.py crates/vdb_rows/data/boxes.rows examples/ball.rows
-  tests/rows.py
-"""
+EPILOG = "Example: tests/rows.py crates/vdb_rows/data/boxes.rows examples/ball.rows"
 
 
 class Malformed(Exception):
@@ -74,7 +68,6 @@ class Row:
 
     @property
     def place(self) -> str:
-        """The file and line of the row, and its name."""
         return f"{self.file}:{self.line}: {self.name}"
 
     @property
@@ -149,7 +142,7 @@ class Reader:
         """Takes in a head of a row."""
         more = word in self.heads
         if word == "load":
-            self.need(not more or row.load, "'load:' stands twice")
+            self.need("saved" not in self.heads, "'load:' must stand above 'saved:'")
             row.load = (row.load or b"") + (self.saved_by(text[6:]) if text.startswith("saved ") else self.hexadecimal(text))
         elif word == "saved":
             self.need(not more or (row.saved and text not in ("none", "empty", "same")), "'saved:' stands twice")
@@ -189,7 +182,7 @@ class Reader:
         """Takes in an answer to the last command, or its mark."""
         commands = self.rows[-1].commands
         self.need(commands, "an answer stands before the first command of its row")
-        if line == ALLOCATES_NOTHING:
+        if line == "(allocates nothing)":
             commands[-1].allocates_nothing = True
         else:
             commands[-1].answers.append(Answer(line, self.line))
@@ -211,7 +204,10 @@ def played(row: Row, program: str, folder: Path, named: bool) -> str:
         load.write_bytes(row.load)
         words += ["--load", str(load)]
     with open(os.devnull if named else script, "rb") as given:
-        ran = subprocess.run(words, stdin=given, capture_output=True, timeout=PATIENCE)
+        try:
+            ran = subprocess.run(words, stdin=given, capture_output=True, timeout=PATIENCE)
+        except (OSError, subprocess.TimeoutExpired) as error:
+            return f"{row.place}: {error}"
     if ran.stdout != row.answered:
         return different_answer(row, ran.stdout.decode("latin-1").split("\n"))
     found = saved.read_bytes() if row.saves and saved.exists() else None
@@ -230,10 +226,7 @@ def different_answer(row: Row, found: List[str]) -> str:
 
 
 def main() -> None:
-    parser = argparse.ArgumentParser(
-        description="Plays rows, scripts with their answers, through the program vdb.", epilog=EPILOG,
-        formatter_class=argparse.RawDescriptionHelpFormatter,
-    )
+    parser = argparse.ArgumentParser(description="Plays rows through the program vdb.", epilog=EPILOG)
     parser.add_argument("--program", default=str(PROGRAM), help="the program, crates/vdb/out/vdb by default")
     parser.add_argument("files", nargs="*", metavar="FILE", help="a file of rows; by default those of crates/vdb_rows/data and examples")
     parser.add_argument("--names", action="store_true", help="print what crates/vdb_rows must print, and play nothing")

@@ -50,6 +50,7 @@ MALFORMED = [
     ("# a\n== a\nload:\n", 3, "the bytes must be pairs of hexadecimal digits in small letters"),
     ("# a\n== a\nload: saved b\n", 3, "no row above saves a file under the name 'b'"),
     ("# a\n== b\nsaved: none\n== a\nload: saved b\n", 5, "no row above saves a file under the name 'b'"),
+    ("# a\n== a\nsaved: 00\nload: 00\n", 4, "'load:' must stand above 'saved:'"),
     ("# a\n== a\nsaved: same\n", 3, "'saved: same' without 'load:' above it"),
     ("# a\n== a\nsaved: none\nsaved: 00\n", 4, "'saved:' stands twice"),
     ("# a\n== a\nsaved: 00\nsaved: empty\n", 4, "'saved:' stands twice"),

@@ -25,7 +25,12 @@ fn a_scene_takes_at_most_64_grids(rt: HostRuntime) {
     for first in b'a'..b'i' {
         for second in b'a'..b'i' {
             let name = two_letters(&rt, first, second);
-            assert!(rt; scene.insert(name, numbers(&rt)) == Ok(()));
+            let inserted = if second == b'a' {
+                scene.insert_with(name, numbers(&rt), Metas::new(rt.alloc()))
+            } else {
+                scene.insert(name, numbers(&rt))
+            };
+            assert!(rt; inserted == Ok(()));
         }
     }
     let (taken, further) = (key(&rt, b"aa"), key(&rt, b"a"));

@@ -15,8 +15,8 @@ use vdb_shell::{Fault, Outcome, session, status};
 /// Three lines that are no command, the last without a newline. Each answers `error syntax`.
 const LINES: &[u8] = b"twelve-bytes\neighteen--bytes--.\nsixteen--bytes--";
 
-/// The answer to each of these lines.
-const ANSWER: &[u8] = b"error syntax\n";
+/// The answers to these lines, of thirteen bytes each.
+const ANSWERS: &[u8] = b"error syntax\nerror syntax\nerror syntax\n";
 
 /// Grid `a` of i32 with background 0 and the active value 5 at (1, 2, 3).
 const VOXEL: &[u8] =
@@ -127,11 +127,8 @@ fn expect(rt: &impl Abort, left: &Left, fault: Option<Fault>, answered: usize, s
     let wanted = status(answered > 0, fault.as_ref());
     assert!(rt; left.outcome.fault == fault, "{:?}", left.outcome.fault);
     assert_eq!(rt; left.outcome.status, wanted);
-    let answers = left.answers.taken.as_slice();
-    assert_eq!(rt; answers.len(), answered.wrapping_mul(ANSWER.len()));
-    for line in answers.chunks(ANSWER.len()) {
-        assert_eq!(rt; line, ANSWER);
-    }
+    let answers = ANSWERS.get(..answered.wrapping_mul(13));
+    assert_eq!(rt; Some(left.answers.taken.as_slice()), answers);
     match &left.save {
         Some(sink) => assert_eq!(rt; sink.taken.as_slice(), saved),
         None => assert!(rt; saved.is_empty()),
