@@ -1,8 +1,8 @@
 # SPDX-License-Identifier: Apache-2.0
 """What CI proved on this machine, kept between runs in the folder VDB_KEPT, else ~/.cache/vdb-ci.
 
-An entry is a folder with what a proof left in crates/NAME/out. Its name is a sum of all that the proof depends on, so a run takes from here only
-what it would prove again in the same way. No failure is kept.
+An entry is a folder with what a proof left in crates/NAME/out. Its name is a sum of all that the proof depends on, so a run takes from here
+only what it would prove again in the same way. No failure is kept.
 """
 import hashlib
 import os
@@ -23,8 +23,8 @@ def files_in(folder):
 
 
 def key_of(root, kit, name, action):
-    """The sum of all that an action on a crate depends on: the kit, the handles allowed, the crate's line of crates.txt, its files, and the built
-    libraries below, whose files `format` have the sums of their contents."""
+    """The sum of all that an action on a crate depends on: the kit, the handles allowed, the crate's line of crates.txt, its files, and the
+    libraries below: rattle writes a sum of a library into its file `format`, and reads no library that differs from it."""
     with open(f"{root}/crates.txt", encoding="utf-8") as file:
         line = next(it for it in file if it.partition(":")[0].split()[:1] == [name])
     below = sorted(crates_below(name, named_by(root)))
@@ -39,8 +39,8 @@ def key_of(root, kit, name, action):
 
 
 def made(key, make, folder, names, anew, out):
-    """Takes what is kept into a folder, unless anew is set, or makes it there and keeps what then has one of these names. Returns the status of make, a
-    call. The call key gives the sum: nothing is kept if it is another one after make, since a file was edited meanwhile."""
+    """Takes what is kept into a folder, unless anew is set, or else makes it there by a call, keeps what then has one of these names, and
+    returns the status. The call key gives the sum: nothing is kept if it has changed, since a file was edited meanwhile."""
     before = key()
     if not anew and take(before, folder):
         print("kept from an earlier run on this machine", file=out, flush=True)

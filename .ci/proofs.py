@@ -2,16 +2,16 @@
 # SPDX-License-Identifier: Apache-2.0
 """Runs the kit's rt ci in another order, and keeps what it proves: proofs.py [--anew]
 
-What is proved, run and tried, and what fails, is rt's own. Of rt these functions are replaced:
+What is proved, run and tried, and what fails, is rt's own. These functions of rt are replaced:
 
-- `in_lanes`, which runs the tasks. rt never starts more jobs than there are processors, but the last part of a proof keeps only one busy. See Lanes.
-- `Crate.ci`, which proves a crate or its tests, if the kit keeps nothing between runs: what it proves is kept (kept.py). With --anew nothing is taken
-  that earlier runs kept.
-- `put_back`, which returns libraries of before the run to crates/NAME/out: those of the run stay there.
-- `Crate.prove`, which runs rattle. rt ci only checks a static library, and `rt lib` would prove it once more to build its archive. Here the check
-  writes its result to a folder, from which the archive is built. For the crate vdb_c that is crates/vdb_c/out/libvdb_c.a.
+- `in_lanes`, which runs the tasks. rt never starts more jobs than there are processors, but the end of a proof keeps only one busy (Lanes).
+- `Crate.prove`, which runs rattle. rt ci only checks a static library, and `rt lib` would prove it again for its archive. Here the check
+  writes its result, from which the archive is built: crates/vdb_c/out/libvdb_c.a.
+- `Crate.ci`, which proves a crate or its tests: what it proves is kept for later runs (kept.py). --anew takes nothing from earlier ones.
+- `put_back`, which returns the libraries of before the run to crates/NAME/out: those of the run stay there.
 
-Beside these it calls `processors`, `free` and `main`. With a kit that has other functions it runs `RT_JOBS=$(nproc) rt ci`, and says so.
+The last two stay rt's own if it keeps what it proves, as later kits do. Of rt it also calls `main`, `processors` and `free`. With a kit
+that has other functions it runs `RT_JOBS=$(nproc) rt ci`, and says so.
 """
 import contextlib
 import importlib.machinery
@@ -34,11 +34,9 @@ KIT = os.path.dirname(os.path.dirname(os.path.realpath(shutil.which("rt") or "bi
 
 STATIC = "vdb_c"  # the crate that is a static library
 
-# the most memory of one job, in bytes, as measured for the largest crate: of a proof, and of another task
-PROOF, OTHER = 3_800_000_000, 2_800_000_000
-
+PROOF, OTHER = 3_800_000_000, 2_800_000_000  # the most bytes of a job of a proof, and of another task, measured for the largest crate
 BEGUN = time.time()
-SPENT = []  # of each ended process of rattle: the crate, 'proof' or 'tests', and its processor seconds
+SPENT = []  # of each ended process of rattle the crate, 'proof' or 'tests', and its processor seconds
 
 
 def load(name, path):
@@ -50,12 +48,12 @@ def load(name, path):
 
 
 class Lanes:
-    """Runs rt's tasks side by side. The key of a task is the name of a crate and an action; it has the keys of the tasks that it waits for, its length
-    in lines, the memory of a job in bytes, and a call that gets the results so far and a number of jobs. A task of length 0 doesn't count.
+    """Runs rt's tasks side by side. The key of a task is a crate's name and an action. The task has the keys of those that it waits for, its
+    length in lines, the memory of a job in bytes, and a call that gets the results so far and a number of jobs. Length 0 doesn't count.
 
-    Four jobs of one proof don't keep four processors busy to its end, because its last part is one chain. So with four processors two proofs may run
-    side by side. Other tasks fill the gaps: they have a lower priority, and leave the memory of the next proof free. Tasks with the longest chain of
-    others behind them start first.
+    Four jobs of one proof don't keep four processors busy, because its last part is one chain. So with four processors two proofs may run
+    side by side. Other tasks fill the gaps: they have a lower priority, and leave the memory of the next proof free. Tasks with the longest
+    chain of others behind them start first.
     """
 
     def __init__(self, tasks, processors, memory):
@@ -159,7 +157,8 @@ def count_seconds():
             return process.pid, 0
         words = [*process.args]
         if number and "--crate-name" in words:
-            SPENT.append((words[words.index("--crate-name") + 1], "tests" if "--test" in words else "proof", usage.ru_utime + usage.ru_stime))
+            action = "tests" if "--test" in words else "proof"
+            SPENT.append((words[words.index("--crate-name") + 1], action, usage.ru_utime + usage.ru_stime))
         return number, status
 
     subprocess.Popen._try_wait = waited
@@ -169,8 +168,9 @@ def kept_or(prove, anew):
     """Crate.ci: takes what earlier runs kept, unless anew is set, and keeps what it proves."""
 
     def ci(crate, flags, tests):
+        key = key_of(crate.name, "tests" if tests else "proof")
         names = [f"{crate.name}_tests"] if tests else ["rlib", crate.name, f"{crate.name}.by-rattle"]
-        return kept.made(key_of(crate.name, "tests" if tests else "proof"), lambda: prove(crate, flags, tests), f"{crate.folder}/out", names, anew, crate.out)
+        return kept.made(key, lambda: prove(crate, flags, tests), f"{crate.folder}/out", names, anew, crate.out)
 
     return ci
 
@@ -190,14 +190,14 @@ def with_archive(prove):
     """Crate.prove: also builds and keeps the archive of a static library."""
 
     def proved(crate, *commands):
-        words = commands[0]
-        if not crate.is_static or words[0] != "check":
+        verb, *words = commands[0]
+        if not crate.is_static or verb != "check":
             return prove(crate, *commands)
 
         def make():
             with tempfile.TemporaryDirectory(prefix="proofs-") as room:
-                status = prove(crate, [*words, "-o", f"{room}/checked"])
-                return status or built(crate.name, [*without(words, "--logic-built", "--jobs")[1:], "--crate-checked", f"{room}/checked"], crate.out)
+                checked, rest = f"{room}/checked", without(words, "--logic-built", "--jobs")
+                return prove(crate, [verb, *words, "-o", checked]) or built(crate.name, [*rest, "--crate-checked", checked], crate.out)
 
         return kept.made(key_of(crate.name, "archive"), make, f"{crate.folder}/out", [f"lib{crate.name}.a"], True, crate.out)
 
@@ -216,10 +216,10 @@ def without(words, *flags):
 
 def built(name, words, out):
     """Builds the archive of a static library by rattle, and returns its status."""
+    out.flush()
+    os.makedirs(f"{TOP}/crates/{name}/out", exist_ok=True)
     whole = [f"{KIT}/bin/rattle", "build", *words, "--toolchain", f"{KIT}/toolchain", "-o", f"out/lib{name}.a"]
-    ran = subprocess.run(whole, cwd=f"{TOP}/crates/{name}", stdin=subprocess.DEVNULL, stdout=subprocess.PIPE, stderr=subprocess.STDOUT, text=True)
-    print(ran.stdout, end="", file=out, flush=True)
-    return ran.returncode
+    return subprocess.run(whole, cwd=f"{TOP}/crates/{name}", stdin=subprocess.DEVNULL, stdout=out, stderr=subprocess.STDOUT).returncode
 
 
 def build_the_rest(anew):
@@ -231,7 +231,8 @@ def build_the_rest(anew):
             status |= subprocess.run(["rt", "run"], cwd=folder, stdin=subprocess.DEVNULL, stdout=subprocess.DEVNULL).returncode
     folder, library = f"{TOP}/crates/{STATIC}/out", f"lib{STATIC}.a"
     if STATIC in named and not os.path.exists(f"{folder}/{library}"):
-        words = load("check", f"{TOP}/.ci/check").command_of(STATIC, named)[2:] + ["--crate-type", "staticlib", "--links", f"{STATIC}=", "--jobs", "2"]
+        words = load("check", f"{TOP}/.ci/check").command_of(STATIC, named)[2:]
+        words += ["--crate-type", "staticlib", "--links", f"{STATIC}=", "--jobs", "2"]
         status |= kept.made(key_of(STATIC, "archive"), lambda: built(STATIC, words, sys.stdout), folder, [library], anew, sys.stdout)
     return status
 
