@@ -2,17 +2,10 @@
 import os
 import shutil
 
+from crates import crates_below
+
 TOP = os.path.dirname(os.path.dirname(os.path.abspath(__file__)))
 KIT = os.path.dirname(os.path.dirname(os.path.realpath(shutil.which("rt") or "bin/rt")))
-
-
-def crates_below(name, named):
-    """The crates below a crate, each after those that it names."""
-    found = []
-    for dep in named[name]:
-        if dep in named:
-            found += [it for it in [*crates_below(dep, named), dep] if it not in found]
-    return found
 
 
 def built_of(below, named):
