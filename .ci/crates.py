@@ -18,3 +18,9 @@ def crates_below(name, named):
         if dep in named:
             found += [it for it in [*crates_below(dep, named), dep] if it not in found]
     return found
+
+
+def lowest_first(root):
+    """The names in crates.txt, each after the crates below it."""
+    named = named_by(root)
+    return sorted(named, key=lambda name: len(crates_below(name, named)))
