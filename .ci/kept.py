@@ -10,7 +10,7 @@ import shutil
 import tempfile
 import time
 
-from crates import crates_below, named_by
+from crates import crates_of
 
 FOLDER = os.environ.get("VDB_KEPT") or os.path.expanduser("~/.cache/vdb-ci")
 DAYS, BYTES = 14, 6_000_000_000  # an entry that no run used for so long, or that is the oldest beyond so much, goes
@@ -27,8 +27,11 @@ def key_of(root, kit, name, action):
     libraries below: rattle writes a sum of a library into its file `format`, and reads no library that differs from it."""
     with open(f"{root}/crates.txt", encoding="utf-8") as file:
         line = next(it for it in file if it.partition(":")[0].split()[:1] == [name])
-    below = sorted(crates_below(name, named_by(root)))
-    files = [f"{kit}/KIT-ID", f"{root}/HANDLES", *(f"{root}/crates/{it}/out/rlib/{it}.rlib/format" for it in below)]
+    ordered, names = crates_of(root)
+    needed = {name}
+    for it in reversed(ordered):
+        needed.update(names[it] if it in needed else [])
+    files = [f"{kit}/KIT-ID", f"{root}/HANDLES", *(f"{root}/crates/{it}/out/rlib/{it}.rlib/format" for it in sorted(needed - {name}))]
     files += [file for part in SOURCES for file in files_in(f"{root}/crates/{name}/{part}")]
     total = hashlib.sha256(f"{action} {line}".encode())
     for path in files:
