@@ -48,8 +48,8 @@ def load(name, path):
 
 
 class Lanes:
-    """Runs rt's tasks side by side. The key of a task is a crate's name and an action. The task has the keys of those that it waits for, its
-    length in lines, the memory of a job in bytes, and a call that gets the results so far and a number of jobs. Length 0 doesn't count.
+    """Runs rt's tasks side by side. The key of a task is a crate's name and an action. The task has the keys of those that it waits for,
+    its length in lines, the bytes of memory of a job, and a call that gets the results so far and a number of jobs. Length 0 doesn't count.
 
     Four jobs of one proof don't keep four processors busy, because its last part is one chain. So with four processors two proofs may run
     side by side. Other tasks fill the gaps: they have a lower priority, and leave the memory of the next proof free. Tasks with the longest
