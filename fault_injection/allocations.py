@@ -50,7 +50,7 @@ def probes(lines, answers):
     """Returns a `get` for each accessor that has a last coordinate after these lines with these answers."""
     last = {}
     for line, answer in zip(lines, answers):
-        words = line.decode().split()
+        words = line.decode("latin-1").split()
         if words[0] == "drop" and answer == b"ok\n":
             last = {key: at for key, at in last.items() if key[0] != words[1]}
         reached = answer.startswith((b"ok", b"value")) or answer in (b"error root-limit\n", MEMORY)
@@ -140,7 +140,7 @@ class Row:
         what = f"allocation {number}, line {index + 1}"
         line = self.lines[index]
         allocates_nothing = line.split()[0].decode() in ALLOCATES_NOTHING or index in self.marked
-        self.check(not allocates_nothing, f"{what}: {line.decode()} allocates")
+        self.check(not allocates_nothing, f"{what}: {line!r} allocates")
         gets = probes(self.lines[: index + 1], [*self.answers[:index], MEMORY])
         saved, probed = self.before_line(index, gets)
         lines = [*self.lines[: index + 1], *gets]

@@ -54,7 +54,7 @@ def whole():
 
 def cut():
     """Each proper prefix of a file is `truncated`, each extension `trailing`."""
-    for name, text in vectors.CUT.items():
+    for name, text in {**vectors.CUT, "empty-1": vectors.EMPTY_1, "empty": vectors.EMPTY}.items():
         for size in some(range(len(text))):
             rejected(run(PLAIN, load=text[:size]), "truncated", f"the first {size} bytes of {name}")
         for more in (b"\x00", b"\xff", b"\n", text, b"\x00" * 70_000):

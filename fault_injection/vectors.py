@@ -16,7 +16,7 @@ def rows_of(subject):
 
 
 SCENES = rows_of("scene-files")
-EMPTY = SCENES["the empty scene"].saved
+EMPTY_1, EMPTY = (SCENES["the empty scene, of version 1"].load, SCENES["the empty scene"].saved)
 ACTIVE_1, ACTIVE = (SCENES["an active voxel, of version 1"].load, SCENES["an active voxel"].saved)
 INACTIVE_1, BOOLEAN_1 = (SCENES[f"{what} voxel, of version 1"].load for what in ("an inactive", "a boolean"))
 NEGATIVE_1 = SCENES["a voxel at negative coordinates, of version 1"].load
@@ -37,8 +37,6 @@ CUT = {
     "inactive-1": INACTIVE_1,
     "boolean-1": BOOLEAN_1,
     "negative-1": NEGATIVE_1,
-    "empty-1": SCENES["the empty scene, of version 1"].load,
-    "empty": EMPTY,
     "active": ACTIVE,
     "with-unit": WITH_UNIT,
     "two-grids": TWO,

@@ -308,11 +308,11 @@ def equal_nodes(it):
 
 
 def two_sessions(it):
-    """Each row is played in two sessions with a file between them, which changes no answer."""
+    """Each row of all subjects but scene files is played in two sessions with a file between them, which changes no answer."""
     for file in DATA:
         for row in rows.read(file):
             lines, middle = row.commands, len(row.commands) // 2
-            if row.load is None and row.status < 2 and all(line.text.endswith(b"\n") for line in lines):
+            if row.load is None and file.stem != "scene-files" and all(line.text.endswith(b"\n") for line in lines):
                 first, _, saved = it.run(b"".join(line.text for line in lines[:middle]))
                 second, _, last = it.run(b"".join(line.text for line in lines[middle:]), saved)
                 it.check("".join(f"{line}\n" for line in first + second).encode() == row.answered, f"{row.place}: other answers in two sessions")

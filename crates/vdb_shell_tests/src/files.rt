@@ -69,7 +69,7 @@ fn a_reader_that_fails_is_told_and_not_asked_again(rt: HostRuntime) {
     let mut steps = Steps::new(&rt);
     // the loader also asks for a byte after the last field
     for given in 0..=WITH_PAIR.len() {
-        let fails_at = given as u64 + 1;
+        let fails_at = (given as u64).wrapping_add(1);
         let mut reader = Watched::new(Source::new(WITH_PAIR).by(1).failing(fails_at));
         let fault = load(rt.alloc(), &mut reader, &mut steps).err();
         assert!(rt; fault == Some(LoadFault::Read), "{given} bytes: {fault:?}");
@@ -98,7 +98,7 @@ fn a_writer_that_fails_is_told_and_not_asked_again(rt: HostRuntime) {
     let mut steps = Steps::new(&rt);
     let scene = loaded(&rt, WITH_PAIR, &mut steps);
     for taken in 0..WITH_PAIR.len() {
-        let fails_at = taken as u64 + 1;
+        let fails_at = (taken as u64).wrapping_add(1);
         let mut writer = Watched::new(Sink::new(rt.alloc()).by(1).failing(fails_at, true));
         assert!(rt; save(&scene, &mut writer, &mut steps) == Err(SaveFault::Write));
         assert!(rt; writer.failed());

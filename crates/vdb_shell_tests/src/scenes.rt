@@ -54,7 +54,8 @@ fn names_come_by_rising_bytes(rt: HostRuntime) {
     }
     let mut names = scene.names();
     for name in [b"b".as_slice(), b"i".as_slice(), b"l".as_slice()] {
-        assert!(rt; names.next() == Some(&key(&rt, name)));
+        let wanted = key(&rt, name);
+        assert!(rt; names.next() == Some(&wanted));
     }
     assert!(rt; names.next().is_none());
 }
@@ -72,7 +73,9 @@ fn a_grid_is_inserted_with_its_pairs(rt: HostRuntime) {
         Some(metas) => {
             assert_eq!(rt; metas.len(), 1);
             if metas.len() > 0 {
-                assert!(rt; metas.pair(0).1.bytes() == b"lab");
+                let (found, words) = metas.pair(0);
+                assert_eq!(rt; found.bytes(), b"by".as_slice());
+                assert_eq!(rt; words.bytes(), b"lab".as_slice());
             }
         }
         None => assert!(rt; false),
@@ -96,7 +99,10 @@ fn a_caller_builds_commands(rt: HostRuntime) {
         at,
         value: Literal::Number(Num::Near(-5)),
     };
-    assert!(rt; matches!(scene.apply(&set, &mut steps), Answer::Done));
+    match scene.apply(&set, &mut steps) {
+        Answer::Done => {}
+        _ => assert!(rt; false),
+    }
     let place = Coord {
         x: -1,
         y: 2,
