@@ -27,22 +27,19 @@ import threading
 import time
 
 import kept
+from checking import KIT, TOP, command_of
 from crates import named_by
 
-TOP = os.path.dirname(os.path.dirname(os.path.abspath(__file__)))
-KIT = os.path.dirname(os.path.dirname(os.path.realpath(shutil.which("rt") or "bin/rt")))
-
 STATIC = "vdb_c"  # the crate that is a static library
-
 PROOF, OTHER = 3_800_000_000, 2_800_000_000  # the most bytes of a job of a proof, and of another task, measured for the largest crate
 BEGUN = time.time()
 SPENT = []  # of each ended process of rattle the crate, 'proof' or 'tests', and its processor seconds
 
 
-def load(name, path):
-    """Loads a script as a module."""
-    loader = importlib.machinery.SourceFileLoader(name, path)
-    made = importlib.util.module_from_spec(importlib.util.spec_from_loader(name, loader))
+def load():
+    """Loads rt as a module."""
+    loader = importlib.machinery.SourceFileLoader("rt", os.path.realpath(shutil.which("rt")))
+    made = importlib.util.module_from_spec(importlib.util.spec_from_loader("rt", loader))
     loader.exec_module(made)
     return made
 
@@ -231,8 +228,7 @@ def build_the_rest(anew):
             status |= subprocess.run(["rt", "run"], cwd=folder, stdin=subprocess.DEVNULL, stdout=subprocess.DEVNULL).returncode
     folder, library = f"{TOP}/crates/{STATIC}/out", f"lib{STATIC}.a"
     if STATIC in named and not os.path.exists(f"{folder}/{library}"):
-        words = load("check", f"{TOP}/.ci/check").command_of(STATIC, named)[2:]
-        words += ["--crate-type", "staticlib", "--links", f"{STATIC}=", "--jobs", "2"]
+        words = [*command_of(STATIC, named)[2:], "--crate-type", "staticlib", "--links", f"{STATIC}=", "--jobs", "2"]
         status |= kept.made(key_of(STATIC, "archive"), lambda: built(STATIC, words, sys.stdout), folder, [library], anew, sys.stdout)
     return status
 
@@ -267,5 +263,5 @@ def main():
 if __name__ == "__main__":
     if not shutil.which("rt"):
         sys.exit("proofs.py: rt, the command of Rattle's kit, is not on the PATH")
-    rt = load("rt", os.path.realpath(shutil.which("rt")))
+    rt = load()
     main()
