@@ -1,7 +1,7 @@
 //! Writes a block and a line of voxels, dilates them once, and cuts a tunnel through them. Counts the voxels that are left, and
 //! prints them leaf by leaf.
-#![tactic(auto)]
 
+use crate::at;
 use anyhow::{Context, Result};
 use std::alloc::Global;
 use std::io;
@@ -21,10 +21,6 @@ const ROOT_LIMIT: u32 = 16;
 /// A leaf of a tree of numbers: it spans 8 voxels along each axis and has 8 words of states.
 type NumberLeaf = Leaf<i32, 3, 8>;
 
-fn at(x: i32, y: i32, z: i32) -> Coord {
-    Coord { x, y, z }
-}
-
 /// Returns the box between two corners.
 fn between(min: Coord, max: Coord) -> Result<Bounds> {
     Bounds::new(min, max).context("corners out of order")
@@ -38,22 +34,6 @@ fn build(tree: &mut Tree<i32>, steps: &mut Steps) -> Result<()> {
         tree.write(at(4, 4, z), Write::On(9), steps)?;
     }
     Ok(())
-}
-
-/// Returns a tree with a box of two voxels by two, long along z. Only its states matter, so its values are booleans.
-fn tunnel(alloc: Global, steps: &mut Steps) -> Result<Tree<bool>> {
-    let bounds = between(at(3, 3, -100), at(4, 4, 100))?;
-    let mut tree = Tree::new(alloc, false, ROOT_LIMIT);
-    fill(
-        &mut tree,
-        bounds,
-        Cell {
-            value: true,
-            on: true,
-        },
-        steps,
-    )?;
-    Ok(tree)
 }
 
 /// Prints how many voxels are active, and their bounding box.
@@ -93,27 +73,29 @@ fn print_states(rt: &impl Print, leaf: &NumberLeaf) -> io::Result<()> {
     println!(rt; "")
 }
 
-/// Cuts a tunnel through a tree.
+/// Cuts a tunnel through a tree, of two voxels by two and long along z. Only its states matter, so its values are booleans.
 fn cut(tree: &mut Tree<i32>, alloc: Global, steps: &mut Steps) -> Result<()> {
-    let tunnel = tunnel(alloc, steps)?;
+    let bounds = between(at(3, 3, -100), at(4, 4, 100))?;
+    let mut tunnel = Tree::new(alloc, false, ROOT_LIMIT);
+    let cell = Cell {
+        value: true,
+        on: true,
+    };
+    fill(&mut tunnel, bounds, cell, steps)?;
     subtract(tree, &tunnel, steps)?;
     Ok(())
 }
 
-/// Builds, dilates and cuts, and prints the result of each step.
-fn show(rt: &impl Print, tree: &mut Tree<i32>, alloc: Global, steps: &mut Steps) -> Result<()> {
-    build(tree, steps)?;
-    println!(rt; "{} active voxels", count(tree, None, steps))?;
-    dilate(tree, 1, steps)?;
-    print_size(rt, tree, steps)?;
-    cut(tree, alloc, steps)?;
-    print_size(rt, tree, steps)?;
-    print_parts(rt, tree, steps)?;
-    Ok(())
-}
-
-fn main(rt: HostRuntime) -> Result<()> {
-    let mut steps = Steps::new(&rt);
+/// Builds, dilates and cuts a tree, and prints the result of each step.
+pub fn run(rt: &HostRuntime) -> Result<()> {
+    let mut steps = Steps::new(rt);
     let mut tree = Tree::new(rt.alloc(), 0, ROOT_LIMIT);
-    show(&rt, &mut tree, rt.alloc(), &mut steps)
+    build(&mut tree, &mut steps)?;
+    println!(rt; "{} active voxels", count(&tree, None, &mut steps))?;
+    dilate(&mut tree, 1, &mut steps)?;
+    print_size(rt, &tree, &mut steps)?;
+    cut(&mut tree, rt.alloc(), &mut steps)?;
+    print_size(rt, &tree, &mut steps)?;
+    print_parts(rt, &tree, &mut steps)?;
+    Ok(())
 }

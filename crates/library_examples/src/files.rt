@@ -1,7 +1,7 @@
 //! Saves a scene of two grids as a file in memory, loads it again, and compares cells of both scenes. Then loads the file without
 //! its last byte, which fails.
-#![tactic(auto)]
 
+use crate::at;
 use anyhow::{Context, Result, bail, ensure};
 use std::alloc::Global;
 use vdb_coord::{Bounds, Coord};
@@ -17,10 +17,6 @@ const HEIGHTS: &str = "heights";
 
 /// The name of the grid of booleans.
 const MARKS: &str = "marks";
-
-fn at(x: i32, y: i32, z: i32) -> Coord {
-    Coord { x, y, z }
-}
 
 /// Returns the name of a grid.
 fn name_of(text: &str) -> Result<Name> {
@@ -96,26 +92,26 @@ fn loaded(alloc: Global, bytes: &[u8], steps: &mut Steps) -> Result<Result<Scene
 }
 
 /// Prints whether bytes are a file of a scene, or else their fault.
-fn print_answer(rt: &impl Print, alloc: Global, bytes: &[u8], steps: &mut Steps) -> Result<()> {
-    match loaded(alloc, bytes, steps)? {
+fn print_answer(rt: &HostRuntime, bytes: &[u8], steps: &mut Steps) -> Result<()> {
+    match loaded(rt.alloc(), bytes, steps)? {
         Ok(_) => println!(rt; "{} bytes: a scene", bytes.len())?,
         Err(fault) => println!(rt; "{} bytes: {fault}", bytes.len())?,
     }
     Ok(())
 }
 
-fn main(rt: HostRuntime) -> Result<()> {
-    let mut steps = Steps::new(&rt);
+pub fn run(rt: &HostRuntime) -> Result<()> {
+    let mut steps = Steps::new(rt);
     let scene = scene_of_both(rt.alloc(), &mut steps)?;
     let mut file = Watched::new(Vec::new(rt.alloc()));
     let length = save(&scene, &mut file, &mut steps)?;
     println!(rt; "{length} bytes saved")?;
     let bytes = file.get_ref().as_slice();
     let again = loaded(rt.alloc(), bytes, &mut steps)??;
-    compare(&rt, &scene, &again, &mut steps)?;
-    print_answer(&rt, rt.alloc(), bytes, &mut steps)?;
+    compare(rt, &scene, &again, &mut steps)?;
+    print_answer(rt, bytes, &mut steps)?;
     if let Some((_, part)) = bytes.split_last() {
-        print_answer(&rt, rt.alloc(), part, &mut steps)?;
+        print_answer(rt, part, &mut steps)?;
     }
     Ok(())
 }

@@ -1,9 +1,9 @@
 //! Writes and reads through two accessors of a grid, and prints how many nodes each call visits: near the cached path, far from
 //! it, and after a prune.
-#![tactic(auto)]
 
 ghost use Rattle.std.specs.Prelude.{◌<◌};
 
+use crate::at;
 use anyhow::Result;
 use std::io;
 use vdb_coord::Coord;
@@ -69,10 +69,6 @@ impl Numbers {
     }
 }
 
-fn at(x: i32, y: i32, z: i32) -> Coord {
-    Coord { x, y, z }
-}
-
 /// Writes three voxels of one leaf extent. The first write creates the nodes.
 fn write_row(rt: &impl Print, numbers: &mut Numbers) -> Result<()> {
     for z in 0..3 {
@@ -109,13 +105,12 @@ fn prune_back(rt: &impl Print, numbers: &mut Numbers) -> Result<()> {
     Ok(())
 }
 
-fn main(rt: HostRuntime) -> Result<()> {
+pub fn run(rt: &HostRuntime) -> Result<()> {
     let mut numbers = Numbers {
         grid: Grid::new(rt.alloc(), 0, ROOT_LIMIT),
-        steps: Steps::new(&rt),
+        steps: Steps::new(rt),
     };
-    write_row(&rt, &mut numbers)?;
-    probe_around(&rt, &mut numbers)?;
-    prune_back(&rt, &mut numbers)?;
-    Ok(())
+    write_row(rt, &mut numbers)?;
+    probe_around(rt, &mut numbers)?;
+    prune_back(rt, &mut numbers)
 }
