@@ -27,12 +27,14 @@ class Edit:
 
 @dataclasses.dataclass
 class Function:
-    """A function or a constant of a source: its path below the crate, the names of what it ensures, and where its body begins and ends in the file's text."""
+    """A function or a constant of a source: its path below the crate, the names of what it ensures, and where its body begins and ends in the file's
+    text. `is_named` says that other functions can call it by this path: it is no constant, and in no other function."""
 
     path: str
     clauses: list
     start: int
     end: int
+    is_named: bool
 
 
 def read_edit(crate, file):
@@ -139,7 +141,7 @@ def functions_in(text, module, types):
         if begun:
             opened.append([begun[2], indent, at, None])
         elif constant and not opened:
-            found.append(Function("::".join([*holder, constant[1]]), [], at, at + len(bare)))
+            found.append(Function("::".join([*holder, constant[1]]), [], at, at + len(bare), False))
         if opened and opened[-1][3] is None and indent == opened[-1][1] and bare.endswith("{"):
             opened[-1][3] = at + len(bare)
         elif opened and opened[-1][3] is None and (bare.endswith((";", "{}")) and indent <= opened[-1][1] + 4 or bare.endswith("};")):
@@ -149,7 +151,7 @@ def functions_in(text, module, types):
             outer = [it[0] for it in opened]
             path = "::".join([*holder, *(["fn", *outer] if outer else []), name])
             clauses = re.findall(r"\bensures\*? (\w*) ?\{", text[start:body])
-            found.append(Function(path, clauses, body, at))
+            found.append(Function(path, clauses, body, at, not outer and "trait " not in header))
         at += len(line)
     return found
 
