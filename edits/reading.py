@@ -27,8 +27,10 @@ class Edit:
 
 @dataclasses.dataclass
 class Function:
-    """A function or a constant of a source: its path below the crate, the names of what it ensures, and where its body begins and ends in the file's
-    text. `is_named` says that other functions can call it by this path: it is no constant, and in no other function."""
+    """A function or a constant of a source: its path below the crate, the names of what it ensures, and where its body begins and ends in the text.
+
+    `is_named` says that other functions can call it by this path: it is no constant, and in no other function.
+    """
 
     path: str
     clauses: list
@@ -133,7 +135,8 @@ def functions_in(text, module, types):
     for line in text.splitlines(keepends=True):
         indent, bare = len(line) - len(line.lstrip(" ")), line.rstrip()
         if bare and not indent:
-            header = bare if re.match(r"(unsafe )?impl|(pub )?trait", bare) else header + " " + bare if header and not header.endswith("{") else ""
+            goes_on = f"{header} {bare}" if header and not header.endswith("{") else ""
+            header = bare if re.match(r"(unsafe )?impl|(pub )?trait", bare) else goes_on
         elif header and not header.endswith("{"):
             header += " " + bare.strip()
         begun, constant = FUNCTION.match(line), CONSTANT.match(bare)
