@@ -27,12 +27,16 @@ class Edit:
 
 @dataclasses.dataclass
 class Function:
-    """A function or a constant of a source: its path below the crate, the names of what it ensures, and where its body begins and ends in the file's text."""
+    """A function or a constant of a source: its path below the crate, the names of what it ensures, and where its body begins and ends in the text.
+
+    `is_named` says that other functions can call it by this path: it is no constant, and in no other function.
+    """
 
     path: str
     clauses: list
     start: int
     end: int
+    is_named: bool
 
 
 def read_edit(crate, file):
@@ -131,7 +135,8 @@ def functions_in(text, module, types):
     for line in text.splitlines(keepends=True):
         indent, bare = len(line) - len(line.lstrip(" ")), line.rstrip()
         if bare and not indent:
-            header = bare if re.match(r"(unsafe )?impl|(pub )?trait", bare) else header + " " + bare if header and not header.endswith("{") else ""
+            goes_on = f"{header} {bare}" if header and not header.endswith("{") else ""
+            header = bare if re.match(r"(unsafe )?impl|(pub )?trait", bare) else goes_on
         elif header and not header.endswith("{"):
             header += " " + bare.strip()
         begun, constant = FUNCTION.match(line), CONSTANT.match(bare)
@@ -139,7 +144,7 @@ def functions_in(text, module, types):
         if begun:
             opened.append([begun[2], indent, at, None])
         elif constant and not opened:
-            found.append(Function("::".join([*holder, constant[1]]), [], at, at + len(bare)))
+            found.append(Function("::".join([*holder, constant[1]]), [], at, at + len(bare), False))
         if opened and opened[-1][3] is None and indent == opened[-1][1] and bare.endswith("{"):
             opened[-1][3] = at + len(bare)
         elif opened and opened[-1][3] is None and (bare.endswith((";", "{}")) and indent <= opened[-1][1] + 4 or bare.endswith("};")):
@@ -149,7 +154,7 @@ def functions_in(text, module, types):
             outer = [it[0] for it in opened]
             path = "::".join([*holder, *(["fn", *outer] if outer else []), name])
             clauses = re.findall(r"\bensures\*? (\w*) ?\{", text[start:body])
-            found.append(Function(path, clauses, body, at))
+            found.append(Function(path, clauses, body, at, not outer and "trait " not in header))
         at += len(line)
     return found
 

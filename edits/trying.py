@@ -1,7 +1,8 @@
 """Tries must-fail edits: applies them to a copy of their crate, checks the functions meant, and reads which goals are left open.
 
 An edit of one function's body shows only in that function's proof, since other proofs see its contract alone. So one check tries many edits of
-different functions, and each is judged by the open goals of its own function.
+different functions, and each is judged by the open goals of its own function. For the same reason the proofs of all functions that are not tried are
+left out of the copy: a hole stands in place of each, and nothing that they rest on is checked.
 """
 import dataclasses
 import os
@@ -129,12 +130,28 @@ def check(crate, texts, names):
         for path, text in texts.items():
             with open(f"{room}/{path}", "w", encoding="utf-8") as file:
                 file.write(text)
+        for several in functions_of(folder_of(crate)).values():
+            for path in (it.path for it in several if it.is_named and it.path not in names):
+                leave_out(crate, path, f"{room}/proofs")
         with open(f"{room}/output", "w+", encoding="utf-8", errors="replace") as output:
             words += [word for name in names for word in ("--only", name)]
             ran = subprocess.Popen(words, cwd=room, stdin=subprocess.DEVNULL, stdout=output, stderr=subprocess.STDOUT)
             _, _, used = os.wait4(ran.pid, 0)
             output.seek(0)
             return output.read(), used.ru_utime + used.ru_stime
+
+
+def leave_out(crate, path, proofs):
+    """Puts a hole in place of the proof of a function."""
+    words = path.split("::")
+    folder = "/".join([proofs, *words])
+    os.makedirs(folder, exist_ok=True)
+    for name in ("Answers.antt", "Invariants.antt"):
+        if os.path.exists(f"{folder}/{name}"):
+            os.remove(f"{folder}/{name}")
+    with open(f"{folder}/Proof.antt", "w", encoding="utf-8") as file:
+        file.write(f"use Rattle.{crate}.proofs.{'.'.join(words)}.Statement.{{statement}}\n\n")
+        file.write(f"pub {words[-1]}_spec : {{M : Type 1}} → statement M\n{words[-1]}_spec = ?\n")
 
 
 def goals_of(output):
@@ -150,10 +167,13 @@ def goals_of(output):
 
 
 def is_meant(goal, clause):
-    """Whether a goal is of this clause: one of the function's own, or the first parts of a goal's name."""
+    """Whether a goal is of this clause: one of the function's own, or the first parts of a goal's name.
+
+    A goal of what the function ensures ends in `-clause-NAME`, unless it has one clause alone, or the prover cannot part them.
+    """
     if GOAL.fullmatch(clause):
         return goal == clause or goal.startswith(f"{clause}-")
-    return goal.startswith("returns-") and goal.endswith(f"-clause-{clause}")
+    return re.match(r"returns\b", goal) and goal.partition("-clause-")[2] in ("", clause)
 
 
 def judged(edit, goals, lost, seconds):
