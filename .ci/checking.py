@@ -8,12 +8,17 @@ TOP = os.path.dirname(os.path.dirname(os.path.abspath(__file__)))
 KIT = os.path.dirname(os.path.dirname(os.path.realpath(shutil.which("rt") or "bin/rt")))
 
 
+def library_of(crate):
+    """The folder of a crate's library, if it is built."""
+    return f"{TOP}/crates/{crate}/out/rlib/{crate}.rlib"
+
+
 def built_of(below, named):
     """The libraries of those of these crates that are up to date, by name: each newer than the files of its crate and than the libraries below."""
     made, built = {}, {}
     for crate in below:
         folder = f"{TOP}/crates/{crate}"
-        library = f"{folder}/out/rlib/{crate}.rlib"
+        library = library_of(crate)
         if not os.path.isfile(f"{library}/format") or any(it in named and it not in built for it in named[crate]):
             continue
         files = [f"{at}/{it}" for part in ("src", "specs", "proofs") for at, _, names in os.walk(f"{folder}/{part}") for it in (".", *names)]
@@ -23,10 +28,9 @@ def built_of(below, named):
     return built
 
 
-def command_of(name, named):
-    """The words that check a crate, with those below it as libraries where these are up to date, and else as source."""
+def command_of(name, named, built):
+    """The words that check a crate, with those below it as libraries where `built` has their folders, and else as source."""
     folder, below = f"{TOP}/crates/{name}", crates_below(name, named)
-    built = built_of(below, named)
     root = next(it for it in ("src/main.rt", "src/lib.rt") if os.path.exists(f"{folder}/{it}"))
     words = [f"{KIT}/bin/rattle", "check", "--crate-name", name, root, "-L", f"dependency={KIT}/rlibs"]
     for library in sorted({"core", "std", *(it for crate in [name, *below] for it in named[crate] if it not in named)}):

@@ -15,7 +15,8 @@ import tempfile
 from reading import Edit, function_at, functions_of, spans_of, spliced
 
 sys.path.insert(0, f"{os.path.dirname(os.path.dirname(os.path.abspath(__file__)))}/.ci")
-from checking import TOP, command_of  # noqa: E402
+from checking import TOP, command_of, library_of  # noqa: E402
+from crates import crates_below  # noqa: E402
 from crates import named_by  # noqa: E402
 
 # a refused answer of a goal, and a goal for which the search found no answer; the folder in proofs/ is the function's path
@@ -105,6 +106,11 @@ def batches_of(crate, edits):
     return rounds + alone
 
 
+def missing_below(crate):
+    """The crates below a crate whose libraries are not built."""
+    return [it for it in crates_below(crate, named_by(TOP)) if not os.path.isfile(f"{library_of(it)}/format")]
+
+
 def try_batch(crate, batch):
     """Tries a batch by one check, and each half of it by itself if the front end rejects the whole."""
     spans = [it for edit in batch for it in spans_of(edit, folder_of(crate))]
@@ -122,7 +128,9 @@ def check(crate, texts, names):
     """Checks functions of a crate with other texts in place of some files; returns the output and the processor seconds."""
     kept = f"{TOP}/out/edits/{crate}"
     os.makedirs(kept, exist_ok=True)
-    words = [*command_of(crate, named_by(TOP)), "--incremental", kept, "--allow-holes", "--short-goals"]
+    named = named_by(TOP)
+    built = {it: library_of(it) for it in crates_below(crate, named)}
+    words = [*command_of(crate, named, built), "--incremental", kept, "--allow-holes", "--short-goals"]
     with tempfile.TemporaryDirectory(prefix="edit-") as room:
         for part in ("src", "specs", "proofs"):
             if os.path.isdir(f"{folder_of(crate)}/{part}"):
