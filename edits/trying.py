@@ -16,8 +16,7 @@ from reading import Edit, function_at, functions_of, spans_of, spliced
 
 sys.path.insert(0, f"{os.path.dirname(os.path.dirname(os.path.abspath(__file__)))}/.ci")
 from checking import TOP, command_of, library_of  # noqa: E402
-from crates import crates_below  # noqa: E402
-from crates import named_by  # noqa: E402
+from crates import crates_below, named_by  # noqa: E402
 
 # a refused answer of a goal, and a goal for which the search found no answer; the folder in proofs/ is the function's path
 REFUSED = re.compile(r"(?:\./)?proofs/(\S+)/(?:Answers|Proof)\.antt:\d+:\d+: error: `([^`]+)`: (.*)")
