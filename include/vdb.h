@@ -1,3 +1,4 @@
+/* SPDX-License-Identifier: Apache-2.0 */
 /* libvdb: sparse grids of booleans and integers, for C and C++.
  *
  * A grid has a cell at each coordinate of three signed 32-bit integers: a value, and a state that is active or inactive.

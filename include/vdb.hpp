@@ -1,3 +1,4 @@
+// SPDX-License-Identifier: Apache-2.0
 // libvdb for C++17 and later: owners in place of handles, exceptions in place of codes.
 //
 //     #include <vdb.hpp>

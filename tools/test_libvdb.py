@@ -1,4 +1,5 @@
 #!/usr/bin/env python3
+# SPDX-License-Identifier: Apache-2.0
 """Tests of the library that `tools/libvdb` builds: its symbols, headers and examples, and random calls beside a map.
 
 They need gcc, and the archive of the crate vdb_c: the variable VDB_ARCHIVE, else crates/vdb_c/out/libvdb_c.a. Tests for which a

@@ -1,4 +1,5 @@
 #!/usr/bin/env python3
+# SPDX-License-Identifier: Apache-2.0
 """Tests of `vdb-run`. The program is the variable VDB, else crates/vdb/out/vdb of this repository."""
 from __future__ import annotations
 

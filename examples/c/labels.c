@@ -1,3 +1,4 @@
+/* SPDX-License-Identifier: Apache-2.0 */
 /* Makes a margin of two voxels around an organ, without a vessel: labels INPUT OUTPUT
  *
  * INPUT is a scene file with the grids `organ` and `vessel`, OUTPUT the same with a third grid `margin`. */

@@ -1,3 +1,4 @@
+// SPDX-License-Identifier: Apache-2.0
 // Calls of vdb.hpp with their results, worked out by hand. Each check that fails prints its line; the status is 1 then.
 #include "vdb.hpp"
 

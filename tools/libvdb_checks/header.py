@@ -1,3 +1,4 @@
+# SPDX-License-Identifier: Apache-2.0
 """What include/vdb.h declares: structs, constants, calls and the texts of the codes, for ctypes."""
 from __future__ import annotations
 

@@ -1,3 +1,4 @@
+// SPDX-License-Identifier: Apache-2.0
 // A file that is written under a temporary name, and takes its own name only when it is whole.
 #pragma once
 

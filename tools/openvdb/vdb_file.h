@@ -1,3 +1,4 @@
+// SPDX-License-Identifier: Apache-2.0
 // Files of OpenVDB: their grids read one at a time, and written.
 #pragma once
 

@@ -1,3 +1,4 @@
+# SPDX-License-Identifier: Apache-2.0
 """Files that can't be read or written, and wrong command lines: one line each, the status, and the old file as it was."""
 import os
 import resource

@@ -1,3 +1,4 @@
+# SPDX-License-Identifier: Apache-2.0
 """A folder for the files of the tests, the programs that are run in it, and the checks that are counted."""
 import os
 import shutil
