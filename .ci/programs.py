@@ -1,4 +1,5 @@
 #!/usr/bin/env python3
+# SPDX-License-Identifier: Apache-2.0
 """Tests the built programs and the tools around them: programs.py
 
 It runs the fault injection, the tests of tools/vdb-run and tools/libvdb, and those of the Python packages. The last need NumPy: if no

@@ -1,4 +1,5 @@
 #!/usr/bin/env python3
+# SPDX-License-Identifier: Apache-2.0
 """Makes each allocation of each row fail in turn: allocations.py [ROW..]. A row is a script with its answers, in rows/.
 
 The shim counts calls of malloc, realloc and the other allocating functions, from the first read on. One allocation fails in

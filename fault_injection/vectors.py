@@ -1,3 +1,4 @@
+# SPDX-License-Identifier: Apache-2.0
 """Small scene files, and the scripts that make their scenes. docs/FORMAT.md shows some of them byte by byte."""
 
 
