@@ -1,3 +1,4 @@
+# SPDX-License-Identifier: Apache-2.0
 """Sparse voxel grids of the proved engine, from NumPy arrays and back.
 
     import vdb

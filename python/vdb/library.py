@@ -1,3 +1,4 @@
+# SPDX-License-Identifier: Apache-2.0
 """The shared library: where it is, its structs, and the types of its calls. include/vdb.h describes them.
 
 Each call raises the exception of its code. Calls keep the interpreter's lock, so no two threads are in the library at the same time.

@@ -1,3 +1,4 @@
+# SPDX-License-Identifier: Apache-2.0
 """Reads and writes the scene files of `vdb`, and turns their grids into NumPy arrays and back.
 
     import vdbs
