@@ -1,4 +1,3 @@
-# SPDX-License-Identifier: Apache-2.0
 """Keeps what CI proved on this machine, for kits whose rt ci proves everything anew in each run.
 
 A proof of a crate, a proof of its tests and its refused must-fail edits are kept under a sum of all that they depend on: the kit, the files

@@ -1,4 +1,3 @@
-# SPDX-License-Identifier: Apache-2.0
 """Runs tasks side by side on the processors, for CI and for the build of the program.
 
 A task has the keys of the tasks that it waits for, its length (in any unit), the memory of one job in bytes, and a call. The call gets the

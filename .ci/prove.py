@@ -1,5 +1,4 @@
 #!/usr/bin/env python3
-# SPDX-License-Identifier: Apache-2.0
 """Runs rt ci with another order of its tasks: prove.py [CRATE..]
 
 rt ci runs as many tasks side by side as there are processors. So must-fail edits and proofs of tests compete with the proofs that all other

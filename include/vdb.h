@@ -49,6 +49,11 @@
 #include <stddef.h>
 #include <stdint.h>
 
+/* The version of this header. A library of the same major version, and of this minor version or a later one, has all of its calls. */
+#define VDB_VERSION_MAJOR 1
+#define VDB_VERSION_MINOR 1
+#define VDB_VERSION_PATCH 0
+
 #ifdef __cplusplus
 extern "C" {
 #endif

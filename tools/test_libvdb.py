@@ -1,6 +1,6 @@
 #!/usr/bin/env python3
 # SPDX-License-Identifier: Apache-2.0
-"""Tests of the library that `tools/libvdb` builds: its symbols, headers and examples, and random calls beside a map.
+"""Tests of the library that `tools/build-libvdb` builds: its symbols, headers and examples, and random calls beside a map.
 
 They need gcc, and the archive of the crate vdb_c: the variable VDB_ARCHIVE, else crates/vdb_c/out/libvdb_c.a. Tests for which a
 further tool is missing are skipped. FUZZ_CALLS is the number of random calls, 100,000 if it isn't set.
@@ -94,9 +94,9 @@ def body_of(box, low, side):
 def prefix() -> Path:
     """The folder with the built library."""
     if not ARCHIVE.is_file():
-        raise AssertionError(f"there is no archive {ARCHIVE}: build it by tools/libvdb, or name one in VDB_ARCHIVE")
+        raise AssertionError(f"there is no archive {ARCHIVE}: build it by tools/build-libvdb, or name one in VDB_ARCHIVE")
     made = work() / "prefix"
-    done([TOOLS / "libvdb", made])
+    done([TOOLS / "build-libvdb", made])
     return made
 
 
@@ -188,7 +188,8 @@ class Headers(unittest.TestCase):
     def test_the_package_file_gives_the_flags(self):
         environment = {**os.environ, "PKG_CONFIG_PATH": str(prefix() / "lib" / "pkgconfig")}
         flags = done(["pkg-config", "--cflags", "--libs", "libvdb"], env=environment).split()
-        self.assertEqual(flags, [f"-I{prefix() / 'include'}", f"-L{prefix() / 'lib'}", "-lvdb"])
+        found = [it[:2] + str(Path(it[2:]).resolve()) if it.startswith(("-I", "-L")) else it for it in flags]
+        self.assertEqual(found, [f"-I{prefix() / 'include'}", f"-L{prefix() / 'lib'}", "-lvdb"])
 
 
 def header_text():
@@ -345,12 +346,12 @@ class RandomCalls(unittest.TestCase):
 
 class Command(unittest.TestCase):
     def fails(self, wanted, prefix, **variables):
-        ran = run([TOOLS / "libvdb", prefix], env={**os.environ, **variables})
+        ran = run([TOOLS / "build-libvdb", prefix], env={**os.environ, **variables})
         self.assertEqual((ran.returncode, ran.stdout), (1, ""))
         self.assertIn(wanted, ran.stderr)
 
     def test_help_has_an_example(self):
-        self.assertIn("Example:", done([TOOLS / "libvdb", "--help"]))
+        self.assertIn("Example:", done([TOOLS / "build-libvdb", "--help"]))
 
     def test_errors_name_the_file_and_the_reason(self):
         file = work() / "labels.vdbs"
