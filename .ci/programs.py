@@ -1,9 +1,9 @@
 #!/usr/bin/env python3
 """Tests the built programs and the tools around them: programs.py
 
-It runs the fault injection, the tests of tools/vdb-run, tools/build-libvdb and tools/install, and those of the Python packages. The last
-need NumPy: if no interpreter has it, this installs Debian's python3-numpy if it may, else it skips these tests and counts them. The last
-line is 'N passed, M failed, K skipped'.
+It runs the fault injection, the tests of tools/vdb-run, tools/build-libvdb, tools/install and of saving, and those of the Python
+packages. The last need NumPy: if no interpreter has it, this installs Debian's python3-numpy if it may, else it skips these tests and
+counts them. The last line is 'N passed, M failed, K skipped'.
 """
 import os
 import re
@@ -75,7 +75,8 @@ def of_packages():
 
 
 def main():
-    tools = [tested([sys.executable, f"{TOP}/tools/{name}"]) for name in ("test_vdb_run.py", "test_libvdb.py", "test_install.py")]
+    names = ("test_vdb_run.py", "test_libvdb.py", "test_install.py", "test_files.py")
+    tools = [tested([sys.executable, f"{TOP}/tools/{name}"]) for name in names]
     results = [injected(), *tools, of_packages()]
     passed, failed, skipped = (sum(column) for column in zip(*results))
     print(f"{passed} passed, {failed} failed, {skipped} skipped")

@@ -70,6 +70,7 @@ class Installed(unittest.TestCase):
     def is_right(self, program, root):
         """Runs a program of the examples with the library below a root."""
         environment = {**os.environ, "LD_LIBRARY_PATH": str(root / LIBRARIES)}
+        (work() / "margin.vdbs").unlink(missing_ok=True)
         ran = run([program, work() / "labels.vdbs", work() / "margin.vdbs"], env=environment)
         self.assertEqual((ran.returncode, ran.stdout, ran.stderr), (0, REPORT, ""))
 

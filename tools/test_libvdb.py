@@ -251,6 +251,7 @@ class Programs(unittest.TestCase):
 
     def check_example(self, words, saved, **more):
         place = work() / saved
+        place.unlink(missing_ok=True)
         ran = run([*words, work() / "labels.vdbs", place], **more)
         self.assertEqual((ran.returncode, ran.stdout, ran.stderr), (0, REPORT, ""))
         grids = {grid.name: grid for grid in encoding.load(place.read_bytes())}

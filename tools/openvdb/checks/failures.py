@@ -97,7 +97,7 @@ def check_writing(place):
         out = OUTPUT[program]
         place.write(out, b"old")
         is_refused(place, program, [given, "none/x"], "none/x: No such file or directory")
-        is_refused(place, program, [given, "programs"], "programs: it is no regular file")
+        is_refused(place, program, [given, "programs"], "programs: Is a directory")
         is_refused(place, program, [given, out], f"{out}: File too large", preexec_fn=limit_files)
         place.folder.chmod(0o555)
         is_refused(place, program, [given, "new"], "new: Permission denied", **as_other())

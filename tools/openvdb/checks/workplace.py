@@ -88,4 +88,4 @@ class Workplace:
 
     def leftovers(self):
         """The temporary files that a converter left in the folder."""
-        return sorted(path.name for path in self.folder.glob(".openvdb-*"))
+        return sorted(path.name for path in self.folder.glob(".vdb-*"))
