@@ -31,6 +31,7 @@ private:
     void read_file();
     [[noreturn]] void fail() const;
     void read_descriptor();
+    void check_offsets(const openvdb::io::GridDescriptor& descriptor);
     openvdb::GridBase::Ptr read_tree(const openvdb::io::GridDescriptor& descriptor);
     const openvdb::io::GridDescriptor& parent(const openvdb::io::GridDescriptor& instance) const;
 
