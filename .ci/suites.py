@@ -57,7 +57,7 @@ def stages(options):
     return [
         [Suite("texts of edits", ["edits/run", "--texts"], 800)],
         [Suite("proofs", [python, ".ci/proofs.py", *(it for it in options if it == "--anew")], 25)],
-        [Suite("libvdb", ["tools/libvdb"], 1)],
+        [Suite("libvdb", ["tools/build-libvdb"], 1)],
         [Suite("edits", ["edits/run", "--ci"], 22)],
         [
             Suite("library tests", ["tests/library/run"], 150),

@@ -1,4 +1,5 @@
 #!/usr/bin/env python3
+# SPDX-License-Identifier: Apache-2.0
 """Measures the Python package: bench/python.py. Prints Markdown tables.
 
 The first table compares arrays of 512 x 512 x 512 int32 labels with numpy.save and numpy.load of the same dense array and a copy:

@@ -1,3 +1,4 @@
+# SPDX-License-Identifier: Apache-2.0
 """What the tests share: the program, the independent reader of scene files, and grids by voxels."""
 import os
 import random

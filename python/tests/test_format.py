@@ -1,3 +1,4 @@
+# SPDX-License-Identifier: Apache-2.0
 """Files of docs/FORMAT.md, good and bad, and files a byte away from them, against the independent reader."""
 import re
 import unittest

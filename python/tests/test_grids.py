@@ -1,3 +1,4 @@
+# SPDX-License-Identifier: Apache-2.0
 """Grids and dense arrays, against brute force."""
 import unittest
 from itertools import product

@@ -1,3 +1,4 @@
+# SPDX-License-Identifier: Apache-2.0
 """The package vdb over libvdb, against brute force and against vdbs."""
 import copy
 import os

@@ -1,3 +1,4 @@
+# SPDX-License-Identifier: Apache-2.0
 """Scenes, their files, and the scenes that the program saves."""
 import os
 import tempfile

@@ -1,3 +1,4 @@
+# SPDX-License-Identifier: Apache-2.0
 """Sparse voxel grids of the proved engine, from NumPy arrays and back.
 
     import vdb
@@ -6,7 +7,7 @@
     margin.dilate(2)
     margin -= labels
 
-The package calls the shared library libvdb, which tools/libvdb of the repository builds. Unlike those of `vdbs`, its grids change.
+The package calls the shared library libvdb, which tools/build-libvdb of the repository builds. Unlike those of `vdbs`, its grids change.
 Coordinates are voxels; array axes are x, y, z.
 """
 from vdbs.errors import ArrayTooLargeError
@@ -17,5 +18,5 @@ from .errors import *  # noqa: F401,F403
 from .grid import Census, Grid
 from .scene import Scene, load, loads
 
-__version__ = "1.0"
+__version__ = "1.1.0"
 __all__ = ["load", "loads", "Scene", "Grid", "Census", "Metadata", "ArrayTooLargeError", "__version__", *errors.__all__]

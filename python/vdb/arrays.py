@@ -1,3 +1,4 @@
+# SPDX-License-Identifier: Apache-2.0
 """Grids of dense arrays, and dense arrays of grids."""
 from __future__ import annotations
 

@@ -1,3 +1,4 @@
+# SPDX-License-Identifier: Apache-2.0
 """Scenes of the library: their bytes, and grids moved into them and out of them."""
 from __future__ import annotations
 

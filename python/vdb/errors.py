@@ -1,3 +1,4 @@
+# SPDX-License-Identifier: Apache-2.0
 """The errors of the package: a class for the codes of libvdb that a caller may handle. Code 2 is Python's MemoryError."""
 from __future__ import annotations
 

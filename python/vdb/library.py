@@ -1,3 +1,4 @@
+# SPDX-License-Identifier: Apache-2.0
 """The shared library: where it is, its structs, and the types of its calls. include/vdb.h describes them.
 
 Each call raises the exception of its code. Calls keep the interpreter's lock, so no two threads are in the library at the same time.
@@ -148,7 +149,7 @@ def load() -> ctypes.PyDLL:
             return library
         except (OSError, AttributeError) as error:
             failed.append(str(error))
-    hint = "build it by tools/libvdb, or name it in VDB_LIBRARY"
+    hint = "build it by tools/build-libvdb, or name it in VDB_LIBRARY"
     raise ImportError(f"the library libvdb.so can't be used ({'; '.join(failed)}): {hint}")
 
 

@@ -1,3 +1,4 @@
+# SPDX-License-Identifier: Apache-2.0
 """Reads and writes the scene files of `vdb`, and turns their grids into NumPy arrays and back.
 
     import vdbs
@@ -14,5 +15,5 @@ from .forms import Metadata
 from .grid import Grid, Label, Leaf, Tile
 from .scene import Scene, load, loads
 
-__version__ = "1.0"
+__version__ = "1.1.0"
 __all__ = ["load", "loads", "Scene", "Grid", "Label", "Leaf", "Tile", "Metadata", "__version__", *errors.__all__]

@@ -1,3 +1,4 @@
+# SPDX-License-Identifier: Apache-2.0
 """The command line: python3 -m vdbs COMMAND."""
 from __future__ import annotations
 

@@ -1,3 +1,4 @@
+# SPDX-License-Identifier: Apache-2.0
 """Dense arrays into trees, and trees into dense arrays. Axes are x, y, z."""
 from __future__ import annotations
 

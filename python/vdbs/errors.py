@@ -1,3 +1,4 @@
+# SPDX-License-Identifier: Apache-2.0
 """The errors of the package: a class for each fault of docs/FORMAT.md, and those of calls."""
 from __future__ import annotations
 

@@ -1,3 +1,4 @@
+# SPDX-License-Identifier: Apache-2.0
 """Files that are replaced only when all of the new content is written."""
 from __future__ import annotations
 

@@ -1,3 +1,4 @@
+# SPDX-License-Identifier: Apache-2.0
 """The forms of names, types, values and metadata, as docs/FORMAT.md defines them."""
 from __future__ import annotations
 

@@ -1,3 +1,4 @@
+# SPDX-License-Identifier: Apache-2.0
 """A grid: a value and a state for each voxel, with a root limit and metadata."""
 from __future__ import annotations
 

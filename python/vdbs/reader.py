@@ -1,3 +1,4 @@
+# SPDX-License-Identifier: Apache-2.0
 """Reads scene files of versions 1 and 2.
 
 The walk over the nodes of a grid passes over each leaf by its number of voxels. Then NumPy tests and stores the voxels of all

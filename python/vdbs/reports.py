@@ -1,3 +1,4 @@
+# SPDX-License-Identifier: Apache-2.0
 """Counts, bounding boxes and labels of the active voxels of a tree."""
 from __future__ import annotations
 

@@ -1,3 +1,4 @@
+# SPDX-License-Identifier: Apache-2.0
 """A scene, which is the content of a file: grids by name."""
 from __future__ import annotations
 

@@ -1,3 +1,4 @@
+# SPDX-License-Identifier: Apache-2.0
 """The voxels of a grid in memory: leaves and tiles as arrays, in block order.
 
 A leaf keeps only the voxels that a file lists: those that aren't the inactive background. So a grid takes about as much

@@ -1,3 +1,4 @@
+# SPDX-License-Identifier: Apache-2.0
 """Writes scene files of version 2: the bytes that `vdb --save` writes for the same scene.
 
 A file is its skeleton, all bytes but those of the voxels in leaves, and the voxels of each leaf behind that leaf's head.

@@ -1,3 +1,4 @@
+// SPDX-License-Identifier: Apache-2.0
 // Trees of OpenVDB made into the bodies of docs/FORMAT.md.
 #pragma once
 

@@ -1,3 +1,4 @@
+// SPDX-License-Identifier: Apache-2.0
 // Converts a file of OpenVDB to a scene file.
 
 #include "encode.h"

@@ -1,3 +1,4 @@
+# SPDX-License-Identifier: Apache-2.0
 """A folder for the files of the tests, the programs that are run in it, and the checks that are counted."""
 import os
 import shutil
@@ -87,4 +88,4 @@ class Workplace:
 
     def leftovers(self):
         """The temporary files that a converter left in the folder."""
-        return sorted(path.name for path in self.folder.glob(".openvdb-*"))
+        return sorted(path.name for path in self.folder.glob(".vdb-*"))
