@@ -1,7 +1,7 @@
 #!/usr/bin/env python3
 """Tests the built programs and the tools around them: programs.py
 
-It runs the fault injection, the tests of tools/vdb-run and tools/libvdb, and those of the Python packages. The last need NumPy: if no
+It runs the fault injection, the tests of tools/vdb-run and tools/libvdb, and those of the Python package. The last need NumPy: if no
 interpreter has it, this installs Debian's python3-numpy if it may, else it skips these tests and counts them. The last line is
 'N passed, M failed, K skipped'.
 """
@@ -65,11 +65,11 @@ def installed():
 
 
 def of_packages():
-    """The tests of python/vdbs and python/vdb."""
+    """The tests of python/vdb."""
     interpreter, folder = installed(), f"{TOP}/python/tests"
     if interpreter:
         return tested([interpreter, "-m", "unittest", "discover", "-s", folder, "-t", f"{TOP}/python"])
-    print("no interpreter has NumPy: the tests of the Python packages are skipped")
+    print("no interpreter has NumPy: the tests of the Python package are skipped")
     texts = (open(f"{folder}/{name}", encoding="utf-8").read() for name in os.listdir(folder) if name.endswith(".py"))
     return 0, 0, sum(len(re.findall(r"^    def test_", text, re.M)) for text in texts)
 

@@ -10,7 +10,7 @@ from dataclasses import dataclass
 
 import numpy as np
 
-from .forms import ENTRIES, KEY_SPAN, SIDES, Kind
+from ..forms import ENTRIES, KEY_SPAN, SIDES, Kind
 
 #: How many bits a code has below its root block's place, for leaf extents, lower extents and upper extents.
 CODE_BITS = (27, 15, 0)
@@ -78,6 +78,14 @@ class Tree:
             found[:, axis] += (upper >> 10 - 5 * axis & 31) * SIDES[1] + (lower >> 8 - 4 * axis & 15) * SIDES[0]
         return found
 
+    def equals(self, other: "Tree") -> bool:
+        """Returns whether another tree has the same type, background and voxels."""
+        if (self.kind, self.background) != (other.kind, other.background):
+            return False
+        pairs = [(self.roots, other.roots), *zip(columns(self.leaves), columns(other.leaves))]
+        pairs += [pair for mine, theirs in zip(self.tiles, other.tiles) for pair in zip(columns(mine), columns(theirs))]
+        return all(np.array_equal(mine, theirs) for mine, theirs in pairs)
+
     def find(self, x: int, y: int, z: int) -> "tuple[bool | int, bool]":
         """Returns the value and the state of a voxel."""
         place = place_of(pack_keys(self.roots), pack_keys(np.array([[x >> 12, y >> 12, z >> 12]]))[0])
@@ -96,6 +104,11 @@ class Tree:
             if at is not None:
                 return leaves.values[first + at].item(), bool(leaves.active[first + at])
         return self.background, False
+
+
+def columns(part: "Tiles | Leaves") -> "list[np.ndarray]":
+    """Returns the arrays of tiles or leaves."""
+    return list(vars(part).values())
 
 
 def chunks(starts: np.ndarray):

@@ -1,23 +1,12 @@
 """Counts, bounding boxes and labels of the active voxels of a tree."""
 from __future__ import annotations
 
-from typing import Iterator, NamedTuple, Optional, Tuple, Union
+from typing import Iterator, Optional
 
 import numpy as np
 
-from .forms import SIDES
+from ..forms import SIDES, Bounds, Labels
 from .tree import Tree
-
-Coordinate = Tuple[int, int, int]
-Bounds = Tuple[Coordinate, Coordinate]
-
-
-class Label(NamedTuple):
-    """A value of active voxels: how many have it, and their bounding box (least and greatest coordinates)."""
-
-    value: Union[bool, int]
-    count: int
-    bounds: Bounds
 
 
 def count(tree: Tree) -> int:
@@ -67,23 +56,27 @@ def within(tree: Tree, chosen: np.ndarray, axis: int) -> np.ndarray:
     return leaves.index[places[leaves.active[places]]] >> 6 - 3 * axis & 7
 
 
-def labels(tree: Tree) -> "list[Label]":
+def labels(tree: Tree) -> Labels:
     """Returns each value of active voxels, rising, with its number of voxels and bounding box."""
     groups = [*tile_groups(tree), *leaf_groups(tree)]
     if not groups:
-        return []
+        return no_labels(tree.kind.dtype)
     values, counts, lows, highs = grouped(*(np.concatenate(column) for column in zip(*groups)))
-    rows = zip(values.tolist(), counts.tolist(), lows.tolist(), highs.tolist())
-    return [Label(value, many, (tuple(low), tuple(high))) for value, many, low, high in rows]
+    return Labels(values, counts, lows.astype(np.int32), highs.astype(np.int32))
+
+
+def no_labels(dtype: np.dtype) -> Labels:
+    """Returns the labels of a grid without an active voxel."""
+    corners = np.zeros((0, 3), np.int32)
+    return Labels(np.zeros(0, dtype), np.zeros(0, np.int64), corners, corners)
 
 
 def tile_groups(tree: Tree) -> Iterator[tuple]:
     for level, (tiles, side) in enumerate(zip(tree.tiles, SIDES)):
         if tiles.active.any():
             lows = tree.origins(tiles.codes[tiles.active], level)
-            # Python integers: 2^27 tiles of the root table would overflow 64 bits
-            counts = np.full(len(lows), side**3, np.int64).astype(object)
-            yield grouped(tiles.values[tiles.active], counts, lows, lows + (side - 1))
+            # at most 2^16 root blocks of 2^36 voxels: no sum is above 2^52
+            yield grouped(tiles.values[tiles.active], np.full(len(lows), side**3, np.int64), lows, lows + (side - 1))
 
 
 def leaf_groups(tree: Tree) -> Iterator[tuple]:
@@ -106,7 +99,7 @@ def grouped(values: np.ndarray, counts: "np.ndarray | None", lows: np.ndarray, h
     values = values[order]
     firsts = np.flatnonzero(np.concatenate([[True], values[1:] != values[:-1]]))
     if counts is None:
-        sums = np.diff(np.append(firsts, len(values))).astype(object)
+        sums = np.diff(np.append(firsts, len(values)))
     else:
         sums = np.add.reduceat(counts[order], firsts)
     return values[firsts], sums, np.minimum.reduceat(lows[order], firsts), np.maximum.reduceat(highs[order], firsts)
