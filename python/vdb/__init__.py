@@ -12,10 +12,11 @@ ImportError. `vdb.scenefile` reads and writes scene files without it, by classes
 Coordinates are voxels; array axes are x, y, z. All errors are `VdbError`.
 """
 from . import errors, scenefile
+from .blocks import Boxes, Labels
 from .errors import *  # noqa: F401,F403
-from .forms import Labels, Leaf, Metadata
+from .forms import Leaf, Metadata
 from .grid import Census, Grid, View
 from .scene import Scene, load, loads
 
 __version__ = "1.0"
-__all__ = ["load", "loads", "Scene", "Grid", "View", "Census", "Labels", "Leaf", "Metadata", "scenefile", "__version__", *errors.__all__]
+__all__ = ["load", "loads", "Scene", "Grid", "View", "Census", "Boxes", "Labels", "Leaf", "Metadata", "scenefile", "__version__", *errors.__all__]

@@ -46,16 +46,6 @@ class Leaf(NamedTuple):
     active: np.ndarray
 
 
-class Labels(NamedTuple):
-    """The values of active voxels, each once and rising: arrays of the values (n), of how many voxels have each (n, int64), and of the
-    least and the greatest corners of their bounding boxes (n x 3, int32)."""
-
-    values: np.ndarray
-    counts: np.ndarray
-    low: np.ndarray
-    high: np.ndarray
-
-
 @dataclass(frozen=True)
 class Kind:
     """A type of values: its word, its number in a file, and its forms in memory and in a file."""

@@ -7,8 +7,9 @@ from typing import Any, Iterator, Mapping, NamedTuple, Sequence
 
 import numpy as np
 
-from .blocks import OFFSETS, voxels_of
 from .arrays import box_of, coordinates_of, from_dense, new_grid, read_box, read_voxels, write_box, write_voxels
+from .blocks import Cubes, Part
+from .edits import is_one_of, mapped, write_cubes, write_leaves
 from .encoded import EVERYWHERE, NAME, Encoded, same_cells
 from .errors import DtypeError, RangeError
 from .forms import (
@@ -17,7 +18,7 @@ from .forms import (
 )  # fmt: skip
 from .library import LIBRARY, Box, CensusCounts, Coord, Count, Held, ViewHandle
 from .reading import Active, Key, Readable, part_of
-from .walk import Seen, active_cubes, leaf_rows
+from .walk import leaf_rows, parts_of
 
 __all__ = ["Grid", "Census", "View"]
 
@@ -235,6 +236,61 @@ class Grid(Readable):
         """Deactivates, in each of 1 to 16 iterations, every voxel that has an inactive face neighbour. No value changes."""
         self._held.call("erode", _iterations(iterations))
 
+    def select(self, values: Array) -> "Grid":
+        """Returns a bool grid that is active and True where this grid is active and has the value, or one of some values."""
+        wanted = np.unique(self._kind.array(values))
+        made = Grid("bool", limit=self.limit)
+        for part in self._parts():
+            chosen = is_one_of(part.values, wanted)
+            if isinstance(part, Cubes):
+                write_cubes(made._held, Cubes(part.low[chosen], part.side, np.ones(np.count_nonzero(chosen), np.int64)))
+            else:
+                chosen &= part.active
+                some = chosen.any(axis=1)
+                write_leaves(made._held, part.origins[some], chosen[some], chosen[some])
+        made.prune()
+        return made
+
+    def relabel(self, pairs: "Mapping[Any, Any]") -> "Grid":
+        """Returns a copy in which each active voxel whose value is a key of `pairs` has the value beside it. All change at once, so
+        {1: 2, 2: 1} exchanges two. Raises DtypeError or RangeError for a value that the grid can't have."""
+        old, new = self._kind.array(list(pairs), "key").ravel(), self._kind.array(list(pairs.values())).ravel()
+        order = np.argsort(old)
+        old, new = old[order], new[order]
+        made = self.copy()
+        for part in self._parts():
+            after = mapped(part.values, old, new)
+            if isinstance(part, Cubes):
+                changed = after != part.values
+                write_cubes(made._held, Cubes(part.low[changed], part.side, after[changed]))
+            else:
+                after = np.where(part.active, after, part.values)
+                some = (after != part.values).any(axis=1)
+                write_leaves(made._held, part.origins[some], after[some], None)
+        made.prune()
+        return made
+
+    def where(self, mask: "Grid") -> "Grid":
+        """Returns a grid with the active voxels of this grid that are active in the mask too, which may be of another type. All others are
+        the background, inactive. Limit and metadata are those of this grid."""
+        made = Grid(self.kind, self.background, self.limit, self._metadata)
+        made.replace(self & mask)
+        return made
+
+    def dilate_label(self, value: Value, iterations: int = 1) -> None:
+        """Grows one label into the inactive voxels, in 1 to 16 iterations: in each, every inactive voxel with a face neighbour of the label
+        that is active becomes active and gets the label. Active voxels of other values stay, and bar the way."""
+        turns, label = _iterations(iterations), self._kind.check(value)
+        with self._held.lock:
+            region = self.select(label)
+            others = self - region
+            for _ in range(turns):
+                region.dilate(1)
+                region.subtract(others)
+            grown = Grid(self.kind, label, self.limit)
+            grown.unite(region)
+            self.replace(grown)
+
     def unite(self, other: "Grid") -> None:
         """Activates each voxel that is active in the other grid. No value changes, and the types may differ."""
         self._combine("unite", other)
@@ -337,14 +393,8 @@ class Grid(Readable):
                 x, y, z = origins[leaf].tolist()
                 yield Leaf((x, y, z), values[leaf], states[leaf].reshape(8, 8, 8))
 
-    def _coordinates(self) -> Iterator[np.ndarray]:
-        seen = Seen()
-        for rows in leaf_rows(self._held):
-            seen.add(rows)
-            leaf, voxel = np.nonzero(rows.active)
-            yield rows.origins[leaf] + OFFSETS[voxel]
-        for cubes in active_cubes(self._held, seen):
-            yield from voxels_of(cubes.low, cubes.side)
+    def _parts(self) -> Iterator[Part]:
+        return parts_of(self._held)
 
     def voxels(self, bounds: Sequence[Sequence[int]] = EVERYWHERE) -> "Iterator[tuple[Coordinate, Value]]":
         """Yields the active voxels of a box in block order, each with its value."""

@@ -6,6 +6,8 @@ from typing import Any, Callable, Iterator, NamedTuple, Optional, Sequence, Unio
 
 import numpy as np
 
+from . import blocks
+from .blocks import Boxes, Labels
 from .errors import ArrayTooLargeError, DtypeError, RangeError
 from .forms import COORDINATE_SPAN, Bounds, Coordinate, Kind, Metadata, Value, check_bounds
 
@@ -178,16 +180,27 @@ class Readable:
             self._read(low, values, active, fill)
         return values, active
 
-    def _coordinates(self) -> Iterator[np.ndarray]:
-        """Yields the coordinates of the active voxels, as arrays of any number of rows."""
+    def _parts(self) -> "Iterator[blocks.Part]":
+        """Yields the leaves in block order, then the active cubes that no leaf holds."""
         raise NotImplementedError
+
+    def labels(self) -> Labels:
+        """Returns the values of active voxels, each once and rising: arrays of the values (n), of how many voxels have each (n, int64), and
+        of the least and the greatest corners of their bounding boxes, both included (n x 3, int32)."""
+        return blocks.labels(self._parts(), self.dtype)
+
+    def boxes(self) -> Iterator[Boxes]:
+        """Yields the active voxels as boxes of one value each, chunk by chunk: arrays of least and greatest corners, both included
+        (n x 3, int32), and of values (n). A tile is one box or several, a leaf a box for each run along z. Boxes don't overlap."""
+        for part in blocks.boxes(self._parts()):
+            yield part._replace(values=part.values.astype(self.dtype, copy=False))
 
     def active_coordinates(self, rows: int = 2**16) -> Iterator[np.ndarray]:
         """Yields the coordinates of the active voxels, arrays of shape (n, 3) and dtype int32 with at most `rows` rows.
 
         First come the voxels of leaves, leaf by leaf in block order, then those of tiles, tile by tile.
         """
-        for part in self._coordinates():
+        for part in blocks.coordinates(self._parts()):
             for first in range(0, len(part), rows):
                 yield part[first : first + rows]
 

@@ -2,34 +2,17 @@
 from __future__ import annotations
 
 from ctypes import byref, c_int32, c_int64, c_size_t
-from typing import Iterator, NamedTuple
+from typing import Iterator, Union
 
 import numpy as np
 
 from .arrays import ACCESSOR, box_of, pointers
-from .blocks import PARTS
+from .blocks import PARTS, Cubes, Rows
 from .library import COORD, I64, U64, CensusCounts, Coord, Count, Held
 
 #: How many leaves cross at a time.
 LEAVES = 256
 MOST = 2**31 - 1
-
-
-class Rows(NamedTuple):
-    """Leaves: least corners (n x 3, int32), values (n x 512, int64) and states (n x 512, bool). Voxel 64 dx + 8 dy + dz of a row lies dx,
-    dy and dz past the corner."""
-
-    origins: np.ndarray
-    values: np.ndarray
-    active: np.ndarray
-
-
-class Cubes(NamedTuple):
-    """Active cubes of one side in voxels, each of one value: least corners (n x 3, int32) and values (n, int64)."""
-
-    low: np.ndarray
-    side: int
-    values: np.ndarray
 
 
 def leaf_rows(held: Held) -> Iterator[Rows]:
@@ -49,22 +32,18 @@ def leaf_rows(held: Held) -> Iterator[Rows]:
         name, after = "next_leaves", tuple(origins[count - 1].tolist())
 
 
-class Seen:
-    """What a walk over leaves has seen, of which `active_cubes` finds the rest of a grid."""
-
-    def __init__(self) -> None:
-        self.origins: "list[np.ndarray]" = []
-        self.counts: "list[np.ndarray]" = []
-
-    def add(self, rows: Rows) -> None:
-        self.origins.append(rows.origins)
-        self.counts.append(np.count_nonzero(rows.active, axis=1))
+def parts_of(held: Held) -> "Iterator[Union[Rows, Cubes]]":
+    """Yields all active voxels of a grid, and some others: its leaves in block order, then the cubes that no leaf holds."""
+    origins, counts = [np.zeros((0, 3), np.int32)], [np.zeros(0, np.int64)]
+    for rows in leaf_rows(held):
+        origins.append(rows.origins)
+        counts.append(np.count_nonzero(rows.active, axis=1))
+        yield rows
+    yield from active_cubes(held, np.concatenate(origins), np.concatenate(counts))
 
 
-def active_cubes(held: Held, seen: Seen) -> Iterator[Cubes]:
-    """Yields the active voxels that are in no leaf, as cubes of 8, 128 or 4,096 voxels along each axis, each of one value."""
-    origins = np.concatenate([np.zeros((0, 3), np.int32), *seen.origins])
-    counts = np.concatenate([np.zeros(0, np.int64), *seen.counts])
+def active_cubes(held: Held, origins: np.ndarray, counts: np.ndarray) -> Iterator[Cubes]:
+    """Yields the active voxels that are in no leaf, as cubes. The leaves have these least corners and counts of active voxels."""
     if count_of(held) == counts.sum():
         return
     census = CensusCounts()

@@ -8,8 +8,9 @@
 
 docs/FORMAT.md of the repository defines the files. Names that `vdb` has too mean the same. Coordinates are voxels; array axes are x, y, z.
 """
-from ..forms import Labels, Leaf, Metadata
+from ..blocks import Boxes, Labels
+from ..forms import Leaf, Metadata
 from .grid import Grid, Tile
 from .scene import Scene, load, loads
 
-__all__ = ["load", "loads", "Scene", "Grid", "Labels", "Leaf", "Tile", "Metadata"]
+__all__ = ["load", "loads", "Scene", "Grid", "Boxes", "Labels", "Leaf", "Tile", "Metadata"]

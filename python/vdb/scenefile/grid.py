@@ -5,10 +5,10 @@ from typing import Any, Iterator, Mapping, NamedTuple, Sequence
 
 import numpy as np
 
-from ..blocks import OFFSETS, voxels_of
+from ..blocks import Cubes, Part, Rows
 from ..errors import RootLimitError
 from ..forms import (
-    DEFAULT_LIMIT, SIDES, Array, Bounds, Coordinate, Kind, Labels, Leaf, Metadata, Value, check_box, check_limit, check_states, kind_of,
+    DEFAULT_LIMIT, SIDES, Array, Bounds, Coordinate, Kind, Leaf, Metadata, Value, check_box, check_limit, check_states, kind_of,
     kind_of_array,
 )  # fmt: skip
 from ..reading import Readable
@@ -148,37 +148,25 @@ class Grid(Readable):
         """The bounding box of the active voxels, its least and greatest coordinates, or None if no voxel is active."""
         return reports.bounds(self._tree)
 
-    def labels(self) -> Labels:
-        """Returns each value of active voxels, rising, with how many there are and their bounding boxes, as arrays."""
-        return reports.labels(self._tree)
-
     def _cell(self, at: Coordinate) -> "tuple[Value, bool]":
         return self._tree.find(*at)
 
     def _read(self, low: Coordinate, values: "np.ndarray | None", active: "np.ndarray | None", fill: "Value | None") -> None:
         fill_arrays(self._tree, low, values, active, fill)
 
-    def _coordinates(self) -> Iterator[np.ndarray]:
-        leaves = self._tree.leaves
-        for first, last in leaves.chunks():
-            part = slice(leaves.starts[first], leaves.starts[last])
-            origins = np.repeat(self._tree.origins(leaves.codes[first:last]), np.diff(leaves.starts[first : last + 1]), axis=0)
-            yield (origins + OFFSETS[leaves.index[part]])[leaves.active[part]].astype(np.int32)
+    def _parts(self) -> Iterator[Part]:
+        for codes, values, active in self._tree.rows():
+            yield Rows(self._tree.origins(codes).astype(np.int32), values, active)
         for level, tiles in enumerate(self._tree.tiles):
-            lows = self._tree.origins(tiles.codes[tiles.active], level).astype(np.int32)
-            yield from voxels_of(lows, SIDES[level])
+            if tiles.active.any():
+                lows = self._tree.origins(tiles.codes[tiles.active], level).astype(np.int32)
+                yield Cubes(lows, SIDES[level], tiles.values[tiles.active])
 
     def leaves(self) -> Iterator[Leaf]:
-        """Yields the leaves in block order, each a leaf extent whose voxels aren't all equal."""
-        leaves = self._tree.leaves
-        for first, last in leaves.chunks():
-            origins = self._tree.origins(leaves.codes[first:last]).tolist()
-            for leaf, origin in zip(range(first, last), origins):
-                part = slice(leaves.starts[leaf], leaves.starts[leaf + 1])
-                values, active = np.full(512, self.background, self.dtype), np.zeros(512, np.bool_)
-                values[leaves.index[part]] = leaves.values[part]
-                active[leaves.index[part]] = leaves.active[part]
-                yield Leaf((origin[0], origin[1], origin[2]), values.reshape(8, 8, 8), active.reshape(8, 8, 8))
+        """Yields the leaf extents whose voxels differ, in block order."""
+        for codes, values, active in self._tree.rows():
+            for (x, y, z), row, states in zip(self._tree.origins(codes).tolist(), values, active):
+                yield Leaf((x, y, z), row.reshape(8, 8, 8), states.reshape(8, 8, 8))
 
     def tiles(self) -> Iterator[Tile]:
         """Yields the tiles: those of 4,096 voxels along each axis, then 128, then 8, each in block order."""

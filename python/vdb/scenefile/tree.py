@@ -7,6 +7,7 @@ table of root blocks, then the entry of the upper node (15 bits), then the entry
 from __future__ import annotations
 
 from dataclasses import dataclass
+from typing import Iterator
 
 import numpy as np
 
@@ -16,6 +17,8 @@ from ..forms import ENTRIES, KEY_SPAN, SIDES, Kind
 CODE_BITS = (27, 15, 0)
 #: How many listed voxels are handled at once: their arrays stay in the processor's cache and are soon allocated.
 CHUNK = 1 << 15
+#: How many leaves are expanded at once.
+LEAVES = 256
 
 
 @dataclass(frozen=True)
@@ -77,6 +80,18 @@ class Tree:
         for axis in range(3):
             found[:, axis] += (upper >> 10 - 5 * axis & 31) * SIDES[1] + (lower >> 8 - 4 * axis & 15) * SIDES[0]
         return found
+
+    def rows(self) -> "Iterator[tuple[np.ndarray, np.ndarray, np.ndarray]]":
+        """Yields leaves, chunk by chunk: their codes (n), and the values and states (n x 512) of all their voxels."""
+        leaves = self.leaves
+        for first in range(0, len(leaves), LEAVES):
+            last = min(first + LEAVES, len(leaves))
+            part = slice(leaves.starts[first], leaves.starts[last])
+            leaf = np.repeat(np.arange(last - first), np.diff(leaves.starts[first : last + 1]))
+            values, active = np.full((last - first, 512), self.background, self.kind.dtype), np.zeros((last - first, 512), np.bool_)
+            values[leaf, leaves.index[part]] = leaves.values[part]
+            active[leaf, leaves.index[part]] = leaves.active[part]
+            yield leaves.codes[first:last], values, active
 
     def equals(self, other: "Tree") -> bool:
         """Returns whether another tree has the same type, background and voxels."""
