@@ -11,18 +11,16 @@ def named_by(root):
     return named
 
 
-def crates_of(root):
-    """The names in crates.txt, lowest first, and for each the crates that it names."""
+def crates_below(name, named):
+    """The crates below a crate, each after those that it names."""
+    found = []
+    for dep in named[name]:
+        if dep in named:
+            found += [it for it in [*crates_below(dep, named), dep] if it not in found]
+    return found
+
+
+def lowest_first(root):
+    """The names in crates.txt, each after the crates below it."""
     named = named_by(root)
-    below = {name: [dep for dep in deps if dep in named] for name, deps in named.items()}
-    ordered = []
-
-    def add(name):
-        if name not in ordered:
-            for dep in below[name]:
-                add(dep)
-            ordered.append(name)
-
-    for name in below:
-        add(name)
-    return ordered, below
+    return sorted(named, key=lambda name: len(crates_below(name, named)))

@@ -5,7 +5,7 @@ It reports and exits with status 1 if
 
 - a relative link of a Markdown file names no file or no heading,
 - a sentence outside tables and code has more than 40 words,
-- the example in docs/LIBRARY.md differs from `main` of example_first, which CI compiles,
+- the example in docs/LIBRARY.md differs from `run` of `first` in library_examples, which CI compiles,
 - README.md has more than 120 lines,
 - the table of definitions in docs/PROOFS.md gives a wrong number of lines or a wrong sum.
 """
@@ -85,10 +85,10 @@ def number(digits):
 
 def stale_numbers():
     """Yields the numbers and copies that are out of date."""
-    program, readme = text("crates/example_first/src/main.rt"), text("README.md")
-    example = "".join(f"    {line}" if line.strip() else line for line in program[program.index("fn main") :].splitlines(True))
+    program, readme = text("crates/library_examples/src/first.rt"), text("README.md")
+    example = "".join(f"    {line}" if line.strip() else line for line in program[program.index("pub fn run") :].splitlines(True))
     if example not in text("docs/LIBRARY.md"):
-        yield "docs/LIBRARY.md: another main than that of example_first"
+        yield "docs/LIBRARY.md: another example than `first` of library_examples"
     if readme.count("\n") > README_LINES:
         yield f"README.md: {readme.count(chr(10))} lines"
     proofs, sums = text("docs/PROOFS.md"), [0, 0]

@@ -1,86 +1,96 @@
-"""Keeps what CI proved on this machine, for kits whose rt ci proves everything anew in each run.
+# SPDX-License-Identifier: Apache-2.0
+"""What CI proved on this machine, kept between runs in the folder VDB_KEPT, else ~/.cache/vdb-ci.
 
-A proof of a crate, a proof of its tests and its refused must-fail edits are kept under a sum of all that they depend on: the kit, the files
-of the crate and of the crates below, the built libraries below, byte by byte, the texts of the edits and the handles allowed. So a run takes
-from here only what it would prove again in the same way, and says so. Failures are never kept. The folder is the variable VDB_KEPT, else
-~/.cache/vdb-ci: remove it to prove everything anew.
+An entry is a folder with what a proof left in crates/NAME/out. Its name is a sum of all that the proof depends on, so a run takes from here
+only what it would prove again in the same way. No failure is kept.
 """
 import hashlib
-import json
 import os
 import shutil
 import tempfile
+import time
+
+from crates import crates_below, named_by
 
 FOLDER = os.environ.get("VDB_KEPT") or os.path.expanduser("~/.cache/vdb-ci")
+DAYS, BYTES = 14, 6_000_000_000  # an entry that no run used for so long, or that is the oldest beyond so much, goes
+SOURCES = ("src", "specs", "proofs")
 
 
-def files_in(place):
-    """The files at or below a place, each by its path there."""
-    if os.path.isfile(place):
-        return {"": place}
-    return {os.path.relpath(f"{at}/{name}", place): f"{at}/{name}" for at, _, names in os.walk(place) for name in names}
+def files_in(folder):
+    """The files at or below a folder, sorted."""
+    return sorted(f"{at}/{name}" for at, _, names in os.walk(folder) for name in names)
 
 
-def sum_of(*parts):
-    """The sum of texts, and of files with their paths."""
-    total = hashlib.sha256()
-    for part in parts:
-        for name, file in sorted(part.items()) if isinstance(part, dict) else [(part, None)]:
-            text = open(file, "rb").read() if file else b""
-            total.update(f"{len(name)} {len(text)} {name}\0".encode())
-            total.update(text)
+def key_of(root, kit, name, action):
+    """The sum of all that an action on a crate depends on: the kit, the handles allowed, the crate's line of crates.txt, its files, and the
+    libraries below: rattle writes a sum of a library into its file `format`, and reads no library that differs from it."""
+    with open(f"{root}/crates.txt", encoding="utf-8") as file:
+        line = next(it for it in file if it.partition(":")[0].split()[:1] == [name])
+    below = sorted(crates_below(name, named_by(root)))
+    files = [f"{kit}/KIT-ID", f"{root}/HANDLES", *(f"{root}/crates/{it}/out/rlib/{it}.rlib/format" for it in below)]
+    files += [file for part in SOURCES for file in files_in(f"{root}/crates/{name}/{part}")]
+    total = hashlib.sha256(f"{action} {line}".encode())
+    for path in files:
+        with open(path, "rb") as file:
+            text = file.read()
+        total.update(f"{os.path.relpath(path, root if path.startswith(root) else kit)} {len(text)}\0".encode() + text)
     return total.hexdigest()
 
 
-def place_of(rt, crate, *action):
-    """The folder of what is kept of an action on a crate, whose libraries below are built."""
-    return f"{FOLDER}/{sum_of(open(f'{rt.KIT}/KIT-ID').read(), crate.stamp(), *(files_in(it.rlib) for it in crate.below()), *action, *crate.allowed)}"
+def made(key, make, folder, names, anew, out):
+    """Takes what is kept into a folder, unless anew is set, or else makes it there by a call, keeps what then has one of these names, and
+    returns the status. The call key gives the sum: nothing is kept if it has changed, since a file was edited meanwhile."""
+    before = key()
+    if not anew and take(before, folder):
+        print("kept from an earlier run on this machine", file=out, flush=True)
+        return 0
+    status = make()
+    if not status and key() == before:
+        keep(before, [f"{folder}/{name}" for name in names if os.path.exists(f"{folder}/{name}")])
+    elif not status:
+        print("not kept: a file that this depends on changed meanwhile", file=out, flush=True)
+    return status
 
 
-def keep(place, files):
-    """Keeps files or folders by their names, all of them or none."""
+def take(key, folder):
+    """Copies the entry of a key into a folder, in the place of what has its names, and returns whether there is one."""
+    place = f"{FOLDER}/{key}"
+    if not os.path.isdir(place):
+        return False
+    os.utime(place)
+    os.makedirs(folder, exist_ok=True)
+    for name in os.listdir(place):
+        shutil.rmtree(f"{folder}/{name}", ignore_errors=True)
+        copy(f"{place}/{name}", f"{folder}/{name}")
+    return True
+
+
+def keep(key, files):
+    """Keeps files and folders as the entry of a key: all of them or none."""
     os.makedirs(FOLDER, exist_ok=True)
     with tempfile.TemporaryDirectory(prefix="new-", dir=FOLDER) as room:
         os.mkdir(f"{room}/made")
         for file in files:
-            (shutil.copytree if os.path.isdir(file) else shutil.copy2)(file, f"{room}/made/{os.path.basename(file)}")
-        if not os.path.isdir(place):
-            os.rename(f"{room}/made", place)
+            copy(file, f"{room}/made/{os.path.basename(file)}")
+        shutil.rmtree(f"{FOLDER}/{key}", ignore_errors=True)
+        os.rename(f"{room}/made", f"{FOLDER}/{key}")
 
 
-def take(place, folder):
-    """Copies what is kept into a folder, in the place of what has its names."""
-    for name in os.listdir(place):
-        shutil.rmtree(f"{folder}/{name}", ignore_errors=True)
-        (shutil.copytree if os.path.isdir(f"{place}/{name}") else shutil.copy2)(f"{place}/{name}", f"{folder}/{name}")
+def copy(source, place):
+    """Copies a file or a folder. The copies are new: a library is then newer than those below it, which were copied before."""
+    if os.path.isdir(source):
+        shutil.copytree(source, place, copy_function=shutil.copyfile)
+    else:
+        shutil.copyfile(source, place)
+        shutil.copymode(source, place)
 
 
-def add_to(rt):
-    """Has rt ci keep what it proves, and take what is kept."""
-    prove, refuse = rt.Crate.ci, rt.must_fail_all
-
-    def ci(crate, flags, tests):
-        place, out = place_of(rt, crate, "tests" if tests else "proof"), f"{crate.folder}/out"
-        if os.path.isdir(place):
-            rt.say("kept from an earlier run on this machine", crate.out)
-            take(place, out)
-            return 0
-        status = prove(crate, flags, tests)
-        if not status:
-            names = [f"{crate.name}_tests"] if tests else ["rlib", crate.name, f"{crate.name}.by-rattle"]
-            keep(place, [f"{out}/{name}" for name in names if os.path.exists(f"{out}/{name}")])
-        return status
-
-    def must_fail_all(crate, edits, flags):
-        place = place_of(rt, crate, "edits", *({os.path.basename(it): it} for it in edits))
-        if os.path.isdir(place):
-            return [(True, f"{text} (kept)") for text in json.load(open(f"{place}/said", encoding="utf-8"))]
-        tried = refuse(crate, edits, flags)
-        if all(is_refused for is_refused, _ in tried):
-            with tempfile.TemporaryDirectory(prefix="rt-said-") as room:
-                with open(f"{room}/said", "w", encoding="utf-8") as file:
-                    json.dump([text for _, text in tried], file)
-                keep(place, [f"{room}/said"])
-        return tried
-
-    rt.Crate.ci, rt.must_fail_all = ci, must_fail_all
+def prune():
+    """Removes what no run used for DAYS, and then the longest unused until the rest has at most BYTES."""
+    entries = sorted((os.path.getmtime(it.path), it.path) for it in os.scandir(FOLDER)) if os.path.isdir(FOLDER) else []
+    total = 0
+    for used, place in reversed(entries):
+        total += sum(os.path.getsize(file) for file in files_in(place))
+        if used < time.time() - 86_400 * DAYS or total > BYTES:
+            shutil.rmtree(place, ignore_errors=True)

@@ -1,6 +1,7 @@
 #!/usr/bin/env python3
 # SPDX-License-Identifier: Apache-2.0
-"""Makes each allocation of each row fail in turn: allocations.py [ROW..]. A row is a script with its answers, in rows/.
+"""Makes each allocation of each row fail in turn: allocations.py [SUBJECT..]. A row is a script with its answers, and a subject a
+file of rows in crates/vdb_rows/data.
 
 The shim counts calls of malloc, realloc and the other allocating functions, from the first read on. One allocation fails in
 each run: the first, then the second, until no allocation is left to fail. A row with more than 120 allocations has runs for
@@ -19,29 +20,16 @@ scene must save, as if the others weren't in the script."""
 import os
 import sys
 from planted import planted
-from program import HERE, Run, Tally, Workplace
+from program import Run, Tally, Workplace
+from vectors import rows_of
 
 ALL_AFTER_RUNS = 20
 EACH_OF_FIRST = int(os.environ.get("ALLOCATIONS", "60"))
+SUBJECTS = ["accessors", "boxes", "dilate-and-erode", "layouts", "metadata", "pruned-leaf", "root-limit", "two-grids", "value-ranges", "voxels"]
 ALLOCATES_NOTHING = {"get", "drop", "prune", "count", "bounds", "list", "slice", "census", "unmeta", "metas"}
 BY_ACCESSOR = {"get", "set", "unset", "only", "state"}
 LONG = (b"list ", b"slice ", b"metas ")
-MARK = "        allocates nothing"
 MEMORY = b"error memory\n"
-
-
-def read_row(path):
-    """Returns a row's lines, each with its answer, and the indexes of the lines marked as allocating nothing. In the file an
-    answer is indented by four spaces, the mark by eight."""
-    row, marked = [], set()
-    for line in path.read_text().splitlines():
-        if line == MARK:
-            marked.add(len(row) - 1)
-        elif line.startswith("    "):
-            row[-1][1] += line[4:] + "\n"
-        else:
-            row.append([line, ""])
-    return [(line.encode(), answer.encode()) for line, answer in row], marked
 
 
 def answer_of_each(lines, answers):
@@ -63,7 +51,7 @@ def probes(lines, answers):
     """Returns a `get` for each accessor that has a last coordinate after these lines with these answers."""
     last = {}
     for line, answer in zip(lines, answers):
-        words = line.decode().split()
+        words = line.decode("latin-1").split()
         if words[0] == "drop" and answer == b"ok\n":
             last = {key: at for key, at in last.items() if key[0] != words[1]}
         reached = answer.startswith((b"ok", b"value")) or answer in (b"error root-limit\n", MEMORY)
@@ -88,11 +76,12 @@ def numbers_to_fail(allocations):
 class Row:
     """The runs of one row."""
 
-    def __init__(self, name, place, tally):
-        self.name, self.place, self.tally = name, place, tally
-        row, self.marked = read_row(HERE / "rows" / f"{name}.txt")
-        self.lines = [line for line, _ in row]
-        self.answers = [answer for _, answer in row]
+    def __init__(self, row, place, tally):
+        self.name, self.place, self.tally = row.name, place, tally
+        commands = [line for line in row.commands if line.answers]
+        self.lines = [line.text[:-1] for line in commands]
+        self.answers = [line.answered for line in commands]
+        self.marked = {index for index, line in enumerate(commands) if line.allocates_nothing}
         self.before = {}
 
     def check(self, holds, what):
@@ -152,7 +141,7 @@ class Row:
         what = f"allocation {number}, line {index + 1}"
         line = self.lines[index]
         allocates_nothing = line.split()[0].decode() in ALLOCATES_NOTHING or index in self.marked
-        self.check(not allocates_nothing, f"{what}: {line.decode()} allocates")
+        self.check(not allocates_nothing, f"{what}: {line!r} allocates")
         gets = probes(self.lines[: index + 1], [*self.answers[:index], MEMORY])
         saved, probed = self.before_line(index, gets)
         lines = [*self.lines[: index + 1], *gets]
@@ -176,11 +165,18 @@ class Row:
         return self.before[index]
 
 
+def is_plain(row):
+    """Returns whether a row has lines that are answered, each with its newline, loads nothing and ends without a fault."""
+    lines = [line.text for line in row.commands if line.answers]
+    return lines and row.load is None and row.status < 2 and all(line.count(b"\n") == 1 and line.endswith(b"\n") for line in lines)
+
+
 def main():
     tally, place = Tally("allocations"), Workplace()
-    names = sys.argv[1:] or sorted(path.stem for path in (HERE / "rows").glob("*.txt"))
-    for name in names:
-        Row(name, place, tally).all()
+    for subject in sys.argv[1:] or SUBJECTS:
+        for row in rows_of(subject).values():
+            if is_plain(row):
+                Row(row, place, tally).all()
     tally.end()
 
 

@@ -44,21 +44,18 @@ def loaded_as(text, what, script=NO_SCRIPT):
 
 
 def whole():
-    """Small scenes: made and saved, then loaded and saved again, in both versions."""
-    for name, (text, script) in vectors.MADE.items():
-        accepted(run(script), text, f"{name}, made by its script")
-        accepted(run(NO_SCRIPT, load=text), text, f"{name}, loaded")
-    for name, (older, text) in vectors.OLDER.items():
-        accepted(run(NO_SCRIPT, load=older), text, f"{name} of version 1, loaded")
+    """One file is loaded and saved. The rows of scene files load and save others."""
     path = PLACE.folder / "both"
     path.write_bytes(vectors.ACTIVE)
     words = PLACE.run(b"set a - 1 2 3 6\n", load=path, save_as=path)
     TALLY.check(words.status == 0 and path.read_bytes()[-1] == 6, "one file is loaded and saved")
+    for name, text in vectors.CUT.items():
+        accepted(run(NO_SCRIPT, load=text), encoding.verdict(text), f"{name}, loaded")
 
 
 def cut():
     """Each proper prefix of a file is `truncated`, each extension `trailing`."""
-    for name, text in vectors.CUT.items():
+    for name, text in {**vectors.CUT, "empty-1": vectors.EMPTY_1, "empty": vectors.EMPTY}.items():
         for size in some(range(len(text))):
             rejected(run(PLAIN, load=text[:size]), "truncated", f"the first {size} bytes of {name}")
         for more in (b"\x00", b"\xff", b"\n", text, b"\x00" * 70_000):
@@ -67,7 +64,7 @@ def cut():
 
 def changed():
     """A file with any one byte changed to any other value has a fault, or is saved as those very bytes."""
-    text = vectors.ACTIVE
+    text = vectors.WITH_UNIT
     for at, value in some((at, value) for at in range(len(text)) for value in range(256) if value != text[at]):
         other = text[:at] + bytes([value]) + text[at + 1 :]
         done, wanted = loaded_as(other, f"byte {at} as {value:02x}")
@@ -75,7 +72,7 @@ def changed():
 
 
 def faults():
-    """Each fault of a file, by its word."""
+    """Each fault of a file, by its word, in the rows of bad scene files."""
     for name, word, text in vectors.REJECTED:
         rejected(run(PLAIN, load=text), word, name)
         TALLY.check(encoding.verdict(text) == word, f"{name}: encoding.py says {encoding.verdict(text)!r}")
@@ -106,7 +103,7 @@ def not_saved(done, word, answers, what):
 
 def writers():
     """Writes of one byte to the save file; a write that fails or writes nothing, at each call; a failure after any size."""
-    text, script = vectors.MADE["with-unit"]
+    text, script = vectors.MADE["a voxel of a grid with a metadata pair"]
     answers = b"ok\n" * 3
     accepted(run(script, write_of_file=1, write_most=1), text, "one byte a write")
     for call in some(range(1, len(text) + 1)):

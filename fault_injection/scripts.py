@@ -3,9 +3,9 @@
 """Scripts: short, endless and too long ones, reads and writes that fail, and wrong command lines. scripts.py [PART..]"""
 import sys
 from feeding import feeding
-from allocations import read_row, script_of
 from planted import planted
-from program import HERE, TIMEOUT, SCRIPT_LIMIT, Tally, Workplace, some
+from program import TIMEOUT, SCRIPT_LIMIT, Tally, Workplace, some
+from vectors import rows_of
 
 TALLY, PLACE = Tally("scripts"), Workplace()
 GRID = b"grid a i32 0\n"
@@ -22,10 +22,10 @@ def through(chunks):
         return run(path, seconds=max(TIMEOUT, 280))
 
 
-def row(name):
-    """Returns a row's script and answers, whole and line by line."""
-    pairs, _ = read_row(HERE / "rows" / f"{name}.txt")
-    return script_of([line for line, _ in pairs]), b"".join(answer for _, answer in pairs), pairs
+def row():
+    """Returns the script of a row with many answers, the answers, and those of each line."""
+    found = rows_of("two-grids")["values of two grids"]
+    return found.script, found.answered, [line.answered for line in found.commands]
 
 
 def ended(done, status, errors, answers, what):
@@ -49,7 +49,7 @@ MIXED_ANSWERS = (
 
 def pieces():
     """Reads of 1 to 300 bytes, and short writes of the answers, change nothing."""
-    script, answers, _ = row("two-grids")
+    script, answers, _ = row()
     saved = run(script).saved
     for most in some(range(1, 301)):
         done = run(script, read_most=most)
@@ -79,11 +79,11 @@ def last_lines():
 
 def readers():
     """A read that fails, at each call, and a script that ends at each call."""
-    script, _, pairs = row("two-grids")
+    script, _, of_lines = row()
     for call in some(range(1, len(script) // 7 + 3)):
         read = script[: 7 * (call - 1)]
         complete = read.count(b"\n")
-        answers = b"".join(answer for _, answer in pairs[:complete])
+        answers = b"".join(of_lines[:complete])
         injected = {"read_most": 7, "read_at": call}
         failed = run(script, **injected)
         ended(failed, 4, b"vdb: script: read\n", answers, f"call {call} fails")
@@ -96,13 +96,13 @@ def readers():
 
 def by_name():
     """A script that the command line names: short reads, a read that fails, a missing file."""
-    script, answers, pairs = row("two-grids")
+    script, answers, of_lines = row()
     for most in (1, 7, 300):
         ended(run(script, named=True, read_of_file=1, read_most=most), 1, b"", answers, f"a named script, reads of {most} bytes")
     for call in some(range(1, len(script) // 7 + 3)):
         complete = script[: 7 * (call - 1)].count(b"\n")
         failed = run(script, named=True, read_of_file=1, read_most=7, read_at=call)
-        before = b"".join(answer for _, answer in pairs[:complete])
+        before = b"".join(of_lines[:complete])
         ended(failed, 4, b"vdb: script: read\n", before, f"a named script, call {call} fails")
     missing = run(PLACE.folder / "missing", named=True)
     ended(missing, 4, b"vdb: script: read\n", b"", "a missing script")
@@ -122,7 +122,7 @@ def words():
 
 def writers():
     """A write that fails or writes nothing, at each call, and writes that fail after some bytes."""
-    for script, answers in [row("two-grids")[:2], (MIXED, MIXED_ANSWERS)]:
+    for script, answers in [row()[:2], (MIXED, MIXED_ANSWERS)]:
         calls = run(script).counts["answer-writes"]
         for call in some(range(1, calls + 1)):
             for kind in ("fail", "nothing"):

@@ -1,63 +1,36 @@
 # SPDX-License-Identifier: Apache-2.0
-"""Small scene files, and the scripts that make their scenes. docs/FORMAT.md shows some of them byte by byte."""
+"""Scene files: those of the rows, with the scripts that make their scenes, and larger ones that are made here."""
+import sys
+from pathlib import Path
+
+sys.path.append(str(Path(__file__).resolve().parent.parent / "tests"))
+import rows  # noqa: E402
 
 
 def from_hex(text):
     return bytes.fromhex(text.replace(" ", ""))
 
 
-PATH_TO_VOXEL = "00000000 00000000 00000000 03 0001 0000 03 0001 0000 03 0001 0053"
+def rows_of(subject):
+    """Returns the rows of a file of rows by their names."""
+    return {row.name: row for row in rows.read(rows.FOLDER / f"{subject}.rows")}
 
-# the empty scene
-EMPTY_1 = from_hex("56444253 0001 0000")
-EMPTY = from_hex("56444253 0002 0000")
 
-# one voxel at (1, 2, 3): active, inactive, and active in a grid with the text 'mm' under the key 'unit'
-ACTIVE_1 = from_hex("56444253 0001 0001 01 61 01 00000000 00000001" + PATH_TO_VOXEL + "02 00000005")
-ACTIVE = from_hex("56444253 0002 0001 01 61 01 00000000 00001000 00 00000001" + PATH_TO_VOXEL + "02 00000005")
-INACTIVE_1 = from_hex("56444253 0001 0001 01 61 01 00000000 00000001" + PATH_TO_VOXEL + "01 00000005")
-INACTIVE = from_hex("56444253 0002 0001 01 61 01 00000000 00001000 00 00000001" + PATH_TO_VOXEL + "01 00000005")
-WITH_UNIT = from_hex(
-    "56444253 0002 0001 01 61 01 00000000 00001000 01 04 756e6974 02 6d6d 00000001" + PATH_TO_VOXEL + "02 00000005"
-)
+SCENES = rows_of("scene-files")
+EMPTY_1, EMPTY = (SCENES["the empty scene, of version 1"].load, SCENES["the empty scene"].saved)
+ACTIVE_1, ACTIVE = (SCENES["an active voxel, of version 1"].load, SCENES["an active voxel"].saved)
+INACTIVE_1, BOOLEAN_1 = (SCENES[f"{what} voxel, of version 1"].load for what in ("an inactive", "a boolean"))
+NEGATIVE_1 = SCENES["a voxel at negative coordinates, of version 1"].load
+WITH_UNIT, TWO = (SCENES[name].saved for name in ("a voxel of a grid with a metadata pair", "two grids by their names"))
 
-# one boolean voxel, at the origin
-BOOLEAN_1 = from_hex(
-    "56444253 0001 0001 01 6d 00 01 00000001 00000000 00000000 00000000 03 0001 0000 03 0001 0000 03 0001 0000 02 01"
-)
-BOOLEAN = from_hex(
-    "56444253 0002 0001 01 6d 00 01 00001000 00 00000001"
-    "00000000 00000000 00000000 03 0001 0000 03 0001 0000 03 0001 0000 02 01"
-)
-
-# one voxel with negative coordinates, at (-1, -1, -1)
-NEGATIVE_1 = from_hex(
-    "56444253 0001 0001 01 61 01 00000000 00000001"
-    "ffffffff ffffffff ffffffff 03 0001 7fff 03 0001 0fff 03 0001 01ff 02 00000007"
-)
-NEGATIVE = from_hex(
-    "56444253 0002 0001 01 61 01 00000000 00001000 00 00000001"
-    "ffffffff ffffffff ffffffff 03 0001 7fff 03 0001 0fff 03 0001 01ff 02 00000007"
-)
-
-# each file of version 2 with the script that makes its scene
-MADE = {
-    "empty": (EMPTY, b""),
-    "active": (ACTIVE, b"grid a i32 0\nset a - 1 2 3 5\n"),
-    "inactive": (INACTIVE, b"grid a i32 0\nunset a - 1 2 3 5\n"),
-    "with-unit": (WITH_UNIT, b"grid a i32 0\nset a - 1 2 3 5\nmeta a unit mm\n"),
-    "boolean": (BOOLEAN, b"grid m bool true\nset m - 0 0 0 true\n"),
-    "negative": (NEGATIVE, b"grid a i32 0\nset a - -1 -1 -1 7\n"),
-}
+# each file that a script makes, with the script
+MADE = {name: (row.saved, row.script) for name, row in SCENES.items() if row.load is None and row.saved}
 
 # each file of version 1 with the file that is saved after it is loaded
-OLDER = {
-    "empty": (EMPTY_1, EMPTY),
-    "active": (ACTIVE_1, ACTIVE),
-    "inactive": (INACTIVE_1, INACTIVE),
-    "boolean": (BOOLEAN_1, BOOLEAN),
-    "negative": (NEGATIVE_1, NEGATIVE),
-}
+OLDER = {name: (row.load, row.saved) for name, row in SCENES.items() if name.endswith("of version 1") and not row.script}
+
+# files that are rejected, each with the word of its fault
+REJECTED = [(name, row.stderr.decode().split()[-1], row.load) for name, row in rows_of("bad-scene-files").items()]
 
 # the files whose prefixes and extensions are all rejected
 CUT = {
@@ -67,6 +40,7 @@ CUT = {
     "negative-1": NEGATIVE_1,
     "active": ACTIVE,
     "with-unit": WITH_UNIT,
+    "two-grids": TWO,
 }
 
 
@@ -78,48 +52,13 @@ def changed(text, at, *values):
 # a leaf whose 512 voxels are all 5 and active, written voxel by voxel
 EQUAL_VOXELS = b"\x03\x02\x00" + b"".join(index.to_bytes(2, "big") + b"\x02\x00\x00\x00\x05" for index in range(512))
 
-# files that are rejected, each with the word of its fault
-REJECTED = [
-    ("the first byte of version 1", "magic", changed(ACTIVE_1, 0, 0x57)),
-    ("the first byte", "magic", changed(ACTIVE, 0, 0x57)),
-    ("version 3", "version", changed(ACTIVE, 5, 3)),
-    ("version 0", "version", changed(ACTIVE_1, 5, 0)),
-    ("version 1 read as version 2", "limit", changed(ACTIVE_1, 5, 2, 0, 1, 1, 0x61, 1, 0, 0, 0, 0, 0, 0, 0, 0)),
-    ("an empty file", "truncated", b""),
-    ("65 grids", "name", changed(ACTIVE_1, 7, 65)),
-    ("no name", "name", changed(ACTIVE_1, 8, 0)),
-    ("a name of 17 bytes", "name", changed(ACTIVE, 8, 17)),
-    ("a capital letter", "name", changed(ACTIVE_1, 9, 0x41)),
-    ("a name given twice", "name", changed(ACTIVE, 7, 2) + ACTIVE[8:]),
-    ("kind 3", "kind", changed(ACTIVE_1, 10, 3)),
-    ("a background of 2", "value", changed(BOOLEAN_1, 11, 2)),
-    ("a boolean of 2", "value", changed(BOOLEAN_1, 44, 2)),
-    ("a key past the last", "key", changed(ACTIVE_1, 20, 8)),
-    ("4,097 root blocks", "root-limit", changed(ACTIVE_1, 17, 0x10, 0x01)),
-    ("2 root blocks with the limit 1", "root-limit", changed(changed(ACTIVE, 15, 0, 0, 0, 1), 23, 2)),
-    ("tag 4 of a root block", "tag", changed(ACTIVE_1, 31, 4)),
-    ("tag 3 of a voxel", "tag", changed(ACTIVE_1, 46, 3)),
-    ("no entry", "index", changed(ACTIVE_1, 43, 0)),
-    ("entry 512 of a leaf", "index", changed(ACTIVE_1, 44, 2, 0)),
-    ("a voxel with the background, inactive", "background", changed(ACTIVE_1, 46, 1, 0, 0, 0, 0)),
-    ("a leaf of equal voxels", "constant-node", ACTIVE_1[:41] + EQUAL_VOXELS),
-    ("one grid too few", "trailing", changed(ACTIVE_1, 7, 0)),
-    ("a limit of 0", "limit", changed(ACTIVE, 15, 0, 0, 0, 0)),
-    ("a limit of 65,537", "limit", changed(ACTIVE, 15, 0, 1, 0, 1)),
-    ("17 pairs", "meta", changed(ACTIVE, 19, 17)),
-    ("no key", "meta", changed(WITH_UNIT, 20, 0)),
-    ("a key with a capital letter", "meta", changed(WITH_UNIT, 21, 0x55)),
-    ("no text", "meta", changed(WITH_UNIT, 25, 0)),
-    ("a text with a space", "meta", changed(WITH_UNIT, 26, 0x20)),
-]
-
 
 def with_root(version, name, bodies):
     """Returns a file of one i32 grid with background 0 and these bodies of root blocks, side by side along z."""
     head = from_hex("56444253") + version.to_bytes(2, "big") + b"\x00\x01" + bytes([len(name)]) + name + b"\x01" + bytes(4)
     head += from_hex("00001000 00") if version == 2 else b""
-    rows = b"".join(bytes(8) + place.to_bytes(4, "big") + body for place, body in enumerate(bodies))
-    return head + len(bodies).to_bytes(4, "big") + rows
+    blocks = b"".join(bytes(8) + place.to_bytes(4, "big") + body for place, body in enumerate(bodies))
+    return head + len(bodies).to_bytes(4, "big") + blocks
 
 
 # a leaf whose voxels have the values 1 to 512

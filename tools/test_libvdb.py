@@ -94,7 +94,7 @@ def body_of(box, low, side):
 def prefix() -> Path:
     """The folder with the built library."""
     if not ARCHIVE.is_file():
-        raise AssertionError(f"there is no archive {ARCHIVE}: build it by tools/build-libvdb, or name one in VDB_ARCHIVE")
+        raise AssertionError(f"there is no archive {ARCHIVE}: build it by .ci/run --proofs, or name one in VDB_ARCHIVE")
     made = work() / "prefix"
     done([TOOLS / "build-libvdb", made])
     return made

@@ -466,5 +466,5 @@ class Terminals(Runs):
 
 if __name__ == "__main__":
     if not os.access(VDB, os.X_OK):
-        sys.exit(f"{VDB}: no program: build it by .ci/build, or name it by the variable VDB")
+        sys.exit(f"{VDB}: no program: build it by .ci/run --proofs, or name it by the variable VDB")
     unittest.main()

@@ -15,8 +15,8 @@ class Failed(Exception):
 
 
 def vdb():
-    """Returns the program that is measured: the variable VDB, or the one that .ci/build leaves."""
+    """Returns the program that is measured: the variable VDB, or the one that .ci/run --proofs leaves."""
     program = os.environ.get("VDB") or f"{TOP}/crates/vdb/out/vdb"
     if not os.access(program, os.X_OK) or os.path.isdir(program):
-        raise Failed(f"{os.path.relpath(program)} isn't an executable program: build it by .ci/build, or name another one in the variable VDB")
+        raise Failed(f"{os.path.relpath(program)} isn't an executable program: build it by .ci/run --proofs, or name another one in the variable VDB")
     return os.path.abspath(program)

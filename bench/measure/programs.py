@@ -1,7 +1,7 @@
 # SPDX-License-Identifier: Apache-2.0
 """Builds what is measured beside the program: the benchmarks over the crates' libraries, and the programs over OpenVDB.
 
-A benchmark is a text of bench/library. It is proved and linked over the libraries that .ci/run or .ci/build left in the crates' folders
+A benchmark is a text of bench/library. It is proved and linked over the libraries that .ci/run left in the crates' folders
 out/, so that no crate is proved again. It is kept in bench/out, and built again only if the text, a library or the kit has changed.
 """
 import hashlib
@@ -62,7 +62,7 @@ def libraries_of(name):
     found = {it: f"{TOP}/crates/{it}/out/rlib/{it}.rlib" for it in names}
     lacking = [it for it, folder in found.items() if not os.path.isfile(f"{folder}/format")]
     if lacking:
-        raise Failed(f"crates/{lacking[0]}/out has no library: run .ci/build first, or .ci/run")
+        raise Failed(f"crates/{lacking[0]}/out has no library: run .ci/run --proofs first")
     return found
 
 
@@ -95,7 +95,7 @@ def link(sources, libraries, folder, program, what):
             words += ["--extern", f"{name}={library}", "-L", f"dependency={os.path.dirname(library)}"]
         words += ["-L", f"dependency={folder}/rlibs", "--antt-project", f"{folder}/rattle/logic/antt-project.json"]
         words += ["--logic-built", f"{folder}/logic_built", "--toolchain", f"{folder}/toolchain", "--jobs", "1", "-o", "bench.o"]
-        called(words, room, f"{what}: the build over the crates' libraries (if they don't fit one another, remove crates/*/out/rlib and run .ci/build)")
+        called(words, room, f"{what}: the build over the crates' libraries (if they don't fit one another, remove crates/*/out/rlib and run .ci/run --proofs)")
         words = [f"{folder}/bin/rattle-link", "--target", "x86_64-unknown-linux-gnu", "--toolchain", f"{folder}/toolchain", "-o", "bench", "bench.o"]
         called([*words, f"{folder}/c/libos_c.a", f"{folder}/c/liblibc_c.a"], room, f"{what}: the link")
         os.makedirs(OUT, exist_ok=True)

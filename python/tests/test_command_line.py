@@ -125,7 +125,7 @@ class CommandLine(unittest.TestCase):
 
     def test_picture(self):
         """The picture of the documents, from its answers, byte by byte."""
-        answers, wanted = TOP / "examples" / "ball.out", (TOP / "docs" / "pictures" / "ball.png").read_bytes()
+        answers, wanted = TOP / "examples" / "ball.rows", (TOP / "docs" / "pictures" / "ball.png").read_bytes()
         self.run_it("picture", str(answers), "ball.png")
         self.assertEqual((self.folder / "ball.png").read_bytes(), wanted)
         piped = self.piped("picture", "-", input=answers.read_bytes())

@@ -8,8 +8,6 @@ mod blocks;
 mod bounds;
 mod face;
 mod levels;
-#[cfg(test)]
-mod tests;
 
 pub use bounds::Bounds;
 pub use face::Face;

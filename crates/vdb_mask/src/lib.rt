@@ -11,8 +11,6 @@ use std::marker::Model;
 
 mod either;
 mod runs;
-#[cfg(test)]
-mod tests;
 mod words;
 
 /// `64 * W` booleans in `W` words of 64 bits: the value at index `i` is bit `i % 64` of word

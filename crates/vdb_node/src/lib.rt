@@ -16,8 +16,6 @@ mod leaf;
 mod slices;
 mod slots;
 mod stored;
-#[cfg(test)]
-mod tests;
 mod uniform;
 mod values;
 pub mod words;

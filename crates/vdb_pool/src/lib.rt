@@ -16,8 +16,6 @@ mod refusal;
 mod slot;
 mod steps;
 mod storage;
-#[cfg(test)]
-mod tests;
 
 pub use copying::TryCopy;
 pub use place::Place;

@@ -1,5 +1,5 @@
-//! Tests of the tree's public calls, in a crate of their own because a crate with tests is proved twice.
+//! Tests of the tree's public calls.
 #![tactic(auto)]
 
 #[cfg(test)]
-mod tests;
+mod tree;

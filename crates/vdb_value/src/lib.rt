@@ -3,8 +3,6 @@
 
 mod blend;
 mod kinds;
-#[cfg(test)]
-mod tests;
 mod voxel;
 
 pub use blend::Blend;

@@ -1,0 +1,182 @@
+#!/usr/bin/env python3
+# SPDX-License-Identifier: Apache-2.0
+"""CI: installs packages, proves and builds every crate, and runs all tests: .ci/run [--anew] [--proofs]
+
+  --anew    proves everything anew: takes nothing that earlier runs on this machine kept
+  --proofs  only proves, and builds the program crates/vdb/out/vdb and the archive crates/vdb_c/out/libvdb_c.a
+
+It ends after the first stage in which something failed. The last lines say how long it took and how much is of earlier runs. The very last
+is 'N passed, M failed, K skipped'. The status is 0 if nothing failed.
+
+Example: .ci/run --anew
+"""
+import concurrent.futures
+import os
+import re
+import resource
+import shutil
+import subprocess
+import sys
+import time
+from typing import List, NamedTuple
+
+TOP = os.path.dirname(os.path.dirname(os.path.abspath(__file__)))
+# the only variables that reach the suites, since others change what they test, such as VDB and FUZZ_CALLS
+VARIABLES = ("PATH", "HOME", "USER", "LANG", "TERM", "TMPDIR", "VDB_KEPT")
+CLOSING = re.compile(r"^(\d+) passed, (\d+) failed(?:, (\d+) skipped)?$", re.M)
+UNITTEST = re.compile(r"^Ran (\d+) tests? in .*\n\n(?:OK|FAILED)(?: \((.*)\))?$", re.M)
+SKIPPED = re.compile(r"^(\w+) \([^)]*\)(?:\n[^\n]*)?? \.\.\. skipped ", re.M)
+
+
+class Suite(NamedTuple):
+    """A command at the top. Its output ends with 'N passed, M failed' or as that of unittest does; of another command the status is the
+    result. With fewer results than `least` it fails."""
+
+    name: str
+    words: List[str]
+    least: int
+
+
+class Result(NamedTuple):
+    suite: Suite
+    passed: int
+    failed: int
+    skipped: int
+    seconds: float
+    processor_seconds: float
+    kept: List[str]
+
+
+def stages(options):
+    """The suites of CI. Those of a stage run side by side, the stages one after the other."""
+    python = with_numpy()
+
+    def unittest(*words):
+        return [python, "-m", "unittest", *words, "-v"]
+
+    return [
+        [Suite("texts of edits", ["edits/run", "--texts"], 800)],
+        [Suite("proofs", [python, ".ci/proofs.py", *(it for it in options if it == "--anew")], 25)],
+        [Suite("libvdb", ["tools/build-libvdb"], 1)],
+        [Suite("edits", ["edits/run", "--ci"], 22)],
+        [
+            Suite("library tests", ["tests/library/run"], 150),
+            Suite("fault injection", ["fault_injection/run"], 10_000),
+            Suite("rows", ["tests/rows.py"], 240),
+            Suite("limits", ["tests/limits.py"], 20),
+            Suite("tests of tests/rows.py", unittest("discover", "-s", "tests"), 10),
+            Suite("tests of tools/vdb-run", unittest("tools/test_vdb_run.py"), 21),
+            Suite("tests of libvdb", unittest("tools/test_libvdb.py"), 24),
+            Suite("tests of tools/install", unittest("tools/test_install.py"), 19),
+            Suite("tests of saving", unittest("tools/test_files.py"), 12),
+            Suite("tests of the Python packages", unittest("discover", "-s", "python/tests", "-t", "python"), 77),
+            Suite("tests of tools/openvdb", ["tools/openvdb/test"], 1),
+        ],
+        [Suite("documents", [python, ".ci/documents.py"], 1)],
+    ]
+
+
+def with_numpy():
+    """An interpreter that has NumPy, if there is one."""
+    for python in (sys.executable, "/usr/bin/python3"):
+        if shutil.which(python) and not subprocess.run([python, "-c", "import numpy"], capture_output=True).returncode:
+            return python
+    return sys.executable
+
+
+def lines_of(name):
+    """The lines of a file of .ci that are no comments."""
+    with open(f"{TOP}/.ci/{name}", encoding="utf-8") as file:
+        return [line.strip() for line in file if line.strip() and not line.startswith("#")]
+
+
+def install():
+    """Installs the packages that are missing, if that is possible without asking."""
+    def is_missing(name):
+        asked = ["dpkg-query", "-W", "-f=${db:Status-Status}", name]
+        return not shutil.which("dpkg-query") or subprocess.run(asked, capture_output=True, text=True).stdout != "installed"
+
+    lacking = [name for name in (line.partition(":")[0] for line in lines_of("packages")) if is_missing(name)]
+    may = not os.geteuid() and shutil.which("apt-get")
+    for words in [["update"], ["install", "-y", "--no-install-recommends", *lacking]] if lacking and may else []:
+        subprocess.run(["apt-get", "-q", *words], stdin=subprocess.DEVNULL, timeout=600)
+    if lacking and not may:
+        print(f"These packages are missing, so tests may fail: {' '.join(lacking)}", flush=True)
+
+
+def run(suite, is_alone):
+    """Runs a suite and prints its output: at once if it runs alone, else at its end."""
+    begun, said = time.time(), []
+    environment = {name: os.environ[name] for name in VARIABLES if name in os.environ}
+    how = {"stdin": subprocess.DEVNULL, "stdout": subprocess.PIPE, "stderr": subprocess.STDOUT, "text": True, "errors": "replace"}
+    process = subprocess.Popen(["env", *suite.words], cwd=TOP, env=environment, **how)  # env reports a command that is missing
+    for line in process.stdout:
+        said.append(line)
+        if is_alone:
+            print(line, end="", flush=True)
+    _, status, usage = os.wait4(process.pid, 0)
+    process.returncode = os.waitstatus_to_exitcode(status)
+    text = "".join(said)
+    passed, failed, skipped, why = counted(suite, text, process.returncode)
+    print("" if is_alone else f"== {suite.name}\n{text}", *(f"{suite.name}: {it}\n" for it in why), sep="", end="", flush=True)
+    kept = re.findall(r"^kept from earlier runs: .*$", text, re.M)
+    return Result(suite, passed, failed, skipped, time.time() - begun, usage.ru_utime + usage.ru_stime, kept)
+
+
+def counted(suite, text, status):
+    """How many tests of a suite passed, failed and were skipped, and why some failed beside those that it counted itself."""
+    closing, ran = CLOSING.findall(text), UNITTEST.search(text)
+    passed, failed, skipped, why = int(not status), 0, 0, []
+    if ran:
+        counts = {word: int(count) for word, count in re.findall(r"(\w+)=(\d+)", ran[2] or "")}
+        failed, skipped = sum(counts.get(word, 0) for word in ("failures", "errors", "successes")), counts.get("skipped", 0)
+        passed = max(0, int(ran[1]) - failed - skipped)
+    elif closing:
+        passed, failed, skipped = (int(it or 0) for it in closing[-1])
+    listed = {tuple(line.partition(":")[0].rsplit(" ", 1)) for line in lines_of("skips")}
+    named = SKIPPED.findall(text)
+    unlisted = [it for it in named if (suite.name, it) not in listed]
+    if unlisted or skipped != len(named):
+        why.append(f"{', '.join(unlisted) or skipped} skipped, which .ci/skips doesn't list")
+    if status and not failed:
+        why.append(f"ended with status {status}")
+    elif passed + failed + skipped < suite.least:
+        why.append(f"{passed + failed + skipped} results, where at least {suite.least} are expected")
+    return passed, failed + len(why), skipped, why
+
+
+def close(results, begun):
+    """Prints the last lines, and returns the status."""
+    print(f"\n{'suite':<30} {'passed':>7} {'failed':>7} {'skipped':>7} {'minutes':>8} {'processor seconds':>18}")
+    for it in results:
+        print(f"{it.suite.name:<30} {it.passed:7} {it.failed:7} {it.skipped:7} {it.seconds / 60:8.1f} {it.processor_seconds:18,.0f}")
+    for line in [line for it in results for line in it.kept]:
+        print(line)
+    both = [resource.getrusage(it) for it in (resource.RUSAGE_CHILDREN, resource.RUSAGE_SELF)]
+    print(f"{(time.time() - begun) / 60:.1f} minutes, {sum(it.ru_utime + it.ru_stime for it in both):,.0f} processor seconds")
+    failed = sum(it.failed for it in results)
+    print(f"{sum(it.passed for it in results)} passed, {failed} failed, {sum(it.skipped for it in results)} skipped")
+    return int(failed > 0)
+
+
+def main():
+    options = sys.argv[1:]
+    unknown = [it for it in options if it not in ("--anew", "--proofs")]
+    if unknown:
+        print(__doc__.strip())
+        return 0 if unknown == ["--help"] else 2
+    begun, results = time.time(), []
+    install()
+    for stage in stages(options):
+        if "--proofs" in options and stage[0].name != "proofs":
+            continue
+        with concurrent.futures.ThreadPoolExecutor(len(stage)) as pool:
+            ended = [pool.submit(run, suite, len(stage) == 1) for suite in stage]
+        results += [it.result() for it in ended]
+        if any(it.failed for it in results):
+            break
+    return close(results, begun)
+
+
+if __name__ == "__main__":
+    sys.exit(main())

@@ -1,5 +1,0 @@
-//! Tests saving and loading of scenes, through public calls alone.
-#![tactic(auto)]
-
-#[cfg(test)]
-mod tests;

@@ -1,5 +1,0 @@
-//! Tests of dilation and erosion, by public calls alone.
-#![tactic(auto)]
-
-#[cfg(test)]
-mod tests;

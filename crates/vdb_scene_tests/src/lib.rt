@@ -1,5 +1,0 @@
-//! Tests of scenes and their commands, by public calls alone.
-#![tactic(auto)]
-
-#[cfg(test)]
-mod tests;

@@ -1,0 +1,198 @@
+"""Tries must-fail edits: applies them to a copy of their crate, checks the functions meant, and reads which goals are left open.
+
+An edit of one function's body shows only in that function's proof, since other proofs see its contract alone. So one check tries many edits of
+different functions, and each is judged by the open goals of its own function. For the same reason the proofs of all functions that are not tried are
+left out of the copy: a hole stands in place of each, and nothing that they rest on is checked.
+"""
+import dataclasses
+import os
+import re
+import shutil
+import subprocess
+import sys
+import tempfile
+
+from reading import Edit, function_at, functions_of, spans_of, spliced
+
+sys.path.insert(0, f"{os.path.dirname(os.path.dirname(os.path.abspath(__file__)))}/.ci")
+from checking import TOP, command_of, library_of  # noqa: E402
+from crates import crates_below, named_by  # noqa: E402
+
+# a refused answer of a goal, and a goal for which the search found no answer; the folder in proofs/ is the function's path
+REFUSED = re.compile(r"(?:\./)?proofs/(\S+)/(?:Answers|Proof)\.antt:\d+:\d+: error: `([^`]+)`: (.*)")
+OPEN = re.compile(r"note: `([^`]+)` of (?:\./)?proofs/(\S+)/Answers\.antt must prove")
+
+# what refuses an answer that names something which the edit took away: it says nothing of a clause
+LOST = re.compile(r"is not in scope|has no field|is no name|has no `")
+
+# what the front end says of a text that it cannot read
+UNREAD = re.compile(r"(?:\./)?(?:src|specs)/\S+:\d+:\d+: error: .*")
+
+# the goals of a function that are no clause of its own: a callee's requires, a loop's invariant or measure, a type's invariant, safety
+GOAL = re.compile(r"returns|\S+-(requires|init|preserved|smaller)(-\S+)?|(invariant_of|overflow_\w+|nonzero_\w+|bounds|\w+_bounds|prove)-\S+")
+
+
+@dataclasses.dataclass
+class Tried:
+    """How an edit ended: the open goal that refused it, or a fault, and its share of the processor seconds."""
+
+    edit: Edit
+    goal: str
+    fault: str
+    seconds: float
+
+    def __str__(self):
+        heads = self.edit.heads
+        return f"{self.edit}: {'FAILED: ' + self.fault if self.fault else 'refused by ' + self.goal} of {heads['function']}, {self.seconds:.0f} s"
+
+
+def folder_of(crate):
+    """The folder of a crate."""
+    return f"{TOP}/crates/{crate}"
+
+
+def texts_of(crate, spans):
+    """The texts of the files of a crate that these spans change."""
+    places = {path: open(f"{folder_of(crate)}/{path}", encoding="utf-8").read() for path, *_ in spans}
+    return {path: spliced(text, [it for it in spans if it[0] == path]) for path, text in places.items()}
+
+
+def changed_by(spans, functions):
+    """The paths of the functions whose bodies hold these spans, with None for a span in no body."""
+    around = [function_at(functions.get(path, []), start, end) for path, start, end, _ in spans]
+    return {it and it.path for it in around}
+
+
+def fault_of(edit, functions):
+    """What is wrong with the text of an edit, or an empty text; functions are those of its crate."""
+    name, clause = edit.heads.get("function"), edit.heads.get("clause")
+    if not name or not clause:
+        return "it names no function and clause"
+    try:
+        spans = spans_of(edit, folder_of(edit.crate))
+    except ValueError as error:
+        return str(error)
+    if name in changed_by(spans, functions):
+        functions = {path: functions[path] for path, *_ in spans}
+    else:
+        functions = functions_of(folder_of(edit.crate), texts_of(edit.crate, spans))
+    found = [it for several in functions.values() for it in several if it.path == name]
+    if not found:
+        return f"there is no function {name}"
+    if clause in found[0].clauses or GOAL.fullmatch(clause) and (clause != "returns" or not any(found[0].clauses)):
+        return ""
+    return f"{name} has no clause {clause}" if found[0].clauses else ""
+
+
+def faults_of(crate, edits):
+    """Each edit of a crate with what is wrong with its text."""
+    functions = functions_of(folder_of(crate))
+    return [(it, fault_of(it, functions)) for it in edits]
+
+
+def batches_of(crate, edits):
+    """The edits of a crate in batches: in a batch each changes the body of another function, or one edit changes something else."""
+    functions, rounds, alone = functions_of(folder_of(crate)), [], []
+    for edit in edits:
+        if changed_by(spans_of(edit, folder_of(crate)), functions) != {edit.heads["function"]}:
+            alone.append([edit])
+            continue
+        batch = next((it for it in rounds if all(other.heads["function"] != edit.heads["function"] for other in it)), None)
+        if batch:
+            batch.append(edit)
+        else:
+            rounds.append([edit])
+    return rounds + alone
+
+
+def missing_below(crate):
+    """The crates below a crate whose libraries are not built."""
+    return [it for it in crates_below(crate, named_by(TOP)) if not os.path.isfile(f"{library_of(it)}/format")]
+
+
+def try_batch(crate, batch):
+    """Tries a batch by one check, and each half of it by itself if the front end rejects the whole."""
+    spans = [it for edit in batch for it in spans_of(edit, folder_of(crate))]
+    output, seconds = check(crate, texts_of(crate, spans), sorted({it.heads["function"] for it in batch}))
+    if re.match(r"only=\d+ ", output.rstrip().rpartition("\n")[2]):
+        goals, lost = goals_of(output)
+        return [judged(it, goals, lost, seconds / len(batch)) for it in batch]
+    if len(batch) > 1:
+        return [it for part in (batch[: len(batch) // 2], batch[len(batch) // 2 :]) for it in try_batch(crate, part)]
+    unread = UNREAD.search(output)
+    return [Tried(batch[0], "", f"the check did not reach its proof: {unread[0] if unread else output[-300:].strip()}", seconds)]
+
+
+def check(crate, texts, names):
+    """Checks functions of a crate with other texts in place of some files; returns the output and the processor seconds."""
+    kept = f"{TOP}/out/edits/{crate}"
+    os.makedirs(kept, exist_ok=True)
+    named = named_by(TOP)
+    built = {it: library_of(it) for it in crates_below(crate, named)}
+    words = [*command_of(crate, named, built), "--incremental", kept, "--allow-holes", "--short-goals"]
+    with tempfile.TemporaryDirectory(prefix="edit-") as room:
+        for part in ("src", "specs", "proofs"):
+            if os.path.isdir(f"{folder_of(crate)}/{part}"):
+                shutil.copytree(f"{folder_of(crate)}/{part}", f"{room}/{part}")
+        for path, text in texts.items():
+            with open(f"{room}/{path}", "w", encoding="utf-8") as file:
+                file.write(text)
+        for several in functions_of(folder_of(crate)).values():
+            for path in (it.path for it in several if it.is_named and it.path not in names):
+                leave_out(crate, path, f"{room}/proofs")
+        with open(f"{room}/output", "w+", encoding="utf-8", errors="replace") as output:
+            words += [word for name in names for word in ("--only", name)]
+            ran = subprocess.Popen(words, cwd=room, stdin=subprocess.DEVNULL, stdout=output, stderr=subprocess.STDOUT)
+            _, _, used = os.wait4(ran.pid, 0)
+            output.seek(0)
+            return output.read(), used.ru_utime + used.ru_stime
+
+
+def leave_out(crate, path, proofs):
+    """Puts a hole in place of the proof of a function."""
+    words = path.split("::")
+    folder = "/".join([proofs, *words])
+    os.makedirs(folder, exist_ok=True)
+    for name in ("Answers.antt", "Invariants.antt"):
+        if os.path.exists(f"{folder}/{name}"):
+            os.remove(f"{folder}/{name}")
+    with open(f"{folder}/Proof.antt", "w", encoding="utf-8") as file:
+        file.write(f"use Rattle.{crate}.proofs.{'.'.join(words)}.Statement.{{statement}}\n\n")
+        file.write(f"pub {words[-1]}_spec : {{M : Type 1}} → statement M\n{words[-1]}_spec = ?\n")
+
+
+def goals_of(output):
+    """The open goals of each function that a check names, and those whose answer only names what is gone."""
+    goals, lost = {}, {}
+    for line in output.splitlines():
+        refused, opened = REFUSED.match(line), OPEN.match(line)
+        if refused:
+            (lost if LOST.search(refused[3]) else goals).setdefault(refused[1].replace("/", "::"), []).append(refused[2])
+        elif opened:
+            goals.setdefault(opened[2].replace("/", "::"), []).append(opened[1])
+    return goals, lost
+
+
+def is_meant(goal, clause):
+    """Whether a goal is of this clause: one of the function's own, or the first parts of a goal's name.
+
+    A goal of what the function ensures ends in `-clause-NAME`, unless it has one clause alone, or the prover cannot part them.
+    """
+    if GOAL.fullmatch(clause):
+        return goal == clause or goal.startswith(f"{clause}-")
+    return re.match(r"returns\b", goal) and goal.partition("-clause-")[2] in ("", clause)
+
+
+def judged(edit, goals, lost, seconds):
+    """How an edit ended, from the open goals of each function."""
+    name, clause = edit.heads["function"], edit.heads["clause"]
+    found, gone = goals.get(name, []), lost.get(name, [])
+    goal = next((it for it in found if is_meant(it, clause)), "")
+    if goal:
+        fault = ""
+    elif found or gone:
+        told = [*found, *(f"{it} (its answer only names what is gone)" for it in gone)]
+        fault = f"{clause} is not among the open goals: {', '.join(told)}"
+    else:
+        fault = "no goal is open"
+    return Tried(edit, goal, fault, seconds)
