@@ -1,3 +1,4 @@
+# SPDX-License-Identifier: Apache-2.0
 """Tries must-fail edits: applies them to a copy of their crate, checks the functions meant, and reads which goals are left open.
 
 An edit of one function's body shows only in that function's proof, since other proofs see its contract alone. So one check tries many edits of
