@@ -13,11 +13,13 @@ import resource
 import signal
 import stat
 import subprocess
+import sys
 import threading
 import unittest
 from pathlib import Path
 
-from test_libvdb import CHECKS, TOOLS, TOP, WAIT, c_example, cpp_example, done, encoding, run, work
+sys.path.insert(0, str(Path(__file__).resolve().parent))
+from test_libvdb import CHECKS, TOOLS, TOP, WAIT, c_example, cpp_example, done, encoding, run, work  # noqa: E402
 
 VDB = os.environ.get("VDB") or TOP / "crates" / "vdb" / "out" / "vdb"
 CONVERTERS = TOOLS / "openvdb"

@@ -22,7 +22,7 @@ class Workplace:
         self.folder = Path(self.holder.name)
         self.programs = self.folder / "programs"
         self.programs.mkdir()
-        for name in CONVERTERS:
+        for name in [*CONVERTERS, "sanitized"]:
             shutil.copy(here / name, self.programs)
         self.passed = self.failed = 0
 
