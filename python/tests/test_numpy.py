@@ -281,7 +281,8 @@ class Assignments(unittest.TestCase):
         before, flags = grid.copy(), vdb.Grid("bool")
         for call, error, text in (
             (lambda it: grid.__setitem__((slice(0, 2), 0, 0), it), TypeError, "1.7"), (lambda it: grid.set_many([[0, 0, 0]] * 2, it), TypeError, "1.7"),
-            (lambda it: grid.set_box((0, 0, 0), np.reshape(it, (2, 1, 1))), TypeError, "1.7"), (lambda it: grid.set_many(np.reshape([it] * 3, (2, 3)), 1), TypeError, "1.7"),
+            (lambda it: grid.set_box((0, 0, 0), np.reshape(it, (2, 1, 1))), TypeError, "1.7"),
+            (lambda it: grid.set_many(np.reshape([it] * 3, (2, 3)), 1), TypeError, "1.7"),
         ):  # fmt: skip
             for given in ([1.7, 2.0], np.array([1.7, np.nan], np.float32)):
                 with self.assertRaisesRegex(error, text):
@@ -337,26 +338,28 @@ class Lives(unittest.TestCase):
 @needs_library
 class Threads(unittest.TestCase):
     def test_other_threads_go_on_during_a_call(self):
-        """While one thread dilates, another one counts. With the lock of the interpreter held, it would stand still all the time."""
-        grid, counted, done = vdb.Grid("bool"), 0, threading.Event()
-        grid.set_many(np.argwhere(np.ones((32, 32, 32))) * 9, True)
+        """While one thread dilates, another one looks at the clock in the middle half of the call. With the lock of the interpreter held, it
+        would stand still all the time."""
+        sparse = vdb.Grid("bool")
+        sparse.set_many(np.argwhere(np.ones((24, 24, 24))) * 9, True)
+        for _ in range(20):
+            grid, span, ticks = sparse.copy(), [], []
 
-        def work():
-            grid.dilate(4)
-            done.set()
+            def work(grid=grid, span=span):
+                span.append(time.perf_counter())
+                grid.dilate(4)
+                span.append(time.perf_counter())
 
-        worker = threading.Thread(target=work)
-        begun = time.perf_counter()
-        worker.start()
-        gaps, last = 0.0, time.perf_counter()
-        while not done.is_set():
-            now = time.perf_counter()
-            gaps, last, counted = max(gaps, now - last), now, counted + 1
-        worker.join()
-        taken = time.perf_counter() - begun
-        self.assertGreater(taken, 0.1, "the call is too short to tell")
-        self.assertLess(gaps, taken / 2)
-        self.assertGreater(counted, 100)
+            worker = threading.Thread(target=work)
+            worker.start()
+            while worker.is_alive():
+                ticks.append(time.perf_counter())
+                time.sleep(0.0002)
+            begun, ended = span
+            quarter = (ended - begun) / 4
+            if sum(begun + quarter < tick < ended - quarter for tick in ticks) > 5:
+                return
+        self.fail("no other thread ran during a call")
 
     def test_two_grids_in_both_orders(self):
         one, two = vdb.Grid("bool"), vdb.Grid("bool")

@@ -16,8 +16,11 @@ from . import errors, scenefile
 from .blocks import Boxes, Labels
 from .errors import *  # noqa: F401,F403
 from .forms import Leaf, Metadata
-from .grid import Census, Grid, View
+from .grid import Census, Grid
 from .scene import Scene, load, loads
+from .view import View
 
 __version__ = "1.0"
-__all__ = ["load", "loads", "Scene", "Grid", "View", "Census", "Boxes", "Labels", "Leaf", "Metadata", "scenefile", "__version__", *errors.__all__]
+__all__ = [
+    "load", "loads", "Scene", "Grid", "View", "Census", "Boxes", "Labels", "Leaf", "Metadata", "scenefile", "__version__", *errors.__all__,
+]  # fmt: skip

@@ -7,8 +7,8 @@ from typing import Iterator, NamedTuple, Sequence, Union
 import numpy as np
 
 class Rows(NamedTuple):
-    """Leaves: least corners (n x 3, int32), values (n x 512, integers or bool) and states (n x 512, bool). Voxel 64 dx + 8 dy + dz of a row lies dx,
-    dy and dz past the corner."""
+    """Leaves: least corners (n x 3, int32), values (n x 512, integers or bool) and states (n x 512, bool). Voxel 64 dx + 8 dy + dz of a row
+    lies dx, dy and dz past the corner."""
 
     origins: np.ndarray
     values: np.ndarray

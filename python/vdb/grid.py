@@ -1,8 +1,7 @@
 # SPDX-License-Identifier: Apache-2.0
-"""A grid of the engine, and a view of one for threads that read."""
+"""A grid of the engine."""
 from __future__ import annotations
 
-import threading
 from ctypes import byref, c_int32, c_int64, c_uint32, c_uint64
 from typing import Any, Iterator, Mapping, NamedTuple, Sequence
 
@@ -17,11 +16,11 @@ from .forms import (
     DEFAULT_LIMIT, KIND_NUMBERS, Array, Bounds, Coordinate, Leaf, Metadata, Value, check_bools, check_bounds, check_box, check_coordinate,
     check_states, kind_of, kind_of_array,
 )  # fmt: skip
-from .library import LIBRARY, Box, CensusCounts, Coord, Count, Held, ViewHandle
-from .reading import Active, Key, Readable, part_of
+from .library import Box, CensusCounts, Coord, Count, Held
+from .reading import Active, Key, Walkable, part_of
 from .walk import leaf_rows, parts_of
 
-__all__ = ["Grid", "Census", "View"]
+__all__ = ["Grid", "Census"]
 
 NO_ACCESSOR = -1
 
@@ -36,7 +35,7 @@ class Census(NamedTuple):
     leaf: int
 
 
-class Grid(Readable):
+class Grid(Walkable):
     """A sparse grid of booleans or integers over all coordinates of 32 bits.
 
     An index is three integers or slices. They are coordinates in voxels, also negative ones; a slice includes its start and not its stop.
@@ -435,63 +434,6 @@ class GridActive(Active):
             mask = Grid("bool", limit=grid.limit)
             mask.fill(part.bounds, True)
             (grid.unite if states else grid.subtract)(mask)
-
-
-class View(Readable):
-    """A grid as it was when the view was made. Threads read it at the same time without waiting for each other.
-
-    It needs memory for a copy of the grid. Its indices and arrays are those of `Grid`.
-    """
-
-    def __init__(self, grid: Grid) -> None:
-        held, self._first, self._own = Held(), Held(ViewHandle), threading.local()
-        with grid._held.lock:
-            grid._held.call_with("copy", held)
-            self._background, self._bounds, self._count = grid.background, grid.bounds, grid.count
-        self._kind, self._metadata = grid._kind, Metadata(grid.metadata)
-        LIBRARY.vdb_view_new(byref(held.handle), byref(self._first.handle))
-
-    @property
-    def _held(self) -> Held:
-        """The thread's own handle of the view."""
-        if not hasattr(self._own, "held"):
-            held = Held(ViewHandle)
-            self._first.call_with("share", held)
-            self._own.held = held
-        return self._own.held
-
-    def copy(self) -> Grid:
-        """Returns a grid with the cells of the view, and a copy of its metadata."""
-        held = Held()
-        self._held.call_with("copy", held)
-        return Grid._of(held, self._metadata)
-
-    @property
-    def background(self) -> Value:
-        """The value of every voxel that nothing was written to."""
-        return self._background
-
-    @property
-    def bounds(self) -> "Bounds | None":
-        """The bounding box of the active voxels, its least and greatest coordinates, or None if no voxel is active."""
-        return self._bounds
-
-    @property
-    def count(self) -> int:
-        """How many voxels are active, those of tiles too."""
-        return self._count
-
-    def get_many(self, at: Array) -> "tuple[np.ndarray, np.ndarray]":
-        """Returns the values and the states (bool) of voxels, as `Grid.get_many` does."""
-        return read_voxels(self._held, self._kind, at)
-
-    def _cell(self, at: Coordinate) -> "tuple[Value, bool]":
-        value, on = c_int64(), c_int32()
-        self._held.call("get", *at, byref(value), byref(on))
-        return (bool(value.value) if self.kind == "bool" else value.value), bool(on.value)
-
-    def _read(self, low: Coordinate, values: "np.ndarray | None", active: "np.ndarray | None", fill: "Value | None") -> None:
-        read_box(self._held, low, values, active, fill)
 
 
 def _unpickled(data: bytes) -> Grid:

@@ -181,6 +181,27 @@ class Readable:
             self._read(low, values, active, fill)
         return values, active
 
+    def _form(self, dtype: Any) -> np.dtype:
+        """Returns the dtype for values: an integer one, or one to which the grid's converts safely. None is the grid's."""
+        form = self.dtype if dtype is None else np.dtype(dtype)
+        if form.kind in "iu" or np.can_cast(self.dtype, form, "safe") and form.kind in "bfc":
+            return form
+        raise DtypeError(f"the values of an {self.kind} grid don't convert safely to {form}")
+
+    def __array__(self, dtype: Any = None, copy: "bool | None" = None) -> np.ndarray:
+        """Returns the values of the bounding box of the active voxels, a new array with the axes x, y, z."""
+        if copy is False:
+            raise RangeError("the values of a grid can't be an array without a copy")
+        return self.to_array(dtype=dtype)[0]
+
+    def __repr__(self) -> str:
+        place = " in {} to {}".format(*self.bounds) if self.bounds else ""
+        return f"<{type(self).__name__} {self.kind}, background {self.background}, {self.count:,} active voxels{place}>"
+
+
+class Walkable(Readable):
+    """Reports on a grid part by part: its labels, its boxes, and the coordinates of its active voxels."""
+
     def _parts(self) -> "Iterator[blocks.Part]":
         """Yields the leaves in block order, then the active cubes that no leaf holds."""
         raise NotImplementedError
@@ -204,23 +225,6 @@ class Readable:
         for part in blocks.coordinates(self._parts()):
             for first in range(0, len(part), rows):
                 yield part[first : first + rows]
-
-    def _form(self, dtype: Any) -> np.dtype:
-        """Returns the dtype for values: an integer one, or one to which the grid's converts safely. None is the grid's."""
-        form = self.dtype if dtype is None else np.dtype(dtype)
-        if form.kind in "iu" or np.can_cast(self.dtype, form, "safe") and form.kind in "bfc":
-            return form
-        raise DtypeError(f"the values of an {self.kind} grid don't convert safely to {form}")
-
-    def __array__(self, dtype: Any = None, copy: "bool | None" = None) -> np.ndarray:
-        """Returns the values of the bounding box of the active voxels, a new array with the axes x, y, z."""
-        if copy is False:
-            raise RangeError("the values of a grid can't be an array without a copy")
-        return self.to_array(dtype=dtype)[0]
-
-    def __repr__(self) -> str:
-        place = " in {} to {}".format(*self.bounds) if self.bounds else ""
-        return f"<{type(self).__name__} {self.kind}, background {self.background}, {self.count:,} active voxels{place}>"
 
 
 class Active:

@@ -9,7 +9,7 @@ import numpy as np
 
 from .arrays import ACCESSOR, box_of, pointers
 from .blocks import PARTS, Cubes, Rows
-from .library import COORD, I64, U64, CensusCounts, Coord, Count, Held
+from .library import COORD, I64, U64, Box, CensusCounts, Coord, Count, Held
 
 #: How many leaves cross at a time.
 LEAVES = 256
@@ -47,20 +47,23 @@ def active_cubes(held: Held, origins: np.ndarray, counts: np.ndarray) -> Iterato
     """Yields the active voxels that are in no leaf, as cubes. The leaves have these least corners and counts of active voxels."""
     if count_of(held) == counts.sum():
         return
-    census = CensusCounts()
+    census, box = CensusCounts(), Box()
     held.call("census", byref(census))
+    held.call("bounds", byref(box), byref(c_int32()))
     # if every leaf, and every cube around one, has cells that differ, and no other cube does, then the others are constant
     tight = census.leaf == len(origins)
-    constant = {side: tight and number == groups(origins // side) for side, number in ((128, census.lower), (4096, census.upper))}
-    blocks = origins // 4096
+    constant = {side: tight and number == len(groups(origins, side)) for side, number in ((128, census.lower), (4096, census.upper))}
+    blocks = groups(origins, 4096)
     for low in root_blocks(held):
-        inside = (blocks == low // 4096).all(axis=1)
-        yield from Block(held, low, origins[inside], counts[inside]).cubes(constant)
+        part = blocks.get(tuple(low.tolist()), slice(0, 0))
+        yield from Block(held, low, origins[part], counts[part]).cubes(box, constant)
 
 
-def groups(keys: np.ndarray) -> int:
-    """Returns how many rows differ from the one before."""
-    return int((keys[1:] != keys[:-1]).any(axis=1).sum()) + (len(keys) > 0)
+def groups(origins: np.ndarray, side: int) -> "dict[tuple[int, ...], slice]":
+    """Returns which leaves, which are in block order, lie in each cube of a side, by the least corner of the cube."""
+    corners = origins.astype(np.int64) // side * side
+    cuts = [0, *(np.flatnonzero((corners[1:] != corners[:-1]).any(axis=1)) + 1).tolist(), len(corners)]
+    return {tuple(corners[first].tolist()): slice(first, last) for first, last in zip(cuts, cuts[1:]) if first < last}
 
 
 def root_blocks(held: Held) -> Iterator[np.ndarray]:
@@ -99,31 +102,35 @@ class Block:
     def __init__(self, held: Held, low: np.ndarray, origins: np.ndarray, counts: np.ndarray) -> None:
         self.held, self.low, self.origins, self.counts = held, low, origins, counts
 
-    def cubes(self, constant: "dict[int, bool]") -> Iterator[Cubes]:
-        """Yields the active cubes outside leaves. `constant` says of a side whether all cubes without a leaf are of one cell."""
+    def cubes(self, box: Box, constant: "dict[int, bool]") -> Iterator[Cubes]:
+        """Yields the active cubes outside leaves. `box` is the bounding box of the grid's active voxels, and `constant` says of a side
+        whether all cubes without a leaf are of one cell."""
         left = count_of(self.held, self.low, 4096) - int(self.counts.sum())
         if left == 0:
             return
         if constant[4096] and not len(self.origins):
             yield Cubes(self.low[None].astype(np.int32), 4096, cells(self.held, self.low[None])[0])
             return
-        numbers = (self.origins - self.low) // 128
-        numbers = numbers[:, 0] * 1024 + numbers[:, 1] * 32 + numbers[:, 2]
-        leaves = np.bincount(numbers, minlength=32768)
-        active = np.bincount(numbers, self.counts, minlength=32768).astype(np.int64)
-        corners, whole = self.low + PARTS[4096][1], []
-        for number, low in enumerate(corners):
-            found = count_of(self.held, low, 128) - int(active[number])
+        leaves, whole = groups(self.origins, 128), []
+        for low in self.corners(box):
+            part = leaves.get(tuple(low.tolist()), slice(0, 0))
+            found = count_of(self.held, low, 128) - int(self.counts[part].sum())
             left -= found
-            if found and constant[128] and not leaves[number]:
+            if found and constant[128] and part.stop == 0:
                 whole.append(low)
             elif found:
-                yield from self.small(low, self.origins[numbers == number])
+                yield from self.small(low, self.origins[part])
             if left == 0:
                 break
         if whole:
             lows = np.array(whole)
             yield Cubes(lows.astype(np.int32), 128, cells(self.held, lows)[0])
+
+    def corners(self, box: Box) -> np.ndarray:
+        """Returns the least corners of the cubes of 128 voxels that meet a box."""
+        least, most = ((at.x, at.y, at.z) for at in (box.min, box.max))
+        corners = self.low + PARTS[4096][1]
+        return corners[((corners + 127 >= least) & (corners <= most)).all(axis=1)]
 
     def small(self, low: np.ndarray, origins: np.ndarray) -> Iterator[Cubes]:
         """Yields the active cubes of 8 voxels in a cube of 128 that no leaf of it holds, or that cube itself."""

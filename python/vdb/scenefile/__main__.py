@@ -256,7 +256,8 @@ def parser() -> argparse.ArgumentParser:
     made = argparse.ArgumentParser(
         prog="vdb-scene",
         description="Looks into scene files of vdb, and turns their grids into NumPy arrays and back.",
-        epilog="Example: python3 -m vdb.scenefile info scene.vdbs. 'python3 -m vdb.scenefile COMMAND --help' has an example of each command.\n"
+        epilog="Example: python3 -m vdb.scenefile info scene.vdbs\n"
+        "'python3 -m vdb.scenefile COMMAND --help' has an example of each command.\n"
         "Exit status: 0, 1 after an error (one line on standard error), 2 for a wrong command line.",
         formatter_class=argparse.RawDescriptionHelpFormatter,
     )

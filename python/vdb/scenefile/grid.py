@@ -12,7 +12,7 @@ from ..forms import (
     DEFAULT_LIMIT, SIDES, Array, Bounds, Coordinate, Kind, Leaf, Metadata, Value, check_box, check_limit, check_states, kind_of,
     kind_of_array,
 )  # fmt: skip
-from ..reading import Readable
+from ..reading import Walkable
 from . import reports
 from .dense import fill_arrays, tree_of
 from .tree import Tree, empty_tree
@@ -29,7 +29,7 @@ class Tile(NamedTuple):
     active: bool
 
 
-class Grid(Readable):
+class Grid(Walkable):
     """A sparse grid of booleans or integers over all coordinates of 32 bits, as a scene file has it.
 
     An index is three integers or slices. They are coordinates in voxels, also negative ones; a slice includes its start and not its stop.
