@@ -111,7 +111,7 @@ class Package(unittest.TestCase):
         )
         environment = {**os.environ, "PYTHONPATH": str(TOP / "python"), "VDB_LIBRARY": "/missing.so"}
         ran = subprocess.run([sys.executable, "-c", text], env=environment, capture_output=True, text=True, timeout=60)
-        self.assertEqual((ran.returncode, ran.stderr, ran.stdout.count("build it by tools/libvdb")), (0, "", 3))
+        self.assertEqual((ran.returncode, ran.stderr, ran.stdout.count("build it by tools/build-libvdb")), (0, "", 3))
 
     def test_types(self):
         """mypy accepts the package and a use of it, and finds a wrong one."""

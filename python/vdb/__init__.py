@@ -8,7 +8,7 @@
     margin -= labels
     values = margin[0:64, 0:64, 30]
 
-`vdb.Grid` and `vdb.Scene` call the engine by the shared library libvdb, which tools/libvdb of the repository builds; without it they raise
+`vdb.Grid` and `vdb.Scene` call the engine by the shared library libvdb, which tools/build-libvdb of the repository builds; without it they raise
 ImportError. `vdb.scenefile` reads and writes scene files without it, by classes of the same names, whose voxels don't change.
 Coordinates are voxels; array axes are x, y, z. All errors are `VdbError`.
 """

@@ -149,7 +149,7 @@ def load() -> ctypes.CDLL:
             return library
         except (OSError, AttributeError) as error:
             failed.append(str(error))
-    hint = "build it by tools/libvdb, or name it in VDB_LIBRARY; vdb.scenefile needs no library"
+    hint = "build it by tools/build-libvdb, or name it in VDB_LIBRARY; vdb.scenefile needs no library"
     raise ImportError(f"the library libvdb.so can't be used ({'; '.join(failed)}): {hint}")
 
 
