@@ -20,7 +20,7 @@ from .grid import Census, Grid
 from .scene import Scene, load, loads
 from .view import View
 
-__version__ = "1.0"
+__version__ = "1.1.0"
 __all__ = [
     "load", "loads", "Scene", "Grid", "View", "Census", "Boxes", "Labels", "Leaf", "Metadata", "scenefile", "__version__", *errors.__all__,
 ]  # fmt: skip
