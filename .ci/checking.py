@@ -1,3 +1,4 @@
+# SPDX-License-Identifier: Apache-2.0
 """The words of a `rattle check` of one crate over the crates below it, whose libraries stand in out/rlib or which are read as source."""
 import os
 import shutil

@@ -57,7 +57,7 @@ def stages(options):
     return [
         [Suite("texts of edits", ["edits/run", "--texts"], 800)],
         [Suite("proofs", [python, ".ci/proofs.py", *(it for it in options if it == "--anew")], 25)],
-        [Suite("libvdb", ["tools/libvdb"], 1)],
+        [Suite("libvdb", ["tools/build-libvdb"], 1)],
         [Suite("edits", ["edits/run", "--ci"], 22)],
         [
             Suite("library tests", ["tests/library/run"], 150),
@@ -66,7 +66,9 @@ def stages(options):
             Suite("limits", ["tests/limits.py"], 20),
             Suite("tests of tests/rows.py", unittest("discover", "-s", "tests"), 10),
             Suite("tests of tools/vdb-run", unittest("tools/test_vdb_run.py"), 21),
-            Suite("tests of libvdb", unittest("tools/test_libvdb.py"), 22),
+            Suite("tests of libvdb", unittest("tools/test_libvdb.py"), 24),
+            Suite("tests of tools/install", unittest("tools/test_install.py"), 19),
+            Suite("tests of saving", unittest("tools/test_files.py"), 12),
             Suite("tests of the Python packages", unittest("discover", "-s", "python/tests", "-t", "python"), 77),
             Suite("tests of tools/openvdb", ["tools/openvdb/test"], 1),
         ],

@@ -1,3 +1,4 @@
+# SPDX-License-Identifier: Apache-2.0
 """Reads must-fail edits, finds the functions of a crate's sources, and says where an edit changes them."""
 import dataclasses
 import os

@@ -1,4 +1,5 @@
 #!/usr/bin/env python3
+# SPDX-License-Identifier: Apache-2.0
 """Makes each allocation of each row fail in turn: allocations.py [SUBJECT..]. A row is a script with its answers, and a subject a
 file of rows in crates/vdb_rows/data.
 

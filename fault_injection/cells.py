@@ -1,3 +1,4 @@
+# SPDX-License-Identifier: Apache-2.0
 """A model of the scene, independent of the program. A grid is the list of the changes that succeeded, and the model finds a
 cell by going backwards through them. It answers `get` alone; which commands fail, it learns from the program."""
 

@@ -1,3 +1,4 @@
+# SPDX-License-Identifier: Apache-2.0
 """Reads and writes scene files by docs/FORMAT.md, independent of the program: what `load` must report for given bytes, and
 the one encoding of a scene.
 

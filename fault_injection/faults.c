@@ -1,3 +1,4 @@
+/* SPDX-License-Identifier: Apache-2.0 */
 // Injects faults into calls of the C library. It is preloaded into the program (LD_PRELOAD) and makes an allocation fail,
 // or a read or write fail, move no byte or move few. README.md lists the environment variables that select the call.
 #define _GNU_SOURCE

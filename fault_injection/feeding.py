@@ -1,3 +1,4 @@
+# SPDX-License-Identifier: Apache-2.0
 """Pipes that a thread fills while the program reads them."""
 import os
 import threading

@@ -1,4 +1,5 @@
 #!/usr/bin/env python3
+# SPDX-License-Identifier: Apache-2.0
 """Scene files: truncated, extended, changed and endless ones, and reads and writes that fail. files.py [PART..]"""
 import sys
 from itertools import chain

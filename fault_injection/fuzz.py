@@ -1,4 +1,5 @@
 #!/usr/bin/env python3
+# SPDX-License-Identifier: Apache-2.0
 """Random scripts and mutated files, from a seed: fuzz.py scripts|memory|files COUNT [SEED].
 
 scripts: each random script runs as it is; with prunes, voxelises and look-ups added and with other accessors; and in two

@@ -1,4 +1,5 @@
 #!/usr/bin/env python3
+# SPDX-License-Identifier: Apache-2.0
 """Makes each allocation of the program `library_memory` fail in turn: library.py. That program makes the library's calls that
 allocate: they reserve places in a pool, make nodes, copy nodes and trees, and change a grid with accessors.
 

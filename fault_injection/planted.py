@@ -1,4 +1,5 @@
 #!/usr/bin/env python3
+# SPDX-License-Identifier: Apache-2.0
 """The self-test: planted.py [FAULT..]. Each planted fault turns the result of a run into that of a program that breaks a
 promise, and the check of that promise must then fail. In the run of a check, PLANTED names the fault to plant."""
 import os

@@ -1,3 +1,4 @@
+# SPDX-License-Identifier: Apache-2.0
 """Runs a built program, with faults injected into its calls of the C library on request."""
 import os
 import signal

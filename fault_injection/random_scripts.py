@@ -1,3 +1,4 @@
+# SPDX-License-Identifier: Apache-2.0
 """Random scripts for fuzz.py: small grids, with boxes near the edges of extents, and some lines that fail."""
 EDGES = [-4097, -4096, -129, -128, -9, -8, -1, 0, 1, 7, 8, 9, 127, 128, 129, 4095, 4096]
 FAR = [-2147483648, -2147483647, 2147483646, 2147483647, 2147483648, -5000000]

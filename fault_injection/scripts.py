@@ -1,4 +1,5 @@
 #!/usr/bin/env python3
+# SPDX-License-Identifier: Apache-2.0
 """Scripts: short, endless and too long ones, reads and writes that fail, and wrong command lines. scripts.py [PART..]"""
 import sys
 from feeding import feeding

@@ -1,3 +1,4 @@
+# SPDX-License-Identifier: Apache-2.0
 """Scene files: those of the rows, with the scripts that make their scenes, and larger ones that are made here."""
 import sys
 from pathlib import Path

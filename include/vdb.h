@@ -1,3 +1,4 @@
+/* SPDX-License-Identifier: Apache-2.0 */
 /* libvdb: sparse grids of booleans and integers, for C and C++.
  *
  * A grid has a cell at each coordinate of three signed 32-bit integers: a value, and a state that is active or inactive.
@@ -47,6 +48,11 @@
 
 #include <stddef.h>
 #include <stdint.h>
+
+/* The version of this header. A library of the same major version, and of this minor version or a later one, has all of its calls. */
+#define VDB_VERSION_MAJOR 1
+#define VDB_VERSION_MINOR 1
+#define VDB_VERSION_PATCH 0
 
 #ifdef __cplusplus
 extern "C" {
@@ -164,6 +170,15 @@ enum {
     VDB_FILE_TOO_LONG = 35
 };
 
+/* What compilers are told: no pointer of a call is null, and its code is looked at. */
+#ifdef __GNUC__
+#define VDB_NONNULL __attribute__((nonnull))
+#define VDB_CODE __attribute__((nonnull, warn_unused_result)) int32_t
+#else
+#define VDB_NONNULL
+#define VDB_CODE int32_t
+#endif
+
 /* Returns the text of a code, which is never freed. */
 static inline const char *vdb_message(int32_t code)
 {
@@ -208,87 +223,87 @@ static inline const char *vdb_message(int32_t code)
 
 /* Creates a grid with values of type `kind`, in which each cell is the background, inactive. It replaces the handle's grid.
  * VDB_RANGE: no such type, a background outside it, or a limit outside 1 to 65,536. VDB_MEMORY. */
-int32_t vdb_grid_new(vdb_grid *grid, int32_t kind, int64_t background, uint32_t limit);
+VDB_CODE vdb_grid_new(vdb_grid *grid, int32_t kind, int64_t background, uint32_t limit);
 
 /* Frees the handle's grid, if it has one, and leaves the handle empty. */
-void vdb_grid_free(vdb_grid *grid);
+VDB_NONNULL void vdb_grid_free(vdb_grid *grid);
 
 /* Copies a grid, which replaces the grid of the other handle. The accessors of the copy are empty. VDB_MEMORY. */
-int32_t vdb_grid_copy(vdb_grid *from, vdb_grid *to);
+VDB_CODE vdb_grid_copy(vdb_grid *from, vdb_grid *to);
 
 /* Returns the type of the values, the background, and the root limit. */
-int32_t vdb_grid_kind(vdb_grid *grid, int32_t *kind);
-int32_t vdb_grid_background(vdb_grid *grid, int64_t *value);
-int32_t vdb_grid_limit(vdb_grid *grid, uint32_t *limit);
+VDB_CODE vdb_grid_kind(vdb_grid *grid, int32_t *kind);
+VDB_CODE vdb_grid_background(vdb_grid *grid, int64_t *value);
+VDB_CODE vdb_grid_limit(vdb_grid *grid, uint32_t *limit);
 
 /* Returns the value and the state of a voxel, from the root. */
-int32_t vdb_grid_get(vdb_grid *grid, int32_t x, int32_t y, int32_t z, int64_t *value, int32_t *active);
+VDB_CODE vdb_grid_get(vdb_grid *grid, int32_t x, int32_t y, int32_t z, int64_t *value, int32_t *active);
 
 /* Returns the value and the state of a voxel through an accessor. VDB_RANGE: no such accessor. */
-int32_t vdb_grid_probe(vdb_grid *grid, int32_t accessor, int32_t x, int32_t y, int32_t z, int64_t *value, int32_t *active);
+VDB_CODE vdb_grid_probe(vdb_grid *grid, int32_t accessor, int32_t x, int32_t y, int32_t z, int64_t *value, int32_t *active);
 
 /* Sets the value and the state of a voxel, or only one of them, through an accessor or without one.
  * VDB_RANGE: no such accessor, or a value outside the type. VDB_ROOT_LIMIT. VDB_MEMORY. */
-int32_t vdb_grid_set(vdb_grid *grid, int32_t accessor, int32_t x, int32_t y, int32_t z, int64_t value, int32_t active);
-int32_t vdb_grid_set_value(vdb_grid *grid, int32_t accessor, int32_t x, int32_t y, int32_t z, int64_t value);
-int32_t vdb_grid_set_active(vdb_grid *grid, int32_t accessor, int32_t x, int32_t y, int32_t z, int32_t active);
+VDB_CODE vdb_grid_set(vdb_grid *grid, int32_t accessor, int32_t x, int32_t y, int32_t z, int64_t value, int32_t active);
+VDB_CODE vdb_grid_set_value(vdb_grid *grid, int32_t accessor, int32_t x, int32_t y, int32_t z, int64_t value);
+VDB_CODE vdb_grid_set_active(vdb_grid *grid, int32_t accessor, int32_t x, int32_t y, int32_t z, int32_t active);
 
 /* Sets the value and the state of each voxel of a box.
  * VDB_RANGE: corners out of order, or a value outside the type. VDB_ROOT_LIMIT. VDB_MEMORY. */
-int32_t vdb_grid_fill(vdb_grid *grid, const vdb_box *box, int64_t value, int32_t active);
+VDB_CODE vdb_grid_fill(vdb_grid *grid, const vdb_box *box, int64_t value, int32_t active);
 
 /* Sets each voxel outside a box to the background, inactive. VDB_RANGE: corners out of order. VDB_MEMORY. */
-int32_t vdb_grid_clip(vdb_grid *grid, const vdb_box *box);
+VDB_CODE vdb_grid_clip(vdb_grid *grid, const vdb_box *box);
 
 /* Makes the tree as small as its cells allow. No cell changes. */
-int32_t vdb_grid_prune(vdb_grid *grid);
+VDB_CODE vdb_grid_prune(vdb_grid *grid);
 
 /* Puts each active voxel of a box into a leaf. No cell changes. It visits every cube of 8 voxels in the box, so give it a small
  * box, such as that of vdb_grid_bounds. VDB_RANGE: corners out of order. VDB_MEMORY. */
-int32_t vdb_grid_voxelise(vdb_grid *grid, const vdb_box *box);
+VDB_CODE vdb_grid_voxelise(vdb_grid *grid, const vdb_box *box);
 
 /* Activates, in each of 1 to 16 iterations, every voxel that has an active face neighbour. No value changes.
  * VDB_RANGE: the number of iterations. VDB_ROOT_LIMIT. VDB_MEMORY, which may also hide a VDB_ROOT_LIMIT. */
-int32_t vdb_grid_dilate(vdb_grid *grid, uint32_t iterations);
+VDB_CODE vdb_grid_dilate(vdb_grid *grid, uint32_t iterations);
 
 /* Deactivates, in each of 1 to 16 iterations, every voxel that has an inactive face neighbour. No value changes.
  * VDB_RANGE: the number of iterations. VDB_MEMORY. */
-int32_t vdb_grid_erode(vdb_grid *grid, uint32_t iterations);
+VDB_CODE vdb_grid_erode(vdb_grid *grid, uint32_t iterations);
 
 /* ---- Two grids: the first one changes, the other one stays ---------------------------------------------------------- */
 
 /* Activates each voxel that is active in the other grid. No value changes, and types may differ. VDB_ROOT_LIMIT. VDB_MEMORY. */
-int32_t vdb_grid_unite(vdb_grid *grid, vdb_grid *other);
+VDB_CODE vdb_grid_unite(vdb_grid *grid, vdb_grid *other);
 
 /* Deactivates each voxel that is active in the other grid. No value changes, and types may differ. VDB_MEMORY. */
-int32_t vdb_grid_subtract(vdb_grid *grid, vdb_grid *other);
+VDB_CODE vdb_grid_subtract(vdb_grid *grid, vdb_grid *other);
 
 /* Deactivates each voxel that is inactive in the other grid. No value changes, and types may differ. VDB_MEMORY. */
-int32_t vdb_grid_intersect(vdb_grid *grid, vdb_grid *other);
+VDB_CODE vdb_grid_intersect(vdb_grid *grid, vdb_grid *other);
 
 /* Sets each voxel and the background to the greater or the lesser of its two values. A voxel that is active in either grid is
  * active then. VDB_KINDS. VDB_ROOT_LIMIT. VDB_MEMORY. */
-int32_t vdb_grid_maximum(vdb_grid *grid, vdb_grid *other);
-int32_t vdb_grid_minimum(vdb_grid *grid, vdb_grid *other);
+VDB_CODE vdb_grid_maximum(vdb_grid *grid, vdb_grid *other);
+VDB_CODE vdb_grid_minimum(vdb_grid *grid, vdb_grid *other);
 
 /* Sets each voxel and the background to the sum of its two values. A voxel that is active in either grid is active then.
  * VDB_KINDS. VDB_NO_SUM: both grids have booleans. VDB_SUM_RANGE: a sum is outside the type. VDB_ROOT_LIMIT. VDB_MEMORY. */
-int32_t vdb_grid_sum(vdb_grid *grid, vdb_grid *other);
+VDB_CODE vdb_grid_sum(vdb_grid *grid, vdb_grid *other);
 
 /* Copies the value and the state of each voxel that is active in the other grid. VDB_KINDS. VDB_ROOT_LIMIT. VDB_MEMORY. */
-int32_t vdb_grid_replace(vdb_grid *grid, vdb_grid *other);
+VDB_CODE vdb_grid_replace(vdb_grid *grid, vdb_grid *other);
 
 /* ---- Reports of a grid, none of which needs memory ------------------------------------------------------------------ */
 
 /* Returns the number of active voxels, of the grid or of a box. VDB_RANGE: corners out of order. */
-int32_t vdb_grid_count(vdb_grid *grid, vdb_count *count);
-int32_t vdb_grid_count_in(vdb_grid *grid, const vdb_box *box, vdb_count *count);
+VDB_CODE vdb_grid_count(vdb_grid *grid, vdb_count *count);
+VDB_CODE vdb_grid_count_in(vdb_grid *grid, const vdb_box *box, vdb_count *count);
 
 /* Returns the bounding box of the active voxels. If no voxel is active, *found is 0 and *box stays; otherwise *found is 1. */
-int32_t vdb_grid_bounds(vdb_grid *grid, vdb_box *box, int32_t *found);
+VDB_CODE vdb_grid_bounds(vdb_grid *grid, vdb_box *box, int32_t *found);
 
 /* Returns the size of the smallest tree of the grid's cells. */
-int32_t vdb_grid_census(vdb_grid *grid, vdb_census *census);
+VDB_CODE vdb_grid_census(vdb_grid *grid, vdb_census *census);
 
 /* Returns the first active voxel of a box in block order, or the first one after *at, and its value. If none is left, *found
  * is 0, and *at and *value stay; otherwise *found is 1. VDB_RANGE: corners out of order.
@@ -297,14 +312,14 @@ int32_t vdb_grid_census(vdb_grid *grid, vdb_census *census);
  *          code = vdb_grid_next_active(g, &box, &at, &value, &found))
  *         ...
  */
-int32_t vdb_grid_first_active(vdb_grid *grid, const vdb_box *box, vdb_coord *at, int64_t *value, int32_t *found);
-int32_t vdb_grid_next_active(vdb_grid *grid, const vdb_box *box, vdb_coord *at, int64_t *value, int32_t *found);
+VDB_CODE vdb_grid_first_active(vdb_grid *grid, const vdb_box *box, vdb_coord *at, int64_t *value, int32_t *found);
+VDB_CODE vdb_grid_next_active(vdb_grid *grid, const vdb_box *box, vdb_coord *at, int64_t *value, int32_t *found);
 
 /* ---- The leaves of a grid -------------------------------------------------------------------------------------------- */
 
 /* Returns the number of leaves of the grid's tree. It depends on how the cells were written; after vdb_grid_prune it is that of the
  * census. */
-int32_t vdb_grid_leaf_count(vdb_grid *grid, uint64_t *count);
+VDB_CODE vdb_grid_leaf_count(vdb_grid *grid, uint64_t *count);
 
 /* Copies leaves in block order, as many as `origins` has elements or as are left: the first ones, or those whose least corner comes past
  * a coordinate, such as past the last origin of the call before. *copied is their number, and 0 if none is left. Tiles aren't leaves.
@@ -318,10 +333,10 @@ int32_t vdb_grid_leaf_count(vdb_grid *grid, uint64_t *count);
  *          code = vdb_grid_next_leaves(g, at[n - 1].x, at[n - 1].y, at[n - 1].z, at, 64, values, 64 * 512, states, 64 * 8, &n))
  *         ...
  */
-int32_t vdb_grid_first_leaves(vdb_grid *grid, vdb_coord *origins, size_t count, int64_t *values, size_t values_len, uint64_t *states,
-                              size_t states_len, size_t *copied);
-int32_t vdb_grid_next_leaves(vdb_grid *grid, int32_t x, int32_t y, int32_t z, vdb_coord *origins, size_t count, int64_t *values,
-                             size_t values_len, uint64_t *states, size_t states_len, size_t *copied);
+VDB_CODE vdb_grid_first_leaves(vdb_grid *grid, vdb_coord *origins, size_t count, int64_t *values, size_t values_len, uint64_t *states,
+                               size_t states_len, size_t *copied);
+VDB_CODE vdb_grid_next_leaves(vdb_grid *grid, int32_t x, int32_t y, int32_t z, vdb_coord *origins, size_t count, int64_t *values,
+                              size_t values_len, uint64_t *states, size_t states_len, size_t *copied);
 
 /* ---- Many voxels of a grid at once ---------------------------------------------------------------------------------- */
 
@@ -331,55 +346,55 @@ int32_t vdb_grid_next_leaves(vdb_grid *grid, int32_t x, int32_t y, int32_t z, vd
 
 /* Writes the value and the state of each voxel of `at` to the element of the same index, through an accessor or without one.
  * VDB_RANGE: no such accessor, or the length of an array is neither `count` nor 0. */
-int32_t vdb_grid_get_many(vdb_grid *grid, int32_t accessor, const vdb_coord *at, size_t count, int64_t *values, size_t values_len,
-                          uint8_t *states, size_t states_len);
+VDB_CODE vdb_grid_get_many(vdb_grid *grid, int32_t accessor, const vdb_coord *at, size_t count, int64_t *values, size_t values_len,
+                           uint8_t *states, size_t states_len);
 
 /* Sets each voxel of `at` to the value and the state of the same index, one after another, through an accessor or without one.
  * VDB_RANGE: no such accessor, a value outside the type, the length of an array is neither `count` nor 0, or both are 0 and `count`
  * isn't; then nothing has changed. VDB_ROOT_LIMIT, VDB_MEMORY: the voxel at index *written failed, and those before it are set. After
  * VDB_OK, *written is `count`. */
-int32_t vdb_grid_write_many(vdb_grid *grid, int32_t accessor, const vdb_coord *at, size_t count, const int64_t *values,
-                            size_t values_len, const uint8_t *states, size_t states_len, size_t *written);
+VDB_CODE vdb_grid_write_many(vdb_grid *grid, int32_t accessor, const vdb_coord *at, size_t count, const int64_t *values,
+                             size_t values_len, const uint8_t *states, size_t states_len, size_t *written);
 
 /* Writes the value and the state of each voxel of a box to its element. No other element changes. It reads the tree tile by tile and
  * leaf by leaf, and needs no memory.
  * VDB_RANGE: corners out of order, rows that overlap by their strides, or an array that is neither of length 0 nor long enough. */
-int32_t vdb_grid_read_box(vdb_grid *grid, const vdb_box *box, const vdb_strides *strides, int64_t *values, size_t values_len,
-                          uint8_t *states, size_t states_len);
+VDB_CODE vdb_grid_read_box(vdb_grid *grid, const vdb_box *box, const vdb_strides *strides, int64_t *values, size_t values_len,
+                           uint8_t *states, size_t states_len);
 
 /* Sets each voxel of a box to the value and the state of its element, by x, then y, then z, through an accessor or without one.
  * VDB_RANGE: no such accessor, corners out of order, rows that overlap by their strides, an array that is neither of length 0 nor long
  * enough, both of length 0, or a value outside the type; then nothing has changed. VDB_ROOT_LIMIT, VDB_MEMORY: the first *written voxels
  * of the box in that order are set, and the one after them failed. After VDB_OK, *written is the number of voxels of the box. A box of
  * at least 8 voxels along each axis takes the least time: it is written leaf by leaf. */
-int32_t vdb_grid_write_box(vdb_grid *grid, int32_t accessor, const vdb_box *box, const vdb_strides *strides, const int64_t *values,
-                           size_t values_len, const uint8_t *states, size_t states_len, size_t *written);
+VDB_CODE vdb_grid_write_box(vdb_grid *grid, int32_t accessor, const vdb_box *box, const vdb_strides *strides, const int64_t *values,
+                            size_t values_len, const uint8_t *states, size_t states_len, size_t *written);
 
 /* ---- A view ---------------------------------------------------------------------------------------------------------- */
 
 /* A view is a grid that several threads read at the same time, each through a handle of its own. No call changes the grid. */
 
 /* Moves the grid out of its handle into a view, which replaces that of the other handle. No cell is copied. VDB_MEMORY. */
-int32_t vdb_view_new(vdb_grid *grid, vdb_view *view);
+VDB_CODE vdb_view_new(vdb_grid *grid, vdb_view *view);
 
 /* Makes another view of the same grid, which replaces that of the other handle: give it to another thread. VDB_MEMORY. */
-int32_t vdb_view_share(vdb_view *from, vdb_view *to);
+VDB_CODE vdb_view_share(vdb_view *from, vdb_view *to);
 
 /* Copies the grid of a view, which replaces the grid of the other handle. The accessors of the copy are empty. VDB_MEMORY. */
-int32_t vdb_view_copy(vdb_view *from, vdb_grid *to);
+VDB_CODE vdb_view_copy(vdb_view *from, vdb_grid *to);
 
 /* Frees the handle's view, if it has one, and leaves the handle empty. The last view of a grid frees the grid. */
-void vdb_view_free(vdb_view *view);
+VDB_NONNULL void vdb_view_free(vdb_view *view);
 
 /* Returns the value and the state of a voxel, from the root. */
-int32_t vdb_view_get(vdb_view *view, int32_t x, int32_t y, int32_t z, int64_t *value, int32_t *active);
+VDB_CODE vdb_view_get(vdb_view *view, int32_t x, int32_t y, int32_t z, int64_t *value, int32_t *active);
 
 /* Write the values and the states of many voxels, or of a box, to arrays, as vdb_grid_get_many and vdb_grid_read_box do. VDB_RANGE: as
  * these say. */
-int32_t vdb_view_get_many(vdb_view *view, const vdb_coord *at, size_t count, int64_t *values, size_t values_len, uint8_t *states,
-                          size_t states_len);
-int32_t vdb_view_read_box(vdb_view *view, const vdb_box *box, const vdb_strides *strides, int64_t *values, size_t values_len,
-                          uint8_t *states, size_t states_len);
+VDB_CODE vdb_view_get_many(vdb_view *view, const vdb_coord *at, size_t count, int64_t *values, size_t values_len, uint8_t *states,
+                           size_t states_len);
+VDB_CODE vdb_view_read_box(vdb_view *view, const vdb_box *box, const vdb_strides *strides, int64_t *values, size_t values_len,
+                           uint8_t *states, size_t states_len);
 
 /* ---- A scene -------------------------------------------------------------------------------------------------------- */
 
@@ -387,53 +402,53 @@ int32_t vdb_view_read_box(vdb_view *view, const vdb_box *box, const vdb_strides 
  * a letter a to z, then up to 15 of a to z, 0 to 9 and _. */
 
 /* Creates a scene without grids. It replaces the handle's scene. VDB_MEMORY. */
-int32_t vdb_scene_new(vdb_scene *scene);
+VDB_CODE vdb_scene_new(vdb_scene *scene);
 
 /* Frees the handle's scene with its grids, if it has one, and leaves the handle empty. */
-void vdb_scene_free(vdb_scene *scene);
+VDB_NONNULL void vdb_scene_free(vdb_scene *scene);
 
 /* Creates a scene from the bytes of a scene file. It replaces the handle's scene. VDB_FILE_..: the first fault of the file.
  * VDB_MEMORY. */
-int32_t vdb_scene_load(vdb_scene *scene, const uint8_t *bytes, size_t len);
+VDB_CODE vdb_scene_load(vdb_scene *scene, const uint8_t *bytes, size_t len);
 
 /* Returns the length of the scene's file in bytes. A file has at most 268,435,456. */
-int32_t vdb_scene_length(vdb_scene *scene, uint64_t *length);
+VDB_CODE vdb_scene_length(vdb_scene *scene, uint64_t *length);
 
 /* Writes the scene's file into a buffer, and returns its length. VDB_FILE_TOO_LONG. VDB_BUFFER. VDB_MEMORY. */
-int32_t vdb_scene_save(vdb_scene *scene, uint8_t *bytes, size_t len, uint64_t *written);
+VDB_CODE vdb_scene_save(vdb_scene *scene, uint8_t *bytes, size_t len, uint64_t *written);
 
 /* Returns the number of grids. */
-int32_t vdb_scene_count(vdb_scene *scene, uint64_t *count);
+VDB_CODE vdb_scene_count(vdb_scene *scene, uint64_t *count);
 
 /* Returns the name of a grid and its length, by the index of the grid in order of names. VDB_NO_GRID. VDB_BUFFER: VDB_NAME_MOST
  * bytes are always enough. */
-int32_t vdb_scene_name(vdb_scene *scene, size_t index, char *out, size_t room, uint64_t *used);
+VDB_CODE vdb_scene_name(vdb_scene *scene, size_t index, char *out, size_t room, uint64_t *used);
 
 /* Moves a grid into the scene. Its handle is empty then. VDB_NAME. VDB_NAME_TAKEN. VDB_GRID_LIMIT. VDB_MEMORY. */
-int32_t vdb_scene_put(vdb_scene *scene, const char *name, size_t len, vdb_grid *grid);
+VDB_CODE vdb_scene_put(vdb_scene *scene, const char *name, size_t len, vdb_grid *grid);
 
 /* Moves a grid out of the scene, and replaces the grid of the handle by it. Its metadata are gone then. VDB_NAME. VDB_NO_GRID.
  * VDB_MEMORY. */
-int32_t vdb_scene_take(vdb_scene *scene, const char *name, size_t len, vdb_grid *grid);
+VDB_CODE vdb_scene_take(vdb_scene *scene, const char *name, size_t len, vdb_grid *grid);
 
 /* Copies a grid of the scene, and replaces the grid of the handle by it. VDB_NAME. VDB_NO_GRID. VDB_MEMORY. */
-int32_t vdb_scene_copy(vdb_scene *scene, const char *name, size_t len, vdb_grid *grid);
+VDB_CODE vdb_scene_copy(vdb_scene *scene, const char *name, size_t len, vdb_grid *grid);
 
 /* Returns the number of metadata pairs of a grid. VDB_NAME. VDB_NO_GRID. */
-int32_t vdb_scene_meta_count(vdb_scene *scene, const char *name, size_t len, uint64_t *count);
+VDB_CODE vdb_scene_meta_count(vdb_scene *scene, const char *name, size_t len, uint64_t *count);
 
 /* Returns the key of a metadata pair, or its text, and the length, by the index of the pair in order of keys. VDB_NAME. VDB_NO_GRID.
  * VDB_NO_META. VDB_BUFFER: VDB_NAME_MOST bytes are always enough for a key, VDB_TEXT_MOST for a text. */
-int32_t vdb_scene_meta_key(vdb_scene *scene, const char *name, size_t len, size_t index, char *out, size_t room, uint64_t *used);
-int32_t vdb_scene_meta_text(vdb_scene *scene, const char *name, size_t len, size_t index, char *out, size_t room, uint64_t *used);
+VDB_CODE vdb_scene_meta_key(vdb_scene *scene, const char *name, size_t len, size_t index, char *out, size_t room, uint64_t *used);
+VDB_CODE vdb_scene_meta_text(vdb_scene *scene, const char *name, size_t len, size_t index, char *out, size_t room, uint64_t *used);
 
 /* Sets the text of a key. VDB_NAME. VDB_NO_GRID. VDB_TEXT: not 1 to 64 printable ASCII characters without spaces. VDB_META_LIMIT.
  * VDB_MEMORY. */
-int32_t vdb_scene_meta_set(vdb_scene *scene, const char *name, size_t len, const char *key, size_t key_len, const char *text,
-                           size_t text_len);
+VDB_CODE vdb_scene_meta_set(vdb_scene *scene, const char *name, size_t len, const char *key, size_t key_len, const char *text,
+                            size_t text_len);
 
 /* Removes a metadata pair, if the grid has the key. VDB_NAME. VDB_NO_GRID. */
-int32_t vdb_scene_meta_remove(vdb_scene *scene, const char *name, size_t len, const char *key, size_t key_len);
+VDB_CODE vdb_scene_meta_remove(vdb_scene *scene, const char *name, size_t len, const char *key, size_t key_len);
 
 #ifdef __cplusplus
 }

@@ -1,8 +1,9 @@
+// SPDX-License-Identifier: Apache-2.0
 // libvdb for C++17 and later: owners in place of handles, exceptions in place of codes.
 //
 //     #include <vdb.hpp>
 //
-//     vdb::Scene scene = vdb::Scene::load("labels.vdbs");
+//     vdb::Scene scene = vdb::Scene::load_file("labels.vdbs");
 //     vdb::Grid organ = scene.copy("organ");
 //     organ.dilate(2);
 //     std::cout << organ.count() << " active voxels\n";
@@ -12,33 +13,46 @@
 // unless the call is set_many or write_box.
 //
 // Owners move and don't copy; copy() makes a second grid. A moved-from grid or scene is empty, and its calls throw VDB_EMPTY.
-// No call may run on an owner that another thread uses. Look-ups change an owner too, so they aren't const. To read one grid in
-// several threads, give each a View of it.
+// A call that is const changes no cell, but it may change what an owner counts and caches. So no call, const or not, may run on
+// an owner that another thread uses. To read one grid in several threads, give each a View of it.
 #ifndef VDB_HPP
 #define VDB_HPP
 
 #include "vdb.h"
+#include "vdb_files.hpp"
 
-#include <algorithm>
 #include <array>
-#include <cerrno>
 #include <cstddef>
-#include <cstdio>
+#include <functional>
 #include <iterator>
 #include <map>
-#include <memory>
 #include <new>
 #include <optional>
 #if __cplusplus >= 202002L
-#include <span>
+#include <ranges>
 #endif
 #include <stdexcept>
 #include <string>
 #include <string_view>
-#include <system_error>
 #include <type_traits>
 #include <utility>
 #include <vector>
+
+inline bool operator==(const vdb_coord &a, const vdb_coord &b) { return a.x == b.x && a.y == b.y && a.z == b.z; }
+inline bool operator!=(const vdb_coord &a, const vdb_coord &b) { return !(a == b); }
+inline bool operator==(const vdb_box &a, const vdb_box &b) { return a.min == b.min && a.max == b.max; }
+inline bool operator!=(const vdb_box &a, const vdb_box &b) { return !(a == b); }
+
+// Spreads the three numbers over all bits by two odd factors.
+template <> struct std::hash<vdb_coord> {
+    std::size_t operator()(const vdb_coord &at) const noexcept
+    {
+        const auto wide = [](int32_t number) { return static_cast<uint64_t>(static_cast<uint32_t>(number)); };
+        uint64_t mixed = (wide(at.x) << 32 | wide(at.y)) * UINT64_C(0x9E3779B97F4A7C15);
+        mixed = (mixed ^ mixed >> 32 ^ wide(at.z)) * UINT64_C(0xD6E8FEB86659FD93);
+        return static_cast<std::size_t>(mixed ^ mixed >> 32);
+    }
+};
 
 namespace vdb {
 
@@ -47,10 +61,8 @@ using Box = vdb_box;
 using Census = vdb_census;
 using Strides = vdb_strides;
 
-#if __cplusplus >= 202002L
-template <typename T> using Span = std::span<T>;
-#else
-// What std::span is from C++20 on: the elements of an array or a vector, which it doesn't own.
+// The elements of an array or a vector, which it doesn't own: std::span, and the same in C++17, so that programs and libraries of
+// different standards may be linked.
 template <typename T> class Span {
 public:
     Span() = default;
@@ -62,12 +74,14 @@ public:
     T *data() const { return data_; }
     std::size_t size() const { return size_; }
     bool empty() const { return size_ == 0; }
+    T *begin() const { return data_; }
+    T *end() const { return data_ + size_; }
+    T &operator[](std::size_t index) const { return data_[index]; }
 
 private:
     T *data_ = nullptr;
     std::size_t size_ = 0;
 };
-#endif
 
 // The box of all voxels.
 inline constexpr Box everywhere = VDB_EVERYWHERE;
@@ -79,12 +93,18 @@ enum class Kind : int32_t { boolean = VDB_BOOL, i32 = VDB_I32, i64 = VDB_I64 };
 struct Cell {
     int64_t value;
     bool active;
+
+    friend bool operator==(const Cell &a, const Cell &b) { return a.value == b.value && a.active == b.active; }
+    friend bool operator!=(const Cell &a, const Cell &b) { return !(a == b); }
 };
 
 // An active voxel.
 struct Voxel {
     Coord at;
     int64_t value;
+
+    friend bool operator==(const Voxel &a, const Voxel &b) { return a.at == b.at && a.value == b.value; }
+    friend bool operator!=(const Voxel &a, const Voxel &b) { return !(a == b); }
 };
 
 // A call that failed. `what` is the text of the code, after the file if the call has one.
@@ -132,50 +152,15 @@ template <typename T> T *data_of(Span<T> span)
     return span.empty() ? &none : span.data();
 }
 
-struct Close {
-    void operator()(std::FILE *file) const { std::fclose(file); }
+// What `it++` returns: the element before the step.
+template <typename T> class Before {
+public:
+    explicit Before(const T &value) : value_(value) {}
+    const T &operator*() const { return value_; }
+
+private:
+    T value_;
 };
-using File = std::unique_ptr<std::FILE, Close>;
-
-[[noreturn]] inline void fail(int error, const std::string &path) { throw std::system_error(error, std::generic_category(), path); }
-
-inline File open(const std::string &path, const std::string &shown, const char *mode)
-{
-    File file(std::fopen(path.c_str(), mode));
-    if (!file)
-        fail(errno, shown);
-    return file;
-}
-
-// Returns the bytes of a file, and no more than one past the longest scene file.
-inline std::vector<uint8_t> read(const std::string &path)
-{
-    File file = open(path, path, "rb");
-    std::vector<uint8_t> bytes;
-    std::size_t had = 0;
-    do {
-        had = bytes.size();
-        bytes.resize(had + std::min<std::size_t>(std::max<std::size_t>(had, 65536), VDB_FILE_MOST + 1 - had));
-        bytes.resize(had + std::fread(bytes.data() + had, 1, bytes.size() - had, file.get()));
-    } while (bytes.size() > had && bytes.size() <= VDB_FILE_MOST);
-    if (std::ferror(file.get()))
-        fail(errno, path);
-    return bytes;
-}
-
-// Writes a file beside `path`, which then replaces it.
-inline void replace(const std::string &path, const std::vector<uint8_t> &bytes)
-{
-    const std::string beside = path + ".tmp";
-    File file = open(beside, path, "wb");
-    bool done = std::fwrite(bytes.data(), 1, bytes.size(), file.get()) == bytes.size();
-    done = std::fclose(file.release()) == 0 && done;
-    if (!done || std::rename(beside.c_str(), path.c_str()) != 0) {
-        const int error = errno;
-        std::remove(beside.c_str());
-        fail(error, path);
-    }
-}
 
 } // namespace detail
 
@@ -201,7 +186,7 @@ public:
     }
     ~Grid() { vdb_grid_free(&grid_); }
 
-    Grid copy()
+    Grid copy() const
     {
         Grid made;
         check(vdb_grid_copy(&grid_, &made.grid_));
@@ -211,32 +196,32 @@ public:
     // The handle, for calls of vdb.h. It stays this object's.
     vdb_grid *handle() { return &grid_; }
 
-    Kind kind()
+    Kind kind() const
     {
         int32_t kind = 0;
         check(vdb_grid_kind(&grid_, &kind));
         return static_cast<Kind>(kind);
     }
-    int64_t background()
+    int64_t background() const
     {
         int64_t value = 0;
         check(vdb_grid_background(&grid_, &value));
         return value;
     }
-    uint32_t limit()
+    uint32_t limit() const
     {
         uint32_t limit = 0;
         check(vdb_grid_limit(&grid_, &limit));
         return limit;
     }
 
-    Cell get(Coord at) { return probe(VDB_NO_ACCESSOR, at); }
+    Cell get(Coord at) const { return probe(VDB_NO_ACCESSOR, at); }
     void set(Coord at, int64_t value, bool active = true) { check(vdb_grid_set(&grid_, VDB_NO_ACCESSOR, at.x, at.y, at.z, value, active)); }
     void set_value(Coord at, int64_t value) { check(vdb_grid_set_value(&grid_, VDB_NO_ACCESSOR, at.x, at.y, at.z, value)); }
     void set_active(Coord at, bool active) { check(vdb_grid_set_active(&grid_, VDB_NO_ACCESSOR, at.x, at.y, at.z, active)); }
 
     // Accessor 0 to 7 of this grid.
-    Accessor accessor(int32_t index);
+    Accessor accessor(int32_t index) &;
 
     void fill(const Box &box, int64_t value, bool active = true) { check(vdb_grid_fill(&grid_, &box, value, active)); }
     void clip(const Box &box) { check(vdb_grid_clip(&grid_, &box)); }
@@ -247,15 +232,15 @@ public:
 
     // Reads or sets many voxels: values[i] and states[i] are those of at[i]. An array that is left out is neither read nor set.
     // If a write throws other than VDB_RANGE, the first *written voxels are set.
-    void get_many(Span<const Coord> at, Span<int64_t> values, Span<uint8_t> states = {}) { get_by(VDB_NO_ACCESSOR, at, values, states); }
+    void get_many(Span<const Coord> at, Span<int64_t> values, Span<uint8_t> states = {}) const { get_by(VDB_NO_ACCESSOR, at, values, states); }
     void set_many(Span<const Coord> at, Span<const int64_t> values, Span<const uint8_t> states = {}, std::size_t *written = nullptr)
     {
         set_by(VDB_NO_ACCESSOR, at, values, states, written);
     }
 
     // Reads a box into arrays: z fastest and without gaps, unless there are strides. An array that is left out isn't read.
-    void read_box(const Box &box, Span<int64_t> values, Span<uint8_t> states = {}) { read_box(box, strides_of(box), values, states); }
-    void read_box(const Box &box, const Strides &strides, Span<int64_t> values, Span<uint8_t> states = {})
+    void read_box(const Box &box, Span<int64_t> values, Span<uint8_t> states = {}) const { read_box(box, strides_of(box), values, states); }
+    void read_box(const Box &box, const Strides &strides, Span<int64_t> values, Span<uint8_t> states = {}) const
     {
         check(vdb_grid_read_box(&grid_, &box, &strides, detail::data_of(values), values.size(), detail::data_of(states), states.size()));
     }
@@ -277,16 +262,16 @@ public:
         check(code);
     }
 
-    void unite(Grid &other) { combine(vdb_grid_unite, other); }
-    void subtract(Grid &other) { combine(vdb_grid_subtract, other); }
-    void intersect(Grid &other) { combine(vdb_grid_intersect, other); }
-    void maximum(Grid &other) { combine(vdb_grid_maximum, other); }
-    void minimum(Grid &other) { combine(vdb_grid_minimum, other); }
-    void sum(Grid &other) { combine(vdb_grid_sum, other); }
-    void replace(Grid &other) { combine(vdb_grid_replace, other); }
+    void unite(const Grid &other) { combine(vdb_grid_unite, other); }
+    void subtract(const Grid &other) { combine(vdb_grid_subtract, other); }
+    void intersect(const Grid &other) { combine(vdb_grid_intersect, other); }
+    void maximum(const Grid &other) { combine(vdb_grid_maximum, other); }
+    void minimum(const Grid &other) { combine(vdb_grid_minimum, other); }
+    void sum(const Grid &other) { combine(vdb_grid_sum, other); }
+    void replace(const Grid &other) { combine(vdb_grid_replace, other); }
 
     // The number of active voxels of a box. Throws std::overflow_error above 2^64 - 1.
-    uint64_t count(const Box &box = everywhere)
+    uint64_t count(const Box &box = everywhere) const
     {
         vdb_count count = {0, 0};
         check(vdb_grid_count_in(&grid_, &box, &count));
@@ -296,7 +281,7 @@ public:
     }
 
     // The bounding box of the active voxels, if there are any.
-    std::optional<Box> bounds()
+    std::optional<Box> bounds() const
     {
         Box box = everywhere;
         int32_t found = 0;
@@ -304,7 +289,7 @@ public:
         return found ? std::optional<Box>(box) : std::nullopt;
     }
 
-    Census census()
+    Census census() const
     {
         Census census = {0, 0, 0, 0};
         check(vdb_grid_census(&grid_, &census));
@@ -312,7 +297,7 @@ public:
     }
 
     // The number of leaves of the tree. It depends on how the cells were written.
-    uint64_t leaf_count()
+    uint64_t leaf_count() const
     {
         uint64_t count = 0;
         check(vdb_grid_leaf_count(&grid_, &count));
@@ -320,20 +305,24 @@ public:
     }
 
     // The leaves of the tree in block order, for a range-based for. Tiles aren't among them.
-    Leaves leaves();
+    Leaves leaves() const &;
+    Leaves leaves() const && = delete;
 
     // The active voxels of a box in block order, for a range-based for. They may change during the loop: each step finds the
     // first active voxel after the last one.
-    ActiveVoxels active(const Box &box = everywhere);
+    ActiveVoxels active(const Box &box = everywhere) const &;
+    ActiveVoxels active(const Box &box = everywhere) const && = delete;
 
 private:
     friend class Accessor;
+    friend class ActiveVoxels;
+    friend class Leaves;
     friend class Scene;
     friend class View;
 
     Grid() = default;
 
-    Cell probe(int32_t accessor, Coord at)
+    Cell probe(int32_t accessor, Coord at) const
     {
         int64_t value = 0;
         int32_t active = 0;
@@ -341,7 +330,7 @@ private:
         return {value, active != 0};
     }
 
-    void get_by(int32_t accessor, Span<const Coord> at, Span<int64_t> values, Span<uint8_t> states)
+    void get_by(int32_t accessor, Span<const Coord> at, Span<int64_t> values, Span<uint8_t> states) const
     {
         check(vdb_grid_get_many(&grid_, accessor, detail::data_of(at), at.size(), detail::data_of(values), values.size(), detail::data_of(states),
                                 states.size()));
@@ -357,7 +346,7 @@ private:
         check(code);
     }
 
-    void combine(int32_t (*call)(vdb_grid *, vdb_grid *), Grid &other)
+    void combine(int32_t (*call)(vdb_grid *, vdb_grid *), const Grid &other)
     {
         if (&other != this)
             return check(call(&grid_, &other.grid_));
@@ -365,7 +354,7 @@ private:
         check(call(&grid_, &twin.grid_));
     }
 
-    vdb_grid grid_ = VDB_GRID_INIT;
+    mutable vdb_grid grid_ = VDB_GRID_INIT;
 };
 
 // An accessor of a grid, which makes look-ups and writes near the last one faster. The grid must outlive it.
@@ -392,7 +381,7 @@ private:
     int32_t index_;
 };
 
-inline Accessor Grid::accessor(int32_t index) { return Accessor(*this, index); }
+inline Accessor Grid::accessor(int32_t index) & { return Accessor(*this, index); }
 
 // The active voxels of a box, in block order. The grid must outlive it.
 class ActiveVoxels {
@@ -406,7 +395,7 @@ public:
         using reference = const Voxel &;
 
         Iterator() = default;
-        Iterator(Grid &grid, const Box &box) : grid_(&grid), box_(box) { step(vdb_grid_first_active); }
+        Iterator(const Grid &grid, const Box &box) : grid_(&grid), box_(box) { step(vdb_grid_first_active); }
 
         reference operator*() const { return voxel_; }
         pointer operator->() const { return &voxel_; }
@@ -415,7 +404,12 @@ public:
             step(vdb_grid_next_active);
             return *this;
         }
-        void operator++(int) { ++*this; }
+        detail::Before<Voxel> operator++(int)
+        {
+            detail::Before<Voxel> before(voxel_);
+            ++*this;
+            return before;
+        }
         friend bool operator==(const Iterator &a, const Iterator &b) { return a.grid_ == b.grid_; }
         friend bool operator!=(const Iterator &a, const Iterator &b) { return a.grid_ != b.grid_; }
 
@@ -423,42 +417,41 @@ public:
         void step(int32_t (*call)(vdb_grid *, const vdb_box *, vdb_coord *, int64_t *, int32_t *))
         {
             int32_t found = 0;
-            check(call(grid_->handle(), &box_, &voxel_.at, &voxel_.value, &found));
+            check(call(&grid_->grid_, &box_, &voxel_.at, &voxel_.value, &found));
             if (!found)
                 grid_ = nullptr;
         }
 
-        Grid *grid_ = nullptr;
+        const Grid *grid_ = nullptr;
         Box box_ = everywhere;
         Voxel voxel_ = {{0, 0, 0}, 0};
     };
 
-    ActiveVoxels(Grid &grid, const Box &box) : grid_(grid), box_(box) {}
-    Iterator begin() { return Iterator(grid_, box_); }
-    Iterator end() { return Iterator(); }
+    ActiveVoxels(const Grid &grid, const Box &box) : grid_(&grid), box_(box) {}
+    Iterator begin() const { return Iterator(*grid_, box_); }
+    Iterator end() const { return Iterator(); }
 
 private:
-    Grid &grid_;
+    const Grid *grid_;
     Box box_;
 };
 
-inline ActiveVoxels Grid::active(const Box &box) { return ActiveVoxels(*this, box); }
+inline ActiveVoxels Grid::active(const Box &box) const & { return ActiveVoxels(*this, box); }
 
 // A leaf: a cube of 8 x 8 x 8 voxels, as it was when the loop read it.
 struct Leaf {
     // The least corner.
     Coord origin;
     // The values: z fastest, then y, then x.
-    Span<const int64_t> values;
+    std::array<int64_t, 512> values;
     // The states: bit 8 y + z of word x.
-    Span<const uint64_t> states;
+    std::array<uint64_t, 8> states;
 
     // The cell of a voxel, by its distance of 0 to 7 from the least corner along each axis.
     Cell at(int x, int y, int z) const { return {values.data()[64 * x + 8 * y + z], (states.data()[x] >> (8 * y + z) & 1) != 0}; }
 };
 
-// The leaves of a grid, in block order. The grid must outlive it. It reads 4 leaves at a time, so a change of the grid shows in
-// later leaves.
+// The leaves of a grid, in block order. The grid must outlive it.
 class Leaves {
 public:
     class Iterator {
@@ -470,65 +463,50 @@ public:
         using reference = const Leaf &;
 
         Iterator() = default;
-        explicit Iterator(Grid &grid) : read_(std::make_shared<Read>(grid))
+        explicit Iterator(const Grid &grid) : grid_(&grid)
         {
-            check(vdb_grid_first_leaves(read_->grid.handle(), read_->origins.data(), MOST, read_->values.data(), read_->values.size(),
-                                        read_->states.data(), read_->states.size(), &read_->count));
-            show();
+            std::size_t count = 0;
+            check(vdb_grid_first_leaves(&grid_->grid_, &leaf_.origin, 1, leaf_.values.data(), leaf_.values.size(), leaf_.states.data(),
+                                        leaf_.states.size(), &count));
+            if (count == 0)
+                grid_ = nullptr;
         }
 
-        reference operator*() const { return read_->leaf; }
-        pointer operator->() const { return &read_->leaf; }
+        reference operator*() const { return leaf_; }
+        pointer operator->() const { return &leaf_; }
         Iterator &operator++()
         {
-            if (++read_->index == read_->count) {
-                const Coord last = read_->origins[read_->count - 1];
-                read_->index = 0;
-                check(vdb_grid_next_leaves(read_->grid.handle(), last.x, last.y, last.z, read_->origins.data(), MOST, read_->values.data(),
-                                           read_->values.size(), read_->states.data(), read_->states.size(), &read_->count));
-            }
-            show();
+            std::size_t count = 0;
+            const Coord last = leaf_.origin;
+            check(vdb_grid_next_leaves(&grid_->grid_, last.x, last.y, last.z, &leaf_.origin, 1, leaf_.values.data(), leaf_.values.size(),
+                                       leaf_.states.data(), leaf_.states.size(), &count));
+            if (count == 0)
+                grid_ = nullptr;
             return *this;
         }
-        void operator++(int) { ++*this; }
-        friend bool operator==(const Iterator &a, const Iterator &b) { return a.read_ == b.read_; }
-        friend bool operator!=(const Iterator &a, const Iterator &b) { return a.read_ != b.read_; }
+        detail::Before<Leaf> operator++(int)
+        {
+            detail::Before<Leaf> before(leaf_);
+            ++*this;
+            return before;
+        }
+        friend bool operator==(const Iterator &a, const Iterator &b) { return a.grid_ == b.grid_; }
+        friend bool operator!=(const Iterator &a, const Iterator &b) { return a.grid_ != b.grid_; }
 
     private:
-        static constexpr std::size_t MOST = 4;
-
-        struct Read {
-            explicit Read(Grid &from) : grid(from) {}
-            Grid &grid;
-            std::array<Coord, MOST> origins;
-            std::array<int64_t, MOST * 512> values;
-            std::array<uint64_t, MOST * 8> states;
-            std::size_t count = 0, index = 0;
-            Leaf leaf{};
-        };
-
-        void show()
-        {
-            if (read_->count == 0) {
-                read_.reset();
-                return;
-            }
-            const std::size_t i = read_->index;
-            read_->leaf = {read_->origins[i], {read_->values.data() + 512 * i, 512}, {read_->states.data() + 8 * i, 8}};
-        }
-
-        std::shared_ptr<Read> read_;
+        const Grid *grid_ = nullptr;
+        Leaf leaf_ = {};
     };
 
-    explicit Leaves(Grid &grid) : grid_(grid) {}
-    Iterator begin() { return Iterator(grid_); }
-    Iterator end() { return Iterator(); }
+    explicit Leaves(const Grid &grid) : grid_(&grid) {}
+    Iterator begin() const { return Iterator(*grid_); }
+    Iterator end() const { return Iterator(); }
 
 private:
-    Grid &grid_;
+    const Grid *grid_;
 };
 
-inline Leaves Grid::leaves() { return Leaves(*this); }
+inline Leaves Grid::leaves() const & { return Leaves(*this); }
 
 // A grid that several threads read, each through a view of its own.
 class View {
@@ -547,7 +525,7 @@ public:
     ~View() { vdb_view_free(&view_); }
 
     // Another view of the same grid, for another thread. The grid ends with its last view.
-    View share()
+    View share() const
     {
         View made;
         check(vdb_view_share(&view_, &made.view_));
@@ -555,7 +533,7 @@ public:
     }
 
     // A copy of the grid, which may change.
-    Grid copy()
+    Grid copy() const
     {
         Grid made;
         check(vdb_view_copy(&view_, &made.grid_));
@@ -565,7 +543,7 @@ public:
     // The handle, for calls of vdb.h. It stays this object's.
     vdb_view *handle() { return &view_; }
 
-    Cell get(Coord at)
+    Cell get(Coord at) const
     {
         int64_t value = 0;
         int32_t active = 0;
@@ -574,13 +552,13 @@ public:
     }
 
     // Reads many voxels, or a box, as a Grid does.
-    void get_many(Span<const Coord> at, Span<int64_t> values, Span<uint8_t> states = {})
+    void get_many(Span<const Coord> at, Span<int64_t> values, Span<uint8_t> states = {}) const
     {
         check(vdb_view_get_many(&view_, detail::data_of(at), at.size(), detail::data_of(values), values.size(), detail::data_of(states),
                                 states.size()));
     }
-    void read_box(const Box &box, Span<int64_t> values, Span<uint8_t> states = {}) { read_box(box, strides_of(box), values, states); }
-    void read_box(const Box &box, const Strides &strides, Span<int64_t> values, Span<uint8_t> states = {})
+    void read_box(const Box &box, Span<int64_t> values, Span<uint8_t> states = {}) const { read_box(box, strides_of(box), values, states); }
+    void read_box(const Box &box, const Strides &strides, Span<int64_t> values, Span<uint8_t> states = {}) const
     {
         check(vdb_view_read_box(&view_, &box, &strides, detail::data_of(values), values.size(), detail::data_of(states), states.size()));
     }
@@ -588,7 +566,7 @@ public:
 private:
     View() = default;
 
-    vdb_view view_ = VDB_VIEW_INIT;
+    mutable vdb_view view_ = VDB_VIEW_INIT;
 };
 
 // A scene. The comments of vdb.h describe each call.
@@ -607,7 +585,7 @@ public:
     ~Scene() { vdb_scene_free(&scene_); }
 
     // Reads a scene file.
-    static Scene load(const std::string &path) { return from_bytes(detail::read(path), path); }
+    static Scene load_file(const std::string &path) { return from_bytes(detail::read(path, VDB_FILE_MOST + 1), path); }
 
     // Reads the bytes of a scene file. `file` is its name in the text of an error.
     static Scene from_bytes(const std::vector<uint8_t> &bytes, const std::string &file = "")
@@ -618,11 +596,12 @@ public:
         return made;
     }
 
-    // Writes the scene file, through a file beside it that replaces an old one when it is complete.
-    void save(const std::string &path) { detail::replace(path, to_bytes(path)); }
+    // Writes the scene file: a file beside it, which replaces an old one when it is whole. Permissions stay, and a link is followed. A pipe
+    // or a device is written itself.
+    void save_file(const std::string &path) const { detail::replace(path, to_bytes(path)); }
 
     // Returns the bytes of the scene file. `file` is its name in the text of an error.
-    std::vector<uint8_t> to_bytes(const std::string &file = "")
+    std::vector<uint8_t> to_bytes(const std::string &file = "") const
     {
         uint64_t length = 0;
         check(vdb_scene_length(&scene_, &length), file);
@@ -637,7 +616,7 @@ public:
     vdb_scene *handle() { return &scene_; }
 
     // The names of the grids, in order.
-    std::vector<std::string> names()
+    std::vector<std::string> names() const
     {
         uint64_t count = 0, used = 0;
         check(vdb_scene_count(&scene_, &count));
@@ -648,6 +627,16 @@ public:
             names.emplace_back(name, used);
         }
         return names;
+    }
+
+    // Whether the scene has a grid of this name.
+    bool contains(std::string_view name) const
+    {
+        uint64_t count = 0;
+        const int32_t code = vdb_scene_meta_count(&scene_, detail::bytes_of(name), name.size(), &count);
+        if (code != VDB_NO_GRID && code != VDB_NAME)
+            check(code);
+        return code == VDB_OK;
     }
 
     // Moves a grid into the scene, which leaves `grid` empty.
@@ -662,7 +651,7 @@ public:
     }
 
     // Copies a grid of the scene.
-    Grid copy(std::string_view name)
+    Grid copy(std::string_view name) const
     {
         Grid grid;
         check(vdb_scene_copy(&scene_, detail::bytes_of(name), name.size(), &grid.grid_));
@@ -670,7 +659,7 @@ public:
     }
 
     // Returns the metadata pairs of a grid.
-    std::map<std::string, std::string> metadata(std::string_view name)
+    std::map<std::string, std::string> metadata(std::string_view name) const
     {
         uint64_t count = 0, used = 0;
         check(vdb_scene_meta_count(&scene_, detail::bytes_of(name), name.size(), &count));
@@ -696,9 +685,18 @@ public:
     }
 
 private:
-    vdb_scene scene_ = VDB_SCENE_INIT;
+    mutable vdb_scene scene_ = VDB_SCENE_INIT;
 };
 
 } // namespace vdb
+
+#if __cplusplus >= 202002L
+template <typename T> inline constexpr bool std::ranges::enable_view<vdb::Span<T>> = true;
+template <typename T> inline constexpr bool std::ranges::enable_borrowed_range<vdb::Span<T>> = true;
+template <> inline constexpr bool std::ranges::enable_view<vdb::ActiveVoxels> = true;
+template <> inline constexpr bool std::ranges::enable_borrowed_range<vdb::ActiveVoxels> = true;
+template <> inline constexpr bool std::ranges::enable_view<vdb::Leaves> = true;
+template <> inline constexpr bool std::ranges::enable_borrowed_range<vdb::Leaves> = true;
+#endif
 
 #endif

@@ -1,4 +1,5 @@
 #!/usr/bin/env python3
+# SPDX-License-Identifier: Apache-2.0
 """Plays scripts that loops make at the limits of scenes, grids, boxes and iterations: limits.py [--program PROGRAM] [PART..]
 
 Each answer is computed here. A part is a function below, such as `boxes`. The last line is 'N passed, M failed'.

@@ -1,4 +1,5 @@
 #!/usr/bin/env python3
+# SPDX-License-Identifier: Apache-2.0
 """Reads rows, which are scripts with their answers as text, and plays them through the program `vdb`. crates/vdb_rows/README.md
 describes the form.
 

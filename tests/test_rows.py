@@ -1,4 +1,5 @@
 #!/usr/bin/env python3
+# SPDX-License-Identifier: Apache-2.0
 """Tests of the reader of rows, of the files of rows, and of the player over programs that answer wrongly."""
 import subprocess
 import sys

@@ -1,5 +1,6 @@
 #!/usr/bin/env python3
-"""Tests of the library that `tools/libvdb` builds: its symbols, headers and examples, and random calls beside a map.
+# SPDX-License-Identifier: Apache-2.0
+"""Tests of the library that `tools/build-libvdb` builds: its symbols, headers and examples, and random calls beside a map.
 
 They need gcc, and the archive of the crate vdb_c: the variable VDB_ARCHIVE, else crates/vdb_c/out/libvdb_c.a. Tests for which a
 further tool is missing are skipped. FUZZ_CALLS is the number of random calls, 100,000 if it isn't set.
@@ -95,7 +96,7 @@ def prefix() -> Path:
     if not ARCHIVE.is_file():
         raise AssertionError(f"there is no archive {ARCHIVE}: build it by .ci/run --proofs, or name one in VDB_ARCHIVE")
     made = work() / "prefix"
-    done([TOOLS / "libvdb", made])
+    done([TOOLS / "build-libvdb", made])
     return made
 
 
@@ -105,6 +106,16 @@ def program(source, name, compiler="gcc", standard="c99", shared=False) -> Path:
     made = work() / f"{name}-{compiler}-{standard}{'-shared' if shared else ''}"
     library = [f"-L{prefix() / 'lib'}", "-lvdb", f"-Wl,-rpath,{prefix() / 'lib'}"] if shared else [prefix() / "lib" / "libvdb.a"]
     done([compiler, f"-std={standard}", *STRICT, f"-I{prefix() / 'include'}", source, *library, "-o", made])
+    return made
+
+
+@functools.lru_cache(None)
+def checks(standard="c++17", other="c++20", flags=()) -> Path:
+    """Builds the checks of vdb.hpp by one standard, with calls that are built by another one, and returns their path."""
+    made = work() / f"checks-{standard}-{len(flags)}"
+    words = ["g++", *STRICT, *flags, f"-I{prefix() / 'include'}"]
+    done([*words, f"-std={other}", "-c", CHECKS / "spans.cpp", "-o", f"{made}.o"])
+    done([*words, f"-std={standard}", CHECKS / "checks.cpp", f"{made}.o", prefix() / "lib" / "libvdb.a", "-o", made])
     return made
 
 
@@ -160,7 +171,7 @@ class Headers(unittest.TestCase):
         for compiler, standard in LANGUAGES:
             if not shutil.which(compiler):
                 continue
-            for name, use in (("vdb.h", "vdb_grid grid = VDB_GRID_INIT; return grid.at != 0;"), ("vdb.hpp", "return !vdb_message(0);")):
+            for name, use in (("vdb.h", "vdb_grid grid = VDB_GRID_INIT; return grid.at != 0;"), ("vdb.hpp", "return !vdb_message(0);"), ("vdb_files.hpp", "return 0;")):
                 if name == "vdb.h" or standard != "c99":
                     with self.subTest(compiler=compiler, standard=standard, header=name):
                         source = work() / f"header.{'c' if standard == 'c99' else 'cpp'}"
@@ -168,6 +179,14 @@ class Headers(unittest.TestCase):
                         done([compiler, f"-std={standard}", *STRICT, f"-I{TOP / 'include'}", "-fsyntax-only", source])
                         compiled += 1
         self.assertGreaterEqual(compiled, 2)
+
+    def test_compilers_find_null_pointers_and_codes_that_are_dropped(self):
+        for line, warning in (("vdb_grid_prune(&grid);", "unused-result"), ("return vdb_grid_prune(0);", "nonnull"), ("return vdb_grid_prune(&grid);", "")):
+            with self.subTest(line):
+                source = work() / "attributes.c"
+                source.write_text(f"#include <vdb.h>\nint main(void) {{ vdb_grid grid = VDB_GRID_INIT; {line} }}\n", encoding="utf-8")
+                ran = run(["gcc", "-std=c99", *STRICT, "-Wno-unused-variable", f"-I{TOP / 'include'}", "-c", source, "-o", "/dev/null"])
+                self.assertEqual((ran.returncode, re.findall(r"-Werror=([\w-]+)", ran.stderr)), (1, [warning]) if warning else (0, []))
 
     def test_each_code_has_a_text_in_c_and_in_python(self):
         header = Header()
@@ -187,7 +206,8 @@ class Headers(unittest.TestCase):
     def test_the_package_file_gives_the_flags(self):
         environment = {**os.environ, "PKG_CONFIG_PATH": str(prefix() / "lib" / "pkgconfig")}
         flags = done(["pkg-config", "--cflags", "--libs", "libvdb"], env=environment).split()
-        self.assertEqual(flags, [f"-I{prefix() / 'include'}", f"-L{prefix() / 'lib'}", "-lvdb"])
+        found = [it[:2] + str(Path(it[2:]).resolve()) if it.startswith(("-I", "-L")) else it for it in flags]
+        self.assertEqual(found, [f"-I{prefix() / 'include'}", f"-L{prefix() / 'lib'}", "-lvdb"])
 
 
 def header_text():
@@ -231,6 +251,7 @@ class Programs(unittest.TestCase):
 
     def check_example(self, words, saved, **more):
         place = work() / saved
+        place.unlink(missing_ok=True)
         ran = run([*words, work() / "labels.vdbs", place], **more)
         self.assertEqual((ran.returncode, ran.stdout, ran.stderr), (0, REPORT, ""))
         grids = {grid.name: grid for grid in encoding.load(place.read_bytes())}
@@ -277,19 +298,25 @@ class Programs(unittest.TestCase):
                 self.assertEqual((ran.returncode, ran.stdout), (1, ""))
                 self.assertIn(f"{work()}/missing.vdbs: No such file or directory\n", ran.stderr)
 
-    def test_the_calls_of_vdb_hpp(self):
-        checks = program(CHECKS / "checks.cpp", "checks", compiler="g++", standard="c++17")
-        words = [*VALGRIND, checks] if shutil.which("valgrind") else [checks]
+    def is_silent(self, words):
+        """Runs the checks of vdb.hpp in a folder of their own. Each that fails prints a line."""
         folder = work() / "checks"
         folder.mkdir(exist_ok=True)
         ran = run([*words, folder])
         self.assertEqual((ran.returncode, ran.stdout, ran.stderr), (0, "", ""))
 
+    def test_the_calls_of_vdb_hpp_under_sanitizers(self):
+        for standard, other in (("c++17", "c++20"), ("c++20", "c++17")):
+            with self.subTest(standard):
+                self.is_silent([checks(standard, other, ("-fsanitize=address,undefined", "-fno-sanitize-recover=all"))])
+
+    @needs("valgrind")
+    def test_the_calls_of_vdb_hpp_under_valgrind(self):
+        self.is_silent([*VALGRIND, checks()])
+
     @needs("valgrind")
     def test_no_race_between_views(self):
-        checks = program(CHECKS / "checks.cpp", "checks", compiler="g++", standard="c++17")
-        ran = run(["valgrind", "--quiet", "--tool=helgrind", "--error-exitcode=99", checks, work()])
-        self.assertEqual((ran.returncode, ran.stdout, ran.stderr), (0, "", ""))
+        self.is_silent(["valgrind", "--quiet", "--tool=helgrind", "--error-exitcode=99", checks()])
 
 
 class Documents(unittest.TestCase):
@@ -344,12 +371,12 @@ class RandomCalls(unittest.TestCase):
 
 class Command(unittest.TestCase):
     def fails(self, wanted, prefix, **variables):
-        ran = run([TOOLS / "libvdb", prefix], env={**os.environ, **variables})
+        ran = run([TOOLS / "build-libvdb", prefix], env={**os.environ, **variables})
         self.assertEqual((ran.returncode, ran.stdout), (1, ""))
         self.assertIn(wanted, ran.stderr)
 
     def test_help_has_an_example(self):
-        self.assertIn("Example:", done([TOOLS / "libvdb", "--help"]))
+        self.assertIn("Example:", done([TOOLS / "build-libvdb", "--help"]))
 
     def test_errors_name_the_file_and_the_reason(self):
         file = work() / "labels.vdbs"

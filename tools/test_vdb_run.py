@@ -1,4 +1,5 @@
 #!/usr/bin/env python3
+# SPDX-License-Identifier: Apache-2.0
 """Tests of `vdb-run`. The program is the variable VDB, else crates/vdb/out/vdb of this repository."""
 from __future__ import annotations
 
@@ -309,11 +310,20 @@ class Faults(Runs):
             (("--vdb", "./text"), 2, "./text: Permission denied"),
             (("--loud",), 2, "unrecognized arguments: --loud (--help shows the options)"),
             (("--load",), 2, "argument --load: expected one argument (--help shows the options)"),
+            (("--memory", "0"), 2, "argument --memory: invalid byte_count value: '0' (--help shows the options)"),
             (("a", "b"), 2, "unrecognized arguments: b (--help shows the options)"),
         ]
         for words, status, told in table:
             with self.subTest(words):
                 self.assertEqual(self.play(*words, script=b"grid a i32 0\n"), Ran(status, b"", f"vdb-run: {told}\n"))
+
+    def test_memory(self) -> None:
+        """Each box of 128 voxels along each axis becomes 4,096 leaves, whose values take 16 MiB: 64 MiB of address space don't hold eight."""
+        lines = ["grid a i64 0", "fill a 0 0 0 1023 127 127 1 on", *(f"voxelise a {at} 0 0 {at + 127} 127 127" for at in range(0, 1024, 128)), "count a all"]
+        script = "".join(f"{line}\n" for line in lines).encode()
+        self.assertEqual(self.play(script=script), Ran(0, b"ok\n" * 10 + b"count 16777216\n", ""))
+        ran = self.play("--memory", str(64 << 20), script=script)
+        self.assertEqual((ran.status, ran.out.splitlines()[-2:]), (1, [b"error memory", b"count 16777216"]))
 
     def test_answers_not_written(self) -> None:
         for words in ((), ("--save", "t.vdbs")):

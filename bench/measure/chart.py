@@ -1,3 +1,4 @@
+# SPDX-License-Identifier: Apache-2.0
 """The chart: for each row the ratio of vdb to OpenVDB on one thread, as a bar from 1 on a logarithmic axis."""
 import math
 from html import escape

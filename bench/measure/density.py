@@ -1,3 +1,4 @@
+# SPDX-License-Identifier: Apache-2.0
 """Memory by the active voxel, for cubes of which more and more voxels are active.
 
 The voxels are drawn at random and written by `set`, as many as a script may have; the scene is saved, and further scripts go on from it.

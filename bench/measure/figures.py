@@ -1,3 +1,4 @@
+# SPDX-License-Identifier: Apache-2.0
 """What a series of figures comes to: the median, the spread, and who is ahead."""
 import statistics
 

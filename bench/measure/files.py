@@ -1,3 +1,4 @@
+# SPDX-License-Identifier: Apache-2.0
 """Size of a scene file, and the time to load and to save it, beside OpenVDB's file without and with compression."""
 import os
 

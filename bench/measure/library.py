@@ -1,3 +1,4 @@
+# SPDX-License-Identifier: Apache-2.0
 """Calls of the crates' libraries and of the C library, beside loops over OpenVDB's."""
 import re
 import subprocess

@@ -1,3 +1,4 @@
+# SPDX-License-Identifier: Apache-2.0
 """What the figures are measured on: the head of the results."""
 import os
 import platform

@@ -1,3 +1,4 @@
+# SPDX-License-Identifier: Apache-2.0
 """What all parts share: rows and tables, runs in turn, and folders for what is made meanwhile.
 
 A part returns tables. A table has a title, a note, the headings of its series, the series that the ratio is by, and rows; a row has a name,

@@ -1,3 +1,4 @@
+# SPDX-License-Identifier: Apache-2.0
 """Where things lie in the repository, and the one error that ends a part."""
 import os
 

@@ -1,3 +1,4 @@
+# SPDX-License-Identifier: Apache-2.0
 """Runs of a program: its time, its peak memory, its exit status and what it writes."""
 import os
 import signal

@@ -1,3 +1,4 @@
+# SPDX-License-Identifier: Apache-2.0
 """Builds what is measured beside the program: the benchmarks over the crates' libraries, and the programs over OpenVDB.
 
 A benchmark is a text of bench/library. It is proved and linked over the libraries that .ci/run left in the crates' folders

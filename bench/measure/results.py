@@ -1,3 +1,4 @@
+# SPDX-License-Identifier: Apache-2.0
 """The results of a machine: a folder with results.json, which a later run of one part goes into, and what is written from it."""
 import csv
 import json

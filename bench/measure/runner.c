@@ -1,3 +1,4 @@
+/* SPDX-License-Identifier: Apache-2.0 */
 // Runs a command, and writes its wall-clock nanoseconds, its peak memory in KiB and its wait status to file descriptor 3.
 // A process begins with the peak memory of the one that forked it. So the command is forked here, and not by a large Python.
 #include <signal.h>

@@ -1,3 +1,4 @@
+# SPDX-License-Identifier: Apache-2.0
 """Time and memory by the active voxel, from ten thousand voxels to a hundred million.
 
 Each line of a script fills a box of 7 voxels along each axis, one in each leaf, so that 10^8 voxels fit in a script. Scripts of fewer voxels

@@ -1,3 +1,4 @@
+# SPDX-License-Identifier: Apache-2.0
 """Scripts of commands through the program, and through the one that plays them on OpenVDB."""
 import filecmp
 import os

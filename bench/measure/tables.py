@@ -1,3 +1,4 @@
+# SPDX-License-Identifier: Apache-2.0
 """The page of results: a head with the machine, and a table for each subject, in Markdown."""
 from . import machine
 from .figures import geometric_mean, median, ratio, verdict

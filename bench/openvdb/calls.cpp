@@ -1,3 +1,4 @@
+// SPDX-License-Identifier: Apache-2.0
 // Calls of the C library, or OpenVDB's, over the same voxels in the same order.
 #include "threads.h"
 #include "vdb.h"

@@ -1,3 +1,4 @@
+// SPDX-License-Identifier: Apache-2.0
 // Grids by their names, and the text of an answer.
 #pragma once
 

@@ -1,3 +1,4 @@
+// SPDX-License-Identifier: Apache-2.0
 // Loops over OpenVDB's library beside the benchmarks of ../library over the crates: the same rows, over the same voxels in the same order.
 #include "threads.h"
 

@@ -1,4 +1,5 @@
 #!/usr/bin/env python3
+# SPDX-License-Identifier: Apache-2.0
 """Plays scripts on two programs, and compares their answers, times and peaks of memory.
 
     run.py [-n RUNS] PROGRAM OTHER SCRIPT..

@@ -1,4 +1,5 @@
 #!/usr/bin/env python3
+# SPDX-License-Identifier: Apache-2.0
 """Writes the scripts by which programs are measured into a folder.
 
     scripts.py FOLDER [SEED [TYPE [NAME..]]]

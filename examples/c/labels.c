@@ -1,6 +1,7 @@
+/* SPDX-License-Identifier: Apache-2.0 */
 /* Makes a margin of two voxels around an organ, without a vessel: labels INPUT OUTPUT
  *
- * INPUT is a scene file with the grids `organ` and `vessel`, OUTPUT the same with a third grid `margin`. */
+ * INPUT is a scene file with the grids `organ` and `vessel`. OUTPUT is a new file: the same with a third grid `margin`. */
 #include <stdio.h>
 #include <stdlib.h>
 #include <string.h>
@@ -39,7 +40,7 @@ static int32_t save(vdb_scene *scene, const char *path)
     uint8_t *bytes = calloc(VDB_FILE_MOST, 1);
     int32_t code = bytes ? vdb_scene_save(scene, bytes, VDB_FILE_MOST, &length) : VDB_MEMORY;
     if (!code) {
-        FILE *file = fopen(path, "wb");
+        FILE *file = fopen(path, "wbx"); /* x: no file that is there is overwritten */
         if (!file || fwrite(bytes, 1, length, file) != length || fclose(file) != 0)
             fail(path);
     }

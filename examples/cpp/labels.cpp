@@ -1,3 +1,4 @@
+// SPDX-License-Identifier: Apache-2.0
 // Makes a margin of two voxels around an organ, without a vessel: labels INPUT OUTPUT
 //
 // INPUT is a scene file with the grids `organ` and `vessel`, OUTPUT the same with a third grid `margin`.
@@ -8,7 +9,7 @@
 #include "vdb.hpp"
 
 // Prints the number of active voxels, their bounding box and their centre.
-static void report(vdb::Grid &grid)
+static void report(const vdb::Grid &grid)
 {
     const vdb::Box box = grid.bounds().value();
     const double count = static_cast<double>(grid.count());
@@ -29,7 +30,7 @@ int main(int argc, char **argv)
         return 2;
     }
     try {
-        vdb::Scene scene = vdb::Scene::load(argv[1]);
+        vdb::Scene scene = vdb::Scene::load_file(argv[1]);
         vdb::Grid organ = scene.copy("organ"), vessel = scene.copy("vessel");
         vdb::Grid margin = organ.copy();
         margin.dilate(2);
@@ -37,7 +38,7 @@ int main(int argc, char **argv)
         margin.subtract(vessel);
         report(margin);
         scene.put("margin", std::move(margin));
-        scene.save(argv[2]);
+        scene.save_file(argv[2]);
     } catch (const std::exception &error) {
         std::fprintf(stderr, "labels: %s\n", error.what());
         return 1;

@@ -1,11 +1,19 @@
+// SPDX-License-Identifier: Apache-2.0
 // Calls of vdb.hpp with their results, worked out by hand. Each check that fails prints its line; the status is 1 then.
 #include "vdb.hpp"
 
+#include <algorithm>
 #include <array>
 #include <cstdio>
 #include <numeric>
 #include <thread>
+#include <unordered_set>
 #include <vector>
+
+// Of spans.cpp, which is compiled by another standard.
+int64_t sum_of(vdb::Span<const int64_t> values);
+int64_t active_of(const vdb::Leaf &leaf);
+vdb::Span<const vdb::Coord> without_first(vdb::Span<const vdb::Coord> all);
 
 static int failed = 0;
 
@@ -120,6 +128,77 @@ static void same()
     CHECK(a.count() == 0 && a.get({1, 1, 1}).value == 10);
 }
 
+// The second operand is any grid: one that doesn't change, or one that only the call has.
+static void operands()
+{
+    vdb::Grid a = cube(0, 3, 5);
+    const vdb::Grid b = cube(2, 5, 7);
+    a.unite(b);
+    CHECK(a.count() == 120 && b.count() == 64);
+    a.subtract(cube(0, 3, 1));
+    CHECK(a.count() == 56);
+    a.sum(cube(5, 5, 1));
+    CHECK(a.count() == 56 && a.get({5, 5, 5}) == (vdb::Cell{1, true}));
+    a.intersect(cube(5, 5, 1));
+    a.maximum(cube(5, 5, 9));
+    CHECK(a.count() == 1 && a.get({5, 5, 5}) == (vdb::Cell{9, true}));
+    a.minimum(cube(5, 5, 4));
+    CHECK(a.get({5, 5, 5}) == (vdb::Cell{4, true}));
+    a.replace(b);
+    CHECK(a.count() == 64 && a.get({5, 5, 5}) != (vdb::Cell{4, true}));
+}
+
+// Reads of what is const.
+static void constants()
+{
+    vdb::Grid made = cube(-1, 6, 5);
+    made.set({7, 0, 0}, 8);
+    const vdb::Grid grid = std::move(made);
+    CHECK(grid.kind() == vdb::Kind::i32 && grid.background() == 0 && grid.limit() == VDB_LIMIT_DEFAULT);
+    CHECK(grid.get({7, 0, 0}) == (vdb::Cell{8, true}) && grid.count() == 513 && grid.census().roots == 8);
+    CHECK(grid.bounds() == (vdb::Box{{-1, -1, -1}, {7, 6, 6}}) && grid.bounds() != vdb::everywhere);
+    CHECK(std::distance(grid.active().begin(), grid.active().end()) == 513);
+    CHECK(uint64_t(std::distance(grid.leaves().begin(), grid.leaves().end())) == grid.leaf_count());
+    std::vector<int64_t> values(2);
+    grid.get_many(std::vector<vdb::Coord>{{7, 0, 0}, {8, 0, 0}}, values);
+    CHECK(values == std::vector<int64_t>({8, 0}));
+    grid.read_box({{6, 0, 0}, {7, 0, 0}}, values);
+    CHECK(values == std::vector<int64_t>({5, 8}));
+    const vdb::View view(grid.copy());
+    CHECK(view.get({7, 0, 0}).value == 8 && view.share().copy().count() == 513);
+    vdb::Scene filled;
+    filled.put("a", grid.copy());
+    filled.set_metadata("a", "unit", "mm");
+    const vdb::Scene scene = std::move(filled);
+    CHECK(scene.contains("a") && !scene.contains("b") && !scene.contains("") && !scene.contains("No name"));
+    CHECK(scene.copy("a").count() == 513 && scene.names().size() == 1 && scene.metadata("a").at("unit") == "mm");
+    CHECK(code_of([&] { (void)filled.contains("a"); }) == VDB_EMPTY);
+}
+
+// Coordinates as keys, and spans over a border of standards.
+static void keys()
+{
+    CHECK((vdb::Coord{1, 2, 3} == vdb::Coord{1, 2, 3}) && (vdb::Coord{1, 2, 3} != vdb::Coord{1, 2, 4}) && (vdb::Coord{0, 2, 3} != vdb::Coord{1, 2, 3}));
+    std::unordered_set<vdb::Coord> keys;
+    std::vector<int> low(4096);
+    for (int32_t x = -16; x < 16; x++)
+        for (int32_t y = -16; y < 16; y++)
+            for (int32_t z = -16; z < 16; z++) {
+                keys.insert({x, y, z});
+                low[std::hash<vdb::Coord>()({x, y, z}) % 4096]++;
+            }
+    CHECK(keys.size() == 32768 && keys.count({-16, 15, 0}) == 1 && keys.count({16, 0, 0}) == 0);
+    // 8 keys each on average; among 4,096 Poisson counts one above 32 has a chance of one in 10^6.
+    CHECK(*std::max_element(low.begin(), low.end()) <= 32);
+    const std::vector<int64_t> values = {3, 4, 5};
+    CHECK(sum_of(values) == 12 && sum_of({}) == 0 && sum_of({values.data() + 1, 2}) == 9);
+    const std::array<vdb::Coord, 2> all = {{{1, 2, 3}, {4, 5, 6}}};
+    const vdb::Span<const vdb::Coord> rest = without_first(all);
+    CHECK(rest.size() == 1 && rest[0] == all[1] && rest.begin() + 1 == rest.end());
+    const vdb::Grid grid = cube(1, 3, 5);
+    CHECK(active_of(*grid.leaves().begin()) == 27);
+}
+
 static void moves()
 {
     vdb::Grid a = cube(0, 3, 5), b = std::move(a);
@@ -144,10 +223,42 @@ static void walks()
     CHECK((values == std::vector<int64_t>{99, 100, 107, 109}));
     vdb::ActiveVoxels some = grid.active({{0, 0, 0}, {0, 0, 8}});
     CHECK(std::accumulate(some.begin(), some.end(), INT64_C(0), [](int64_t sum, const vdb::Voxel &it) { return sum + it.value; }) == 207);
+    vdb::ActiveVoxels all = grid.active();
+    vdb::ActiveVoxels::Iterator it = all.begin();
+    const vdb::Voxel first = *it++, second = *it;
+    CHECK((first == vdb::Voxel{{0, 0, -1}, 99}) && second.at.z == 0 && it != all.end());
+    it = std::find_if(all.begin(), all.end(), [](const vdb::Voxel &voxel) { return voxel.value == 107; });
+    CHECK(it->at.z == 7 && (it++, it->at.z == 9) && ++it == all.end());
     for (const vdb::Voxel &voxel : grid.active())
         grid.set_active(voxel.at, false);
     CHECK(grid.count() == 0);
 }
+
+#if __cplusplus >= 202002L
+#include <ranges>
+#include <span>
+
+static_assert(std::input_iterator<vdb::ActiveVoxels::Iterator> && std::input_iterator<vdb::Leaves::Iterator>);
+static_assert(std::ranges::view<vdb::ActiveVoxels> && std::ranges::view<vdb::Leaves> && std::ranges::input_range<const vdb::Leaves>);
+static_assert(std::ranges::contiguous_range<vdb::Span<int64_t>> && std::ranges::borrowed_range<vdb::Span<int64_t>>);
+
+// What C++20 adds: adaptors, and std::span in place of vdb::Span.
+static void ranges()
+{
+    vdb::Grid grid = cube(0, 9, 5);
+    grid.set({20, 0, 0}, 7);
+    auto sevens = grid.active() | std::views::filter([](const vdb::Voxel &it) { return it.value == 7; }) | std::views::transform(&vdb::Voxel::at);
+    CHECK((*sevens.begin() == vdb::Coord{20, 0, 0}) && std::ranges::distance(sevens) == 1);
+    CHECK(std::ranges::distance(grid.active() | std::views::take(30)) == 30);
+    CHECK(std::ranges::find(grid.leaves(), vdb::Coord{16, 0, 0}, &vdb::Leaf::origin)->at(4, 0, 0).value == 7);
+    const std::array<vdb::Coord, 2> at = {{{1, 1, 1}, {20, 0, 0}}};
+    std::array<int64_t, 2> values = {};
+    grid.get_many(std::span(at), std::span(values));
+    CHECK(values[0] == 5 && values[1] == 7 && std::span<const vdb::Coord>(without_first(at)).size() == 1);
+}
+#else
+static void ranges() {}
+#endif
 
 static void scenes()
 {
@@ -178,26 +289,26 @@ static void files(const std::string &folder)
 {
     vdb::Scene scene;
     scene.put("a", cube(0, 3, 5));
-    scene.save(folder + "/scene.vdbs");
-    scene.save(folder + "/scene.vdbs");
-    CHECK(vdb::Scene::load(folder + "/scene.vdbs").copy("a").count() == 64);
+    scene.save_file(folder + "/scene.vdbs");
+    scene.save_file(folder + "/scene.vdbs");
+    CHECK(vdb::Scene::load_file(folder + "/scene.vdbs").copy("a").count() == 64);
     for (const char *name : {"/missing", "/"}) {
         try {
-            vdb::Scene::load(folder + name);
+            vdb::Scene::load_file(folder + name);
             CHECK(false);
         } catch (const std::system_error &error) {
             CHECK(std::string(error.what()).find(folder + name) == 0);
         }
     }
     try {
-        scene.save(folder + "/missing/scene.vdbs");
+        scene.save_file(folder + "/missing/scene.vdbs");
         CHECK(false);
     } catch (const std::system_error &error) {
         CHECK(error.code() == std::errc::no_such_file_or_directory);
     }
     std::fclose(std::fopen((folder + "/empty").c_str(), "wb"));
     try {
-        vdb::Scene::load(folder + "/empty");
+        vdb::Scene::load_file(folder + "/empty");
         CHECK(false);
     } catch (const vdb::Error &error) {
         CHECK(error.what() == folder + "/empty: truncated: the file ends before a field or inside it");
@@ -266,6 +377,9 @@ static void leaves()
         met++;
     }
     CHECK(met == 40);
+    vdb::Leaves::Iterator it = grid.leaves().begin();
+    const vdb::Leaf first = *it++;
+    CHECK(first.origin.x == 0 && it->origin.x == 8 && first.at(0, 3, 7).active);
 }
 
 static void views()
@@ -312,8 +426,12 @@ int main(int, char **argv)
     boxes();
     pairs();
     same();
+    operands();
+    constants();
+    keys();
     moves();
     walks();
+    ranges();
     scenes();
     files(argv[1]);
     return failed;

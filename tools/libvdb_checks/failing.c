@@ -1,3 +1,4 @@
+/* SPDX-License-Identifier: Apache-2.0 */
 /* Makes an allocation of libvdb fail, and counts the blocks that it holds. The linker puts these calls in place of malloc,
  * realloc and free (--wrap), in the library alone. */
 #include <stddef.h>

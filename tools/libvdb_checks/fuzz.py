@@ -1,4 +1,5 @@
 #!/usr/bin/env python3
+# SPDX-License-Identifier: Apache-2.0
 """Drives random calls of libvdb beside a map: fuzz.py LIBRARY [CALLS [SEED]]
 
 LIBRARY is a libvdb.so with failing.c, as tools/test_libvdb.py builds it. Each call must return the code and the results that the

@@ -1,3 +1,4 @@
+# SPDX-License-Identifier: Apache-2.0
 """What include/vdb.h declares: structs, constants, calls and the texts of the codes, for ctypes."""
 from __future__ import annotations
 
@@ -19,7 +20,7 @@ SIMPLE = {
 STRUCT = re.compile(r"typedef struct (\w+) \{(.*?)\} \1;", re.S)
 FIELD = re.compile(r"(\w+) ([*\w, ]+);")
 CONSTANT = re.compile(r"\b(VDB_\w+) = (-?\d+)\b")
-CALL = re.compile(r"^(int32_t|void) (vdb_\w+)\(([^)]*)\);", re.M)
+CALL = re.compile(r"^(VDB_CODE|VDB_NONNULL void) (vdb_\w+)\(([^)]*)\);", re.M)
 ARGUMENT = re.compile(r"(?:const )?(\w+) (\*?)\w+\Z")
 TEXT = re.compile(r'case (VDB_\w+): return "([^"]*)";')
 

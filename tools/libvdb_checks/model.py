@@ -1,3 +1,4 @@
+# SPDX-License-Identifier: Apache-2.0
 """A grid as a map from cells of a lattice to values and states, independent of the library.
 
 A lattice cuts each axis at the same coordinates. All voxels between two neighbouring cuts are alike, so a box with corners at

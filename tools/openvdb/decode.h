@@ -1,3 +1,4 @@
+// SPDX-License-Identifier: Apache-2.0
 // Bodies of docs/FORMAT.md made into trees of OpenVDB.
 #pragma once
 

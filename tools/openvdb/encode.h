@@ -1,3 +1,4 @@
+// SPDX-License-Identifier: Apache-2.0
 // Trees of OpenVDB made into the bodies of docs/FORMAT.md.
 #pragma once
 
@@ -5,6 +6,8 @@
 #include "scene_file.h"
 
 #include <openvdb/openvdb.h>
+
+#include <cstring>
 
 /// What a scene holds of a tree: the type of its values, and its cells. A mask is a boolean, true where it is active.
 template <class Tree>
@@ -16,9 +19,17 @@ struct Cells {
                                         : std::is_same_v<Value, int32_t> ? scene::Kind::i32
                                                                          : scene::Kind::i64;
 
-    static Cell cell(Value value, bool active) {
+    /// The value as it is. A boolean from a file may have any byte: all but 0 are true.
+    static Value sound(const Value& value) {
+        if constexpr (std::is_same_v<Value, bool>) {
+            uint8_t byte = 0;
+            std::memcpy(&byte, &value, sizeof byte);
+            return byte != 0;
+        } else return value;
+    }
+    static Cell cell(const Value& value, bool active) {
         if constexpr (is_mask) return {active, active};
-        else return {value, active};
+        else return {sound(value), active};
     }
     static Cell background(const Tree& tree) { return cell(tree.background(), false); }
 };

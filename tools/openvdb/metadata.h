@@ -1,3 +1,4 @@
+// SPDX-License-Identifier: Apache-2.0
 // Metadata of OpenVDB's grids made into the pairs and the limit of a scene's grid, and back.
 #pragma once
 

@@ -1,3 +1,4 @@
+// SPDX-License-Identifier: Apache-2.0
 // Names of OpenVDB's grids made into names of a scene.
 #pragma once
 

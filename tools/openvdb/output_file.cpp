@@ -1,13 +1,16 @@
+// SPDX-License-Identifier: Apache-2.0
 #include "output_file.h"
 
 #include <cerrno>
 #include <csignal>
 #include <cstdio>
-#include <cstdlib>
 #include <cstring>
 #include <filesystem>
+#include <fstream>
 #include <sys/stat.h>
 #include <unistd.h>
+
+using namespace vdb::detail;
 
 namespace {
 
@@ -27,36 +30,31 @@ void watch_signals(const std::string& path) {
     std::signal(SIGXFSZ, SIG_IGN);  // a file past its limit is a write error
 }
 
-/// The path of the file itself, if a path is a link to it.
-std::string without_links(const std::string& path) {
-    std::error_code none;
-    const auto resolved = std::filesystem::canonical(path, none);
-    return none ? path : resolved.string();
-}
-
-/// The permissions of a file that is replaced, or those of a new one.
-mode_t permissions(const struct stat* old) {
-    if (old != nullptr) return old->st_mode & 07777;
-    const mode_t mask = umask(0);
-    umask(mask);
-    return 0666 & ~mask;
-}
-
 }  // namespace
 
-OutputFile::OutputFile(const std::string& path) : given(path), target(without_links(path)) {
+OutputFile::OutputFile(const std::string& path) : given(path), target(path) {
     struct stat old {};
-    const bool exists = stat(target.c_str(), &old) == 0;
-    if (exists && !S_ISREG(old.st_mode)) fail("it is no regular file");
-    if (exists && access(target.c_str(), W_OK) != 0) fail(std::strerror(errno));
-    temporary = (std::filesystem::path(target).parent_path() / ".openvdb-XXXXXX").string();
-    descriptor = mkstemp(temporary.data());
+    const bool exists = stat(path.c_str(), &old) == 0;
+    if (exists && access(path.c_str(), W_OK) != 0) fail(std::strerror(errno));
+    if (exists && !S_ISREG(old.st_mode)) {
+        special = open(path.c_str(), O_WRONLY | O_CLOEXEC);
+        if (special < 0) fail(std::strerror(errno));
+        descriptor = open_beside((std::filesystem::temp_directory_path() / "").string(), 0600, temporary);
+    } else {
+        target = followed(path);
+        descriptor = open_beside(target, exists ? 0600 : 0666, temporary);
+    }
     if (descriptor < 0) fail(std::strerror(errno));
     watch_signals(temporary);
-    fchmod(descriptor, permissions(exists ? &old : nullptr));
+    if (exists && special < 0 && !resemble(descriptor, old)) {
+        const int error = errno;
+        unlink(temporary.c_str());
+        fail(std::strerror(error));
+    }
 }
 
 OutputFile::~OutputFile() {
+    if (special >= 0) close(special);
     if (descriptor >= 0) {
         close(descriptor);
         unlink(temporary.c_str());
@@ -80,8 +78,21 @@ void OutputFile::patch(uint64_t offset, std::string_view bytes) {
 }
 
 void OutputFile::commit() {
+    if (special >= 0) return copy();
     if (fsync(descriptor) != 0) fail(std::strerror(errno));
     if (std::rename(temporary.c_str(), target.c_str()) != 0) fail(std::strerror(errno));
     close(descriptor);
     descriptor = -1;
+}
+
+/// Writes the temporary file's bytes to what is no regular file.
+void OutputFile::copy() {
+    std::ifstream stream(temporary, std::ios::binary);
+    std::vector<uint8_t> part;
+    do {
+        part.resize(1 << 20);
+        stream.read(reinterpret_cast<char*>(part.data()), std::streamsize(part.size()));
+        part.resize(size_t(stream.gcount()));
+        if (stream.bad() || !vdb::detail::write(special, part)) fail(std::strerror(errno));
+    } while (!part.empty());
 }

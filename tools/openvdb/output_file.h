@@ -1,12 +1,16 @@
+// SPDX-License-Identifier: Apache-2.0
 // A file that is written under a temporary name, and takes its own name only when it is whole.
 #pragma once
 
+#include "../../include/vdb_files.hpp"
 #include "program.h"
 
 #include <string>
 #include <string_view>
 
-/// A temporary file in the folder of its target. It replaces the target in `commit`, else it is removed.
+/// A temporary file beside its target. It replaces the target in `commit`, else it is removed. Permissions stay, and a link is
+/// followed. For a target that is no regular file, such as a pipe, the temporary file is in the system's folder for these, and its
+/// bytes are copied.
 class OutputFile {
 public:
     explicit OutputFile(const std::string& path);
@@ -33,7 +37,9 @@ public:
     [[noreturn]] void fail(const std::string& what) const { throw FileError(given, what); }
 
 private:
+    void copy();
+
     std::string given, target, temporary;
-    int descriptor = -1;
+    int descriptor = -1, special = -1;
     uint64_t written = 0;
 };

@@ -1,3 +1,4 @@
+// SPDX-License-Identifier: Apache-2.0
 // Makes files of OpenVDB and looks into them, for the tests of the converters. It uses nothing of theirs.
 //
 //     probe make OUT.vdb   makes grids by lines of standard input, which `Maker` lists

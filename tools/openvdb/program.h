@@ -1,3 +1,4 @@
+// SPDX-License-Identifier: Apache-2.0
 // What both programs share: their words, their notices on standard error, and their exit status.
 #pragma once
 

@@ -1,3 +1,4 @@
+// SPDX-License-Identifier: Apache-2.0
 // The scene file of docs/FORMAT.md: its limits, its faults, and the reading of its fields.
 #pragma once
 

@@ -1,3 +1,4 @@
+// SPDX-License-Identifier: Apache-2.0
 // Converts a file of OpenVDB to a scene file.
 
 #include "encode.h"
@@ -83,7 +84,7 @@ void write_tree(const Grid& grid, scene::Header header, const std::string& name,
     using Tree = typename Grid::TreeType;
     const Tree& tree = grid.tree();
     const auto background = Cells<Tree>::background(tree);
-    if (background.value != tree.background()) notices.report("grid " + in_quotes(name) + ": its background true is false in the scene");
+    if (background.value != Cells<Tree>::sound(tree.background())) notices.report("grid " + in_quotes(name) + ": its background true is false in the scene");
     header.kind = Cells<Tree>::kind;
     header.background = background.value;
     const uint32_t limit = header.limit;

@@ -1,7 +1,9 @@
+// SPDX-License-Identifier: Apache-2.0
 #include "vdb_file.h"
 
 #include <openvdb/io/Compression.h>
 
+#include <algorithm>
 #include <cerrno>
 #include <cstring>
 #include <filesystem>
@@ -31,6 +33,9 @@ int64_t read_offset(std::istream& stream) {
     stream.read(reinterpret_cast<char*>(&offset), sizeof offset);
     return offset;
 }
+
+/// The least number of bytes that name a grid: three empty texts and three offsets.
+constexpr uint64_t least_descriptor = 36;
 
 /// Reads the offsets of a grid, which OpenVDB leaves unread if it doesn't know the type.
 void read_offsets(std::istream& stream, GridDescriptor& descriptor) {
@@ -65,6 +70,7 @@ void VdbReader::read_file() {
     setDataCompression(stream);
     file_metadata.readMeta(stream);
     const int32_t count = readGridCount(stream);
+    if (count < 0 || uint64_t(count) > size / least_descriptor) throw Error("it tells of " + std::to_string(count) + " grids, more than it holds");
     for (int32_t grid = 0; grid < count; ++grid) read_descriptor();
 }
 
@@ -81,11 +87,18 @@ void VdbReader::read_descriptor() {
         } catch (const openvdb::LookupError&) {
             read_offsets(stream, descriptor);
         }
-        if (descriptor.getEndPos() < 0 || uint64_t(descriptor.getEndPos()) > size)
-            throw Error("the file is cut short: grid " + in_quotes(descriptor.gridName()) + " ends past it");
+        check_offsets(descriptor);
         descriptor.seekToEnd(stream);
     }
     descriptors.push_back(descriptor);
+}
+
+/// Tests that a grid lies behind its descriptor and within the file, so that the next descriptor lies behind this one.
+void VdbReader::check_offsets(const GridDescriptor& descriptor) {
+    const int64_t offsets[] = {int64_t(stream.tellg()), descriptor.getGridPos(), descriptor.getBlockPos(), descriptor.getEndPos()};
+    const std::string grid = "grid " + in_quotes(descriptor.gridName());
+    if (!std::is_sorted(std::begin(offsets), std::end(offsets))) throw Error(grid + " has offsets that don't rise");
+    if (uint64_t(descriptor.getEndPos()) > size) throw Error("the file is cut short: " + grid + " ends past it");
 }
 
 const GridDescriptor& VdbReader::parent(const GridDescriptor& instance) const {

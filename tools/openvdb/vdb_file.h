@@ -1,3 +1,4 @@
+// SPDX-License-Identifier: Apache-2.0
 // Files of OpenVDB: their grids read one at a time, and written.
 #pragma once
 
@@ -30,6 +31,7 @@ private:
     void read_file();
     [[noreturn]] void fail() const;
     void read_descriptor();
+    void check_offsets(const openvdb::io::GridDescriptor& descriptor);
     openvdb::GridBase::Ptr read_tree(const openvdb::io::GridDescriptor& descriptor);
     const openvdb::io::GridDescriptor& parent(const openvdb::io::GridDescriptor& instance) const;
 

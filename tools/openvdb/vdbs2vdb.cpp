@@ -1,3 +1,4 @@
+// SPDX-License-Identifier: Apache-2.0
 // Converts a scene file to a file of OpenVDB.
 
 #include "decode.h"

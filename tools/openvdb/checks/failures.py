@@ -1,7 +1,9 @@
+# SPDX-License-Identifier: Apache-2.0
 """Files that can't be read or written, and wrong command lines: one line each, the status, and the old file as it was."""
 import os
 import resource
 import signal
+import subprocess
 
 OUTPUT = {"vdb2vdbs": "out.vdbs", "vdbs2vdb": "out.vdb"}
 
@@ -81,6 +83,24 @@ def check_cut(place):
             place.check(good and place.read("out.vdbs") == b"old", f"{size} of {len(text)} bytes by {how}: {status} {told}")
 
 
+def check_offsets(place):
+    """A grid that ends before it begins, so that its descriptor would be read over and over, and more grids than a file holds."""
+    place.probed("make", "good.vdb", ["grid i32 a 7", "noise 3", "write zip"])
+    text = place.read("good.vdb")
+    begin = text.index(b"\x01\0\0\0a\x10\0\0\0Tree_int32_5_4_3\0\0\0\0")
+    offsets = begin + 5 + 20 + 4
+    place.write("out.vdbs", b"old")
+    for name, at, change, told in (
+        ("backwards", offsets + 16, begin.to_bytes(8, "little"), 'grid "a" has offsets that don\'t rise'),
+        ("behind", offsets, (1 << 62).to_bytes(8, "little"), 'grid "a" has offsets that don\'t rise'),
+        ("past", offsets + 16, (1 << 62).to_bytes(8, "little"), 'the file is cut short: grid "a" ends past it'),
+        ("many", begin - 4, b"\xff\xff\xff\x7f", "it tells of 2147483647 grids, more than it holds"),
+        ("negative", begin - 4, b"\xff\xff\xff\xff", "it tells of -1 grids, more than it holds"),
+    ):
+        place.write(f"{name}.vdb", text[:at] + change + text[at + len(change) :])
+        is_refused(place, "vdb2vdbs", [f"{name}.vdb", "out.vdbs"], f"{name}.vdb: {told}")
+
+
 def limit_files():
     """Lets a process write at most 1,000 bytes into a file."""
     resource.setrlimit(resource.RLIMIT_FSIZE, (1000, 1000))
@@ -96,7 +116,7 @@ def check_writing(place):
         out = OUTPUT[program]
         place.write(out, b"old")
         is_refused(place, program, [given, "none/x"], "none/x: No such file or directory")
-        is_refused(place, program, [given, "programs"], "programs: it is no regular file")
+        is_refused(place, program, [given, "programs"], "programs: Is a directory")
         is_refused(place, program, [given, out], f"{out}: File too large", preexec_fn=limit_files)
         place.folder.chmod(0o555)
         is_refused(place, program, [given, "new"], "new: Permission denied", **as_other())
@@ -114,6 +134,15 @@ def check_replacing(place):
         place.is_converted(program, given, str(link))
         place.check(link.is_symlink() and real.read_bytes() != b"old", f"{program}: a link")
         place.equal(real.stat().st_mode & 0o777, 0o640, f"{program}: permissions")
+        whole, device = real.read_bytes(), run_into(place, program, given, "/dev/stdout")
+        place.equal((device.returncode, device.stderr, len(device.stdout)), (0, b"", len(whole)), f"{program}: standard output")
+        full = run_into(place, program, given, "/dev/full")
+        place.equal((full.returncode, full.stderr), (1, f"{program}: /dev/full: No space left on device\n".encode()), f"{program}: a full device")
+
+
+def run_into(place, program, given, target):
+    """Runs a converter whose output is a device or a pipe."""
+    return subprocess.run([place.programs / program, given, target], cwd=place.folder, capture_output=True, timeout=300, check=False)
 
 
 def check(place, _seed, _scenes):
@@ -122,5 +151,6 @@ def check(place, _seed, _scenes):
     check_reading(place)
     check_unknown_type(place)
     check_cut(place)
+    check_offsets(place)
     check_writing(place)
     check_replacing(place)

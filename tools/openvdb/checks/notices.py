@@ -1,3 +1,4 @@
+# SPDX-License-Identifier: Apache-2.0
 """What a scene file can't hold: one line reports each of it, which is an error with --strict."""
 
 FLOAT = "Tree_float_5_4_3"

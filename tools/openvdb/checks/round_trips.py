@@ -1,3 +1,4 @@
+# SPDX-License-Identifier: Apache-2.0
 """Random scenes saved by vdb, made into .vdb files and back: the bytes are the same, and OpenVDB reads the same cells."""
 import random
 

@@ -1,3 +1,4 @@
+# SPDX-License-Identifier: Apache-2.0
 """Random .vdb files that OpenVDB made, turned into scenes: vdb finds the cells that OpenVDB finds, and the bytes are canonical."""
 import random
 

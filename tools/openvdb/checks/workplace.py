@@ -1,3 +1,4 @@
+# SPDX-License-Identifier: Apache-2.0
 """A folder for the files of the tests, the programs that are run in it, and the checks that are counted."""
 import os
 import shutil
@@ -21,7 +22,7 @@ class Workplace:
         self.folder = Path(self.holder.name)
         self.programs = self.folder / "programs"
         self.programs.mkdir()
-        for name in CONVERTERS:
+        for name in [*CONVERTERS, "sanitized"]:
             shutil.copy(here / name, self.programs)
         self.passed = self.failed = 0
 
@@ -87,4 +88,4 @@ class Workplace:
 
     def leftovers(self):
         """The temporary files that a converter left in the folder."""
-        return sorted(path.name for path in self.folder.glob(".openvdb-*"))
+        return sorted(path.name for path in self.folder.glob(".vdb-*"))

@@ -1,3 +1,4 @@
+# SPDX-License-Identifier: Apache-2.0
 """Writes scene files of version 2: the bytes that `vdb --save` writes for the same scene.
 
 A file is its skeleton, all bytes but those of the voxels in leaves, and the voxels of each leaf behind that leaf's head.
@@ -9,7 +10,7 @@ from typing import Iterator, Mapping
 
 import numpy as np
 
-from .forms import Kind
+from ..forms import Kind
 from .tree import Leaves, Tree
 
 KEY_SIZE = 12
@@ -111,7 +112,7 @@ def packed(kind: Kind, leaves: Leaves, part: slice) -> memoryview:
     record["index"] = leaves.index[part]
     np.add(leaves.active[part], 1, out=record["tag"], dtype=np.uint8, casting="unsafe")
     record["value"] = leaves.values[part]
-    return memoryview(record.view(np.uint8))
+    return memoryview(record.view(np.uint8))  # type: ignore[arg-type]
 
 
 def put_numbers(made: np.ndarray, places: np.ndarray, numbers: np.ndarray, dtype: str) -> None:

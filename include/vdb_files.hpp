@@ -1,0 +1,143 @@
+// SPDX-License-Identifier: Apache-2.0
+// How vdb.hpp reads and replaces files. A program includes vdb.hpp.
+#ifndef VDB_FILES_HPP
+#define VDB_FILES_HPP
+
+#include <algorithm>
+#include <atomic>
+#include <cerrno>
+#include <climits>
+#include <cstddef>
+#include <cstdint>
+#include <cstdio>
+#include <memory>
+#include <string>
+#include <system_error>
+#include <vector>
+
+#include <fcntl.h>
+#include <sys/stat.h>
+#include <unistd.h>
+
+namespace vdb {
+namespace detail {
+
+struct Close {
+    void operator()(std::FILE *file) const { std::fclose(file); }
+};
+
+[[noreturn]] inline void fail(int error, const std::string &path) { throw std::system_error(error, std::generic_category(), path); }
+
+// Returns the first bytes of a file, at most so many.
+inline std::vector<uint8_t> read(const std::string &path, std::size_t most)
+{
+    std::unique_ptr<std::FILE, Close> file(std::fopen(path.c_str(), "rb"));
+    if (!file)
+        fail(errno, path);
+    std::vector<uint8_t> bytes;
+    std::size_t had = 0;
+    do {
+        had = bytes.size();
+        bytes.resize(had + std::min<std::size_t>(std::max<std::size_t>(had, 65536), most - had));
+        bytes.resize(had + std::fread(bytes.data() + had, 1, bytes.size() - had, file.get()));
+    } while (bytes.size() > had && bytes.size() < most);
+    if (std::ferror(file.get()))
+        fail(errno, path);
+    return bytes;
+}
+
+// Returns where the links from `path` lead, also if nothing is there yet.
+inline std::string followed(const std::string &path)
+{
+    std::string place = path;
+    char next[PATH_MAX];
+    for (int links = 0; links < 40; links++) {
+        const ssize_t length = ::readlink(place.c_str(), next, sizeof next);
+        if (length < 0)
+            return place;
+        const std::string folder = next[0] == '/' ? "" : place.substr(0, place.rfind('/') + 1);
+        place = folder + std::string(next, static_cast<std::size_t>(length));
+    }
+    fail(ELOOP, path);
+}
+
+// Creates a file in the folder of `place` that nobody else has, and sets `beside` to its path. Returns -1 if that fails.
+inline int open_beside(const std::string &place, mode_t mode, std::string &beside)
+{
+    static std::atomic<unsigned> number{0};
+    int file = -1;
+    do {
+        beside = place.substr(0, place.rfind('/') + 1) + ".vdb-" + std::to_string(::getpid()) + "-" + std::to_string(number++) + ".tmp";
+        file = ::open(beside.c_str(), O_WRONLY | O_CREAT | O_EXCL | O_CLOEXEC, mode);
+    } while (file < 0 && errno == EEXIST);
+    return file;
+}
+
+inline bool write(int file, const std::vector<uint8_t> &bytes)
+{
+    for (std::size_t done = 0; done < bytes.size();) {
+        const ssize_t count = ::write(file, bytes.data() + done, bytes.size() - done);
+        if (count < 0 && errno == EINTR)
+            continue;
+        if (count == 0)
+            errno = EIO;
+        if (count <= 0)
+            return false;
+        done += static_cast<std::size_t>(count);
+    }
+    return true;
+}
+
+// Gives a file the permissions of another one and, if that is allowed, its owner.
+inline bool resemble(int file, const struct stat &old)
+{
+    const bool owned = ::fchown(file, old.st_uid, old.st_gid) == 0;
+    return (owned || errno == EPERM) && ::fchmod(file, old.st_mode & 0777) == 0;
+}
+
+// Closes a file. Returns the error of the step before unless that is `done`, or of the closing, or 0.
+inline int closed(int file, bool done)
+{
+    const int error = done ? 0 : errno;
+    return ::close(file) != 0 && error == 0 ? errno : error;
+}
+
+// Writes a file beside `place`, which replaces it when its bytes are on the disk. Returns the error or 0.
+inline int write_beside(const std::string &place, const struct stat *old, const std::vector<uint8_t> &bytes)
+{
+    std::string beside;
+    const int file = open_beside(place, old ? 0600 : 0666, beside);
+    if (file < 0)
+        return errno;
+    int error = closed(file, write(file, bytes) && (!old || resemble(file, *old)) && ::fsync(file) == 0);
+    if (error == 0 && ::rename(beside.c_str(), place.c_str()) != 0)
+        error = errno;
+    if (error != 0)
+        ::unlink(beside.c_str());
+    return error;
+}
+
+// Writes a pipe or a device itself. Returns the error or 0.
+inline int write_itself(const std::string &path, const std::vector<uint8_t> &bytes)
+{
+    const int file = ::open(path.c_str(), O_WRONLY | O_CLOEXEC);
+    return file < 0 ? errno : closed(file, write(file, bytes));
+}
+
+// Writes a new file, or replaces one that may be written, whose permissions stay. A link is followed.
+inline void replace(const std::string &path, const std::vector<uint8_t> &bytes)
+{
+    struct stat old = {};
+    const bool exists = ::stat(path.c_str(), &old) == 0;
+    if (exists && ::access(path.c_str(), W_OK) != 0)
+        fail(errno, path);
+    const bool special = exists && !S_ISREG(old.st_mode);
+    const int error = special ? write_itself(path, bytes) : write_beside(followed(path), exists ? &old : nullptr, bytes);
+    if (error != 0)
+        fail(error, path);
+}
+
+} // namespace detail
+} // namespace vdb
+
+#endif

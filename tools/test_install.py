@@ -1,0 +1,238 @@
+#!/usr/bin/env python3
+# SPDX-License-Identifier: Apache-2.0
+"""Tests of what `tools/install` installs and of the packages that `tools/debian-packages` makes.
+
+They need what tools/test_libvdb.py needs, the program vdb (the variable VDB, else crates/vdb/out/vdb), an interpreter /usr/bin/python3 with
+NumPy, and Debian's cmake, make, pkg-config, man-db and dpkg.
+"""
+from __future__ import annotations
+
+import functools
+import os
+import re
+import subprocess
+import sys
+import unittest
+from pathlib import Path
+
+sys.path.insert(0, str(Path(__file__).resolve().parent))
+from test_libvdb import REPORT, TOOLS, TOP, done, run, symbols, work  # noqa: E402
+
+VERSION = (TOP / "VERSION").read_text(encoding="ascii").strip()
+LIBDIR = "lib/x86_64-linux-gnu"
+LIBRARIES = f"usr/{LIBDIR}"
+EXAMPLES = {"c": TOP / "examples" / "c" / "labels.c", "cpp": TOP / "examples" / "cpp" / "labels.cpp"}
+SPDX = "SPDX-License-Identifier: Apache-2.0"
+SCRIPT = "grid a i32 0\nfill a 0 0 0 9 9 9 5 on\ncount a all\n"
+
+#: The files of the library, as a user of C and C++ expects them.
+LIBRARY = {
+    "usr/include/vdb.h", "usr/include/vdb.hpp", "usr/include/vdb_files.hpp",
+    *(f"{LIBRARIES}/{it}" for it in ("libvdb.a", "libvdb.so", "libvdb.so.1", f"libvdb.so.{VERSION}", "pkgconfig/libvdb.pc")),
+    *(f"{LIBRARIES}/cmake/vdb/{it}" for it in ("vdb-config.cmake", "vdb-config-version.cmake")),
+}  # fmt: skip
+CMAKE = """\
+cmake_minimum_required(VERSION 3.16)
+project(labels C CXX)
+find_package(vdb {version} CONFIG REQUIRED)
+foreach(language c cpp)
+  add_executable(labels_${{language}} {examples}/${{language}}/labels.${{language}})
+  target_link_libraries(labels_${{language}} PRIVATE vdb::vdb)
+endforeach()
+target_compile_features(labels_cpp PRIVATE cxx_std_17)
+"""
+
+
+@functools.lru_cache(None)
+def installed() -> Path:
+    """The root of a system in which everything is installed below /usr."""
+    root = work() / "root"
+    done([TOOLS / "install", "--prefix", "/usr", "--libdir", LIBDIR, "--destdir", root])
+    return root
+
+
+@functools.lru_cache(None)
+def packages():
+    """The Debian packages by name, and the root of a system into which all of them are unpacked."""
+    folder, root = work() / "packages", work() / "unpacked"
+    made = [Path(it) for it in done([TOOLS / "debian-packages", folder]).splitlines()]
+    for package in made:
+        done(["dpkg", "-x", package, root])
+    return {it.name.split("_")[0]: it for it in made}, root
+
+
+def files(root):
+    """The files and links below a folder with their content, without those that Python writes."""
+    found = [it for it in sorted(root.rglob("*")) if (it.is_symlink() or it.is_file()) and "__pycache__" not in it.parts]
+    return {str(it.relative_to(root)): os.readlink(it) if it.is_symlink() else it.read_bytes() for it in found}
+
+
+class Installed(unittest.TestCase):
+    def is_right(self, program, root):
+        """Runs a program of the examples with the library below a root."""
+        environment = {**os.environ, "LD_LIBRARY_PATH": str(root / LIBRARIES)}
+        (work() / "margin.vdbs").unlink(missing_ok=True)
+        ran = run([program, work() / "labels.vdbs", work() / "margin.vdbs"], env=environment)
+        self.assertEqual((ran.returncode, ran.stdout, ran.stderr), (0, REPORT, ""))
+
+    def test_the_files_of_the_library(self):
+        found = {it for it in files(installed()) if not it.startswith(("usr/bin/", "usr/share/", "usr/lib/python3/"))}
+        self.assertEqual(found, LIBRARY)
+        self.assertFalse([name for name, content in files(installed()).items() if isinstance(content, bytes) and str(work()).encode() in content])
+
+    def test_the_soname(self):
+        text = done(["readelf", "-d", installed() / LIBRARIES / "libvdb.so"])
+        self.assertEqual(re.findall(r"\(SONAME\).*\[(.*)\]", text), ["libvdb.so.1"])
+
+    def test_the_symbols_are_those_of_the_file(self):
+        head, *lines = (TOOLS / "libvdb.symbols").read_text(encoding="ascii").splitlines()
+        self.assertEqual(head, "libvdb.so.1 libvdb1 #MINVER#")
+        listed = [re.fullmatch(r" (vdb_\w+)@Base \d+\.\d+\.\d+", line)[1] for line in lines]
+        self.assertEqual({*listed}, symbols("-D", "--defined-only", installed() / LIBRARIES / "libvdb.so"))
+        self.assertEqual(listed, sorted({*listed}))
+
+    def test_programs_by_pkg_config(self):
+        environment = {**os.environ, "PKG_CONFIG_LIBDIR": str(installed() / LIBRARIES / "pkgconfig")}
+        self.assertEqual(done(["pkg-config", "--modversion", "libvdb"], env=environment).strip(), VERSION)
+        flags = done(["pkg-config", "--cflags", "--libs", "libvdb"], env=environment).split()
+        for compiler, example in (("gcc", EXAMPLES["c"]), ("g++", EXAMPLES["cpp"])):
+            with self.subTest(compiler):
+                made = work() / f"by-pkg-config-{compiler}"
+                done([compiler, example, *flags, "-o", made])
+                self.is_right(made, installed())
+
+    def configure(self, version):
+        """Configures a project of CMake that asks for a version."""
+        source = work() / "project"
+        source.mkdir(exist_ok=True)
+        (source / "CMakeLists.txt").write_text(CMAKE.format(version=version, examples=TOP / "examples"), encoding="utf-8")
+        return run(["cmake", "-S", source, "-B", work() / f"built-{version}", f"-DCMAKE_PREFIX_PATH={installed() / 'usr'}"])
+
+    def test_programs_by_cmake(self):
+        ran = self.configure("1.1")
+        self.assertEqual(ran.returncode, 0, ran.stdout + ran.stderr)
+        done(["cmake", "--build", work() / "built-1.1"])
+        for language in EXAMPLES:
+            self.is_right(work() / "built-1.1" / f"labels_{language}", installed())
+
+    def test_cmake_refuses_another_version(self):
+        for version in ("1.2", "2.0", "0.9"):
+            with self.subTest(version):
+                ran = self.configure(version)
+                self.assertEqual(ran.returncode, 1)
+                self.assertIn(f"version: {VERSION}", ran.stderr)
+
+    def test_the_manual_pages(self):
+        pages = sorted((installed() / "usr/share/man/man1").iterdir(), key=lambda it: it.stem)
+        self.assertEqual([it.stem for it in pages], sorted(it.name for it in (installed() / "usr/bin").iterdir()))
+        for page in pages:
+            with self.subTest(page.name):
+                ran = run(["man", "--warnings", "-l", page], env={**os.environ, "MANWIDTH": "200", "LC_ALL": "C.UTF-8"})
+                self.assertEqual((ran.returncode, ran.stderr), (0, ""))
+                shown, asked = ran.stdout.split(), done([installed() / "usr/bin" / page.stem, "--help"]).split()
+                self.assertEqual([it for it in asked if it.startswith("--") and it not in shown], [])
+                self.assertRegex(ran.stdout, rf"NAME\n +{page.stem} - \w")
+        self.assertIn("vdb-run(1) replaces", " ".join(done(["man", "-l", pages[0].with_name("vdb.1")]).split()))
+
+    def test_the_completions(self):
+        for name, word, wanted in (("vdb", "--l", "--load"), ("vdb-run", "--sa", "--save"), ("vdb", "x", "")):
+            with self.subTest(name):
+                file = installed() / "usr/share/bash-completion/completions" / name
+                call = f"source {file}; _{name.replace('-', '_')} {name} {word}; echo ${{COMPREPLY[*]}}; complete -p {name}"
+                self.assertEqual(done(["bash", "-c", call]).splitlines(), [wanted, f"complete -o default -F _{name.replace('-', '_')} {name}"])
+
+    def test_the_programs(self):
+        programs = installed() / "usr" / "bin"
+        ran = subprocess.run([programs / "vdb"], input=SCRIPT, stdout=subprocess.PIPE, text=True, timeout=60)
+        self.assertEqual((ran.returncode, ran.stdout), (0, "ok\nok\ncount 1000\n"))
+        for program in programs.iterdir():
+            self.assertTrue(os.access(program, os.X_OK), program)
+
+
+class Packages(unittest.TestCase):
+    def test_they_hold_what_is_installed_and_the_licence(self):
+        made, root = packages()
+        self.assertEqual({*made}, {"libvdb1", "libvdb-dev", "vdb-tools", "python3-vdb"})
+        licences = {f"usr/share/doc/{name}/copyright": (TOP / "LICENSE").read_bytes() for name in made}
+        self.assertEqual(files(root), {**files(installed()), **licences})
+
+    def test_the_fields(self):
+        for name, package in packages()[0].items():
+            with self.subTest(name):
+                fields = dict(it.split(": ", 1) for it in done(["dpkg-deb", "--field", package]).splitlines() if ": " in it)
+                self.assertEqual((fields["Package"], fields["Version"]), (name, VERSION))
+                self.assertEqual(fields["Architecture"], "all" if name == "python3-vdb" else "amd64")
+                self.assertRegex(fields["Depends"], "libc6" if name in ("libvdb1", "vdb-tools") else rf"libvdb1 \(= {VERSION}\)")
+
+    def test_the_program_answers(self):
+        ran = subprocess.run([packages()[1] / "usr/bin/vdb"], input=SCRIPT, stdout=subprocess.PIPE, text=True, timeout=60)
+        self.assertEqual((ran.returncode, ran.stdout), (0, "ok\nok\ncount 1000\n"))
+
+    def test_a_program_of_cpp_is_built_and_run_by_them_alone(self):
+        root = packages()[1]
+        made = work() / "by-packages"
+        done(["g++", "-std=c++17", f"-I{root / 'usr/include'}", EXAMPLES["cpp"], f"-L{root / LIBRARIES}", "-lvdb", "-o", made])
+        Installed.is_right(self, made, root)
+
+    def test_python_imports_the_package(self):
+        root = packages()[1]
+        environment = {**os.environ, "PYTHONPATH": str(root / "usr/lib/python3/dist-packages"), "VDB_LIBRARY": str(root / LIBRARIES / "libvdb.so.1")}
+        self.assertEqual(done(["/usr/bin/python3", "-c", "import vdb; print(vdb.__file__)"], env=environment, cwd=work()).split("/usr/")[0], str(root))
+
+
+class Sources(unittest.TestCase):
+    def test_the_versions_agree(self):
+        header = (TOP / "include" / "vdb.h").read_text(encoding="utf-8")
+        numbers = [re.search(rf"^#define VDB_VERSION_{part} (\d+)$", header, re.M)[1] for part in ("MAJOR", "MINOR", "PATCH")]
+        project = re.search(r'^version = "(.*)"$', (TOP / "python/pyproject.toml").read_text(encoding="utf-8"), re.M)[1]
+        package = re.search(r'^__version__ = "(.*)"$', (TOP / "python/vdb/__init__.py").read_text(encoding="utf-8"), re.M)[1]
+        newest = re.search(r"^## (\S+)", (TOP / "CHANGELOG.md").read_text(encoding="utf-8"), re.M)[1]
+        self.assertEqual([".".join(numbers), project, package, newest], [VERSION] * 4)
+
+    def test_the_entries_of_the_changelog_have_dates(self):
+        heads = re.findall(r"^## (.*)$", (TOP / "CHANGELOG.md").read_text(encoding="utf-8"), re.M)
+        self.assertTrue(heads and all(re.fullmatch(r"\d+\.\d+(\.\d+)? \(20\d\d-\d\d-\d\d\)", it) for it in heads), heads)
+
+    def test_the_sources_name_the_licence(self):
+        names = done(["git", "ls-files", "--cached", "--others", "--exclude-standard"], cwd=TOP).splitlines()
+        bare = [name for name in names if is_source(name) and SPDX not in (TOP / name).read_text(encoding="utf-8").split("\n\n")[0]]
+        self.assertEqual(bare, [])
+        self.assertGreater(len([name for name in names if is_source(name)]), 100)
+        self.assertIn(SPDX, (TOP / "LICENSE").read_text(encoding="utf-8"))
+
+
+def is_source(name):
+    """Whether a file is code in C, C++, Python or a shell, which is told by its ending or its first line."""
+    path = TOP / name
+    if not path.is_file() or name.startswith("crates/"):
+        return False
+    if path.suffix in (".c", ".h", ".cpp", ".hpp", ".py"):
+        return True
+    return not path.suffix and path.read_bytes().startswith(b"#!")
+
+
+class Command(unittest.TestCase):
+    def fails(self, words, wanted, status=1, **variables):
+        ran = run(words, env={**os.environ, **variables})
+        self.assertEqual((ran.returncode, ran.stdout), (status, ""))
+        self.assertIn(wanted, ran.stderr)
+
+    def test_help_has_an_example(self):
+        for name in ("install", "debian-packages"):
+            self.assertIn("Example:", done([TOOLS / name, "--help"]))
+
+    def test_errors_name_the_file_and_the_reason(self):
+        words = [TOOLS / "install", "--destdir", work() / "other"]
+        self.fails([*words, "--prefix", "usr"], "--prefix usr: it is an absolute path", 2)
+        self.fails([*words, "--libdir", "../lib"], "--libdir ../lib: it is a folder below PREFIX", 2)
+        self.fails(words, "/missing: no such program", VDB="/missing")
+        file = work() / "labels.vdbs"
+        self.fails([*words[:2], file], f"{file}/usr/local/lib/pkgconfig: Not a directory")
+        alone = work() / "python"
+        alone.mkdir()
+        (alone / "python3").symlink_to(sys.executable)
+        self.fails([TOOLS / "debian-packages", work() / "none"], "dpkg-deb is missing", PATH=str(alone))
+
+
+if __name__ == "__main__":
+    unittest.main()
