@@ -74,7 +74,7 @@ def fault_of(edit, functions):
     except ValueError as error:
         return str(error)
     if name in changed_by(spans, functions):
-        functions = {path: functions[path] for path, *_ in spans}
+        functions = {path: functions.get(path, []) for path, *_ in spans}
     else:
         functions = functions_of(folder_of(edit.crate), texts_of(edit.crate, spans))
     found = [it for several in functions.values() for it in several if it.path == name]
