@@ -95,7 +95,7 @@ void VdbReader::read_descriptor() {
 
 /// Tests that a grid lies behind its descriptor and within the file, so that the next descriptor lies behind this one.
 void VdbReader::check_offsets(const GridDescriptor& descriptor) {
-    const int64_t offsets[] = {int64_t(stream.tellg()), descriptor.getGridPos(), descriptor.getBlockPos(), descriptor.getEndPos()};
+    const int64_t offsets[] = {int64_t(stream.tellg()), descriptor.getGridPos(), descriptor.getEndPos()};
     const std::string grid = "grid " + in_quotes(descriptor.gridName());
     if (!std::is_sorted(std::begin(offsets), std::end(offsets))) throw Error(grid + " has offsets that don't rise");
     if (uint64_t(descriptor.getEndPos()) > size) throw Error("the file is cut short: " + grid + " ends past it");
