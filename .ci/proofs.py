@@ -27,8 +27,8 @@ import threading
 import time
 
 import kept
-from checking import KIT, TOP, command_of
-from crates import named_by
+from checking import KIT, TOP, command_of, library_of
+from crates import crates_below, named_by
 
 STATIC = "vdb_c"  # the crate that is a static library
 PROOF, OTHER = 3_800_000_000, 2_800_000_000  # the most bytes of a job of a proof, and of another task, measured for the largest crate
@@ -228,7 +228,8 @@ def build_the_rest(anew):
             status |= subprocess.run(["rt", "run"], cwd=folder, stdin=subprocess.DEVNULL, stdout=subprocess.DEVNULL).returncode
     folder, library = f"{TOP}/crates/{STATIC}/out", f"lib{STATIC}.a"
     if STATIC in named and not os.path.exists(f"{folder}/{library}"):
-        words = [*command_of(STATIC, named)[2:], "--crate-type", "staticlib", "--links", f"{STATIC}=", "--jobs", "2"]
+        libraries = {it: library_of(it) for it in crates_below(STATIC, named)}
+        words = [*command_of(STATIC, named, libraries)[2:], "--crate-type", "staticlib", "--links", f"{STATIC}=", "--jobs", "2"]
         status |= kept.made(key_of(STATIC, "archive"), lambda: built(STATIC, words, sys.stdout), folder, [library], anew, sys.stdout)
     return status
 

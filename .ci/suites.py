@@ -58,7 +58,6 @@ def stages(options):
         [Suite("texts of edits", ["edits/run", "--texts"], 800)],
         [Suite("proofs", [python, ".ci/proofs.py", *(it for it in options if it == "--anew")], 25)],
         [Suite("libvdb", ["tools/build-libvdb"], 1)],
-        [Suite("edits", ["edits/run", "--ci"], 22)],
         [
             Suite("library tests", ["tests/library/run"], 150),
             Suite("fault injection", ["fault_injection/run"], 10_000),
@@ -72,6 +71,7 @@ def stages(options):
             Suite("tests of the Python packages", unittest("discover", "-s", "python/tests", "-t", "python"), 77),
             Suite("tests of tools/openvdb", ["tools/openvdb/test"], 1),
         ],
+        [Suite("edits", ["edits/run", "--ci"], 22)],
         [Suite("documents", [python, ".ci/documents.py"], 1)],
     ]
 

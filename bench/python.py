@@ -22,7 +22,7 @@ TOP = Path(__file__).resolve().parents[1]
 sys.path.insert(0, str(TOP / "python"))
 
 import numpy as np  # noqa: E402
-import vdbs  # noqa: E402
+from vdb import scenefile  # noqa: E402
 
 PROGRAM = os.environ.get("VDB", str(TOP / "crates" / "vdb" / "out" / "vdb"))
 VOXELS = 10_000_000
@@ -75,11 +75,11 @@ def arrays(folder, what, labels, words):
     box = (0, 0, 0), tuple(side - 1 for side in labels.shape)
 
     def save():
-        vdbs.Scene({"a": vdbs.Grid.from_array(labels)}).save(scene_file)
+        scenefile.Scene({"a": scenefile.Grid.from_array(labels)}).save(scene_file)
 
     def load():
         nonlocal found
-        found = vdbs.load(scene_file)["a"].to_array(box)
+        found = scenefile.load(scene_file)["a"].to_array(box)
 
     def numpy_save():
         np.save(dense, labels)
@@ -99,11 +99,11 @@ def arrays(folder, what, labels, words):
 def sparse(folder, dice, words):
     """The row of the second table."""
     path, sides = f"{folder}/s.vdbs", words.size
-    vdbs.Scene({"a": vdbs.Grid.from_array(scattered(dice, sides, min(1, VOXELS / sides**3)))}).save(path)
-    calls = [lambda: vdbs.load(path)]
+    scenefile.Scene({"a": scenefile.Grid.from_array(scattered(dice, sides, min(1, VOXELS / sides**3)))}).save(path)
+    calls = [lambda: scenefile.load(path)]
     if os.access(PROGRAM, os.X_OK):
         calls.append(lambda: subprocess.run([PROGRAM, "--load", path, os.devnull], check=True))
-    grid = vdbs.load(path)["a"]
+    grid = scenefile.load(path)["a"]
     what = f"| {grid.count:,} voxels in {grid.leaf_count:,} leaves, file of {os.path.getsize(path) / 1e6:.0f} MB"
     del grid
     times = [figure(seconds) for seconds in measured(calls, words.runs, words.clock)]
@@ -123,7 +123,7 @@ def main():
         print("| Labels | `from_array` + `save` | `numpy.save` + copy | `load` + `to_array` | `numpy.load` + copy |\n|---|---|---|---|---|")
         print(arrays(folder, "spheres", spheres(np.random.default_rng(1), words.size), words), flush=True)
         print(arrays(folder, "single voxels", scattered(np.random.default_rng(2), words.size, 0.28), words), flush=True)
-        print("\n| Scene | `vdbs.load` | `vdb --load` |\n|---|---|---|")
+        print("\n| Scene | `scenefile.load` | `vdb --load` |\n|---|---|---|")
         print(sparse(folder, np.random.default_rng(3), words), flush=True)
 
 

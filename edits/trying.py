@@ -150,9 +150,11 @@ def check(crate, texts, names):
 
 
 def leave_out(crate, path, proofs):
-    """Puts a hole in place of the proof of a function."""
+    """Puts a hole in place of the proof of a function, but for one that calls itself: the folder of its measure begins with +."""
     words = path.split("::")
     folder = "/".join([proofs, *words])
+    if os.path.isdir("/".join([proofs, *words[:-1], f"+{words[-1]}"])):
+        return
     os.makedirs(folder, exist_ok=True)
     for name in ("Answers.antt", "Invariants.antt"):
         if os.path.exists(f"{folder}/{name}"):
@@ -162,15 +164,20 @@ def leave_out(crate, path, proofs):
         file.write(f"pub {words[-1]}_spec : {{M : Type 1}} → statement M\n{words[-1]}_spec = ?\n")
 
 
+def function_of(folder):
+    """The path of the function whose proof stands in a folder of proofs/."""
+    return folder.replace("/+", "/").replace("/", "::")
+
+
 def goals_of(output):
     """The open goals of each function that a check names, and those whose answer only names what is gone."""
     goals, lost = {}, {}
     for line in output.splitlines():
         refused, opened = REFUSED.match(line), OPEN.match(line)
         if refused:
-            (lost if LOST.search(refused[3]) else goals).setdefault(refused[1].replace("/", "::"), []).append(refused[2])
+            (lost if LOST.search(refused[3]) else goals).setdefault(function_of(refused[1]), []).append(refused[2])
         elif opened:
-            goals.setdefault(opened[2].replace("/", "::"), []).append(opened[1])
+            goals.setdefault(function_of(opened[2]), []).append(opened[1])
     return goals, lost
 
 

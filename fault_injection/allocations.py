@@ -5,8 +5,8 @@ file of rows in crates/vdb_rows/data.
 
 The shim counts calls of malloc, realloc and the other allocating functions, from the first read on. One allocation fails in
 each run: the first, then the second, until no allocation is left to fail. A row with more than 120 allocations has runs for
-the first 60, for as many at even distances and for the last three. ALLOCATIONS gives another number than 60. Each run
-must show:
+the first 60, for as many at even distances and for the last three. ALLOCATIONS gives another number than 60. A row with
+more than 5,000 is left out. Each run must show:
 
 - The command whose allocation failed answers `error memory`, and no other command does. If the row has another error for
   that command, it answers this one. Only in a dilation may `memory` replace `root-limit`.
@@ -24,6 +24,7 @@ from program import Run, Tally, Workplace
 from vectors import rows_of
 
 ALL_AFTER_RUNS = 20
+MOST_ALLOCATIONS = 5000
 EACH_OF_FIRST = int(os.environ.get("ALLOCATIONS", "60"))
 SUBJECTS = ["accessors", "boxes", "dilate-and-erode", "layouts", "metadata", "pruned-leaf", "root-limit", "two-grids", "value-ranges", "voxels"]
 ALLOCATES_NOTHING = {"get", "drop", "prune", "count", "bounds", "list", "slice", "census", "unmeta", "metas"}
@@ -97,6 +98,8 @@ class Row:
         self.check(whole.saved is not None and "allocations" in whole.counts, "the run didn't end by itself")
         allocations = whole.counts.get("allocations", 0)
         self.check(allocations > 0, "the shim counted no allocation")
+        if allocations > MOST_ALLOCATIONS:
+            return
         for number in numbers_to_fail(allocations):
             self.one(number, number > allocations)
         for number in range(1, allocations + 1, -(-allocations // ALL_AFTER_RUNS) or 1):

@@ -10,7 +10,6 @@ from __future__ import annotations
 import functools
 import os
 import re
-import shutil
 import subprocess
 import sys
 import unittest
@@ -229,7 +228,10 @@ class Command(unittest.TestCase):
         self.fails(words, "/missing: no such program", VDB="/missing")
         file = work() / "labels.vdbs"
         self.fails([*words[:2], file], f"{file}/usr/local/lib/pkgconfig: Not a directory")
-        self.fails([TOOLS / "debian-packages", work() / "none"], "dpkg-deb is missing", PATH=str(Path(shutil.which("python3")).parent))
+        alone = work() / "python"
+        alone.mkdir()
+        (alone / "python3").symlink_to(sys.executable)
+        self.fails([TOOLS / "debian-packages", work() / "none"], "dpkg-deb is missing", PATH=str(alone))
 
 
 if __name__ == "__main__":

@@ -17,7 +17,9 @@ except ImportError as error:
     raise unittest.SkipTest("NumPy is missing") from error
 
 import encoding  # noqa: E402
-import vdbs  # noqa: E402
+import vdb  # noqa: E402
+from vdb import scenefile  # noqa: E402
+from vdb.library import LIBRARY  # noqa: E402
 
 PROGRAM = os.environ.get("VDB", str(TOP / "crates" / "vdb" / "out" / "vdb"))
 EXTREMES = {
@@ -30,11 +32,30 @@ DTYPES = {"bool": np.bool_, "i32": np.int32, "i64": np.int64}
 needs_program = unittest.skipUnless(os.access(PROGRAM, os.X_OK), f"there is no program {PROGRAM}: name one in VDB")
 
 
+def library_missing():
+    """Why the library can't be used, or an empty text."""
+    try:
+        return "" if LIBRARY.vdb_grid_new else ""
+    except ImportError as error:
+        return str(error)
+
+
+def cell(grid, at):
+    """The value and the state of a voxel."""
+    return grid[at], grid.active[at]
+
+
+def rows(labels):
+    """Labels as a list of a value, a number and a bounding box each."""
+    columns = (column.tolist() for column in labels)
+    return [(value, count, (tuple(low), tuple(high))) for value, count, low, high in zip(*columns)]
+
+
 def verdict(data):
     """The word of the fault that the package finds, or the bytes that it saves after loading these."""
     try:
-        return vdbs.loads(data).to_bytes()
-    except vdbs.FormatError as fault:
+        return scenefile.loads(data).to_bytes()
+    except vdb.FormatError as fault:
         return fault.fault
 
 

@@ -12,9 +12,9 @@ import zlib
 from pathlib import Path
 from unittest import mock
 
-from .support import TOP, np, vdbs
+from .support import TOP, np, scenefile, vdb
 
-from vdbs.__main__ import main
+from vdb.scenefile.__main__ import main
 
 COMMANDS = ("info", "labels", "from-npy", "to-npy", "slice", "picture", "merge")
 
@@ -52,7 +52,7 @@ class CommandLine(unittest.TestCase):
         """Calls the command line, which must end with status 1 and one line on standard error that has this text."""
         status, out, errors = self.called(*words)
         self.assertEqual((status, out), (1, ""))
-        self.assertRegex(errors, r"\Avdbs: [^\n]+\n\Z")
+        self.assertRegex(errors, r"\Avdb-scene: [^\n]+\n\Z")
         self.assertIn(told, errors)
 
     def made(self, *more):
@@ -60,7 +60,7 @@ class CommandLine(unittest.TestCase):
 
     def test_there_and_back(self):
         self.made()
-        grid = vdbs.load(self.folder / "a.vdbs")["lab"]
+        grid = scenefile.load(self.folder / "a.vdbs")["lab"]
         self.assertEqual(grid.bounds, ((-3, 2, 4091), (2, 7, 4097)))
         self.assertEqual(self.run_it("labels", "a.vdbs", "lab"), "-2 1 2 7 4097 2 7 4097\n3 36 -3 2 4091 -1 3 4096\n")
         self.run_it("to-npy", "a.vdbs", "lab", "out.npy", "--active", "on.npy", "--bounds", "-5", "0", "4090", "4", "8", "4097")
@@ -72,7 +72,7 @@ class CommandLine(unittest.TestCase):
     def test_info(self):
         self.made("--background", "-1", "--limit", "7")
         told = json.loads(self.run_it("info", "a.vdbs", "--json"))
-        grid = vdbs.load(self.folder / "a.vdbs")["lab"]
+        grid = scenefile.load(self.folder / "a.vdbs")["lab"]
         self.assertEqual(told["bytes"], (self.folder / "a.vdbs").stat().st_size)
         self.assertEqual(
             told["grids"],
@@ -91,13 +91,13 @@ class CommandLine(unittest.TestCase):
     def test_replaced(self):
         """Other grids stay, and so do limit and metadata of the grid that is replaced."""
         self.made("--limit", "7")
-        scene = vdbs.load(self.folder / "a.vdbs")
+        scene = scenefile.load(self.folder / "a.vdbs")
         scene["lab"].metadata["unit"] = "mm"
-        scene["other"] = vdbs.Grid("bool", True)
+        scene["other"] = scenefile.Grid("bool", True)
         scene.save(self.folder / "a.vdbs")
         np.save(self.folder / "mask.npy", self.values == 3)
         self.run_it("from-npy", "mask.npy", "a.vdbs", "--name", "lab", "--active", "mask.npy")
-        scene = vdbs.load(self.folder / "a.vdbs")
+        scene = scenefile.load(self.folder / "a.vdbs")
         lab = scene["lab"]
         self.assertEqual((list(scene), lab.kind, lab.limit, dict(lab.metadata)), (["lab", "other"], "bool", 7, {"unit": "mm"}))
 
@@ -136,7 +136,7 @@ class CommandLine(unittest.TestCase):
     def piped(self, *words, **given):
         """Runs the command line as a process of its own."""
         environment = {**os.environ, "PYTHONPATH": str(TOP / "python")}
-        return subprocess.run([sys.executable, "-m", "vdbs", *words], env=environment, capture_output=True, timeout=60, **given)
+        return subprocess.run([sys.executable, "-m", "vdb.scenefile", *words], env=environment, capture_output=True, timeout=60, **given)
 
     def test_array_to_pipe(self):
         self.made()
@@ -148,7 +148,7 @@ class CommandLine(unittest.TestCase):
         """The status of the process, and its one line on standard error."""
         run = self.piped("info", "none.vdbs", cwd=self.folder)
         self.assertEqual((run.returncode, run.stdout), (1, b""))
-        self.assertEqual(run.stderr, b"vdbs: none.vdbs: No such file or directory\n")
+        self.assertEqual(run.stderr, b"vdb-scene: none.vdbs: No such file or directory\n")
 
     def test_progress(self):
         """Large files show progress on a terminal, and only there."""
@@ -156,7 +156,7 @@ class CommandLine(unittest.TestCase):
         for terminal, told in ((True, "reading a.vdbs: "), (False, "")):
             errors = io.StringIO()
             errors.isatty = lambda: terminal
-            with mock.patch("vdbs.__main__.LARGE", 1), contextlib.redirect_stderr(errors), contextlib.redirect_stdout(io.StringIO()):
+            with mock.patch("vdb.scenefile.__main__.LARGE", 1), contextlib.redirect_stderr(errors), contextlib.redirect_stdout(io.StringIO()):
                 self.assertEqual(main(["labels", "a.vdbs", "lab"]), 0)
             self.assertEqual(errors.getvalue().strip("\r").rstrip("0123456789% \n"), told.rstrip())
             self.assertEqual(errors.getvalue().endswith(" %\n"), terminal)
@@ -170,15 +170,15 @@ class CommandLine(unittest.TestCase):
         self.assertFalse((self.folder / "c.vdbs").exists())
         for choice, kind in (("a", "i32"), ("b", "bool")):
             self.run_it("merge", "a.vdbs", "b.vdbs", "c.vdbs", "--prefer", choice)
-            scene = vdbs.load(self.folder / "c.vdbs")
+            scene = scenefile.load(self.folder / "c.vdbs")
             self.assertEqual((list(scene), scene["lab"].kind), (["lab", "mask"], kind))
 
     def test_help(self):
-        self.assertIn("Example: python3 -m vdbs", self.run_it("--help"))
+        self.assertIn("Example: python3 -m vdb.scenefile", self.run_it("--help"))
         for command in COMMANDS:
             told = " ".join(self.run_it(command, "--help").split())
             self.assertIn("Example: ", told)
-            self.assertIn(f"python3 -m vdbs {command} ", told)
+            self.assertIn(f"python3 -m vdb.scenefile {command} ", told)
 
     def test_wrong_command_lines(self):
         for words in (

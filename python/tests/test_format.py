@@ -4,10 +4,10 @@ import re
 import unittest
 from unittest import mock
 
-from .support import TOP, encoding, np, vdbs, verdict
+from .support import TOP, cell, encoding, np, scenefile, verdict, vdb
 
 import vectors
-from vdbs import reader, scene
+from vdb.scenefile import reader, scene
 
 DOCUMENT = (TOP / "docs" / "FORMAT.md").read_text(encoding="utf-8")
 HEX = r"[0-9a-f]{2}(?: [0-9a-f]{2})*"
@@ -68,22 +68,22 @@ def same(test, data, what):
 class Document(unittest.TestCase):
     def test_file(self):
         self.assertEqual(len(FILE), 64)
-        self.assertEqual(vdbs.loads(FILE).to_bytes(), FILE)
-        grid = vdbs.loads(FILE)["a"]
+        self.assertEqual(scenefile.loads(FILE).to_bytes(), FILE)
+        grid = scenefile.loads(FILE)["a"]
         self.assertEqual((grid.kind, grid.background, grid.limit, dict(grid.metadata)), ("i32", 0, 4096, {"unit": "mm"}))
-        self.assertEqual((grid[1, 2, 3], grid[1, 2, 4], grid.count), ((5, True), (0, False), 1))
+        self.assertEqual((cell(grid, (1, 2, 3)), cell(grid, (1, 2, 4)), grid.count), ((5, True), (0, False), 1))
 
     def test_constant_lower_block(self):
         data = FILE[:19] + b"\0" + FILE[28:44] + bytes_of(table("| Offset | Bytes | Field |", 1))
         self.assertEqual(len(data), 46)
-        grid = vdbs.loads(data)["a"]
+        grid = scenefile.loads(data)["a"]
         self.assertEqual((grid.count, grid.bounds, grid.leaf_count), (128**3, ((0, 0, 0), (127, 127, 127)), 0))
         values = np.full((128, 128, 128), 3, np.int32)
-        self.assertEqual(vdbs.Scene({"a": vdbs.Grid.from_array(values)}).to_bytes(), data)
+        self.assertEqual(scenefile.Scene({"a": scenefile.Grid.from_array(values)}).to_bytes(), data)
 
     def test_words(self):
         words = {row[0] for row in table("| Word | Reason |")}
-        self.assertEqual(words, set(vdbs.FAULTS) | {"memory", "read"})
+        self.assertEqual(words, set(vdb.FAULTS) | {"memory", "read"})
 
     def test_changes(self):
         found = list(changes())
@@ -116,14 +116,14 @@ class Vectors(unittest.TestCase):
 
     def test_refused(self):
         for what, word, data in vectors.REJECTED:
-            with self.assertRaises(vdbs.FAULTS[word], msg=what) as caught:
-                vdbs.loads(data)
+            with self.assertRaises(vdb.FAULTS[word], msg=what) as caught:
+                scenefile.loads(data)
             self.assertEqual((caught.exception.fault, caught.exception.path), (word, None), what)
             self.assertLessEqual(caught.exception.offset, len(data), what)
 
     def test_message(self):
-        with self.assertRaises(vdbs.IndexFault) as caught:
-            vdbs.loads(FILE[:57] + b"\x02\0" + FILE[59:])
+        with self.assertRaises(vdb.IndexFault) as caught:
+            scenefile.loads(FILE[:57] + b"\x02\0" + FILE[59:])
         self.assertEqual(str(caught.exception), "<bytes>: byte 57: index: entry 512 of a leaf extent, which has 512")
 
 
@@ -212,10 +212,10 @@ class TooLong(unittest.TestCase):
                         self.assertEqual(verdict(given), wanted, (limit, length))
 
     def test_save(self):
-        grid = vdbs.loads(FILE)
+        grid = scenefile.loads(FILE)
         with mock.patch.object(scene, "MAX_FILE", 64):
             self.assertEqual(grid.to_bytes(), FILE)
-        with mock.patch.object(scene, "MAX_FILE", 63), self.assertRaises(vdbs.SceneTooLongError) as caught:
+        with mock.patch.object(scene, "MAX_FILE", 63), self.assertRaises(vdb.SceneTooLongError) as caught:
             grid.to_bytes()
         self.assertEqual((caught.exception.length, caught.exception.most), (64, 63))
 

@@ -3,22 +3,22 @@
 import unittest
 from itertools import product
 
-from .support import DTYPES, EXTREMES, boxes, chance, encoding, np, random_array, vdbs
+from .support import DTYPES, EXTREMES, boxes, cell, chance, encoding, np, random_array, rows, scenefile, vdb
 
 LEAST, MOST = -(2**31), 2**31 - 1
 
 
 def through_file(grid):
     """The grid after it is saved and loaded. Its file must be what the independent reader makes of it."""
-    data = vdbs.Scene({"a": grid}).to_bytes()
+    data = scenefile.Scene({"a": grid}).to_bytes()
     assert encoding.verdict(data) == data, "the file isn't the encoding of its scene"
-    return vdbs.loads(data)["a"]
+    return scenefile.loads(data)["a"]
 
 
 class Arrays(unittest.TestCase):
     def check(self, values, active, low, background):
         """There and back, and every report by brute force."""
-        grid = through_file(vdbs.Grid.from_array(values, active, low, background))
+        grid = through_file(scenefile.Grid.from_array(values, active, low, background))
         high = tuple(at + side - 1 for at, side in zip(low, values.shape))
         found, states = grid.to_array((low, high))
         self.assertEqual((found.dtype, states.dtype), (values.dtype, np.dtype(np.bool_)))
@@ -27,7 +27,7 @@ class Arrays(unittest.TestCase):
         bounds, labels = boxes(values, active, low)
         self.assertEqual(grid.bounds, bounds)
         self.assertEqual(grid.count, int(active.sum()))
-        self.assertEqual(grid.labels(), labels)
+        self.assertEqual(rows(grid.labels()), labels)
         return grid
 
     def test_random(self):
@@ -43,7 +43,7 @@ class Arrays(unittest.TestCase):
                 for _ in range(20):
                     at = tuple(dice.randrange(side) for side in shape)
                     place = tuple(a + b for a, b in zip(at, low))
-                    self.assertEqual(grid[place], (values[at].item(), bool(active[at])))
+                    self.assertEqual(cell(grid, place), (values[at].item(), bool(active[at])))
                 self.part(dice, grid, values, active, low, background)
 
     def part(self, dice, grid, values, active, low, background):
@@ -77,15 +77,15 @@ class Arrays(unittest.TestCase):
         one = np.ones((2, 1, 1), np.int32)
         for origin in ((MOST, 0, 0), (LEAST - 1, 0, 0), (0, 0, MOST + 1)):
             with self.assertRaises(ValueError):
-                vdbs.Grid.from_array(one, origin=origin)
-        self.assertEqual(vdbs.Grid.from_array(one, origin=(MOST - 1, 0, 0)).bounds, ((MOST - 1, 0, 0), (MOST, 0, 0)))
+                scenefile.Grid.from_array(one, origin=origin)
+        self.assertEqual(scenefile.Grid.from_array(one, origin=(MOST - 1, 0, 0)).bounds, ((MOST - 1, 0, 0), (MOST, 0, 0)))
         with self.assertRaises(ValueError):
-            vdbs.Grid("i32")[0, 0, 2**31]
+            scenefile.Grid("i32")[0, 0, 2**31]
 
     def test_default_active(self):
         values = np.arange(24, dtype=np.int32).reshape(2, 3, 4)
         for background in (0, 5, -1):
-            grid = vdbs.Grid.from_array(values, background=background)
+            grid = scenefile.Grid.from_array(values, background=background)
             np.testing.assert_array_equal(grid.to_array(((0, 0, 0), (1, 2, 3)))[1], values != background)
 
     def test_tiles(self):
@@ -96,34 +96,34 @@ class Arrays(unittest.TestCase):
         grid = self.check(values, values == 9, (0, -128, 256), 0)
         self.assertEqual(grid.tile_counts, {8: 1, 128: 1, 4096: 0})
         self.assertEqual(list(grid.tiles()), [((0, -128, 256), 128, 9, True), ((0, -120, 384), 8, 4, False)])
-        self.assertEqual(grid[0, -120, 384], (4, False))
+        self.assertEqual(cell(grid, (0, -120, 384)), (4, False))
 
     def test_root_tile(self):
         """A root block of one value, which a file holds and no array of a reasonable size."""
         roots = [((-1, 0, 0), (2, 6)), ((0, 0, 0), [(0, (1, 3)), (32767, (2, 6))])]
         data = encoding.save([encoding.Grid(b"a", 1, 0, 2, [], roots)])
-        grid = vdbs.loads(data)["a"]
-        self.assertEqual(vdbs.Scene({"a": grid}).to_bytes(), data)
+        grid = scenefile.loads(data)["a"]
+        self.assertEqual(scenefile.Scene({"a": grid}).to_bytes(), data)
         self.assertEqual(grid.count, 4096**3 + 128**3)
         self.assertEqual(grid.bounds, ((-4096, 0, 0), (4095, 4095, 4095)))
-        self.assertEqual(grid.labels(), [(6, 4096**3 + 128**3, grid.bounds)])
-        self.assertEqual((grid[-1, 5, 5], grid[0, 127, 0], grid[4095, 4095, 4000]), ((6, True), (3, False), (6, True)))
+        self.assertEqual(rows(grid.labels()), [(6, 4096**3 + 128**3, grid.bounds)])
+        self.assertEqual((cell(grid, (-1, 5, 5)), cell(grid, (0, 127, 0)), cell(grid, (4095, 4095, 4000))), ((6, True), (3, False), (6, True)))
         values, active = grid.to_array(((-2, 126, 127), (1, 128, 128)))
         self.assertEqual(values[:, 0, 0].tolist(), [6, 6, 3, 3])
         self.assertEqual(values[:, 2, 1].tolist(), [6, 6, 0, 0])
         self.assertEqual(active[:, 0, 0].tolist(), [True, True, False, False])
 
     def test_huge_count(self):
-        """A count past 64 bits is exact."""
+        """The largest count that a grid can have is exact."""
         roots = [((x, y, 0), (2, 1)) for x in range(-128, 128) for y in range(-128, 128)]
-        grid = vdbs.loads(encoding.save([encoding.Grid(b"a", 1, 0, 65536, [], roots)]))["a"]
+        grid = scenefile.loads(encoding.save([encoding.Grid(b"a", 1, 0, 65536, [], roots)]))["a"]
         self.assertEqual(grid.count, 65536 * 4096**3)
-        self.assertEqual([label.count for label in grid.labels()], [65536 * 4096**3])
+        self.assertEqual(grid.labels().counts.tolist(), [65536 * 4096**3])
 
     def test_leaves(self):
         dice = chance(5)
         values, active = random_array(dice, "i32", 7, (-9, 0, 4090), (30, 20, 40))
-        grid = vdbs.Grid.from_array(values, active, (-9, 0, 4090), 7)
+        grid = scenefile.Grid.from_array(values, active, (-9, 0, 4090), 7)
         leaves = list(grid.leaves())
         self.assertEqual(len(leaves), grid.leaf_count)
         for leaf in leaves:
@@ -137,55 +137,55 @@ class Arrays(unittest.TestCase):
         dice = chance(8)
         values, active = random_array(dice, "i32", 0, (0, 0, 0), (30, 40, 35))
         values = values % 100
-        plain = vdbs.Scene({"a": vdbs.Grid.from_array(values, active)}).to_bytes()
+        plain = scenefile.Scene({"a": scenefile.Grid.from_array(values, active)}).to_bytes()
         wide = np.zeros((60, 40, 70), np.int32)
         wide[::2, :, ::2] = values
         forms = [np.asfortranarray(values), wide[::2, :, ::2], values[:, :, ::-1].copy()[:, :, ::-1]]
         forms += [values.astype(dtype) for dtype in (">i4", np.int8, np.int16, np.uint8, ">u2")]
         for form in forms:
-            made = vdbs.Grid.from_array(form, np.asfortranarray(active))
-            self.assertEqual(vdbs.Scene({"a": made}).to_bytes(), plain)
-        self.assertEqual(vdbs.Grid.from_array(values.astype(np.uint32)).kind, "i64")
+            made = scenefile.Grid.from_array(form, np.asfortranarray(active))
+            self.assertEqual(scenefile.Scene({"a": made}).to_bytes(), plain)
+        self.assertEqual(scenefile.Grid.from_array(values.astype(np.uint32)).kind, "i64")
 
     def test_wrong_arrays(self):
         one = np.ones((2, 2, 2), np.int32)
         for dtype in (np.float32, np.uint64, np.complex64, object, "U1"):
             with self.assertRaisesRegex(TypeError, "astype"):
-                vdbs.Grid.from_array(one.astype(dtype))
+                scenefile.Grid.from_array(one.astype(dtype))
         for values, active in ((one[0], None), (one, np.ones((2, 2, 3), np.bool_))):
             with self.assertRaises(ValueError):
-                vdbs.Grid.from_array(values, active)
+                scenefile.Grid.from_array(values, active)
         with self.assertRaisesRegex(TypeError, "astype"):
-            vdbs.Grid.from_array(one, one)
+            scenefile.Grid.from_array(one, one)
         for background, error in ((2**31, ValueError), (True, TypeError), (1.0, TypeError)):
             with self.assertRaises(error):
-                vdbs.Grid.from_array(one, background=background)
+                scenefile.Grid.from_array(one, background=background)
 
     def test_empty(self):
         for shape in ((0, 3, 3), (5, 5, 5)):
-            grid = through_file(vdbs.Grid.from_array(np.zeros(shape, np.bool_)))
-            self.assertEqual((grid.count, grid.bounds, grid.labels()), (0, None, []))
+            grid = through_file(scenefile.Grid.from_array(np.zeros(shape, np.bool_)))
+            self.assertEqual((grid.count, grid.bounds, rows(grid.labels())), (0, None, []))
             self.assertEqual(grid.to_array()[0].shape, (0, 0, 0))
             self.assertEqual(grid.to_array(((0, 0, 0), (1, 0, 0)))[0].tolist(), [[[False]], [[False]]])
 
     def test_too_large(self):
-        grid = vdbs.Grid("i64")
-        with self.assertRaises(vdbs.ArrayTooLargeError) as caught:
+        grid = scenefile.Grid("i64")
+        with self.assertRaises(vdb.ArrayTooLargeError) as caught:
             grid.to_array(((LEAST, LEAST, LEAST), (MOST, MOST, MOST)))
         self.assertEqual(caught.exception.needed, 9 * 2**96)
         box = (0, 0, 0), (9, 9, 9)
-        with self.assertRaises(vdbs.ArrayTooLargeError):
+        with self.assertRaises(vdb.ArrayTooLargeError):
             grid.to_array(box, max_bytes=8999)
         self.assertEqual(grid.to_array(box, max_bytes=9000)[0].size, 1000)
 
     def test_root_limit(self):
         values = np.zeros((8200, 1, 1), np.int32)
         values[[0, 4096, 8192]] = 1
-        with self.assertRaises(vdbs.RootLimitError) as caught:
-            vdbs.Grid.from_array(values, limit=2)
+        with self.assertRaises(vdb.RootLimitError) as caught:
+            scenefile.Grid.from_array(values, limit=2)
         self.assertEqual((caught.exception.needed, caught.exception.limit), (3, 2))
-        grid = vdbs.Grid.from_array(values, limit=3)
-        with self.assertRaises(vdbs.RootLimitError):
+        grid = scenefile.Grid.from_array(values, limit=3)
+        with self.assertRaises(vdb.RootLimitError):
             grid.limit = 2
         self.assertEqual((grid.limit, grid.root_blocks, grid.count), (3, 3, 3))
 
@@ -193,13 +193,13 @@ class Arrays(unittest.TestCase):
 class Forms(unittest.TestCase):
     def test_grid(self):
         with self.assertRaises(ValueError):
-            vdbs.Grid("float")
+            scenefile.Grid("float")
         for limit, error in ((0, ValueError), (65537, ValueError), (1.5, TypeError), (True, TypeError)):
             with self.assertRaises(error):
-                vdbs.Grid("i32", limit=limit)
+                scenefile.Grid("i32", limit=limit)
 
     def test_metadata(self):
-        grid = vdbs.Grid("bool", metadata={"b": "2", "a": "1"})
+        grid = scenefile.Grid("bool", metadata={"b": "2", "a": "1"})
         self.assertEqual(list(grid.metadata.items()), [("a", "1"), ("b", "2")])
         for key, text in (("A", "x"), ("", "x"), ("a" * 17, "x"), ("a", ""), ("a", "x y"), ("a", "x" * 65), ("a", "é"), ("a\n", "x")):
             with self.assertRaises(ValueError, msg=(key, text)):
@@ -214,7 +214,7 @@ class Forms(unittest.TestCase):
         self.assertEqual(dict(through_file(grid).metadata), dict(grid.metadata))
 
     def test_bounds(self):
-        grid = vdbs.Grid("i32")
+        grid = scenefile.Grid("i32")
         for bounds, error in ((((1, 0, 0), (0, 0, 0)), ValueError), (((0, 0), (1, 1, 1)), TypeError), (((0, 0, 0), (0, 0, 0.5)), TypeError)):
             with self.assertRaises(error):
                 grid.to_array(bounds)

@@ -1,5 +1,5 @@
 # SPDX-License-Identifier: Apache-2.0
-"""The package vdb over libvdb, against brute force and against vdbs."""
+"""Grids and scenes of the engine, against brute force and against scenefile."""
 import copy
 import os
 import tempfile
@@ -7,12 +7,10 @@ import unittest
 from pathlib import Path
 from unittest import mock
 
-from .support import DTYPES, EXTREMES, boxes, chance, np, random_array, vdbs
+from .support import DTYPES, EXTREMES, boxes, cell, chance, library_missing, np, random_array, scenefile, vdb
 
-try:
-    import vdb
-except ImportError as error:
-    raise unittest.SkipTest(str(error)) from error
+if library_missing():
+    raise unittest.SkipTest(library_missing())
 
 MOST = 2**31 - 1
 
@@ -113,7 +111,7 @@ class Many(unittest.TestCase):
     def test_one_value_for_all(self):
         grid = vdb.Grid("i32", 4)
         grid.set_many(np.array([[0, 0, 0], [1, 2, 3]]), 7, False)
-        self.assertEqual((grid[0, 0, 0], grid[1, 2, 3], grid[0, 0, 1]), ((7, False), (7, False), (4, False)))
+        self.assertEqual((cell(grid, (0, 0, 0)), cell(grid, (1, 2, 3)), cell(grid, (0, 0, 1))), ((7, False), (7, False), (4, False)))
 
     def test_errors(self):
         grid = vdb.Grid("i32", limit=1)
@@ -125,7 +123,7 @@ class Many(unittest.TestCase):
         self.assertEqual(grid.count, 0)
         with self.assertRaises(vdb.RootLimitError):
             grid.set_many(np.array([[0, 0, 0], [0, 0, 4096], [0, 0, 1]]), 1)
-        self.assertEqual((grid.count, grid[0, 0, 0]), (1, (1, True)))
+        self.assertEqual((grid.count, cell(grid, (0, 0, 0))), (1, (1, True)))
 
 
 class Boxes(unittest.TestCase):
@@ -156,7 +154,7 @@ class Boxes(unittest.TestCase):
         grid = vdb.Grid("i32", 5)
         self.assertEqual((grid.leaf_count, list(grid.leaves())), (0, []))
         for number in range(600):
-            grid[number * 8 - 2400, -3, 2**31 - 1] = number + 6, number % 3 == 0
+            grid.set_many([[number * 8 - 2400, -3, 2**31 - 1]], number + 6, number % 3 == 0)
         self.assertEqual(grid.leaf_count, 600)
         for number, (at, values, states) in enumerate(sorted(grid.leaves(), key=lambda leaf: leaf[0])):
             self.assertEqual((at, values.shape, values.dtype), ((number * 8 - 2400, -8, 2**31 - 8), (8, 8, 8), np.int32))
@@ -167,17 +165,17 @@ class Boxes(unittest.TestCase):
 class Calls(unittest.TestCase):
     def test_voxels(self):
         grid = vdb.Grid("i32", -1, limit=3)
-        self.assertEqual((grid.kind, grid.background, grid.limit, grid[1, 2, 3]), ("i32", -1, 3, (-1, False)))
+        self.assertEqual((grid.kind, grid.background, grid.limit, cell(grid, (1, 2, 3))), ("i32", -1, 3, (-1, False)))
         grid[1, 2, 3] = 5
-        grid[1, 2, 4] = 6, False
+        grid.set_many([[1, 2, 4]], 6, False)
         grid.set_active((1, 2, 5), True)
         grid.set_value((1, 2, 3), np.int32(7))
-        self.assertEqual([grid[1, 2, z] for z in (3, 4, 5)], [(7, True), (6, False), (-1, True)])
+        self.assertEqual([cell(grid, (1, 2, z)) for z in (3, 4, 5)], [(7, True), (6, False), (-1, True)])
         self.assertEqual(list(grid.voxels()), [((1, 2, 3), 7), ((1, 2, 5), -1)])
         self.assertEqual(list(grid.voxels(((1, 2, 4), (1, 2, 9)))), [((1, 2, 5), -1)])
         flags = vdb.Grid("bool")
         flags[0, 0, -1] = True
-        self.assertEqual((flags[0, 0, -1], flags.count), ((True, True), 1))
+        self.assertEqual((cell(flags, (0, 0, -1)), flags.count), ((True, True), 1))
 
     def test_boxes(self):
         grid = vdb.Grid("i64")
@@ -241,16 +239,16 @@ class Calls(unittest.TestCase):
         small = vdb.Grid("i32")
         small[0, 0, 0] = 4
         small.sum(small)
-        self.assertEqual(small[0, 0, 0], (8, True))
+        self.assertEqual(cell(small, (0, 0, 0)), (8, True))
         small -= small
-        self.assertEqual(small[0, 0, 0], (8, False))
+        self.assertEqual(cell(small, (0, 0, 0)), (8, False))
 
     def test_copies_are_independent(self):
         grid = vdb.Grid("i32", metadata={"unit": "mm"})
         for other in (grid.copy(), copy.copy(grid), copy.deepcopy(grid)):
             other[0, 0, 0] = 5
             other.metadata["unit"] = "cm"
-            self.assertEqual((grid[0, 0, 0], grid.metadata["unit"], other[0, 0, 0]), ((0, False), "mm", (5, True)))
+            self.assertEqual((cell(grid, (0, 0, 0)), grid.metadata["unit"], cell(other, (0, 0, 0))), ((0, False), "mm", (5, True)))
 
     def test_errors_name_the_reason_and_change_nothing(self):
         grid = vdb.Grid("i32", limit=1)
@@ -275,36 +273,36 @@ class Calls(unittest.TestCase):
         ):
             with self.subTest(text), self.assertRaisesRegex(error, text):
                 call()
-            self.assertEqual((grid.count, grid[0, 0, 0]), (1, (MOST, True)))
+            self.assertEqual((grid.count, cell(grid, (0, 0, 0))), (1, (MOST, True)))
 
 
 class Scenes(unittest.TestCase):
-    def test_the_files_are_those_of_vdbs(self):
+    def test_the_files_are_those_of_scenefile(self):
         for seed in range(20):
             with self.subTest(seed=seed):
                 dice = chance(seed)
-                scene, other = vdb.Scene(), vdbs.Scene()
+                scene, other = vdb.Scene(), scenefile.Scene()
                 for name in ("organ", "a_1"):
                     values, active, low, grid = random_grid(dice)
                     grid.metadata = {"unit": "mm", "by": name}
                     scene[name] = grid
-                    other[name] = vdbs.Grid.from_array(values, active, low, grid.background, grid.limit, grid.metadata)
+                    other[name] = scenefile.Grid.from_array(values, active, low, grid.background, grid.limit, grid.metadata)
                 encoding = other.to_bytes()
                 self.assertEqual(scene.to_bytes(), encoding)
                 loaded = vdb.loads(encoding)
                 self.assertEqual((loaded.to_bytes(), list(loaded)), (encoding, ["a_1", "organ"]))
                 self.assertEqual(dict(loaded["organ"].metadata), {"unit": "mm", "by": "organ"})
 
-    def test_the_first_fault_is_that_of_vdbs(self):
+    def test_the_first_fault_is_that_of_scenefile(self):
         values = np.zeros((3, 3, 3), np.int32)
         values[1, 1] = 5
-        encoding = vdbs.Scene({"a": vdbs.Grid.from_array(values, metadata={"unit": "mm"})}).to_bytes()
+        encoding = scenefile.Scene({"a": scenefile.Grid.from_array(values, metadata={"unit": "mm"})}).to_bytes()
         files = [encoding[:at] for at in range(len(encoding))] + [encoding + b"\0"]
         files += [encoding[:at] + bytes([255 - encoding[at]]) + encoding[at + 1 :] for at in range(len(encoding))]
         for data in files:
             try:
-                wanted = vdbs.loads(data).to_bytes()
-            except vdbs.FormatError as fault:
+                wanted = scenefile.loads(data).to_bytes()
+            except vdb.FormatError as fault:
                 wanted = fault.fault
             try:
                 found = vdb.loads(data).to_bytes()
@@ -332,10 +330,10 @@ class Scenes(unittest.TestCase):
         self.assertEqual((list(scene), len(scene), "a" in scene), (["a", "b"], 2, True))
         del scene["a"]
         self.assertEqual(list(vdb.loads(scene.to_bytes())), ["b"])
-        for name, grid in (("A", vdb.Grid("i32")), ("a" * 17, vdb.Grid("i32")), ("a", vdbs.Grid("i32"))):
+        for name, grid in (("A", vdb.Grid("i32")), ("a" * 17, vdb.Grid("i32")), ("a", scenefile.Grid("i32"))):
             with self.assertRaises((TypeError, ValueError)):
                 scene[name] = grid
         with self.assertRaises(KeyError):
             scene["a"]
         scene["b"][0, 0, 0] = 5
-        self.assertEqual(vdb.loads(scene.to_bytes())["b"][0, 0, 0], (5, True))
+        self.assertEqual(cell(vdb.loads(scene.to_bytes())["b"], (0, 0, 0)), (5, True))

@@ -7,7 +7,7 @@ import unittest
 from pathlib import Path
 from unittest import mock
 
-from .support import chance, encoding, made_by_program, needs_program, np, play, vdbs
+from .support import chance, encoding, made_by_program, needs_program, np, play, scenefile, vdb
 
 from random_scripts import Script
 
@@ -20,24 +20,24 @@ SECONDS = 15
 
 class Scenes(unittest.TestCase):
     def test_mapping(self):
-        scene = vdbs.Scene({"b": vdbs.Grid("i32"), "a": vdbs.Grid("bool")})
+        scene = scenefile.Scene({"b": scenefile.Grid("i32"), "a": scenefile.Grid("bool")})
         self.assertEqual((list(scene), len(scene), "a" in scene), (["a", "b"], 2, True))
         del scene["a"]
-        self.assertEqual(list(vdbs.loads(scene.to_bytes())), ["b"])
+        self.assertEqual(list(scenefile.loads(scene.to_bytes())), ["b"])
         for name in ("", "A", "a" * 17, "a b", "é", "a\n", "1"):
             with self.assertRaises(ValueError, msg=name):
-                scene[name] = vdbs.Grid("i32")
-        for name, grid in ((5, vdbs.Grid("i32")), ("a", np.zeros((1, 1, 1)))):
+                scene[name] = scenefile.Grid("i32")
+        for name, grid in ((5, scenefile.Grid("i32")), ("a", np.zeros((1, 1, 1)))):
             with self.assertRaises(TypeError):
                 scene[name] = grid
         for at in range(63):
-            scene[f"g{at}"] = vdbs.Grid("i64", -1)
+            scene[f"g{at}"] = scenefile.Grid("i64", -1)
         with self.assertRaises(ValueError):
-            scene["z"] = vdbs.Grid("i32")
-        self.assertEqual(list(vdbs.loads(scene.to_bytes())), list(scene))
+            scene["z"] = scenefile.Grid("i32")
+        self.assertEqual(list(scenefile.loads(scene.to_bytes())), list(scene))
 
     def test_save(self):
-        scene = vdbs.Scene({"a": vdbs.Grid.from_array(np.ones((3, 3, 3), np.int32))})
+        scene = scenefile.Scene({"a": scenefile.Grid.from_array(np.ones((3, 3, 3), np.int32))})
         with tempfile.TemporaryDirectory() as folder:
             path = Path(folder) / "a.vdbs"
             path.write_bytes(b"old")
@@ -45,16 +45,16 @@ class Scenes(unittest.TestCase):
             os.symlink(path, f"{folder}/link")
             scene.save(f"{folder}/link")
             self.assertEqual((path.read_bytes(), path.stat().st_mode & 0o777), (scene.to_bytes(), 0o640))
-            self.assertEqual(vdbs.load(path).to_bytes(), scene.to_bytes())
+            self.assertEqual(scenefile.load(path).to_bytes(), scene.to_bytes())
             self.assertEqual(sorted(os.listdir(folder)), ["a.vdbs", "link"])
 
     def test_failed_save(self):
         """After a fault the old file stays, and no temporary one."""
-        scene = vdbs.Scene({"a": vdbs.Grid.from_array(np.ones((3, 3, 3), np.int32))})
+        scene = scenefile.Scene({"a": scenefile.Grid.from_array(np.ones((3, 3, 3), np.int32))})
         with tempfile.TemporaryDirectory() as folder:
             path = Path(folder) / "a.vdbs"
             path.write_bytes(b"old")
-            with mock.patch("vdbs.scene.MAX_FILE", 50), self.assertRaises(vdbs.SceneTooLongError):
+            with mock.patch("vdb.scenefile.scene.MAX_FILE", 50), self.assertRaises(vdb.SceneTooLongError):
                 scene.save(path)
             with mock.patch("os.replace", side_effect=OSError("no")), self.assertRaises(OSError):
                 scene.save(path)
@@ -66,21 +66,21 @@ class Scenes(unittest.TestCase):
         with tempfile.TemporaryDirectory() as folder:
             path = f"{folder}/bad.vdbs"
             Path(path).write_bytes(b"VDBS\0\2\0\1\1A")
-            with self.assertRaises(vdbs.NameFault) as caught:
-                vdbs.load(path)
+            with self.assertRaises(vdb.NameFault) as caught:
+                scenefile.load(path)
             self.assertEqual((caught.exception.path, caught.exception.offset), (path, 9))
             self.assertTrue(str(caught.exception).startswith(f"{path}: byte 9: name: "))
             with self.assertRaises(FileNotFoundError):
-                vdbs.load(f"{folder}/none")
+                scenefile.load(f"{folder}/none")
 
     def test_sparse_file(self):
         """A file far above the limit: read no further than a byte past it."""
         with tempfile.TemporaryDirectory() as folder:
             path = f"{folder}/large.vdbs"
-            Path(path).write_bytes(vdbs.Scene().to_bytes())
+            Path(path).write_bytes(scenefile.Scene().to_bytes())
             os.truncate(path, 2**40)
-            with self.assertRaises(vdbs.TrailingFault) as caught:
-                vdbs.load(path)
+            with self.assertRaises(vdb.TrailingFault) as caught:
+                scenefile.load(path)
             self.assertEqual(caught.exception.offset, 8)
 
 
@@ -96,7 +96,7 @@ class Program(unittest.TestCase):
             lines = [line for line in maker.lines(maker.chance.randint(5, 25)) if not line.startswith(SLOW)]
             asked = [f"{word} {name} all" if word == "count" else f"{word} {name}" for name in "abcd" for word in ("count", "bounds")]
             data, answers = made_by_program("".join(f"{line}\n" for line in [*lines, *asked]).encode())
-            scene = vdbs.loads(data)
+            scene = scenefile.loads(data)
             self.assertEqual(scene.to_bytes(), data, seed)
             for line, answer in zip(asked, answers.splitlines()[-len(asked) :]):
                 word, name = line.split()[:2]
@@ -116,9 +116,9 @@ class Program(unittest.TestCase):
         values = np.zeros((13, 11, 12), np.int32)
         values[3:12, 2:10, 1:9] = 6
         values[4, 4, 4] = -7
-        grid = vdbs.Grid.from_array(values, origin=(-4, -130, 4088), limit=9, metadata={"unit": "mm"})
+        grid = scenefile.Grid.from_array(values, origin=(-4, -130, 4088), limit=9, metadata={"unit": "mm"})
         with tempfile.TemporaryDirectory() as folder:
-            vdbs.Scene({"a": grid}).save(f"{folder}/a.vdbs")
+            scenefile.Scene({"a": grid}).save(f"{folder}/a.vdbs")
             data = Path(f"{folder}/a.vdbs").read_bytes()
             self.assertEqual(encoding.verdict(data), data)
             script = b"count a all\nget a - 0 -126 4092\nmetas a\n"

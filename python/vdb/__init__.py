@@ -1,22 +1,26 @@
 # SPDX-License-Identifier: Apache-2.0
-"""Sparse voxel grids of the proved engine, from NumPy arrays and back.
+"""Sparse voxel grids of booleans and integers, from NumPy arrays and back.
 
     import vdb
     labels = vdb.load("labels.vdbs")["labels"]
     margin = vdb.Grid.from_array(array == 3)
     margin.dilate(2)
     margin -= labels
+    values = margin[0:64, 0:64, 30]
 
-The package calls the shared library libvdb, which tools/build-libvdb of the repository builds. Unlike those of `vdbs`, its grids change.
-Coordinates are voxels; array axes are x, y, z.
+`vdb.Grid` and `vdb.Scene` call the engine by the shared library libvdb, which tools/build-libvdb of the repository builds; without it they raise
+ImportError. `vdb.scenefile` reads and writes scene files without it, by classes of the same names, whose voxels don't change.
+Coordinates are voxels; array axes are x, y, z. All errors are `VdbError`.
 """
-from vdbs.errors import ArrayTooLargeError
-from vdbs.forms import Metadata
-
-from . import errors
+from . import errors, scenefile
+from .blocks import Boxes, Labels
 from .errors import *  # noqa: F401,F403
+from .forms import Leaf, Metadata
 from .grid import Census, Grid
 from .scene import Scene, load, loads
+from .view import View
 
 __version__ = "1.1.0"
-__all__ = ["load", "loads", "Scene", "Grid", "Census", "Metadata", "ArrayTooLargeError", "__version__", *errors.__all__]
+__all__ = [
+    "load", "loads", "Scene", "Grid", "View", "Census", "Boxes", "Labels", "Leaf", "Metadata", "scenefile", "__version__", *errors.__all__,
+]  # fmt: skip

@@ -1,18 +1,18 @@
 # SPDX-License-Identifier: Apache-2.0
-"""Grids of dense arrays, and dense arrays of grids."""
+"""Arrays that cross to and from a handle of a grid or a view: voxels by coordinates, and boxes slab by slab."""
 from __future__ import annotations
 
 from ctypes import byref, c_size_t
 from typing import Iterator, Sequence
 
 import numpy as np
-from vdbs.forms import COORDINATE_SPAN, check_limit
-from vdbs.grid import checked_arrays
 
-from .library import BUFFER, COORD, I64, LIBRARY, U64, Box, Coord, GridHandle, Strides
+from .errors import RangeError
+from .forms import KINDS, Array, Kind, Value, check_limit, narrow
+from .library import BUFFER, COORD, I64, Box, Coord, GridHandle, Held, Strides
 
-#: How many voxels of a dense array cross at a time, about; how many leaves do; the accessor of calls on many voxels.
-SLAB, LEAVES, ACCESSOR = 2**21, 256, 0
+#: How many voxels of a dense array cross at a time, about, and the accessor of calls on many voxels.
+SLAB, ACCESSOR = 2**21, 0
 
 
 def box_of(low: Sequence[int], high: Sequence[int]) -> Box:
@@ -24,111 +24,94 @@ def slabs(low: int, shape: Sequence[int]) -> "Iterator[tuple[int, int]]":
     """Yields the first index along x of each slab of an array, and the one after its last. Slabs end between leaves."""
     thick = max(1, SLAB // max(1, shape[1] * shape[2]) // 8) * 8
     first = 0
-    while first < shape[0]:
+    while first < shape[0] and min(shape) > 0:
         end = min(shape[0], first + thick - (low + first) % 8)
         yield first, end
         first = end
 
 
-def voxels_of(at: np.ndarray) -> np.ndarray:
-    """Returns coordinates, an array of integers of shape (n, 3), as the library takes them."""
-    at = np.asarray(at)
-    if at.dtype.kind not in "iu":
-        raise TypeError(f"coordinates have the dtype {at.dtype}, not one of integers")
-    if at.ndim != 2 or at.shape[1] != 3:
-        raise ValueError(f"coordinates have the shape {at.shape}, not (n, 3)")
-    if at.size and not -COORDINATE_SPAN <= at.min() <= at.max() < COORDINATE_SPAN:
-        raise ValueError("a coordinate is outside -2,147,483,648 to 2,147,483,647")
-    return np.ascontiguousarray(at, np.int32)
+def coordinates_of(at: Array) -> np.ndarray:
+    """Returns coordinates, integers of shape (n, 3), as the library takes them. Raises DtypeError or RangeError for others."""
+    given = KINDS["i32"].array(at, "coordinate")
+    if given.ndim != 2 or given.shape[1] != 3:
+        raise RangeError(f"coordinates have the shape {given.shape}, not (n, 3)")
+    return np.ascontiguousarray(given)
 
 
-def given(numbers: np.ndarray, states: np.ndarray) -> tuple:
-    """Returns the arguments for an array of values and one of states (bool), both contiguous."""
+def pointers(numbers: np.ndarray, states: np.ndarray) -> tuple:
+    """Returns the arguments for an array of values (int64) and one of states (bool), both contiguous. An empty one is left out."""
     return numbers.ctypes.data_as(I64), numbers.size, states.view(np.uint8).ctypes.data_as(BUFFER), states.size
 
 
-def read_voxels(grid: GridHandle, at: np.ndarray, dtype: np.dtype) -> "tuple[np.ndarray, np.ndarray]":
+def read_voxels(held: Held, kind: Kind, at: Array) -> "tuple[np.ndarray, np.ndarray]":
     """Returns the values and the states of voxels."""
-    at = voxels_of(at)
+    at = coordinates_of(at)
     numbers, states = np.empty(len(at), np.int64), np.empty(len(at), np.bool_)
-    LIBRARY.vdb_grid_get_many(grid, ACCESSOR, at.ctypes.data_as(COORD), len(at), *given(numbers, states))
-    return numbers.astype(dtype, copy=False), states
+    accessor = (ACCESSOR,) if isinstance(held.handle, GridHandle) else ()
+    held.call("get_many", *accessor, at.ctypes.data_as(COORD), len(at), *pointers(numbers, states))
+    return numbers.astype(kind.dtype, copy=False), states
 
 
-def write_voxels(grid: GridHandle, at: np.ndarray, values: "np.ndarray | bool | int", active: "np.ndarray | bool") -> None:
+def write_voxels(held: Held, at: np.ndarray, numbers: np.ndarray, states: np.ndarray) -> None:
     """Sets the values and the states of voxels, one after another."""
-    at = voxels_of(at)
-    numbers, states = (np.ascontiguousarray(np.broadcast_to(part, len(at)), dtype) for part, dtype in ((values, np.int64), (active, np.bool_)))
-    LIBRARY.vdb_grid_write_many(grid, ACCESSOR, at.ctypes.data_as(COORD), len(at), *given(numbers, states), byref(c_size_t()))
+    parts = np.ascontiguousarray(numbers, np.int64), np.ascontiguousarray(states)
+    held.call("write_many", ACCESSOR, at.ctypes.data_as(COORD), len(at), *pointers(*parts), byref(c_size_t()))
 
 
-def read_leaves(grid: GridHandle, dtype: np.dtype) -> "Iterator[tuple[tuple[int, int, int], np.ndarray, np.ndarray]]":
-    """Yields the least corner of each leaf, in block order, with its values and its states, both of shape (8, 8, 8)."""
-    origins, words, copied = np.empty((LEAVES, 3), np.int32), np.empty((LEAVES, 8), np.uint64), c_size_t()
-    call, after = LIBRARY.vdb_grid_first_leaves, ()
-    while True:
-        numbers = np.empty((LEAVES, 8, 8, 8), np.int64)
-        room = origins.ctypes.data_as(COORD), LEAVES, numbers.ctypes.data_as(I64), numbers.size, words.ctypes.data_as(U64), words.size
-        call(grid, *after, *room, byref(copied))
-        if not copied.value:
-            return
-        found = [tuple(at) for at in origins[: copied.value].tolist()]
-        values = numbers[: copied.value].astype(dtype, copy=False)
-        states = np.unpackbits(words[: copied.value].astype("<u8").view(np.uint8), bitorder="little").view(np.bool_).reshape(-1, 8, 8, 8)
-        yield from zip(found, values, states)
-        call, after = LIBRARY.vdb_grid_next_leaves, found[-1]
+def slab_of(low: Sequence[int], first: int, shape: "tuple[int, ...]") -> tuple:
+    """Returns the arguments for the box and the strides of a slab of this shape that begins `first` voxels past the least corner."""
+    side_x, side_y, side_z = shape
+    x, y, z = low[0] + first, low[1], low[2]
+    return byref(box_of((x, y, z), (x + side_x - 1, y + side_y - 1, z + side_z - 1))), byref(Strides(side_y * side_z, side_z, 1))
 
 
-def write_box(grid: GridHandle, low: Sequence[int], values: np.ndarray, active: "np.ndarray | bool") -> None:
-    """Sets the values and the states of a box of voxels, slab by slab."""
-    states = np.broadcast_to(np.asarray(active, np.bool_), values.shape)
-    for first, end in slabs(low[0], values.shape) if values.size else ():
-        part, on = np.ascontiguousarray(values[first:end], np.int64), np.ascontiguousarray(states[first:end])
-        LIBRARY.vdb_grid_write_box(grid, ACCESSOR, *arguments(low, first, part, on), byref(c_size_t()))
+def read_box(held: Held, low: Sequence[int], values: "np.ndarray | None", active: "np.ndarray | None", fill: "Value | None") -> None:
+    """Writes a box of voxels to dense arrays of one shape. With `fill`, inactive voxels have that value. Either array may be left out.
+
+    Raises RangeError, after the slabs before it, if the dtype of `values` holds a value of a slab neither safely nor in fact.
+    """
+    some = values if values is not None else active
+    assert some is not None
+    for first, end in slabs(low[0], some.shape):
+        shape = (end - first, *some.shape[1:])
+        part = None if values is None else values[first:end]
+        direct = part is not None and part.dtype == np.int64 and part.flags.c_contiguous
+        numbers = part if part is not None and direct else np.empty(0 if part is None else shape, np.int64)
+        states = np.empty(shape if active is not None or fill is not None else 0, np.bool_)
+        held.call("read_box", *slab_of(low, first, shape), *pointers(numbers, states))
+        if fill is not None and part is not None:
+            numbers[~states] = fill
+        if part is not None and not direct:
+            narrow(numbers, part)
+        if active is not None:
+            active[first:end] = states
 
 
-def arguments(low: Sequence[int], first: int, numbers: np.ndarray, states: np.ndarray) -> tuple:
-    """Returns the arguments of a call on a slab: its box, its strides and its arrays, which are contiguous."""
-    side_x, side_y, side_z = numbers.shape
-    box = box_of((low[0] + first, low[1], low[2]), (low[0] + first + side_x - 1, low[1] + side_y - 1, low[2] + side_z - 1))
-    strides = Strides(side_y * side_z, side_z, 1)
-    return byref(box), byref(strides), *given(numbers, states)
+def write_box(held: Held, low: Sequence[int], values: "np.ndarray | None", active: "np.ndarray | None") -> None:
+    """Sets the values, the states or both of a box of voxels, slab by slab. An array that is left out is kept."""
+    some = values if values is not None else active
+    assert some is not None
+    for first, end in slabs(low[0], some.shape):
+        numbers = np.empty(0, np.int64) if values is None else np.ascontiguousarray(values[first:end], np.int64)
+        states = np.empty(0, np.bool_) if active is None else np.ascontiguousarray(active[first:end])
+        place = slab_of(low, first, (end - first, *some.shape[1:]))
+        held.call("write_box", ACCESSOR, *place, *pointers(numbers, states), byref(c_size_t()))
 
 
-def write_array(
-    values: np.ndarray, active: "np.ndarray | None", origin: Sequence[int], background: "bool | int | None", limit: int
-) -> GridHandle:
-    """Returns a new grid of dense arrays, as vdbs.Grid.from_array makes it."""
-    kind, values, active, low = checked_arrays(values, active, origin)
-    background = 0 if background is None else kind.check(background, "background")
-    grid = GridHandle()
-    LIBRARY.vdb_grid_new(grid, kind.number, background, check_limit(limit))
-    try:
-        for first, end in slabs(low[0], values.shape) if values.size else ():
-            part = values[first:end]
-            states = part != background if active is None else active[first:end]
-            at = np.argwhere(part != background if active is None else states | (part != background))
-            write_voxels(grid, at + (low[0] + first, low[1], low[2]), part[tuple(at.T)], states[tuple(at.T)])
-        LIBRARY.vdb_grid_prune(grid)
-    except BaseException:
-        LIBRARY.vdb_grid_free(grid)
-        raise
-    return grid
+def new_grid(kind: Kind, background: "Value | None", limit: int) -> Held:
+    """Returns a grid that was never written. Raises DtypeError or RangeError for a wrong background or limit."""
+    held = Held()
+    held.call("new", kind.number, 0 if background is None else kind.check(background, "background"), check_limit(limit))
+    return held
 
 
-def read_array(
-    grid: GridHandle, bounds: "Sequence[Sequence[int]]", dtype: np.dtype, fill: "bool | int | None"
-) -> "tuple[np.ndarray, np.ndarray]":
-    """Returns dense arrays of a box of a grid, as vdbs.Grid.to_array does."""
-    low, high = bounds
-    shape = tuple(last - first + 1 for first, last in zip(low, high))
-    values, active = np.empty(shape, dtype), np.empty(shape, np.bool_)
-    for first, end in slabs(low[0], shape):
-        part, states = values[first:end], active[first:end]
-        numbers = part if dtype == np.int64 else np.empty(part.shape, np.int64)
-        LIBRARY.vdb_grid_read_box(grid, *arguments(low, first, numbers, states))
-        if numbers is not part:
-            part[...] = numbers
-        if fill is not None:
-            part[~states] = fill
-    return values, active
+def from_dense(held: Held, low: Sequence[int], values: np.ndarray, active: "np.ndarray | None", background: Value) -> None:
+    """Writes dense arrays to an empty grid: what is active, or differs from the background."""
+    for first, end in slabs(low[0], values.shape):
+        part = values[first:end]
+        differs = part != background
+        states = differs if active is None else active[first:end]
+        at = np.argwhere(differs | states)
+        places = tuple(at.T)
+        write_voxels(held, coordinates_of(at + (low[0] + first, low[1], low[2])), part[places], states[places])
+    held.call("prune")

@@ -3,77 +3,104 @@
 from __future__ import annotations
 
 from ctypes import byref, c_uint8, c_uint64, create_string_buffer
-from typing import Mapping
+from typing import Mapping, Sequence
 
-from vdbs.forms import MAX_FILE, MAX_NAME, MAX_TEXT
+from .arrays import box_of
+from .errors import SceneTooLongError
+from .forms import COORDINATE_SPAN, MAX_FILE, MAX_NAME, MAX_TEXT
+from .library import Held, SceneHandle
 
-from .errors import error_of
-from .library import LIBRARY, GridHandle, SceneHandle
-
-TOO_LONG = 35
+NAME = b"a"
+EVERYWHERE = ((-COORDINATE_SPAN,) * 3, (COORDINATE_SPAN - 1,) * 3)
 
 
 class Encoded:
-    """A scene of the library, which is freed at the end of a `with` block."""
+    """A scene of the library."""
 
     def __init__(self, data: "bytes | None" = None) -> None:
         """Makes a scene without grids, or that of the bytes of a scene file."""
-        self.scene = SceneHandle()
+        self.scene = Held(SceneHandle)
         if data is None:
-            LIBRARY.vdb_scene_new(self.scene)
+            self.scene.call("new")
         else:
-            LIBRARY.vdb_scene_load(self.scene, (c_uint8 * max(1, len(data))).from_buffer_copy(data or b"\0"), len(data))
+            self.scene.call("load", (c_uint8 * max(1, len(data))).from_buffer_copy(data or b"\0"), len(data))
 
-    def __enter__(self) -> "Encoded":
-        return self
-
-    def __exit__(self, *_: object) -> None:
-        LIBRARY.vdb_scene_free(self.scene)
+    def length(self) -> int:
+        """Returns how many bytes the scene file would have."""
+        length = c_uint64()
+        self.scene.call("length", byref(length))
+        return length.value
 
     def to_bytes(self) -> bytes:
-        """Returns the bytes of the scene file."""
-        length = c_uint64()
-        LIBRARY.vdb_scene_length(self.scene, byref(length))
-        if length.value > MAX_FILE:
-            raise error_of(TOO_LONG)
-        buffer = (c_uint8 * length.value)()
-        LIBRARY.vdb_scene_save(self.scene, buffer, len(buffer), byref(length))
+        """Returns the bytes of the scene file. Raises SceneTooLongError if a file can't have as many."""
+        length = self.length()
+        if length > MAX_FILE:
+            raise SceneTooLongError(length, MAX_FILE)
+        buffer = (c_uint8 * length)()
+        self.scene.call("save", buffer, length, byref(c_uint64()))
         return bytes(buffer)
 
     def names(self) -> "list[bytes]":
         count, used, buffer = c_uint64(), c_uint64(), create_string_buffer(MAX_NAME)
-        LIBRARY.vdb_scene_count(self.scene, byref(count))
+        self.scene.call("count", byref(count))
         names = []
         for index in range(count.value):
-            LIBRARY.vdb_scene_name(self.scene, index, buffer, len(buffer), byref(used))
+            self.scene.call("name", index, buffer, len(buffer), byref(used))
             names.append(buffer.raw[: used.value])
         return names
 
-    def put(self, name: bytes, grid: GridHandle, pairs: Mapping[str, str]) -> None:
+    def put(self, name: bytes, grid: Held, pairs: "Mapping[str, str]") -> None:
         """Puts a copy of a grid, with metadata, into the scene."""
-        copy = GridHandle()
-        LIBRARY.vdb_grid_copy(grid, copy)
-        try:
-            LIBRARY.vdb_scene_put(self.scene, name, len(name), copy)
-        finally:
-            LIBRARY.vdb_grid_free(copy)
+        copy = Held()
+        grid.call_with("copy", copy)
+        self.scene.call_with("put", copy, name, len(name))
         for key, text in pairs.items():
-            LIBRARY.vdb_scene_meta_set(self.scene, name, len(name), key.encode(), len(key), text.encode(), len(text))
+            self.scene.call("meta_set", name, len(name), key.encode(), len(key), text.encode(), len(text))
 
-    def take(self, name: bytes) -> GridHandle:
+    def take(self, name: bytes) -> Held:
         """Moves a grid out of the scene."""
-        grid = GridHandle()
-        LIBRARY.vdb_scene_take(self.scene, name, len(name), grid)
+        grid = Held()
+        self.scene.call_with("take", grid, name, len(name))
         return grid
 
     def metadata(self, name: bytes) -> "dict[str, str]":
         count, used = c_uint64(), c_uint64()
         key, text = create_string_buffer(MAX_NAME), create_string_buffer(MAX_TEXT)
-        LIBRARY.vdb_scene_meta_count(self.scene, name, len(name), byref(count))
+        self.scene.call("meta_count", name, len(name), byref(count))
         pairs = {}
         for index in range(count.value):
-            LIBRARY.vdb_scene_meta_key(self.scene, name, len(name), index, key, len(key), byref(used))
+            self.scene.call("meta_key", name, len(name), index, key, len(key), byref(used))
             found = key.raw[: used.value].decode()
-            LIBRARY.vdb_scene_meta_text(self.scene, name, len(name), index, text, len(text), byref(used))
+            self.scene.call("meta_text", name, len(name), index, text, len(text), byref(used))
             pairs[found] = text.raw[: used.value].decode()
         return pairs
+
+
+def same_cells(first: Held, second: Held, head: int, box: "Sequence[Sequence[int]]" = EVERYWHERE) -> bool:
+    """Returns whether two grids of one type and background have the same cells. The first `head` bytes of a grid's file tell none.
+
+    A grid has one encoding. Where it is too long for a file, the halves of the box are compared.
+    """
+    scenes = []
+    for grid in (first, second):
+        scenes.append(Encoded())
+        scenes[-1].put(NAME, grid, {})
+    one, two = scenes
+    if one.length() != two.length():
+        return False
+    if one.length() <= MAX_FILE:
+        return one.to_bytes()[head:] == two.to_bytes()[head:]
+    del one, two, scenes
+    low, high = box
+    axis = max(range(3), key=lambda axis: high[axis] - low[axis])
+    middle = (low[axis] + high[axis]) // 2
+    halves = (low, (*high[:axis], middle, *high[axis + 1 :])), ((*low[:axis], middle + 1, *low[axis + 1 :]), high)
+    return all(same_cells(clipped(first, half), clipped(second, half), head, half) for half in halves)
+
+
+def clipped(grid: Held, box: "Sequence[Sequence[int]]") -> Held:
+    """Returns a copy of the part of a grid in a box."""
+    copy = Held()
+    grid.call_with("copy", copy)
+    copy.call("clip", box_of(*box))
+    return copy

@@ -1,35 +1,68 @@
 # SPDX-License-Identifier: Apache-2.0
-"""The errors of the package: a class for the codes of libvdb that a caller may handle. Code 2 is Python's MemoryError."""
+"""The errors of the package. Each is a `VdbError`, and also of the built-in class of its kind.
+
+A call that fails has changed nothing, unless its documentation says otherwise.
+"""
 from __future__ import annotations
 
-__all__ = ["VdbError", "EmptyError", "RangeError", "RootLimitError", "SumRangeError", "KindsError", "FormatError"]
-
-MEMORY = 2
-FIRST_FAULT = 20
+__all__ = [
+    "VdbError", "DtypeError", "RangeError", "TextError", "LimitError", "MissingError", "EmptyError", "OutOfMemoryError",
+    "RootLimitError", "SumRangeError", "KindsError", "ArrayTooLargeError", "SceneTooLongError", "FileError", "MissingFileError",
+    "ForbiddenFileError", "FormatError", "MagicFault", "VersionFault", "TruncatedFault", "NameFault", "KindFault", "ValueFault",
+    "LimitFault", "MetaFault", "KeyFault", "RootLimitFault", "TagFault", "IndexFault", "BackgroundFault", "ConstantNodeFault",
+    "TrailingFault", "TooLongFault", "FAULTS",
+]  # fmt: skip
 
 
 class VdbError(Exception):
-    """A call of libvdb failed, and changed nothing unless it was `Grid.set_many`. `code` is its code in vdb.h, `reason` its text."""
+    """Base of every error that the package raises, but for errors of Python itself.
 
-    def __init__(self, code: int, reason: str) -> None:
-        super().__init__(code, reason)
-        self.code = code
-        self.reason = reason
+    `code` is the code of libvdb in vdb.h, or None if the library wasn't asked.
+    """
 
-    def __str__(self) -> str:
-        return self.reason
+    code: "int | None" = None
 
 
-class EmptyError(VdbError):
-    """The handle is empty."""
+class DtypeError(VdbError, TypeError):
+    """An argument has another type, or an array a dtype that doesn't convert safely. The text names the argument and a value."""
 
 
 class RangeError(VdbError, ValueError):
-    """An argument is out of range."""
+    """A value, a coordinate, a shape or another argument is out of range. The text names it."""
+
+
+class TextError(VdbError, ValueError):
+    """A name, a metadata key or a metadata text has another form."""
+
+
+class LimitError(VdbError, ValueError):
+    """A scene would have more than 64 grids, or a grid more than 16 metadata pairs."""
+
+
+class MissingError(VdbError, KeyError):
+    """A scene has no such grid, or a grid no such metadata pair."""
+
+    def __str__(self) -> str:
+        return str(self.args[0])
+
+
+class EmptyError(VdbError, ValueError):
+    """A handle of the library is empty."""
+
+
+class OutOfMemoryError(VdbError, MemoryError):
+    """An allocation of the library failed."""
 
 
 class RootLimitError(VdbError, ValueError):
-    """A grid would need more root blocks than its root limit."""
+    """A grid would need more root blocks than its root limit. `needed` and `limit` are these numbers, or None if nobody counted."""
+
+    def __init__(self, reason: str, needed: "int | None" = None, limit: "int | None" = None) -> None:
+        super().__init__(reason, needed, limit)
+        self.needed, self.limit = needed, limit
+
+    def __str__(self) -> str:
+        return str(self.args[0])
 
 
 class SumRangeError(VdbError, OverflowError):
@@ -40,20 +73,168 @@ class KindsError(VdbError, TypeError):
     """Two grids have values of different types, or their type has no sum."""
 
 
-class FormatError(VdbError, ValueError):
-    """The bytes are no scene file, or a scene has no file.
+class ArrayTooLargeError(VdbError, ValueError):
+    """Dense arrays would need more bytes (`needed`) than the caller allows (`max_bytes`). `shape` is theirs in voxels."""
 
-    `fault` is the word of docs/FORMAT.md. `path` is the file, or None for bytes.
-    """
-
-    def __init__(self, code: int, reason: str, path: "str | None" = None) -> None:
-        super().__init__(code, reason)
-        self.fault = reason.partition(":")[0]
-        self.path = path
+    def __init__(self, shape: "tuple[int, ...]", needed: int, max_bytes: int) -> None:
+        super().__init__(shape, needed, max_bytes)
+        self.shape, self.needed, self.max_bytes = shape, needed, max_bytes
 
     def __str__(self) -> str:
-        return f"{self.path or '<bytes>'}: {self.reason}"
+        shape = " x ".join(f"{side:,}" for side in self.shape)
+        return f"arrays of {shape} voxels need {self.needed:,} bytes, more than max_bytes = {self.max_bytes:,}"
 
+
+class SceneTooLongError(VdbError, ValueError):
+    """The encoding of a scene would have more bytes (`length`) than a file may have (`most`)."""
+
+    def __init__(self, length: int, most: int) -> None:
+        super().__init__(length, most)
+        self.length, self.most = length, most
+
+    def __str__(self) -> str:
+        return f"too-long: the scene needs {self.length:,} bytes, and a file has at most {self.most:,}"
+
+
+class FileError(VdbError, OSError):
+    """A file can't be read or written. `filename` names it, and `errno` and `strerror` say why."""
+
+    def __str__(self) -> str:
+        return f"{self.filename}: {self.strerror}"
+
+
+class MissingFileError(FileError, FileNotFoundError):
+    """There is no such file or folder."""
+
+
+class ForbiddenFileError(FileError, PermissionError):
+    """The file or its folder may not be read or written."""
+
+
+def file_error(error: OSError, path: str) -> FileError:
+    """Returns the FileError for an error of the system on a file."""
+    kinds = (MissingFileError, FileNotFoundError), (ForbiddenFileError, PermissionError), (FileError, OSError)
+    made = next(ours for ours, theirs in kinds if isinstance(error, theirs))
+    return made(error.errno, error.strerror or str(error), path)
+
+
+class FormatError(VdbError, ValueError):
+    """The bytes are no scene file. Each fault of docs/FORMAT.md has a subclass.
+
+    `fault` is the word of the fault, as `vdb: load: WORD` prints it. `offset` is the byte, counted from 0, at which the faulty field
+    begins, or None from the library, which doesn't say; for `background` and `constant-node` it is the first byte of the faulty body.
+    `path` is the file, or None for bytes. `reason` says what the field holds.
+    """
+
+    fault = ""
+
+    def __init__(self, offset: "int | None", reason: str, path: "str | None" = None) -> None:
+        super().__init__(offset, reason, path)
+        self.offset, self.reason, self.path = offset, reason, path
+
+    def __str__(self) -> str:
+        place = "" if self.offset is None else f"byte {self.offset}: "
+        return f"{self.path or '<bytes>'}: {place}{self.fault}: {self.reason}"
+
+
+class MagicFault(FormatError):
+    """The first four bytes aren't `VDBS`."""
+
+    fault = "magic"
+
+
+class VersionFault(FormatError):
+    """The version is neither 1 nor 2."""
+
+    fault = "version"
+
+
+class TruncatedFault(FormatError):
+    """The file ends inside a field or before it."""
+
+    fault = "truncated"
+
+
+class NameFault(FormatError):
+    """A name has another form or order, or the file announces more than 64 grids."""
+
+    fault = "name"
+
+
+class KindFault(FormatError):
+    """The number of a grid's type is above 2."""
+
+    fault = "kind"
+
+
+class ValueFault(FormatError):
+    """The byte of a boolean is above 1."""
+
+    fault = "value"
+
+
+class LimitFault(FormatError):
+    """A root limit is 0 or above 65,536."""
+
+    fault = "limit"
+
+
+class MetaFault(FormatError):
+    """A metadata pair has another form or order, or a grid announces more than 16 pairs."""
+
+    fault = "meta"
+
+
+class KeyFault(FormatError):
+    """The key of a root block is out of range or out of order."""
+
+    fault = "key"
+
+
+class RootLimitFault(FormatError):
+    """A grid announces more root blocks than its limit."""
+
+    fault = "root-limit"
+
+
+class TagFault(FormatError):
+    """A body begins with a byte that is no tag."""
+
+    fault = "tag"
+
+
+class IndexFault(FormatError):
+    """A number of entries, or the number of an entry, is out of range or out of order."""
+
+    fault = "index"
+
+
+class BackgroundFault(FormatError):
+    """A body holds the inactive background, which a file leaves out."""
+
+    fault = "background"
+
+
+class ConstantNodeFault(FormatError):
+    """A block is given by its entries, though all its voxels are equal."""
+
+    fault = "constant-node"
+
+
+class TrailingFault(FormatError):
+    """The file has a byte after the last field."""
+
+    fault = "trailing"
+
+
+class TooLongFault(FormatError):
+    """A field would end past byte 268,435,456."""
+
+    fault = "too-long"
+
+
+#: The class of each fault, by its word, in the order of the codes of vdb.h.
+FAULTS: "dict[str, type[FormatError]]" = {cls.fault: cls for cls in FormatError.__subclasses__()}
 
 #: The texts of the codes, which are those of vdb_message in vdb.h.
 TEXTS = {
@@ -90,12 +271,17 @@ TEXTS = {
     35: "too-long: a file has at most 268,435,456 bytes",
 }
 
-CLASSES = {1: EmptyError, 3: RootLimitError, 4: RangeError, 5: SumRangeError, 6: KindsError, 7: KindsError}
+#: The class of each code that isn't a fault of a file; a VdbError for any other.
+CLASSES: "dict[int, type[VdbError]]" = {
+    1: EmptyError, 2: OutOfMemoryError, 3: RootLimitError, 4: RangeError, 5: SumRangeError, 6: KindsError, 7: KindsError,
+    8: MissingError, 9: TextError, 10: LimitError, 11: LimitError, 12: LimitError, 13: MissingError, 14: TextError, 15: RangeError,
+}  # fmt: skip
 
 
-def error_of(code: int) -> Exception:
+def error_of(code: int) -> VdbError:
     """Returns the exception for a code other than 0."""
-    reason = TEXTS.get(code, f"unknown code {code}")
-    if code == MEMORY:
-        return MemoryError(reason)
-    return (FormatError if code >= FIRST_FAULT else CLASSES.get(code, VdbError))(code, reason)
+    text = TEXTS.get(code, f"unknown code {code}")
+    word, _, reason = text.partition(": ")
+    made = FAULTS[word](None, reason) if word in FAULTS else CLASSES.get(code, VdbError)(text)
+    made.code = code
+    return made

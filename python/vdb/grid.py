@@ -3,24 +3,26 @@
 from __future__ import annotations
 
 from ctypes import byref, c_int32, c_int64, c_uint32, c_uint64
-from typing import Callable, Iterator, Mapping, NamedTuple, Optional, Sequence, Tuple, Union
+from typing import Any, Iterator, Mapping, NamedTuple, Sequence
 
 import numpy as np
-from vdbs.errors import ArrayTooLargeError
-from vdbs.forms import COORDINATE_SPAN, DEFAULT_LIMIT, KIND_NUMBERS, KINDS, Kind, Metadata, check_limit
-from vdbs.grid import MAX_BYTES, _coordinate, check_bounds, checked_arrays
 
-from .arrays import box_of, read_array, read_leaves, read_voxels, write_array, write_box, write_voxels
-from .library import LIBRARY, Box, CensusCounts, Coord, Count, GridHandle
+from .arrays import box_of, coordinates_of, from_dense, new_grid, read_box, read_voxels, write_box, write_voxels
+from .blocks import Cubes, Part
+from .edits import is_one_of, mapped, write_cubes, write_leaves
+from .encoded import EVERYWHERE, NAME, Encoded, same_cells
+from .errors import DtypeError, RangeError
+from .forms import (
+    DEFAULT_LIMIT, KIND_NUMBERS, Array, Bounds, Coordinate, Leaf, Metadata, Value, check_bools, check_bounds, check_box, check_coordinate,
+    check_states, kind_of, kind_of_array,
+)  # fmt: skip
+from .library import Box, CensusCounts, Coord, Count, Held
+from .reading import Active, Key, Walkable, part_of
+from .walk import leaf_rows, parts_of
 
 __all__ = ["Grid", "Census"]
 
-Value = Union[bool, int]
-Coordinate = Tuple[int, int, int]
-Bounds = Tuple[Coordinate, Coordinate]
-
 NO_ACCESSOR = -1
-EVERYWHERE = ((-COORDINATE_SPAN,) * 3, (COORDINATE_SPAN - 1,) * 3)
 
 
 class Census(NamedTuple):
@@ -33,64 +35,77 @@ class Census(NamedTuple):
     leaf: int
 
 
-class Grid:
+class Grid(Walkable):
     """A sparse grid of booleans or integers over all coordinates of 32 bits.
 
-    Bounds are two corners, both included. A call that fails, other than `set_many` and `set_box`, leaves every voxel as it was. It
-    raises MemoryError if an allocation fails, RootLimitError if the grid would need more root blocks than its limit, and ValueError or
-    TypeError for wrong arguments.
+    An index is three integers or slices. They are coordinates in voxels, also negative ones; a slice includes its start and not its stop.
+    An open end of a slice goes to the bounding box of the active voxels, and `...` is that box. `grid[...]` are values, and
+    `grid.active[...]` states. Bounds are two corners, both included.
+
+    A call that fails has changed nothing, other than `set_many` and a write of arrays to a box. It raises OutOfMemoryError if an allocation
+    fails, RootLimitError if the grid would need more root blocks than its limit, and DtypeError or RangeError for wrong arguments.
+    Threads may call a grid at the same time; one of them goes on, and the others wait.
     """
 
     def __init__(
         self,
-        kind: str,
+        kind: Any,
         background: "Value | None" = None,
         limit: int = DEFAULT_LIMIT,
         metadata: "Mapping[str, str] | None" = None,
     ) -> None:
         """Makes a grid that holds its background everywhere, inactive.
 
-        `kind` is "bool", "i32" or "i64"; `background` is False or 0 unless given; `limit` says how many root blocks may hold anything
-        else, 1 to 65,536. `metadata` are pairs that a scene file keeps.
+        `kind` is "bool", "i32" or "i64", or a NumPy dtype such as np.int32: the grid has the narrowest type that holds it. `background` is
+        False or 0 unless given; `limit` says how many root blocks may hold anything else, 1 to 65,536. `metadata` are pairs that a scene
+        file keeps.
         """
-        self._handle = GridHandle()
-        if kind not in KINDS:
-            raise ValueError(f"the kind of a grid is 'bool', 'i32' or 'i64', not {kind!r}")
-        self._kind = KINDS[kind]
+        self._kind = kind_of(kind)
         self._metadata = Metadata(metadata)
-        value = 0 if background is None else self._kind.check(background, "background")
-        LIBRARY.vdb_grid_new(self._handle, self._kind.number, value, check_limit(limit))
+        self._held = new_grid(self._kind, background, limit)
 
     @classmethod
-    def _of(cls, handle: GridHandle, metadata: "Mapping[str, str] | None" = None) -> "Grid":
+    def _of(cls, held: Held, metadata: "Mapping[str, str] | None" = None) -> "Grid":
         """Returns the grid of a handle, which nothing else may use from then on."""
         made, number = cls.__new__(cls), c_int32()
-        made._handle = handle
-        LIBRARY.vdb_grid_kind(handle, byref(number))
-        made._kind = KIND_NUMBERS[number.value]
-        made._metadata = Metadata(metadata)
+        held.call("kind", byref(number))
+        made._held, made._kind, made._metadata = held, KIND_NUMBERS[number.value], Metadata(metadata)
         return made
-
-    def __del__(self) -> None:
-        if hasattr(self, "_handle"):
-            LIBRARY.vdb_grid_free(self._handle)
 
     def copy(self) -> "Grid":
         """Returns a second grid with the same cells, limit and metadata."""
-        handle = GridHandle()
-        LIBRARY.vdb_grid_copy(self._handle, handle)
-        return Grid._of(handle, self._metadata)
+        held = Held()
+        self._held.call_with("copy", held)
+        return Grid._of(held, self._metadata)
 
     __copy__ = copy
 
     def __deepcopy__(self, _memo: object) -> "Grid":
         return self.copy()
 
+    def __reduce__(self) -> tuple:
+        """Pickles the grid as a scene file. Raises SceneTooLongError above 268,435,456 bytes."""
+        scene = Encoded()
+        scene.put(NAME, self._held, self._metadata)
+        return _unpickled, (scene.to_bytes(),)
+
+    def __eq__(self, other: object) -> bool:
+        """Returns whether the other grid has the same type, background and cells. Limits and metadata may differ."""
+        if not isinstance(other, Grid):
+            return NotImplemented
+        if self is other:
+            return True
+        if (self._kind, self.background, self.count) != (other._kind, other.background, other.count):
+            return False
+        return same_cells(self._held, other._held, 8 + 2 + 1 + self._kind.size + 4)
+
+    __hash__ = None  # type: ignore[assignment]
+
     @classmethod
     def from_array(
         cls,
-        values: np.ndarray,
-        active: "np.ndarray | None" = None,
+        values: Array,
+        active: "Array | None" = None,
         origin: Sequence[int] = (0, 0, 0),
         background: "Value | None" = None,
         limit: int = DEFAULT_LIMIT,
@@ -101,55 +116,29 @@ class Grid:
         `values` has the dtype bool (a bool grid), an integer of at most 32 bits signed or 16 bits unsigned (i32), or int64 or uint32
         (i64). `active` is a bool array of the same shape; without it, each voxel whose value differs from the background is active.
         `origin` is the coordinate of `values[0, 0, 0]`. Outside the array voxels are the background, inactive.
+
+        Raises DtypeError for another dtype, RangeError for another shape, for coordinates outside 32 bits or for a wrong background or
+        limit, and RootLimitError if the grid needs more root blocks than `limit`.
         """
-        return cls._of(write_array(np.asarray(values), active, origin, background, limit), metadata)
-
-    def to_array(
-        self,
-        bounds: "Optional[Sequence[Sequence[int]]]" = None,
-        fill: "Value | None" = None,
-        max_bytes: int = MAX_BYTES,
-    ) -> "tuple[np.ndarray, np.ndarray]":
-        """Returns dense arrays of values and states (bool) of a box, with the axes x, y, z.
-
-        Without bounds it is the bounding box of the active voxels; if no voxel is active, both arrays have the shape (0, 0, 0). With
-        `fill`, inactive voxels have that value in place of their own. Raises ArrayTooLargeError, before anything is allocated, if both
-        arrays together have more than `max_bytes` bytes.
-        """
-        if fill is not None:
-            fill = self._kind.check(fill, "fill")
-        bounds = self.bounds if bounds is None else check_bounds(bounds)
-        if bounds is None:
-            return np.zeros((0, 0, 0), self.dtype), np.zeros((0, 0, 0), np.bool_)
-        low, high = bounds
-        shape = (high[0] - low[0] + 1, high[1] - low[1] + 1, high[2] - low[2] + 1)
-        needed = shape[0] * shape[1] * shape[2] * (self.dtype.itemsize + 1)
-        if needed > max_bytes:
-            raise ArrayTooLargeError(shape, needed, max_bytes)
-        return read_array(self._handle, bounds, self.dtype, fill)
-
-    @property
-    def kind(self) -> str:
-        """The type of values: "bool", "i32" or "i64"."""
-        return self._kind.word
-
-    @property
-    def dtype(self) -> np.dtype:
-        """The NumPy dtype of values: bool, int32 or int64."""
-        return self._kind.dtype
+        values = np.asarray(values)
+        made = cls(kind_of_array(values), background, limit, metadata)
+        low = check_box(origin, values.shape)
+        states = None if active is None else check_states(active, values.shape)
+        from_dense(made._held, low, values, states, made.background)
+        return made
 
     @property
     def background(self) -> Value:
         """The value of every voxel that nothing was written to."""
         value = c_int64()
-        LIBRARY.vdb_grid_background(self._handle, byref(value))
+        self._held.call("background", byref(value))
         return self._value(value.value)
 
     @property
     def limit(self) -> int:
         """The root limit: how many root blocks may hold anything but the inactive background."""
         limit = c_uint32()
-        LIBRARY.vdb_grid_limit(self._handle, byref(limit))
+        self._held.call("limit", byref(limit))
         return limit.value
 
     @property
@@ -161,102 +150,177 @@ class Grid:
     def metadata(self, pairs: Mapping[str, str]) -> None:
         self._metadata = Metadata(pairs)
 
-    def __getitem__(self, at: Coordinate) -> "tuple[Value, bool]":
-        """Returns the value and the state of the voxel at x, y, z."""
+    @property
+    def active(self) -> "GridActive":
+        """The states, True for an active voxel, by the same indices as the values. They can be set."""
+        return GridActive(self)
+
+    def _cell(self, at: Coordinate) -> "tuple[Value, bool]":
         value, on = c_int64(), c_int32()
-        LIBRARY.vdb_grid_get(self._handle, *_coordinate(at, "coordinate"), byref(value), byref(on))
+        self._held.call("get", *at, byref(value), byref(on))
         return self._value(value.value), bool(on.value)
 
-    def __setitem__(self, at: Coordinate, cell: "Value | tuple[Value, bool]") -> None:
-        """Sets the voxel at x, y, z to a value and activates it, or sets it to a value and a state."""
-        value, on = cell if isinstance(cell, tuple) else (cell, True)
-        LIBRARY.vdb_grid_set(self._handle, NO_ACCESSOR, *_coordinate(at, "coordinate"), self._kind.check(value), bool(on))
+    def _read(self, low: Coordinate, values: "np.ndarray | None", active: "np.ndarray | None", fill: "Value | None") -> None:
+        read_box(self._held, low, values, active, fill)
+
+    def __setitem__(self, key: Key, values: Array) -> None:
+        """Sets the voxel at x, y, z, or the voxels of a box, and activates them.
+
+        `values` is one for all, or an array that NumPy would broadcast to the box. Its dtype converts by NumPy's rule `safe`, or all its
+        integers are in range: else DtypeError or RangeError names a value, and nothing has changed. After OutOfMemoryError or
+        RootLimitError the first voxels of an array are set, by x, then y, then z.
+        """
+        part = part_of(key, lambda: self.bounds)
+        if np.ndim(values) == 0:
+            value = self._kind.check(values.item() if isinstance(values, np.ndarray) else values)
+            if part.size:
+                self._held.call("fill", box_of(*part.bounds), value, 1)
+        else:
+            made = spread(self._kind.array(values), part.shown).reshape(part.shape)
+            write_box(self._held, part.low, made, np.broadcast_to(np.True_, part.shape))
 
     def set_value(self, at: Coordinate, value: Value) -> None:
         """Sets the value of a voxel and keeps its state."""
-        LIBRARY.vdb_grid_set_value(self._handle, NO_ACCESSOR, *_coordinate(at, "coordinate"), self._kind.check(value))
+        self._held.call("set_value", NO_ACCESSOR, *check_coordinate(at), self._kind.check(value))
 
     def set_active(self, at: Coordinate, active: bool) -> None:
         """Sets the state of a voxel and keeps its value."""
-        LIBRARY.vdb_grid_set_active(self._handle, NO_ACCESSOR, *_coordinate(at, "coordinate"), bool(active))
+        self._held.call("set_active", NO_ACCESSOR, *check_coordinate(at), bool(active))
 
-    def get_many(self, at: np.ndarray) -> "tuple[np.ndarray, np.ndarray]":
-        """Returns the values and the states (bool) of voxels. `at` has their coordinates, an array of integers of shape (n, 3)."""
-        return read_voxels(self._handle, at, self.dtype)
+    def get_many(self, at: Array) -> "tuple[np.ndarray, np.ndarray]":
+        """Returns the values and the states (bool) of voxels, arrays of length n. `at` has their coordinates, integers of shape (n, 3)."""
+        return read_voxels(self._held, self._kind, at)
 
-    def set_many(self, at: np.ndarray, values: "np.ndarray | Value", active: "np.ndarray | bool" = True) -> None:
-        """Sets the values and the states of voxels, one after another. `at` has their coordinates, an array of integers of shape (n, 3);
-        `values` and `active` are one for all voxels, or arrays of length n.
+    def set_many(self, at: Array, values: Array, active: Array = True) -> None:
+        """Sets the values and the states of voxels, one after another. `at` has their coordinates, integers of shape (n, 3); `values` and
+        `active` are one for all voxels, or arrays of length n.
 
-        Raises RangeError, before anything changes, if a value is outside the type. After MemoryError or RootLimitError the voxels before
-        the failed one are set.
+        Raises DtypeError or RangeError as an assignment does, before anything changes. After OutOfMemoryError or RootLimitError the voxels
+        before the failed one are set.
         """
-        write_voxels(self._handle, at, values, active)
+        at = coordinates_of(at)
+        write_voxels(self._held, at, spread(self._kind.array(values), (len(at),)), check_states(active, (len(at),)))
 
-    def set_box(self, origin: Coordinate, values: np.ndarray, active: "np.ndarray | bool" = True) -> None:
+    def set_box(self, origin: Coordinate, values: Array, active: Array = True) -> None:
         """Sets the values and the states of a box of voxels: that at `origin` to `values[0, 0, 0]`, and so on along x, y and z. `active`
         is one state for all voxels, or a bool array of the same shape.
 
-        Raises ValueError, before anything changes, if the box reaches past the coordinates or the shapes differ. The arrays cross in
-        slabs along x. After RangeError (a value outside the type) slabs before the one with that value are set; after MemoryError or
-        RootLimitError the voxels before the failed one are, by x, then y, then z.
+        Raises DtypeError or RangeError, before anything changes, if a value is outside the type, the box reaches past the coordinates or
+        the shapes differ. After OutOfMemoryError or RootLimitError the voxels before the failed one are set, by x, then y, then z.
         """
-        _, values, states, low = checked_arrays(values, None if isinstance(active, bool) else active, origin)
-        write_box(self._handle, low, values, active if states is None else states)
+        values = self._kind.array(values)
+        write_box(self._held, check_box(origin, values.shape), values, check_states(active, values.shape))
 
     def fill(self, bounds: Sequence[Sequence[int]], value: Value, active: bool = True) -> None:
         """Sets the value and the state of each voxel of a box."""
-        LIBRARY.vdb_grid_fill(self._handle, _box(bounds), self._kind.check(value), bool(active))
+        self._held.call("fill", _box(bounds), self._kind.check(value), bool(active))
 
     def clip(self, bounds: Sequence[Sequence[int]]) -> None:
         """Sets each voxel outside a box to the background, inactive."""
-        LIBRARY.vdb_grid_clip(self._handle, _box(bounds))
+        self._held.call("clip", _box(bounds))
 
     def prune(self) -> None:
         """Makes the tree as small as its cells allow. No voxel changes."""
-        LIBRARY.vdb_grid_prune(self._handle)
+        self._held.call("prune")
 
     def voxelise(self, bounds: Sequence[Sequence[int]]) -> None:
         """Puts each active voxel of a box into a leaf. No voxel changes. It visits every cube of 8 voxels in the box, so give it a small
         box, such as `bounds`."""
-        LIBRARY.vdb_grid_voxelise(self._handle, _box(bounds))
+        self._held.call("voxelise", _box(bounds))
 
     def dilate(self, iterations: int = 1) -> None:
-        """Activates, in each of 1 to 16 iterations, every voxel that has an active face neighbour."""
-        LIBRARY.vdb_grid_dilate(self._handle, _iterations(iterations))
+        """Activates, in each of 1 to 16 iterations, every voxel that has an active face neighbour. No value changes."""
+        self._held.call("dilate", _iterations(iterations))
 
     def erode(self, iterations: int = 1) -> None:
-        """Deactivates, in each of 1 to 16 iterations, every voxel that has an inactive face neighbour."""
-        LIBRARY.vdb_grid_erode(self._handle, _iterations(iterations))
+        """Deactivates, in each of 1 to 16 iterations, every voxel that has an inactive face neighbour. No value changes."""
+        self._held.call("erode", _iterations(iterations))
+
+    def select(self, values: Array) -> "Grid":
+        """Returns a bool grid that is active and True where this grid is active and has the value, or one of some values."""
+        wanted = np.unique(self._kind.array(values))
+        made = Grid("bool", limit=self.limit)
+        for part in self._parts():
+            chosen = is_one_of(part.values, wanted)
+            if isinstance(part, Cubes):
+                write_cubes(made._held, Cubes(part.low[chosen], part.side, np.ones(np.count_nonzero(chosen), np.int64)))
+            else:
+                chosen &= part.active
+                some = chosen.any(axis=1)
+                write_leaves(made._held, part.origins[some], chosen[some], chosen[some])
+        made.prune()
+        return made
+
+    def relabel(self, pairs: "Mapping[Any, Any]") -> "Grid":
+        """Returns a copy in which each active voxel whose value is a key of `pairs` has the value beside it. All change at once, so
+        {1: 2, 2: 1} exchanges two. Raises DtypeError or RangeError for a value that the grid can't have."""
+        old, new = self._kind.array(list(pairs), "key").ravel(), self._kind.array(list(pairs.values())).ravel()
+        order = np.argsort(old)
+        old, new = old[order], new[order]
+        made = self.copy()
+        for part in self._parts():
+            after = mapped(part.values, old, new)
+            if isinstance(part, Cubes):
+                changed = after != part.values
+                write_cubes(made._held, Cubes(part.low[changed], part.side, after[changed]))
+            else:
+                after = np.where(part.active, after, part.values)
+                some = (after != part.values).any(axis=1)
+                write_leaves(made._held, part.origins[some], after[some], None)
+        made.prune()
+        return made
+
+    def where(self, mask: "Grid") -> "Grid":
+        """Returns a grid with the active voxels of this grid that are active in the mask too, which may be of another type. All others are
+        the background, inactive. Limit and metadata are those of this grid."""
+        made = Grid(self.kind, self.background, self.limit, self._metadata)
+        made.replace(self & mask)
+        return made
+
+    def dilate_label(self, value: Value, iterations: int = 1) -> None:
+        """Grows one label into the inactive voxels, in 1 to 16 iterations: in each, every inactive voxel with a face neighbour of the label
+        that is active becomes active and gets the label. Active voxels of other values stay, and bar the way."""
+        turns, label = _iterations(iterations), self._kind.check(value)
+        with self._held.lock:
+            region = self.select(label)
+            others = self - region
+            for _ in range(turns):
+                region.dilate(1)
+                region.subtract(others)
+            grown = Grid(self.kind, label, self.limit)
+            grown.unite(region)
+            self.replace(grown)
 
     def unite(self, other: "Grid") -> None:
-        """Activates each voxel that is active in the other grid."""
-        self._combine(LIBRARY.vdb_grid_unite, other)
+        """Activates each voxel that is active in the other grid. No value changes, and the types may differ."""
+        self._combine("unite", other)
 
     def subtract(self, other: "Grid") -> None:
-        """Deactivates each voxel that is active in the other grid."""
-        self._combine(LIBRARY.vdb_grid_subtract, other)
+        """Deactivates each voxel that is active in the other grid. No value changes, and the types may differ."""
+        self._combine("subtract", other)
 
     def intersect(self, other: "Grid") -> None:
-        """Deactivates each voxel that is inactive in the other grid."""
-        self._combine(LIBRARY.vdb_grid_intersect, other)
+        """Deactivates each voxel that is inactive in the other grid. No value changes, and the types may differ."""
+        self._combine("intersect", other)
 
     def maximum(self, other: "Grid") -> None:
-        """Sets each voxel to the greater of its two values, active if it is active in either grid."""
-        self._combine(LIBRARY.vdb_grid_maximum, other)
+        """Sets each voxel and the background to the greater of its two values. A voxel that is active in either grid is active then.
+        Raises KindsError if the types differ."""
+        self._combine("maximum", other)
 
     def minimum(self, other: "Grid") -> None:
-        """Sets each voxel to the lesser of its two values, active if it is active in either grid."""
-        self._combine(LIBRARY.vdb_grid_minimum, other)
+        """Sets each voxel and the background to the lesser of its two values. A voxel that is active in either grid is active then.
+        Raises KindsError if the types differ."""
+        self._combine("minimum", other)
 
     def sum(self, other: "Grid") -> None:
-        """Sets each voxel to the sum of its two values, active if it is active in either grid. Raises SumRangeError if a sum is
-        outside the type, and KindsError for booleans."""
-        self._combine(LIBRARY.vdb_grid_sum, other)
+        """Sets each voxel and the background to the sum of its two values. A voxel that is active in either grid is active then. Raises
+        SumRangeError if a sum is outside the type, and KindsError for booleans or if the types differ."""
+        self._combine("sum", other)
 
     def replace(self, other: "Grid") -> None:
-        """Copies the value and the state of each voxel that is active in the other grid."""
-        self._combine(LIBRARY.vdb_grid_replace, other)
+        """Copies the value and the state of each voxel that is active in the other grid. Raises KindsError if the types differ."""
+        self._combine("replace", other)
 
     def __ior__(self, other: "Grid") -> "Grid":
         self.unite(other)
@@ -284,67 +348,103 @@ class Grid:
 
     @property
     def count(self) -> int:
-        """How many voxels are active."""
+        """How many voxels are active, those of tiles too."""
         count = Count()
-        LIBRARY.vdb_grid_count(self._handle, byref(count))
+        self._held.call("count", byref(count))
         return count.high << 64 | count.low
 
     def count_in(self, bounds: Sequence[Sequence[int]]) -> int:
         """Returns how many voxels of a box are active."""
         count = Count()
-        LIBRARY.vdb_grid_count_in(self._handle, _box(bounds), byref(count))
+        self._held.call("count_in", _box(bounds), byref(count))
         return count.high << 64 | count.low
 
     @property
     def bounds(self) -> "Bounds | None":
         """The bounding box of the active voxels, its least and greatest coordinates, or None if no voxel is active."""
         box, found = Box(), c_int32()
-        LIBRARY.vdb_grid_bounds(self._handle, byref(box), byref(found))
+        self._held.call("bounds", byref(box), byref(found))
         return (_tuple(box.min), _tuple(box.max)) if found.value else None
 
     def census(self) -> Census:
         """Returns the size of the smallest tree of the grid's cells."""
         census = CensusCounts()
-        LIBRARY.vdb_grid_census(self._handle, byref(census))
+        self._held.call("census", byref(census))
         return Census(census.roots, census.upper, census.lower, census.leaf)
 
     @property
     def leaf_count(self) -> int:
-        """How many leaves the tree has. It depends on how the voxels were written; `prune` makes it as small as it can be."""
+        """How many leaf extents, cubes of 8 voxels along each axis, have voxels that differ."""
+        return self.census().leaf
+
+    @property
+    def tree_leaf_count(self) -> int:
+        """How many leaves the tree has. It depends on how the voxels were written; after `prune` it is `leaf_count`."""
         count = c_uint64()
-        LIBRARY.vdb_grid_leaf_count(self._handle, byref(count))
+        self._held.call("leaf_count", byref(count))
         return count.value
 
-    def leaves(self) -> "Iterator[tuple[Coordinate, np.ndarray, np.ndarray]]":
-        """Yields each leaf of the tree in block order: its least corner, its values and its states (bool), both of shape (8, 8, 8).
-        Tiles aren't among them: `voxelise` makes leaves of these."""
-        return read_leaves(self._handle, self.dtype)
+    def leaves(self) -> "Iterator[Leaf]":
+        """Yields the leaf extents whose voxels differ, in block order."""
+        for origins, numbers, states in leaf_rows(self._held):
+            differ = (numbers != numbers[:, :1]).any(axis=1) | (states != states[:, :1]).any(axis=1)
+            values = numbers.astype(self.dtype).reshape(-1, 8, 8, 8)
+            for leaf in np.flatnonzero(differ).tolist():
+                x, y, z = origins[leaf].tolist()
+                yield Leaf((x, y, z), values[leaf], states[leaf].reshape(8, 8, 8))
+
+    def _parts(self) -> Iterator[Part]:
+        return parts_of(self._held)
 
     def voxels(self, bounds: Sequence[Sequence[int]] = EVERYWHERE) -> "Iterator[tuple[Coordinate, Value]]":
         """Yields the active voxels of a box in block order, each with its value."""
         box, at, value, found = _box(bounds), Coord(), c_int64(), c_int32()
-        LIBRARY.vdb_grid_first_active(self._handle, box, byref(at), byref(value), byref(found))
+        self._held.call("first_active", box, byref(at), byref(value), byref(found))
         while found.value:
             yield _tuple(at), self._value(value.value)
-            LIBRARY.vdb_grid_next_active(self._handle, box, byref(at), byref(value), byref(found))
-
-    def __repr__(self) -> str:
-        return f"<Grid {self.kind}, background {self.background}, {self.count:,} active voxels>"
+            self._held.call("next_active", box, byref(at), byref(value), byref(found))
 
     def _value(self, value: int) -> Value:
         """Returns a value of the library as one of the grid's type."""
         return bool(value) if self._kind.number == 0 else value
 
-    def _combine(self, call: "Callable[[GridHandle, GridHandle], int]", other: "Grid") -> None:
-        """Calls the library with two handles, which must differ."""
+    def _combine(self, name: str, other: "Grid") -> None:
+        """Makes a call with two handles, which must differ."""
         if not isinstance(other, Grid):
-            raise TypeError(f"the other grid is a Grid, not {type(other).__name__}")
+            raise DtypeError(f"the other grid is a Grid, not {type(other).__name__}")
         second = other.copy() if other is self else other
-        call(self._handle, second._handle)
+        self._held.call_with(name, second._held)
+
+
+class GridActive(Active):
+    """The states of a grid of the engine, which can be set."""
+
+    _grid: Grid
+
+    def __setitem__(self, key: Key, active: Array) -> None:
+        """Sets the state of the voxel at x, y, z, or of the voxels of a box, and keeps their values. `active` is one state for all, or an
+        array of bools that NumPy would broadcast to the box. Errors are those of an assignment of values."""
+        grid = self._grid
+        part = part_of(key, lambda: grid.bounds)
+        states = check_bools(active)
+        if states.ndim:
+            made = spread(states, part.shown).reshape(part.shape)
+            write_box(grid._held, part.low, None, made)
+        elif part.size:
+            mask = Grid("bool", limit=grid.limit)
+            mask.fill(part.bounds, True)
+            (grid.unite if states else grid.subtract)(mask)
+
+
+def _unpickled(data: bytes) -> Grid:
+    """Returns the grid that `Grid.__reduce__` encoded."""
+    scene = Encoded(data)
+    pairs = scene.metadata(NAME)
+    return Grid._of(scene.take(NAME), pairs)
 
 
 def _box(bounds: Sequence[Sequence[int]]) -> Box:
-    """Returns bounds as a box of the library. Raises TypeError or ValueError if they are none."""
+    """Returns bounds as a box of the library. Raises DtypeError or RangeError if they are none."""
     return box_of(*check_bounds(bounds))
 
 
@@ -352,10 +452,18 @@ def _tuple(at: Coord) -> Coordinate:
     return at.x, at.y, at.z
 
 
+def spread(values: np.ndarray, shape: "tuple[int, ...]") -> np.ndarray:
+    """Returns an array broadcast to a shape. Raises RangeError if NumPy can't."""
+    try:
+        return np.broadcast_to(values, shape)
+    except ValueError:
+        raise RangeError(f"an array of the shape {values.shape} doesn't fit the shape {shape}") from None
+
+
 def _iterations(iterations: int) -> int:
-    """Returns a number of iterations. Raises TypeError or ValueError outside 1 to 16."""
+    """Returns a number of iterations. Raises DtypeError or RangeError outside 1 to 16."""
     if isinstance(iterations, bool) or not isinstance(iterations, (int, np.integer)):
-        raise TypeError(f"iterations is an integer, not {iterations!r}")
+        raise DtypeError(f"iterations is an integer, not {iterations!r}")
     if not 1 <= iterations <= 16:
-        raise ValueError(f"the number of iterations is 1 to 16, not {iterations}")
+        raise RangeError(f"the number of iterations is 1 to 16, not {iterations}")
     return int(iterations)

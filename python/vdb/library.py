@@ -1,17 +1,17 @@
 # SPDX-License-Identifier: Apache-2.0
-"""The shared library: where it is, its structs, and the types of its calls. include/vdb.h describes them.
+"""The shared library: where it is, its structs, the types of its calls, and its handles. include/vdb.h describes them.
 
-Each call raises the exception of its code. Calls keep the interpreter's lock, so no two threads are in the library at the same time.
-Views are for threads that are, so no class of the package uses them.
+The library is loaded by the first call. Each call raises the exception of its code, and other threads go on while it runs.
 """
 from __future__ import annotations
 
 import ctypes
 import ctypes.util
 import os
-from ctypes import POINTER, Structure, c_char_p, c_int32, c_int64, c_size_t, c_uint8, c_uint32, c_uint64, c_void_p
+import threading
+from ctypes import POINTER, Structure, byref, c_char_p, c_int32, c_int64, c_size_t, c_uint8, c_uint32, c_uint64, c_void_p
 from pathlib import Path
-from typing import Iterator
+from typing import Any, Iterator, Type, Union
 
 from .errors import error_of
 
@@ -122,24 +122,24 @@ ARGUMENTS = {
 
 
 def places() -> Iterator[str]:
-    """Yields where the library may be: VDB_LIBRARY alone, or the repository's out/, the package's folder, and the system's folders."""
+    """Yields where the library may be: VDB_LIBRARY alone, or the package's folder, the repository's out/, and the system's folders."""
     if "VDB_LIBRARY" in os.environ:
         yield os.environ["VDB_LIBRARY"]
         return
     package = Path(__file__).resolve().parent
-    yield str(package.parents[1] / "out" / "lib" / "libvdb.so")
     yield str(package / "libvdb.so")
+    yield str(package.parents[1] / "out" / "lib" / "libvdb.so")
     found = ctypes.util.find_library("vdb")
     if found:
         yield found
 
 
-def load() -> ctypes.PyDLL:
+def load() -> ctypes.CDLL:
     """Loads the library and declares its calls. Raises ImportError with each place that failed, and the reason."""
     failed = []
     for place in places():
         try:
-            library = ctypes.PyDLL(place)
+            library = ctypes.CDLL(place)
             for name, arguments in ARGUMENTS.items():
                 function = getattr(library, name)
                 function.argtypes = arguments
@@ -149,7 +149,7 @@ def load() -> ctypes.PyDLL:
             return library
         except (OSError, AttributeError) as error:
             failed.append(str(error))
-    hint = "build it by tools/build-libvdb, or name it in VDB_LIBRARY"
+    hint = "build it by tools/build-libvdb, or name it in VDB_LIBRARY; vdb.scenefile needs no library"
     raise ImportError(f"the library libvdb.so can't be used ({'; '.join(failed)}): {hint}")
 
 
@@ -160,4 +160,43 @@ def checked(code: int, _function: object, _arguments: object) -> int:
     return code
 
 
-LIBRARY = load()
+class Library:
+    """The calls of the library, each loaded when it is first asked for."""
+
+    def __getattr__(self, name: str) -> Any:
+        if name not in ARGUMENTS:
+            raise AttributeError(name)
+        library = load()
+        self.__dict__.update({call: getattr(library, call) for call in ARGUMENTS})
+        return self.__dict__[name]
+
+
+LIBRARY = Library()
+PREFIXES = {GridHandle: "vdb_grid_", ViewHandle: "vdb_view_", SceneHandle: "vdb_scene_"}
+
+
+class Held:
+    """A handle of the library with the lock of its calls. It is freed with this object, so whoever calls it keeps this object."""
+
+    def __init__(self, form: "Type[Union[GridHandle, ViewHandle, SceneHandle]]" = GridHandle) -> None:
+        self.handle = form()
+        self.prefix = PREFIXES[form]
+        self.lock = threading.RLock()
+
+    def __del__(self) -> None:
+        if self.handle.at:
+            getattr(LIBRARY, self.prefix + "free")(byref(self.handle))
+
+    def call(self, name: str, *arguments: object) -> None:
+        """Makes the call of this name, such as `fill`, on the handle, with no other call on it at the same time."""
+        call = getattr(LIBRARY, self.prefix + name)
+        with self.lock:
+            call(byref(self.handle), *arguments)
+
+    def call_with(self, name: str, other: "Held", *arguments: object) -> None:
+        """Makes a call on the handle, with another handle as the last argument. Locks are taken in one order, so two such calls never wait
+        for each other."""
+        call = getattr(LIBRARY, self.prefix + name)
+        first, second = sorted((self, other), key=id)
+        with first.lock, second.lock:
+            call(byref(self.handle), *arguments, byref(other.handle))

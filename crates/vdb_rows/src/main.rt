@@ -10,7 +10,7 @@ mod row;
 mod streams;
 
 use anyhow::{Context, Result, ensure};
-use playing::difference;
+use playing::play;
 use reading::rows_of;
 use row::Row;
 use std::fs;
@@ -82,7 +82,7 @@ fn play_file(rt: &HostRuntime, file: &str, steps: &mut Steps) -> Result<(usize, 
 /// Plays a row in pieces of each size, prints what differs first, and returns whether it differs.
 fn is_wrong(rt: &HostRuntime, file: &str, row: &Row<'_>, steps: &mut Steps) -> Result<bool> {
     for size in PIECES {
-        if let Some(it) = difference(rt.alloc(), row, size, steps)? {
+        if let Some(it) = play(rt.alloc(), row, size, steps)? {
             println!(rt;
                 "{file}:{}: {}: expected {:?}, found {:?}",
                 it.line, row.name.text, it.expected, it.found

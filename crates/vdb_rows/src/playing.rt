@@ -21,7 +21,7 @@ pub struct Difference {
 }
 
 /// Plays a row in pieces of at most `size` bytes, and returns what differs first, if anything does.
-pub fn difference(
+pub fn play(
     alloc: Global,
     row: &Row<'_>,
     size: usize,

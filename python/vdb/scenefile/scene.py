@@ -5,11 +5,12 @@ from __future__ import annotations
 import os
 import stat
 from itertools import chain
-from typing import Dict, Iterator, Mapping, MutableMapping, Optional
+from typing import Iterator, Optional
 
-from .errors import SceneTooLongError
-from .files import replacing
-from .forms import DEFAULT_LIMIT, MAX_FILE, MAX_GRIDS, check_name
+from ..errors import SceneTooLongError
+from ..files import naming, replacing
+from ..forms import DEFAULT_LIMIT, MAX_FILE
+from ..grids import Grids
 from .grid import Grid
 from .reader import PADDING, Progress, Reader
 from .writer import Body, grid_head, scene_head
@@ -17,39 +18,9 @@ from .writer import Body, grid_head, scene_head
 __all__ = ["Scene", "load", "loads"]
 
 
-class Scene(MutableMapping[str, Grid]):
-    """Grids by name, at most 64, in the order of their names.
-
-    A name is a letter a to z, then up to 15 of a to z, 0 to 9 and _. Setting a grid raises TypeError or ValueError for
-    another name, TypeError for anything but a `Grid`, and ValueError for a grid too many; the scene stays as it was then.
-    """
-
-    def __init__(self, grids: "Mapping[str, Grid] | None" = None) -> None:
-        self._grids: Dict[str, Grid] = {}
-        self.update(grids or {})
-
-    def __getitem__(self, name: str) -> Grid:
-        return self._grids[name]
-
-    def __setitem__(self, name: str, grid: Grid) -> None:
-        check_name(name)
-        if not isinstance(grid, Grid):
-            raise TypeError(f"{name} is set to {type(grid).__name__}, not to a Grid: use Grid.from_array")
-        if name not in self._grids and len(self._grids) == MAX_GRIDS:
-            raise ValueError(f"a scene has at most {MAX_GRIDS} grids, and {name} would be one more")
-        self._grids[name] = grid
-
-    def __delitem__(self, name: str) -> None:
-        del self._grids[name]
-
-    def __iter__(self) -> Iterator[str]:
-        return iter(sorted(self._grids))
-
-    def __len__(self) -> int:
-        return len(self._grids)
-
-    def __repr__(self) -> str:
-        return f"Scene({{{', '.join(f'{name!r}: {grid!r}' for name, grid in self.items())}}})"
+class Scene(Grids[Grid]):
+    __doc__ = Grids.__doc__
+    _form = Grid
 
     def to_bytes(self) -> bytes:
         """Returns the encoding of the scene: version 2, the bytes that `vdb --save` writes.
@@ -63,7 +34,7 @@ class Scene(MutableMapping[str, Grid]):
 
         The bytes go to a temporary file in the same folder, which then takes the place of `path`. `progress` is called with
         the number of bytes written so far and that of all. Raises SceneTooLongError if there are more than 268,435,456, and
-        OSError if the file can't be written; an existing file stays as it was then.
+        FileError if the file can't be written; an existing file stays as it was then.
         """
         length, pieces = self._encoded()
         done = 0
@@ -92,9 +63,9 @@ def load(path: "str | os.PathLike[str]", progress: Optional[Progress] = None) ->
     """Reads a scene file of version 1 or 2.
 
     `progress` is called with the number of bytes read so far and the size of the file. Raises the FormatError of the first
-    fault, in the order of docs/FORMAT.md, and OSError if the file can't be opened or read.
+    fault, in the order of docs/FORMAT.md, and FileError if the file can't be opened or read.
     """
-    with open(path, "rb") as file:
+    with naming(path), open(path, "rb") as file:
         found = os.fstat(file.fileno())
         if stat.S_ISREG(found.st_mode):
             data = bytearray(min(found.st_size, MAX_FILE + 1) + PADDING)

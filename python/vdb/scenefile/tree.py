@@ -8,15 +8,18 @@ table of root blocks, then the entry of the upper node (15 bits), then the entry
 from __future__ import annotations
 
 from dataclasses import dataclass
+from typing import Iterator
 
 import numpy as np
 
-from .forms import ENTRIES, KEY_SPAN, SIDES, Kind
+from ..forms import ENTRIES, KEY_SPAN, SIDES, Kind
 
 #: How many bits a code has below its root block's place, for leaf extents, lower extents and upper extents.
 CODE_BITS = (27, 15, 0)
 #: How many listed voxels are handled at once: their arrays stay in the processor's cache and are soon allocated.
 CHUNK = 1 << 15
+#: How many leaves are expanded at once.
+LEAVES = 256
 
 
 @dataclass(frozen=True)
@@ -79,6 +82,26 @@ class Tree:
             found[:, axis] += (upper >> 10 - 5 * axis & 31) * SIDES[1] + (lower >> 8 - 4 * axis & 15) * SIDES[0]
         return found
 
+    def rows(self) -> "Iterator[tuple[np.ndarray, np.ndarray, np.ndarray]]":
+        """Yields leaves, chunk by chunk: their codes (n), and the values and states (n x 512) of all their voxels."""
+        leaves = self.leaves
+        for first in range(0, len(leaves), LEAVES):
+            last = min(first + LEAVES, len(leaves))
+            part = slice(leaves.starts[first], leaves.starts[last])
+            leaf = np.repeat(np.arange(last - first), np.diff(leaves.starts[first : last + 1]))
+            values, active = np.full((last - first, 512), self.background, self.kind.dtype), np.zeros((last - first, 512), np.bool_)
+            values[leaf, leaves.index[part]] = leaves.values[part]
+            active[leaf, leaves.index[part]] = leaves.active[part]
+            yield leaves.codes[first:last], values, active
+
+    def equals(self, other: "Tree") -> bool:
+        """Returns whether another tree has the same type, background and voxels."""
+        if (self.kind, self.background) != (other.kind, other.background):
+            return False
+        pairs = [(self.roots, other.roots), *zip(columns(self.leaves), columns(other.leaves))]
+        pairs += [pair for mine, theirs in zip(self.tiles, other.tiles) for pair in zip(columns(mine), columns(theirs))]
+        return all(np.array_equal(mine, theirs) for mine, theirs in pairs)
+
     def find(self, x: int, y: int, z: int) -> "tuple[bool | int, bool]":
         """Returns the value and the state of a voxel."""
         place = place_of(pack_keys(self.roots), pack_keys(np.array([[x >> 12, y >> 12, z >> 12]]))[0])
@@ -97,6 +120,11 @@ class Tree:
             if at is not None:
                 return leaves.values[first + at].item(), bool(leaves.active[first + at])
         return self.background, False
+
+
+def columns(part: "Tiles | Leaves") -> "list[np.ndarray]":
+    """Returns the arrays of tiles or leaves."""
+    return list(vars(part).values())
 
 
 def chunks(starts: np.ndarray):

@@ -1,5 +1,5 @@
 # SPDX-License-Identifier: Apache-2.0
-"""The command line: python3 -m vdbs COMMAND."""
+"""The command line: python3 -m vdb.scenefile COMMAND."""
 from __future__ import annotations
 
 import argparse
@@ -12,10 +12,11 @@ from typing import BinaryIO, Callable, ContextManager, Iterator, Optional, Seque
 
 import numpy as np
 
-from . import Grid, Scene, VdbsError, __version__, load, picture
-from .files import replacing
-from .forms import DEFAULT_LIMIT, check_limit, check_name
-from .grid import MAX_BYTES
+from .. import VdbError, __version__
+from ..files import replacing
+from ..forms import DEFAULT_LIMIT, check_limit, check_name
+from ..reading import MAX_BYTES
+from . import Grid, Scene, load, picture
 from .reader import Progress
 
 #: Reading or writing a file of at least so many bytes shows its progress on a terminal.
@@ -54,7 +55,7 @@ def saved(scene: Scene, path: str) -> None:
     try:
         with progress("writing", path) as show:
             scene.save(path, show)
-    except VdbsError as error:
+    except VdbError as error:
         raise Problem(f"{path}: {error}") from error
 
 
@@ -66,7 +67,9 @@ def grid_of(scene: Scene, path: str, name: str) -> Grid:
 
 def output(path: str) -> "ContextManager[BinaryIO]":
     """Opens a file that is replaced at the end, or standard output for `-`."""
-    return open(sys.stdout.fileno(), "wb", closefd=False) if path == "-" else replacing(path)
+    if path == "-":
+        return open(sys.stdout.fileno(), "wb", closefd=False)
+    return replacing(path)
 
 
 def text_of(value: "bool | int") -> str:
@@ -121,8 +124,9 @@ def info(words: argparse.Namespace) -> None:
 
 
 def labels(words: argparse.Namespace) -> None:
-    for label in grid_of(loaded(words.file), words.file, words.grid).labels():
-        print(text_of(label.value), label.count, numbers_of(label.bounds))
+    found = grid_of(loaded(words.file), words.file, words.grid).labels()
+    for value, count, low, high in zip(*(column.tolist() for column in found)):
+        print(text_of(value), count, numbers_of((low, high)))
 
 
 def array_of(path: str) -> np.ndarray:
@@ -250,13 +254,14 @@ def count_word(word: str) -> int:
 def parser() -> argparse.ArgumentParser:
     """Returns the parser of the command line."""
     made = argparse.ArgumentParser(
-        prog="vdbs",
+        prog="vdb-scene",
         description="Looks into scene files of vdb, and turns their grids into NumPy arrays and back.",
-        epilog="Example: python3 -m vdbs info scene.vdbs. 'python3 -m vdbs COMMAND --help' has an example of each command.\n"
+        epilog="Example: python3 -m vdb.scenefile info scene.vdbs\n"
+        "'python3 -m vdb.scenefile COMMAND --help' has an example of each command.\n"
         "Exit status: 0, 1 after an error (one line on standard error), 2 for a wrong command line.",
         formatter_class=argparse.RawDescriptionHelpFormatter,
     )
-    made.add_argument("--version", action="version", version=f"vdbs {__version__}")
+    made.add_argument("--version", action="version", version=f"vdb-scene {__version__}")
     commands = made.add_subparsers(metavar="COMMAND", required=True)
 
     def command(name: str, does: "Callable[[argparse.Namespace], None]", what: str, example: str) -> argparse.ArgumentParser:
@@ -279,19 +284,19 @@ def parser() -> argparse.ArgumentParser:
 
     added = command("info", info, "Prints the grids of a scene file: type, background, root limit, metadata,\n"
                     "active voxels, bounding box, root blocks, leaves and tiles.",
-                    "python3 -m vdbs info scene.vdbs --json")
+                    "python3 -m vdb.scenefile info scene.vdbs --json")
     added.add_argument("file", metavar="FILE", help="a scene file")
     added.add_argument("--json", action="store_true", help="print JSON")
 
     added = command("labels", labels, "Prints each value of active voxels: VALUE COUNT X0 Y0 Z0 X1 Y1 Z1, by rising values.\n"
                     "COUNT is the number of active voxels with this value, the six numbers are their bounding box.",
-                    "python3 -m vdbs labels scene.vdbs organs")
+                    "python3 -m vdb.scenefile labels scene.vdbs organs")
     scene_and_grid(added)
 
     added = command("from-npy", from_npy, "Puts a NumPy array into a scene file as a grid.\n"
                     "The array has the axes x, y, z and the dtype bool, an integer of up to 32 bits, or int64.\n"
                     "An existing file keeps its other grids. A grid of this name is replaced; its metadata and root limit stay.",
-                    "python3 -m vdbs from-npy labels.npy scene.vdbs --name organs --origin 0 0 -20")
+                    "python3 -m vdb.scenefile from-npy labels.npy scene.vdbs --name organs --origin 0 0 -20")
     added.add_argument("array", metavar="ARRAY.npy", help="the values")
     added.add_argument("file", metavar="FILE", help="the scene file, which is made if there is none")
     added.add_argument("--name", required=True, type=name_word, help="the name of the grid")
@@ -304,7 +309,7 @@ def parser() -> argparse.ArgumentParser:
 
     added = command("to-npy", to_npy, "Writes a box of a grid as a NumPy array with the axes x, y, z.\n"
                     "The box's origin and shape are printed on standard error.",
-                    "python3 -m vdbs to-npy scene.vdbs organs organs.npy --bounds 0 0 0 63 63 63 --active on.npy")
+                    "python3 -m vdb.scenefile to-npy scene.vdbs organs organs.npy --bounds 0 0 0 63 63 63 --active on.npy")
     scene_and_grid(added)
     added.add_argument("out", metavar="OUT.npy", help="the file for the values; - for standard output")
     bounds(added, "the box")
@@ -314,7 +319,7 @@ def parser() -> argparse.ArgumentParser:
     added = command("slice", draw_slice, "Draws a plane of a grid as a PNG, in a colour for each value.\n"
                     "Inactive voxels are pale, and light grey if they have the background's value.\n"
                     "x goes to the right and y down; across x or y, z goes down.",
-                    "python3 -m vdbs slice scene.vdbs organs --axis z --at 12 organs.png")
+                    "python3 -m vdb.scenefile slice scene.vdbs organs --axis z --at 12 organs.png")
     scene_and_grid(added)
     added.add_argument("out", metavar="OUT.png", help="the file for the picture; - for standard output")
     added.add_argument("--axis", required=True, choices="xyz", help="the axis across the plane")
@@ -324,13 +329,13 @@ def parser() -> argparse.ArgumentParser:
 
     added = command("picture", draw_answers, "Draws the slices among the answers of a script as a PNG, side by side.\n"
                     "Active cells are blue, darker for greater values; inactive cells are light grey.",
-                    "crates/vdb/out/vdb examples/ball.txt | python3 -m vdbs picture ball.png")
+                    "crates/vdb/out/vdb examples/ball.txt | python3 -m vdb.scenefile picture ball.png")
     added.add_argument("answers", nargs="?", default="-", metavar="ANSWERS", help="the answers (default: standard input)")
     added.add_argument("out", metavar="OUT.png", help="the file for the picture; - for standard output")
 
     added = command("merge", merge, "Writes the grids of two scene files into one.\n"
                     "A name that both have is an error unless --prefer chooses.",
-                    "python3 -m vdbs merge one.vdbs two.vdbs both.vdbs --prefer a")
+                    "python3 -m vdb.scenefile merge one.vdbs two.vdbs both.vdbs --prefer a")
     added.add_argument("a", metavar="A", help="a scene file")
     added.add_argument("b", metavar="B", help="another scene file")
     added.add_argument("out", metavar="OUT", help="the file for both, which may be A or B")
@@ -344,7 +349,7 @@ def main(arguments: "Optional[Sequence[str]]" = None) -> int:
     try:
         words.does(words)
         sys.stdout.flush()
-    except (VdbsError, Problem) as error:
+    except (VdbError, Problem) as error:
         return failed(str(error))
     except MemoryError:
         return failed("there is too little memory")
@@ -358,7 +363,7 @@ def main(arguments: "Optional[Sequence[str]]" = None) -> int:
 
 
 def failed(why: str) -> int:
-    print("vdbs:", " ".join(why.split()), file=sys.stderr)
+    print("vdb-scene:", " ".join(why.split()), file=sys.stderr)
     return 1
 
 

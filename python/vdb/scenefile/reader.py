@@ -11,9 +11,9 @@ from typing import Callable, NoReturn
 
 import numpy as np
 
-from . import forms
-from .errors import FAULTS, FormatError
-from .forms import ENTRIES, KEY_SPAN, KIND_NUMBERS, MAX_FILE, Kind
+from .. import forms
+from ..errors import FAULTS, FormatError
+from ..forms import ENTRIES, KEY_SPAN, KIND_NUMBERS, MAX_FILE, Kind
 from .tree import Leaves, Tiles, Tree, chunks
 
 #: Zeros behind the last byte of a file, so that the head of an entry can be read at once: its index, tag and count.
@@ -162,7 +162,8 @@ class Walk:
     def root_block(self, place: int) -> None:
         """Reads the key and the body of a root block."""
         reader, at = self.reader, self.reader.at
-        key = struct.unpack(">iii", reader.field(12, "the key of a root block"))
+        x, y, z = struct.unpack(">iii", reader.field(12, "the key of a root block"))
+        key = x, y, z
         if not all(-KEY_SPAN <= part < KEY_SPAN for part in key):
             reader.fail("key", at, f"the key {key} has a part outside {-KEY_SPAN:,} to {KEY_SPAN - 1:,}")
         if self.roots and key <= self.roots[-1]:

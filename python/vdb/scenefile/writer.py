@@ -10,7 +10,7 @@ from typing import Iterator, Mapping
 
 import numpy as np
 
-from .forms import Kind
+from ..forms import Kind
 from .tree import Leaves, Tree
 
 KEY_SIZE = 12
@@ -112,7 +112,7 @@ def packed(kind: Kind, leaves: Leaves, part: slice) -> memoryview:
     record["index"] = leaves.index[part]
     np.add(leaves.active[part], 1, out=record["tag"], dtype=np.uint8, casting="unsafe")
     record["value"] = leaves.values[part]
-    return memoryview(record.view(np.uint8))
+    return memoryview(record.view(np.uint8))  # type: ignore[arg-type]
 
 
 def put_numbers(made: np.ndarray, places: np.ndarray, numbers: np.ndarray, dtype: str) -> None:

@@ -6,7 +6,7 @@ from typing import Iterator
 
 import numpy as np
 
-from .forms import SIDES, Kind
+from ..forms import SIDES, Coordinate, Kind, Value, narrow
 from .tree import CODE_BITS, Leaves, Tiles, Tree, collapse, empty_tree
 
 #: How many voxels along x are handled at once.
@@ -45,7 +45,8 @@ class Source:
 
     def filled(self, place: int) -> bool:
         """Says whether the root block at this place holds anything but the inactive background."""
-        return any(parts and parts[-1][0][-1] >> CODE_BITS[0] == place for parts in (self.tile_parts, self.leaf_parts))
+        lasts = [*self.tile_parts[-1:], *self.leaf_parts[-1:]]
+        return any(part[0][-1] >> CODE_BITS[0] == place for part in lasts)
 
     def root_block(self, key: "tuple[int, int, int]", place: int) -> None:
         low = [max(at, part * SIDES[2]) for at, part in zip(self.origin, key)]
@@ -133,24 +134,37 @@ def blocks_of(brick: np.ndarray, found: np.ndarray) -> np.ndarray:
     return rows.view(brick.dtype).reshape(len(rows), 512)
 
 
-def arrays_of(tree: Tree, low, past, fill) -> "tuple[np.ndarray, np.ndarray]":
-    """Returns the values and states of the box from `low` to before `past`. With `fill`, inactive voxels have that value."""
-    target = Target(tree, low, past, fill)
+def fill_arrays(tree: Tree, low: Coordinate, values: "np.ndarray | None", active: "np.ndarray | None", fill: "Value | None") -> None:
+    """Writes a box of voxels to dense arrays of one shape, either of which may be left out. With `fill`, inactive voxels have that value.
+
+    Raises RangeError if the dtype of `values` doesn't hold one of them.
+    """
+    some = values if values is not None else active
+    assert some is not None
+    target = Target(tree, low, whole(values, some.shape, tree.kind.dtype), whole(active, some.shape, np.dtype(np.bool_)), fill)
     for level in (2, 1, 0):
         target.put_tiles(level)
     target.put_leaves()
-    return target.values, target.active
+    if values is not None and target.values is not values:
+        narrow(target.values, values)
+    if active is not None and target.active is not active:
+        active[...] = target.active
+
+
+def whole(given: "np.ndarray | None", shape: "tuple[int, ...]", dtype: np.dtype) -> np.ndarray:
+    """Returns the array itself if it has this dtype and no gaps, else a new one of this shape."""
+    return given if given is not None and given.dtype == dtype and given.flags.c_contiguous else np.empty(shape, dtype)
 
 
 class Target:
-    """Dense arrays that are filled from a tree."""
+    """Dense arrays without gaps that are filled from a tree."""
 
-    def __init__(self, tree: Tree, low, past, fill) -> None:
-        self.tree, self.low, self.past = tree, np.array(low), np.array(past)
+    def __init__(self, tree: Tree, low: Coordinate, values: np.ndarray, active: np.ndarray, fill: "Value | None") -> None:
+        self.tree, self.low = tree, np.array(low)
         self.only_active = fill is not None
-        start, shape = (fill if self.only_active else tree.background), tuple(self.past - self.low)
-        self.values = np.full(shape, start, tree.kind.dtype) if start else np.zeros(shape, tree.kind.dtype)
-        self.active = np.zeros(shape, np.bool_)
+        self.values, self.active = values, active
+        values[...] = tree.background if fill is None else fill
+        active[...] = False
 
     def put_tiles(self, level: int) -> None:
         """Writes the tiles of a level, a slice each."""

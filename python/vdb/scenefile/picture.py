@@ -4,7 +4,7 @@ from __future__ import annotations
 
 import struct
 import zlib
-from typing import Iterable, Optional
+from typing import Iterable, List, Optional
 
 import numpy as np
 
@@ -14,7 +14,7 @@ PAPER = (255, 255, 255)
 INACTIVE = (228, 228, 224)
 PALE, DARK = (140, 180, 224), (20, 60, 120)
 
-Rows = "list[list[Optional[int]]]"
+Rows = List[List[Optional[int]]]
 
 
 def png(pixels: np.ndarray) -> bytes:
@@ -33,7 +33,8 @@ def png(pixels: np.ndarray) -> bytes:
 
 def slices_of(lines: Iterable[str]) -> "list[Rows]":
     """Returns the slices among the answers of a script. In a row an inactive cell is None; booleans are 0 and 1."""
-    found, rows = [], []
+    found: "list[Rows]" = []
+    rows: Rows = []
     for line in lines:
         words = line.split()
         if words[:1] == ["row"] and len(words) > 2:

@@ -1,0 +1,184 @@
+# SPDX-License-Identifier: Apache-2.0
+"""The parts of a grid: leaves, and cubes of 8, 128 or 4,096 voxels along each axis. Their coordinates, runs and labels."""
+from __future__ import annotations
+
+from typing import Iterator, NamedTuple, Sequence, Union
+
+import numpy as np
+
+class Rows(NamedTuple):
+    """Leaves: least corners (n x 3, int32), values (n x 512, integers or bool) and states (n x 512, bool). Voxel 64 dx + 8 dy + dz of a row
+    lies dx, dy and dz past the corner."""
+
+    origins: np.ndarray
+    values: np.ndarray
+    active: np.ndarray
+
+
+class Cubes(NamedTuple):
+    """Active cubes of one side in voxels, each of one value: least corners (n x 3, int32) and values (n)."""
+
+    low: np.ndarray
+    side: int
+    values: np.ndarray
+
+
+class Boxes(NamedTuple):
+    """Boxes of active voxels, each of one value: least and greatest corners (n x 3, int32), both included, and values (n)."""
+
+    low: np.ndarray
+    high: np.ndarray
+    values: np.ndarray
+
+
+class Labels(NamedTuple):
+    """The values of active voxels, each once and rising: arrays of the values (n), of how many voxels have each (n, int64), and of the
+    least and the greatest corners of their bounding boxes (n x 3, int32)."""
+
+    values: np.ndarray
+    counts: np.ndarray
+    low: np.ndarray
+    high: np.ndarray
+
+
+Part = Union[Rows, Cubes]
+
+#: How many blocks are expanded at a time.
+BLOCKS = 256
+
+
+def steps(count: int, side: int) -> np.ndarray:
+    """Returns the least corners (count^3 x 3, int32) of a cube's parts, `count` of them along each axis, `side` voxels apart."""
+    return (np.indices((count,) * 3, np.int32).reshape(3, -1).T * np.int32(side)).astype(np.int32)
+
+
+#: The coordinates of the voxels of a leaf past its least corner, by number.
+OFFSETS = steps(8, 1)
+#: Of each larger cube: the side of its parts, and their least corners past its own.
+PARTS = {4096: (128, steps(32, 128)), 128: (8, steps(16, 8))}
+
+
+def voxels_of(lows: np.ndarray, side: int) -> Iterator[np.ndarray]:
+    """Yields the coordinates (n x 3, int32) of all voxels of cubes of a side, which have these least corners (m x 3, int32)."""
+    if side == 8:
+        for first in range(0, len(lows), BLOCKS):
+            yield (lows[first : first + BLOCKS, None] + OFFSETS).reshape(-1, 3)
+    else:
+        smaller, corners = PARTS[side]
+        for low in lows:
+            yield from voxels_of(low + corners, smaller)
+
+
+def coordinates(parts: Iterator[Part]) -> Iterator[np.ndarray]:
+    """Yields the coordinates (n x 3, int32) of the active voxels of parts."""
+    for part in parts:
+        if isinstance(part, Rows):
+            yield places(part.origins, part.active)
+        else:
+            yield from voxels_of(part.low, part.side)
+
+
+def places(origins: np.ndarray, mask: np.ndarray) -> np.ndarray:
+    """Returns the coordinates (m x 3, int32) of the voxels of leaves that are marked in `mask` (n x 512)."""
+    numbers = np.flatnonzero(mask.ravel())
+    return origins[numbers >> 9] + OFFSETS[numbers & 511]
+
+
+def boxes(parts: Iterator[Part]) -> Iterator[Boxes]:
+    """Yields the active voxels of parts as boxes: cubes as they are, leaves of one cell whole, and other leaves by runs along z."""
+    for part in parts:
+        if isinstance(part, Cubes):
+            yield Boxes(part.low, part.low + np.int32(part.side - 1), part.values)
+            continue
+        whole = part.active.all(axis=1) & (part.values == part.values[:, :1]).all(axis=1)
+        if whole.any():
+            low = part.origins[whole]
+            yield Boxes(low, low + np.int32(7), part.values[whole, 0])
+        if not whole.all():
+            yield runs(Rows(part.origins[~whole], part.values[~whole], part.active[~whole]))
+
+
+def runs(rows: Rows) -> Boxes:
+    """Returns the runs along z of active voxels of one value in leaves."""
+    values, active = rows.values.ravel(), rows.active.ravel()
+    goes_on = active[1:] & active[:-1] & (values[1:] == values[:-1])
+    goes_on[7::8] = False
+    first, last = active.copy(), active.copy()
+    first[1:] &= ~goes_on
+    last[:-1] &= ~goes_on
+    begins, ends = np.flatnonzero(first), np.flatnonzero(last)
+    origins = rows.origins[begins >> 9]
+    return Boxes(origins + OFFSETS[begins & 511], origins + OFFSETS[ends & 511], values[begins])
+
+
+#: Up to so many labels of a leaf, or of a choice, are looked for one by one.
+FEW = 8
+
+
+def labels(parts: Iterator[Part], dtype: np.dtype) -> Labels:
+    """Returns the values of the active voxels of parts, with their numbers and bounding boxes."""
+    corners = np.zeros((0, 3), np.int32)
+    groups = [Labels(np.zeros(0, dtype), np.zeros(0, np.int64), corners, corners)]
+    for part in parts:
+        if isinstance(part, Cubes):
+            counts = np.full(len(part.low), part.side**3, np.int64)
+            groups.append(grouped(Labels(part.values, counts, part.low, part.low + np.int32(part.side - 1))))
+        else:
+            groups += labels_of_rows(part)
+    found = grouped(joined(groups))
+    return found._replace(values=found.values.astype(dtype, copy=False))
+
+
+def labels_of_rows(rows: Rows) -> "Iterator[Labels]":
+    """Yields the labels of leaves, each perhaps more than once: the first ones of each leaf by comparing, what is left then by sorting."""
+    origins, values, left = rows
+    for _ in range(FEW):
+        some = left.any(axis=1)
+        if not some.all():
+            origins, values, left = origins[some], values[some], left[some]
+        if not len(origins):
+            return
+        label = values[np.arange(len(values)), left.argmax(axis=1)]
+        mask = left & (values == label[:, None])
+        left = left ^ mask
+        low, high = extents(mask)
+        yield grouped(Labels(label, np.count_nonzero(mask, axis=1), origins + low, origins + high))
+    at = places(origins, left)
+    yield grouped(Labels(values[left], np.ones(len(at), np.int64), at, at))
+
+
+def extents(mask: np.ndarray) -> "tuple[np.ndarray, np.ndarray]":
+    """Returns the least and the greatest offset (n x 3, int32) of the voxels that are marked in each leaf (n x 512, bool), some of them."""
+    slices = np.packbits(mask, axis=1).view(np.uint64)  # a word for each x, in it a byte for each y, whose highest bit is the least z
+    columns = np.bitwise_or.reduce(slices, axis=1)[:, None].view(np.uint8)
+    rows = np.bitwise_or.reduce(columns, axis=1)[:, None]
+    marked = np.stack([slices != 0, columns != 0, np.unpackbits(rows, axis=1).view(np.bool_)], axis=1)
+    return marked.argmax(axis=2).astype(np.int32), (7 - marked[:, :, ::-1].argmax(axis=2)).astype(np.int32)
+
+
+def joined(groups: "Sequence[Labels]") -> Labels:
+    """Returns labels one after another."""
+    values, counts, low, high = (np.concatenate(column) for column in zip(*groups))
+    return Labels(values, counts, low, high)
+
+
+def grouped(found: Labels) -> Labels:
+    """Returns labels with each value once, in rising order: counts are summed and boxes joined."""
+    if not len(found.values):
+        return found
+    order = order_of(found.values)
+    values = found.values[order]
+    firsts = np.flatnonzero(np.concatenate([[True], values[1:] != values[:-1]]))
+    sums = np.add.reduceat(found.counts[order], firsts)
+    low = [np.minimum.reduceat(column[order], firsts) for column in found.low.T]
+    high = [np.maximum.reduceat(column[order], firsts) for column in found.high.T]
+    return Labels(values[firsts], sums, np.stack(low, axis=1), np.stack(high, axis=1))
+
+
+def order_of(values: np.ndarray) -> np.ndarray:
+    """Returns the order in which the values rise. Values of a small range sort by radix."""
+    if values.dtype != np.bool_:
+        low, high = int(values.min()), int(values.max())
+        if high - low < 1 << 16:
+            values = (values - values.dtype.type(low)).astype(np.uint16)
+    return np.argsort(values, kind="stable")

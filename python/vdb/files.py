@@ -1,0 +1,65 @@
+# SPDX-License-Identifier: Apache-2.0
+"""Files that are replaced only when all of the new content is written, and errors that name their file."""
+from __future__ import annotations
+
+import contextlib
+import os
+import secrets
+import stat
+from typing import BinaryIO, Iterator
+
+from .errors import FormatError, file_error
+
+
+@contextlib.contextmanager
+def naming(path: "str | os.PathLike[str]") -> Iterator[None]:
+    """Names the file in the errors of its block: an OSError becomes a FileError, and a FormatError gets the path."""
+    try:
+        yield
+    except OSError as error:
+        raise file_error(error, os.fspath(path)) from error
+    except FormatError as error:
+        error.path = os.fspath(path)
+        raise
+
+
+@contextlib.contextmanager
+def replacing(path: "str | os.PathLike[str]") -> Iterator[BinaryIO]:
+    """Opens a temporary file beside `path`, which takes its place at the end of the block.
+
+    The temporary file is new and has the mode of an existing file from its first byte on. It is on the disk before it takes the place. A
+    symbolic link is followed. A pipe or a device is written itself. After an error in the block the temporary file is removed, and what
+    was at `path` stays. Raises FileError if the file can't be written.
+    """
+    with naming(path):
+        place = os.path.realpath(path)
+        old = os.stat(place) if os.path.exists(place) else None
+        if old and not stat.S_ISREG(old.st_mode):
+            with open(place, "wb") as file:
+                yield file
+            return
+        temporary = os.path.join(os.path.dirname(place), f".{secrets.token_hex(8)}.tmp")
+        descriptor = os.open(temporary, os.O_WRONLY | os.O_CREAT | os.O_EXCL | os.O_CLOEXEC, 0o600 if old else 0o666)
+        try:
+            with os.fdopen(descriptor, "wb") as file:
+                if old:
+                    os.fchmod(file.fileno(), stat.S_IMODE(old.st_mode))
+                yield file
+                file.flush()
+                os.fsync(file.fileno())
+            os.replace(temporary, place)
+            synchronise(os.path.dirname(place))
+        except BaseException:
+            with contextlib.suppress(FileNotFoundError):
+                os.unlink(temporary)
+            raise
+
+
+def synchronise(folder: str) -> None:
+    """Puts the names of a folder on the disk, where its file system can."""
+    with contextlib.suppress(OSError):
+        descriptor = os.open(folder, os.O_RDONLY | os.O_DIRECTORY)
+        try:
+            os.fsync(descriptor)
+        finally:
+            os.close(descriptor)
