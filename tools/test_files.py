@@ -2,8 +2,8 @@
 # SPDX-License-Identifier: Apache-2.0
 """Tests of how programs save a file: a new one beside the old one takes its place when its bytes are on the disk.
 
-The programs are the example in C++, which calls vdb.hpp, tools/vdb-run, and tools/openvdb/vdb2vdbs if it is built. They need what
-tools/test_libvdb.py needs, and the program vdb: the variable VDB, else crates/vdb/out/vdb.
+The programs are the examples in C++ and Python, which call vdb.hpp and the Python package, tools/vdb-run, and tools/openvdb/vdb2vdbs if it
+is built. They need what tools/test_libvdb.py needs, and the program vdb: the variable VDB, else crates/vdb/out/vdb.
 """
 from __future__ import annotations
 
@@ -19,7 +19,7 @@ import unittest
 from pathlib import Path
 
 sys.path.insert(0, str(Path(__file__).resolve().parent))
-from test_libvdb import CHECKS, TOOLS, TOP, WAIT, c_example, cpp_example, done, encoding, run, work  # noqa: E402
+from test_libvdb import CHECKS, TOOLS, TOP, WAIT, c_example, cpp_example, done, encoding, for_python, run, with_numpy, work  # noqa: E402
 
 VDB = os.environ.get("VDB") or TOP / "crates" / "vdb" / "out" / "vdb"
 CONVERTERS = TOOLS / "openvdb"
@@ -30,7 +30,12 @@ def savers():
     """The command of each program, without the file that it saves."""
     labels, script = work() / "labels.vdbs", work() / "nothing.txt"
     script.write_text("", encoding="ascii")
-    found = {"C++": [cpp_example(), labels], "vdb-run": [TOOLS / "vdb-run", "--vdb", VDB, "--load", labels, script, "--save"]}
+    places = [f"{name}={for_python()[name]}" for name in ("PYTHONPATH", "VDB_LIBRARY")]
+    found = {
+        "C++": [cpp_example(), labels],
+        "Python": ["env", *places, with_numpy(), TOP / "examples" / "python" / "labels.py", labels],
+        "vdb-run": [TOOLS / "vdb-run", "--vdb", VDB, "--load", labels, script, "--save"],
+    }
     if all((CONVERTERS / it).is_file() for it in ("vdb2vdbs", "vdbs2vdb")):
         done([CONVERTERS / "vdbs2vdb", labels, work() / "labels.vdb"])
         found["vdb2vdbs"] = [CONVERTERS / "vdb2vdbs", work() / "labels.vdb"]
