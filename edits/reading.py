@@ -80,7 +80,8 @@ def spans_of(edit, folder):
         before = len(os.path.commonprefix([old, new]))
         after = len(os.path.commonprefix([old[before:][::-1], new[before:][::-1]]))
         start, length = text.index(old) + before, len(old) - before - after
-        start -= sum(len(it[3]) - (it[2] - it[1]) for it in spans if it[0] == path and it[1] < start)
+        for _, begin, end, put in sorted(it for it in spans if it[0] == path):
+            start += end - begin - len(put) if begin <= start else 0
         spans.append((path, start, start + length, new[before : len(new) - after]))
     return spans
 
