@@ -116,7 +116,7 @@ def try_batch(crate, batch):
     spans = [it for edit in batch for it in spans_of(edit, folder_of(crate))]
     output, seconds = check(crate, texts_of(crate, spans), sorted({it.heads["function"] for it in batch}))
     if re.match(r"only=\d+ ", output.rstrip().rpartition("\n")[2]):
-        goals, lost = goals_of(output)
+        goals, lost = goals_of(crate, output)
         return [judged(it, goals, lost, seconds / len(batch)) for it in batch]
     if len(batch) > 1:
         return [it for part in (batch[: len(batch) // 2], batch[len(batch) // 2 :]) for it in try_batch(crate, part)]
@@ -149,11 +149,21 @@ def check(crate, texts, names):
             return output.read(), used.ru_utime + used.ru_stime
 
 
+def cycles_in(folder):
+    """The names of the functions in each cycle of calls of a module, by the folder of their measures, which begins with +."""
+    found = {}
+    for name in os.listdir(folder) if os.path.isdir(folder) else []:
+        file = f"{folder}/{name}/Invariants.antt"
+        if name.startswith("+") and os.path.exists(file):
+            found[name] = re.findall(r"^abbrev pub decreases-(\w+) :", open(file, encoding="utf-8").read(), re.M)
+    return found
+
+
 def leave_out(crate, path, proofs):
-    """Puts a hole in place of the proof of a function, but for one that calls itself: the folder of its measure begins with +."""
+    """Puts a hole in place of the proof of a function, but for one in a cycle of calls."""
     words = path.split("::")
     folder = "/".join([proofs, *words])
-    if os.path.isdir("/".join([proofs, *words[:-1], f"+{words[-1]}"])):
+    if any(words[-1] in it for it in cycles_in("/".join([proofs, *words[:-1]])).values()):
         return
     os.makedirs(folder, exist_ok=True)
     for name in ("Answers.antt", "Invariants.antt"):
@@ -164,20 +174,25 @@ def leave_out(crate, path, proofs):
         file.write(f"pub {words[-1]}_spec : {{M : Type 1}} → statement M\n{words[-1]}_spec = ?\n")
 
 
-def function_of(folder):
-    """The path of the function whose proof stands in a folder of proofs/."""
-    return folder.replace("/+", "/").replace("/", "::")
+def goal_of(crate, folder, goal):
+    """The path of the function of a goal, by the folder of its proof, and the goal's name in that function. In a cycle the name begins with
+    the function's."""
+    module, _, last = folder.rpartition("/")
+    name, _, rest = goal.partition("-")
+    if last.startswith("+"):
+        inside = name in cycles_in(f"{folder_of(crate)}/proofs/{module}").get(last, [])
+        last, goal = (name, rest) if inside else (last[1:], goal)
+    return f"{module}/{last}".lstrip("/").replace("/", "::"), goal
 
 
-def goals_of(output):
+def goals_of(crate, output):
     """The open goals of each function that a check names, and those whose answer only names what is gone."""
     goals, lost = {}, {}
     for line in output.splitlines():
         refused, opened = REFUSED.match(line), OPEN.match(line)
-        if refused:
-            (lost if LOST.search(refused[3]) else goals).setdefault(function_of(refused[1]), []).append(refused[2])
-        elif opened:
-            goals.setdefault(function_of(opened[2]), []).append(opened[1])
+        if refused or opened:
+            path, goal = goal_of(crate, *(refused.group(1, 2) if refused else opened.group(2, 1)))
+            (lost if refused and LOST.search(refused[3]) else goals).setdefault(path, []).append(goal)
     return goals, lost
 
 

@@ -5,7 +5,7 @@ use crate::at;
 use anyhow::{Context, Result, bail, ensure};
 use std::alloc::Global;
 use vdb_coord::{Bounds, Coord};
-use vdb_file::{LoadFault, load, save};
+use vdb_file::{LoadFault, load_bytes, save};
 use vdb_grid::Grid;
 use vdb_pool::Steps;
 use vdb_scene::{ACCESSORS, AnyGrid, Name, ROOT_LIMIT, Refusal, Scalar, Scene, Watched};
@@ -85,7 +85,7 @@ fn compare(rt: &impl Print, saved: &Scene, loaded: &Scene, steps: &mut Steps) ->
 /// Returns the scene that these bytes encode, or the fault of the bytes. An allocation failure says nothing about the bytes, so
 /// it is an error of its own.
 fn loaded(alloc: Global, bytes: &[u8], steps: &mut Steps) -> Result<Result<Scene, LoadFault>> {
-    match load(alloc, &mut Watched::new(bytes), steps) {
+    match load_bytes(alloc, bytes, steps) {
         Err(LoadFault::Memory) => bail!("out of memory"),
         answer => Ok(answer),
     }

@@ -70,8 +70,8 @@ fn run(rt: &HostRuntime, given: &[String]) -> ExitCode {
         Err(_) => return out_of_memory(rt),
     };
     match words(rt.alloc(), texts.as_slice()) {
-        Ok(named) => told(rt, carry_out(rt, &named)),
-        Err(fault) => refused(rt, &fault),
+        Ok(named) => report_end(rt, carry_out(rt, &named)),
+        Err(fault) => report_usage(rt, &fault),
     }
 }
 
@@ -82,13 +82,13 @@ fn out_of_memory(rt: &HostRuntime) -> ExitCode {
 }
 
 /// Prints why no session runs: help and the version to standard output, a fault of the command line to standard error.
-fn refused(rt: &HostRuntime, fault: &clap::Error) -> ExitCode {
+fn report_usage(rt: &HostRuntime, fault: &clap::Error) -> ExitCode {
     let _ = fault.print(rt);
     ExitCode::from(if fault.use_stderr() { USAGE } else { 0 })
 }
 
 /// Reports the fault that ended the session early, if any.
-fn told(rt: &HostRuntime, played: Played) -> ExitCode {
+fn report_end(rt: &HostRuntime, played: Played) -> ExitCode {
     if let Some(fault) = &played.fault {
         let _ = eprintln!(rt; "{fault}");
     }

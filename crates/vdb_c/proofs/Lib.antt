@@ -21,3 +21,5 @@ pub mod CopiedRows
 pub mod LeafCopies
 pub mod LeafFields
 pub mod VoxelCalls
+pub mod SameTrees
+pub mod LoadFaults

@@ -10,10 +10,10 @@ use Rattle.vdb_tree.specs.declared.Write.{Write}
 use Rattle.vdb_tree.specs.declared.Write.TheVariants as writes
 use Rattle.vdb_tree.specs.declared.refusal.TreeRefusal.{TreeRefusal}
 use Rattle.vdb_tree.specs.declared.refusal.TreeRefusal.TheVariants as trees
-use Rattle.vdb_scene.specs.Grids.{IsCopyOf, IsVoxelised, grid_field, grid_root_limit}
+use Rattle.vdb_scene.specs.Grids.{HasSameTree, IsCopyOf, IsVoxelised, grid_field, grid_root_limit}
 use Rattle.vdb_scene.specs.Scalars.{is_of, kind_of, scalar_eq}
 use Rattle.vdb_scene.specs.Step.{passes, write_takes_memory}
-use Rattle.vdb_scene.specs.TwoGrids.{IsMade}
+use Rattle.vdb_scene.specs.TwoGrids.{IsMade, StaysBut}
 use Rattle.vdb_scene.specs.declared.answer.Refusal.{Refusal}
 use Rattle.vdb_scene.specs.declared.two_grids.Operation.{Operation}
 use Rattle.vdb_scene.specs.declared.any_grid.AnyGrid.{AnyGrid}
@@ -37,15 +37,23 @@ abbrev pub OnValid : {A B : Type 0} → Option B → A → A → ℤ → Type 0 
 OnValid None old new code kept call = (code ≡ out_of_range) × (new ≡ old) × kept
 OnValid (Some b) old new code kept call = call b
 
--- a call that reads a grid, which keeps its cells and its limit
+-- a call that reads a grid, which stays as it is: its cells, its tree and its accessors
 abbrev pub Reads : AnyGrid → AnyGrid → ℤ → Type 0 → Type 0
-Reads old new code answer = (code ≡ done) × (grid_field new ≡ grid_field old) × (grid_root_limit new ≡ grid_root_limit old) × answer
+Reads old new code answer = (code ≡ done) × (new ≡ old) × answer
+
+-- a call that reads a grid through an accessor or none, which keeps its cells and its tree
+abbrev pub ReadsBy : AnyGrid → AnyGrid → ℤ → Type 0 → Type 0
+ReadsBy old new code answer = (code ≡ done) × HasSameTree old new × answer
+
+-- a call that may change the tree of a grid, and keeps its cells and its limit
+abbrev pub KeepsCells : AnyGrid → AnyGrid → ℤ → Type 0 → Type 0
+KeepsCells old new code answer = (code ≡ done) × (grid_field new ≡ grid_field old) × (grid_root_limit new ≡ grid_root_limit old) × answer
 
 -- a call that reads the number and the state of a voxel through an accessor or none, which is tested
 abbrev pub Probes : ℤ → Coord → ℤ → ℤ → ℤ → ℤ → Option AnyGrid → Option AnyGrid → ℤ → Type 0
 Probes number at value value' active active' old new code =
     OnHeld old new code ((value' ≡ value) × (active' ≡ active)) (λ g h. OnValid (accessor_of number) g h code ((value' ≡ value) × (active' ≡ active))
-    (λ _. Reads g h code ((value' ≡ value_number ((grid_field g).cell at).value) × (active' ≡ state_number ((grid_field g).cell at).on))))
+    (λ _. ReadsBy g h code ((value' ≡ value_number ((grid_field g).cell at).value) × (active' ≡ state_number ((grid_field g).cell at).on))))
 
 -- a call that changes a grid or fails, with the outcome that the library states
 abbrev pub Changes : AnyGrid → AnyGrid → ℤ → (Result (Unit {0}) TreeRefusal → Type 0) → Type 0
@@ -119,8 +127,9 @@ abbrev pub OnOther : Option AnyGrid → AnyGrid → AnyGrid → ℤ → (AnyGrid
 OnOther None old new code call = (code ≡ empty) × (new ≡ old)
 OnOther (Some given) old new code call = call given
 
--- an operation on two grids, which keeps the limit of the first, with the outcome that the library states
+-- An operation on two grids, which keeps the limit of the first, with the outcome that the library states. An error other than the root limit
+-- and memory leaves the grid as it is, its tree too.
 abbrev pub Combines : Operation → Option AnyGrid → Option AnyGrid → Option AnyGrid → ℤ → Type 0
 Combines operation old other new code =
     OnHeld old new code ⊤ (λ g h. OnOther other g h code (λ k. (grid_root_limit h ≡ grid_root_limit g)
-    × ((r : Result (Unit {0}) Refusal) × (code ≡ scene_code r) × IsMade operation (grid_root_limit g) (grid_field g) (grid_field k) (grid_field h) r)))
+    × ((r : Result (Unit {0}) Refusal) × (code ≡ scene_code r) × IsMade operation (grid_root_limit g) (grid_field g) (grid_field k) (grid_field h) r × IfErr r (λ refusal. StaysBut refusal g h))))

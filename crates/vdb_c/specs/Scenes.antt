@@ -3,11 +3,12 @@ use Rattle.std.specs.Prelude.{◌≡◌, ◌⊎◌, ◌<◌, ◌≤◌, ◌++◌
 use Rattle.std.specs.List.{slice_get}
 use Rattle.std.specs.Map.{lookup}
 use Rattle.std.specs.Option.{option_map}
-use Rattle.vdb_file.specs.Faults.{Claims}
+use Rattle.vdb_file.specs.Faults.{HasOtherMagic, HasOtherVersion}
+use Rattle.vdb_file.specs.Scenes.{BeginsWithFile, EndsEarly}
 use Rattle.vdb_file.specs.Spelling.{IsFileOf, file_limit, spelling}
 use Rattle.vdb_file.specs.declared.fault.LoadFault.{LoadFault}
 use Rattle.vdb_file.specs.declared.fault.LoadFault.TheVariants as faults
-use Rattle.vdb_scene.specs.Doing.{Does, RemovesGrid}
+use Rattle.vdb_scene.specs.Doing.{AddsGrid, Does, KeepsGrids, LeavesTrees, RemovesGrid, result_of}
 use Rattle.vdb_scene.specs.Grids.{grid_alone, scene_of}
 use Rattle.vdb_scene.specs.Metas.{is_text}
 use Rattle.vdb_scene.specs.Names.{is_name}
@@ -22,7 +23,7 @@ use Rattle.vdb_scene.specs.declared.scene.Scene.{Scene}
 use Rattle.vdb_c.specs.Calls.{IsCopyIn}
 use Rattle.vdb_c.specs.Codes.{done, empty, memory, no_grid, no_meta, no_name, no_text, scene_code, too_long, too_small}
 
--- the code of a fault of a file
+-- the code of a fault of a file; `Read` has none, since bytes in memory can always be read
 abbrev pub fault_code : LoadFault → ℤ
 fault_code faults.Magic = pos 20
 fault_code faults.Version = pos 21
@@ -41,7 +42,7 @@ fault_code faults.ConstantNode = pos 33
 fault_code faults.Trailing = pos 34
 fault_code faults.TooLong = too_long
 fault_code faults.Memory = memory
-fault_code faults.Read = pos 36
+fault_code faults.Read = memory
 
 -- an empty scene
 abbrev pub IsEmptyScene : Option Scene → Type 0
@@ -61,10 +62,20 @@ IsSceneOf bytes (Some s) = IsScene (scene_of s) × IsFileOf bytes (scene_of s)
 abbrev pub IsNoFile : List ℕ → Type 0
 IsNoFile bytes = (s : abstract_scene.Scene) → IsScene s → IsFileOf bytes s → ⊥
 
--- a scene was loaded; or memory ran out; or the bytes have a fault, and then they are no file, unless the reader failed
+-- what a fault says of the bytes: they are no file, and some faults say where that begins; bytes in memory can always be read
+abbrev pub Means : LoadFault → List ℕ → Type 0
+Means faults.Memory bytes = ⊤
+Means faults.Read bytes = ⊥
+Means faults.Magic bytes = IsNoFile bytes × HasOtherMagic bytes
+Means faults.Version bytes = IsNoFile bytes × HasOtherVersion bytes
+Means faults.Truncated bytes = IsNoFile bytes × EndsEarly bytes
+Means faults.Trailing bytes = IsNoFile bytes × BeginsWithFile bytes
+Means fault bytes = IsNoFile bytes
+
+-- a scene was loaded; or memory ran out; or the bytes have a fault
 abbrev pub IsLoaded : List ℕ → Option Scene → Option Scene → ℤ → Type 0
 IsLoaded bytes old new code =
-    ((code ≡ done) × IsSceneOf bytes new) ⊎ ((code ≡ memory) × (new ≡ old)) ⊎ ((fault : LoadFault) × (code ≡ fault_code fault) × (new ≡ old) × (Claims fault → IsNoFile bytes))
+    ((code ≡ done) × IsSceneOf bytes new) ⊎ ((code ≡ memory) × (new ≡ old)) ⊎ ((fault : LoadFault) × (code ≡ fault_code fault) × (new ≡ old) × Means fault bytes)
 
 -- a scene stays, and this is what the call writes
 abbrev pub Tells : Scene → Scene → Type 0 → Type 0
@@ -75,11 +86,13 @@ unfoldable pub IsCopiedOut : List ℕ → List ℕ → List ℕ → ℕ → ℕ 
 IsCopiedOut bytes old new used used' code =
     ((code ≡ done) × (new ≡ bytes ++ drop (length bytes) old) × (used' ≡ length bytes)) ⊎ ((code ≡ too_small) × (length old < length bytes) × (new ≡ old) × (used' ≡ used))
 
--- the encoding of a scene goes to the head of a buffer, if a file may be that long and the buffer is long enough
+-- The encoding of a scene goes to the head of a buffer, if a file may be that long and the buffer is long enough. Only then may memory
+-- run out.
 unfoldable pub IsSaved : abstract_scene.Scene → List ℕ → List ℕ → ℕ → ℕ → ℤ → Type 0
 IsSaved s old new used used' code =
-    IsCopiedOut (spelling s) old new used used' code ⊎ ((code ≡ memory) × (new ≡ old) × (used' ≡ used))
-    ⊎ ((code ≡ too_long) × (file_limit < length (spelling s)) × (new ≡ old) × (used' ≡ used))
+    ((length (spelling s) ≤ file_limit) × IsCopiedOut (spelling s) old new used used' code)
+    ⊎ ((length (spelling s) ≤ file_limit) × (length (spelling s) ≤ length old) × (code ≡ memory) × (new ≡ old) × (used' ≡ used))
+    ⊎ ((file_limit < length (spelling s)) × (code ≡ too_long) × (new ≡ old) × (used' ≡ used))
 
 -- a call on a grid or a name that the scene may lack
 abbrev pub OnFound : {A : Type 0} → Option A → ℤ → Type 0 → (A → Type 0) → Type 0
@@ -115,9 +128,10 @@ TellsPair s name index part old new used used' code =
     OnName name (abstract_scene.grid_at s name) code ((new ≡ old) × (used' ≡ used))
     (λ g. OnPair (slice_get g.pairs index) code ((new ≡ old) × (used' ≡ used)) (λ pair. IsCopiedOut (part pair) old new used used' code))
 
--- a change of a scene by a command, with the outcome that the library states
+-- a change of a scene by a command, with the outcome and the trees that the library states
 abbrev pub DoesBy : Command → Scene → Scene → ℤ → Type 0
-DoesBy command old new code = (r : Result (Unit {0}) Refusal) × (code ≡ scene_code r) × Does (scene_of old) command r (scene_of new)
+DoesBy command old new code =
+    (r : Result (Unit {0}) Refusal) × (code ≡ scene_code r) × Does (scene_of old) command r (scene_of new) × LeavesTrees command (result_of r) old new
 
 -- a metadata text was set, if name, key and text have the form of one
 abbrev pub IsMetaSet : List ℕ → List ℕ → List ℕ → Scene → Scene → ℤ → Type 0
@@ -135,13 +149,18 @@ abbrev pub IsGiven : Result (Unit {0}) Refusal → AnyGrid → Option AnyGrid �
 IsGiven (Ok _) g new = new ≡ None
 IsGiven (Err _) g new = new ≡ Some g
 
+-- each grid of the scene stays, its tree and its accessors too, beside the one that was moved in
+abbrev pub KeepsTrees : Result (Unit {0}) Refusal → Scene → List ℕ → AnyGrid → Scene → Type 0
+KeepsTrees (Ok _) s name g t = AddsGrid s name (record { grid = g; metas = [] }) t
+KeepsTrees (Err _) s name g t = KeepsGrids s t
+
 -- a grid was moved from a handle into a scene, with the outcome that the library states; both handles are tested first, then the name
 abbrev pub IsMovedIn : List ℕ → Option Scene → Option Scene → Option AnyGrid → Option AnyGrid → ℤ → Type 0
 IsMovedIn name None new old given code = (code ≡ empty) × (new ≡ None) × (given ≡ old)
 IsMovedIn name (Some s) new None given code = (code ≡ empty) × (new ≡ Some s) × (given ≡ None)
 IsMovedIn name (Some s) None (Some g) given code = ⊥
 IsMovedIn name (Some s) (Some t) (Some g) given code =
-    (IsTrue (is_name name) × ((r : Result (Unit {0}) Refusal) × (code ≡ scene_code r) × Inserts (scene_of s) name (grid_alone g) r (scene_of t) × IsGiven r g given))
+    (IsTrue (is_name name) × ((r : Result (Unit {0}) Refusal) × (code ≡ scene_code r) × Inserts (scene_of s) name (grid_alone g) r (scene_of t) × KeepsTrees r s name g t × IsGiven r g given))
     ⊎ ((is_name name ≡ false) × (code ≡ no_name) × (t ≡ s) × (given ≡ Some g))
 
 -- a grid was moved from a scene into a handle, or memory ran out, or there is none

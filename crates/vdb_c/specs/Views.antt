@@ -23,6 +23,11 @@ abbrev pub IsShared : Option AnyGrid → Option View → Option View → ℤ →
 IsShared None old new code = (code ≡ empty) × (new ≡ old)
 IsShared (Some g) old new code = ((code ≡ done) × (shown new ≡ Some g)) ⊎ ((code ≡ memory) × (new ≡ old))
 
+-- a call that reads the grid of a view: an empty view changes nothing
+abbrev pub OnView : Option AnyGrid → ℤ → Type 0 → (AnyGrid → Type 0) → Type 0
+OnView None code kept call = (code ≡ empty) × kept
+OnView (Some g) code kept call = call g
+
 -- a call that reads the grid of a view, with an argument that is tested: an empty view, or a wrong argument, changes nothing
 abbrev pub OnShownIf : {B : Type 0} → Option AnyGrid → Option B → ℤ → Type 0 → (AnyGrid → B → Type 0) → Type 0
 OnShownIf None b code kept answer = (code ≡ empty) × kept

@@ -2,7 +2,7 @@
 ghost use Rattle.std.specs.Prelude.{◌≡◌, ◌<◌, ℕ, IfSome, IsSome, Some};
 ghost use Rattle.vdb_coord.specs.Blocks.{vdb};
 ghost use Rattle.vdb_tree.specs.Layout.{field_of};
-ghost use Rattle.vdb_scene.specs.Grids.{grid_field, grid_root_limit};
+ghost use Rattle.vdb_scene.specs.Grids.{HasSameTree, grid_field};
 ghost use Rattle.vdb_c.specs.Values.{accessor_of, value_number as number_of_value};
 
 use crate::numbers::Number;
@@ -24,8 +24,7 @@ pub(crate) fn go_to(
     requires { (k : ℕ) → accessor ≡ Some k → k < ACCESSORS }
     ensures value { result.value ≡ number_of_value ((grid_field grid.old).cell at).value }
     ensures state { result.on ≡ ((grid_field grid.old).cell at).on }
-    ensures field { grid_field grid.new ≡ grid_field grid.old }
-    ensures limit { grid_root_limit grid.new ≡ grid_root_limit grid.old }
+    ensures tree { HasSameTree grid.old grid.new }
 {
     match grid {
         AnyGrid::Bool(held) => far_number(held, accessor, at, steps),

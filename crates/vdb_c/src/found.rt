@@ -58,7 +58,7 @@ pub extern "C" fn vdb_grid_next_active(
 
 /// Looks for the first active voxel of a box past `after` in block order, or for the first of all.
 #[tactic(auto, unfolding(crate::specs::Reports::LooksPast))]
-fn look_past(
+pub(crate) fn look_past(
     grid: &AnyGrid,
     corners: &Corners,
     after: Option<Coord>,

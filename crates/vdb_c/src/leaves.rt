@@ -27,7 +27,7 @@ pub extern "C" fn vdb_grid_leaf_count(handle: &mut GridHandle, count: &mut u64) 
 }
 
 /// Returns the number of leaves of the grid's tree.
-fn count_leaves(grid: &AnyGrid) -> u64
+pub(crate) fn count_leaves(grid: &AnyGrid) -> u64
     ensures { result ≡ leaf_count grid.now }
 {
     match grid {
@@ -95,7 +95,7 @@ pub extern "C" fn vdb_grid_next_leaves(
 
 /// Copies the leaves past a coordinate, or the first ones, if there is room.
 #[tactic(auto, unfolding(crate::specs::Leaves::CopiesLeaves))]
-fn copy_past(
+pub(crate) fn copy_past(
     grid: &AnyGrid,
     after: Option<Coord>,
     origins: &mut [Corner],

@@ -17,9 +17,11 @@
 //! - `scene_files`, `scene_grids`, `scene_moves`: calls on a scene and on its grids.
 //! - `leaf_rows`, `leaves`: calls on the leaves of a grid.
 //! - `reports`, `found`: calls that report on a grid.
-//! - `views`: calls on a grid that several threads read.
+//! - `views`, `view_reports`, `view_walks`: calls on a grid that several threads read.
+//! - `about`: the version of the library, and the texts of the codes.
 #![tactic(auto)]
 
+mod about;
 mod arrays;
 mod box_arrays;
 mod box_voxels;
@@ -50,5 +52,7 @@ mod scene_grids;
 mod scene_moves;
 mod values;
 mod view;
+mod view_reports;
+mod view_walks;
 mod views;
 mod voxels;

@@ -1,12 +1,12 @@
 //! Calls on many voxels, given by their coordinates.
 ghost use Rattle.std.specs.Prelude.{◌≡◌, ◌<◌, ◌↔◌, ◌⊎◌, ℕ, IfSome, IsSome, IsTrue, None, Some, ⊤, false, length};
 ghost use Rattle.vdb_coord.specs.Blocks.{vdb};
-ghost use Rattle.vdb_scene.specs.Grids.{grid_field, grid_root_limit};
+ghost use Rattle.vdb_scene.specs.Grids.{HasSameTree, grid_field};
 ghost use Rattle.vdb_tree.specs.Field.{as_field_of};
 ghost use Rattle.vdb_tree.specs.Layout.{field_of};
 ghost use Rattle.vdb_tree.specs.Paths.{Lives};
 ghost use Rattle.vdb_value.specs.declared.Kind.TheVariants.{I64};
-ghost use Rattle.vdb_c.specs.Calls.{IsWriteFor, OnHeld, OnValid, Reads, grid_kind};
+ghost use Rattle.vdb_c.specs.Calls.{IsWriteFor, OnHeld, OnValid, ReadsBy, grid_kind};
 ghost use Rattle.vdb_c.specs.Many.{IsReadAt, WritesFirst, WritesFirstIn, WritesMany, accessor_beside, byte_at, change_at as change_of_element, change_of as change_of_parts, is_beside, number_at, voxel_at};
 ghost use Rattle.vdb_c.specs.Values.{state_byte};
 
@@ -35,7 +35,7 @@ pub extern "C" fn vdb_grid_get_many(
 ) -> i32
     ensures { OnHeld handle.old.grid.held handle.new.grid.held result ((values.new ≡ values.old) × (states.new ≡ states.old)) (λ g h.
         OnValid (accessor_beside number (length at.now) (length values.old) (length states.old)) g h result ((values.new ≡ values.old) × (states.new ≡ states.old)) (λ _.
-        Reads g h result (IsReadAt (number_at (grid_field g)) at.now values.old values.new × IsReadAt (byte_at (grid_field g)) at.now states.old states.new))) }
+        ReadsBy g h result (IsReadAt (number_at (grid_field g)) at.now values.old values.new × IsReadAt (byte_at (grid_field g)) at.now states.old states.new))) }
 {
     let Some(grid) = handle.grid.grid_mut() else {
         return EMPTY;
@@ -69,7 +69,9 @@ fn is_beside_voxels(count: usize, len: usize) -> bool
     len == count || len == 0
 }
 
-/// Writes the value and the state of each voxel to arrays that fit the voxels. No cell changes.
+/// Writes the value and the state of each voxel to arrays that fit the voxels. The tree stays, and the accessor caches the path to the
+/// last voxel.
+#[tactic(auto, using(crate::proofs::SameTrees::same_tree))]
 fn read_many(
     grid: &mut AnyGrid,
     accessor: Option<usize>,
@@ -81,8 +83,7 @@ fn read_many(
     requires within { (k : ℕ) → accessor ≡ Some k → k < ACCESSORS }
     requires values { IsTrue (is_beside (length at.now) (length values.old)) }
     requires states { IsTrue (is_beside (length at.now) (length states.old)) }
-    ensures field { grid_field grid.new ≡ grid_field grid.old }
-    ensures limit { grid_root_limit grid.new ≡ grid_root_limit grid.old }
+    ensures tree { HasSameTree grid.old grid.new }
     ensures values { IsReadAt (number_at (grid_field grid.old)) at.now values.old values.new }
     ensures states { IsReadAt (byte_at (grid_field grid.old)) at.now states.old states.new }
 {
@@ -93,12 +94,11 @@ fn read_many(
     }
 }
 
-/// Returns the cell of a voxel through an accessor or without one. No cell changes.
+/// Returns the cell of a voxel through an accessor or without one. The tree stays.
 fn probe(grid: &mut AnyGrid, accessor: Option<usize>, at: Coord, steps: &mut Steps) -> Cell<Scalar>
     requires { (k : ℕ) → accessor ≡ Some k → k < ACCESSORS }
     ensures cell { result ≡ (grid_field grid.old).cell at }
-    ensures field { grid_field grid.new ≡ grid_field grid.old }
-    ensures limit { grid_root_limit grid.new ≡ grid_root_limit grid.old }
+    ensures tree { HasSameTree grid.old grid.new }
 {
     grid.probe(accessor, at, steps)
 }

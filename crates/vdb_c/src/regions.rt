@@ -6,7 +6,7 @@ ghost use Rattle.vdb_tree.specs.Outcome.{IsOutcome};
 ghost use Rattle.vdb_morph.specs.Growth.{IsGrowth};
 ghost use Rattle.vdb_scene.specs.Grids.{IsPruned, IsVoxelised, grid_field, grid_root_limit};
 ghost use Rattle.vdb_scene.specs.Scalars.{is_of, kind_of, scalar_eq};
-ghost use Rattle.vdb_c.specs.Calls.{Changes, IsVoxelisedOr, OnHeld, OnValid, Reads, iterations_of};
+ghost use Rattle.vdb_c.specs.Calls.{Changes, IsVoxelisedOr, KeepsCells, OnHeld, OnValid, iterations_of};
 ghost use Rattle.vdb_c.specs.Regions.{Clips, Fills, FillsWith};
 ghost use Rattle.vdb_c.specs.Values.{corners_box};
 
@@ -83,7 +83,7 @@ fn clip(grid: &mut AnyGrid, bounds: Bounds, steps: &mut Steps) -> i32
 /// Makes the tree as small as its cells allow. No cell changes.
 #[unsafe(no_mangle)]
 pub extern "C" fn vdb_grid_prune(handle: &mut GridHandle) -> i32
-    ensures { OnHeld handle.old.grid.held handle.new.grid.held result ⊤ (λ g h. Reads g h result (IsPruned h)) }
+    ensures { OnHeld handle.old.grid.held handle.new.grid.held result ⊤ (λ g h. KeepsCells g h result (IsPruned h)) }
 {
     let Some(grid) = handle.grid.grid_mut() else {
         return EMPTY;

@@ -74,24 +74,31 @@ pub extern "C" fn vdb_grid_census(handle: &mut GridHandle, sizes: &mut Sizes) ->
     let Some(grid) = handle.grid.grid_mut() else {
         return EMPTY;
     };
+    *sizes = smallest_sizes(grid, &mut handle.steps);
+    DONE
+}
+
+/// Returns the size of the smallest tree of a grid's cells.
+pub(crate) fn smallest_sizes(grid: &AnyGrid, steps: &mut Steps) -> Sizes
+    ensures { result ≡ sizes_of (census_of scalar_eq vdb (grid_field grid.now)) }
+{
     let Census {
         roots,
         upper,
         lower,
         leaf,
-    } = grid.census(&mut handle.steps);
-    *sizes = Sizes {
+    } = grid.census(steps);
+    Sizes {
         roots,
         upper,
         lower,
         leaf,
-    };
-    DONE
+    }
 }
 
 /// Returns the number of active voxels of a box, or of all voxels.
 #[tactic(auto, unfolding(crate::specs::Reports::CountsActive))]
-fn count_active(grid: &AnyGrid, bounds: Option<Bounds>, steps: &mut Steps) -> Count
+pub(crate) fn count_active(grid: &AnyGrid, bounds: Option<Bounds>, steps: &mut Steps) -> Count
     ensures { CountsActive (grid_field grid.now) bounds result }
 {
     parts(grid.count(bounds, steps))
@@ -99,7 +106,7 @@ fn count_active(grid: &AnyGrid, bounds: Option<Bounds>, steps: &mut Steps) -> Co
 
 /// Writes the bounding box of the active voxels to `corners` and returns 1, or returns 0 if no voxel is active.
 #[tactic(auto, unfolding(crate::specs::Reports::IsBounds))]
-fn look_around(grid: &AnyGrid, corners: &mut Corners, steps: &mut Steps) -> i32
+pub(crate) fn look_around(grid: &AnyGrid, corners: &mut Corners, steps: &mut Steps) -> i32
     ensures { IsBounds (grid_field grid.now) corners.old corners.new result }
 {
     match grid.active_bounds(steps) {

@@ -1,10 +1,11 @@
 //! Calls that create and free a scene, load it from bytes and save it to bytes.
-ghost use Rattle.std.specs.Prelude.{◌≡◌, None, min, length, ◌^◌, ◌-◌};
-ghost use Rattle.vdb_file.specs.Spelling.{spelling};
+ghost use Rattle.std.specs.Prelude.{◌≡◌, None, min, length, ◌^◌, ◌-◌, IfErr, IfOk};
+ghost use Rattle.vdb_file.specs.Spelling.{IsFileOf, spelling};
 ghost use Rattle.vdb_scene.specs.Grids.{scene_of};
+ghost use Rattle.vdb_scene.specs.ValidScenes.{IsScene};
 ghost use Rattle.vdb_c.specs.Calls.{OnHeld};
 ghost use Rattle.vdb_c.specs.Codes.{done};
-ghost use Rattle.vdb_c.specs.Scenes.{IsCopiedOut, IsCreated, IsLoaded, IsSaved, Tells, fault_code};
+ghost use Rattle.vdb_c.specs.Scenes.{IsCopiedOut, IsCreated, IsLoaded, IsSaved, Means, Tells, fault_code};
 
 use crate::codes::{DONE, EMPTY, MEMORY, TOO_LONG, TOO_SMALL};
 use crate::handles::SceneHandle;
@@ -38,8 +39,7 @@ pub extern "C" fn vdb_scene_free(alloc: Global, handle: &mut SceneHandle)
 pub extern "C" fn vdb_scene_load(alloc: Global, handle: &mut SceneHandle, bytes: &[u8]) -> i32
     ensures { IsLoaded bytes.now handle.old.scene.held handle.new.scene.held result }
 {
-    let mut reader = Watched::new(bytes);
-    match vdb_file::load(alloc, &mut reader, &mut handle.steps) {
+    match load(alloc, bytes, &mut handle.steps) {
         Ok(scene) => {
             let Ok(scene) = Box::new(alloc, scene) else {
                 return MEMORY;
@@ -49,6 +49,15 @@ pub extern "C" fn vdb_scene_load(alloc: Global, handle: &mut SceneHandle, bytes:
         }
         Err(fault) => load_code(fault),
     }
+}
+
+/// Loads the scene of a file, which is all of `bytes`.
+fn load(alloc: Global, bytes: &[u8], steps: &mut Steps) -> Result<Scene, LoadFault>
+    ensures scene { IfOk result (λ scene. IsScene (scene_of scene)) }
+    ensures loaded { IfOk result (λ scene. IsFileOf bytes.now (scene_of scene)) }
+    ensures fault { IfErr result (λ fault. Means fault bytes.now) }
+{
+    vdb_file::load_bytes(alloc, bytes, steps)
 }
 
 /// Writes to `bytes` how many bytes the encoding of the scene has, or 2^64 - 1 if it has more.
@@ -118,7 +127,7 @@ pub(crate) fn copy_out(bytes: &[u8], out: &mut [u8], used: &mut u64) -> i32
     DONE
 }
 
-/// Returns the code of a fault of a file.
+/// Returns the code of a fault of a file. Bytes in memory can always be read.
 fn load_code(fault: LoadFault) -> i32
     ensures { result ≡ fault_code fault }
 {
@@ -140,6 +149,6 @@ fn load_code(fault: LoadFault) -> i32
         LoadFault::Trailing => 34,
         LoadFault::TooLong => TOO_LONG,
         LoadFault::Memory => MEMORY,
-        LoadFault::Read => 36,
+        LoadFault::Read => MEMORY,
     }
 }

@@ -8,7 +8,7 @@ ghost use Rattle.vdb_tree.specs.Outcome.{IsOutcome};
 ghost use Rattle.vdb_tree.specs.declared.Write.TheVariants as writes;
 ghost use Rattle.vdb_scene.specs.Grids.{grid_field, grid_root_limit};
 ghost use Rattle.vdb_scene.specs.Scalars.{scalar_eq};
-ghost use Rattle.vdb_c.specs.Calls.{IsWriteFor, OnHeld, OnValid, Probes, Reads, Writes, grid_kind, write_of};
+ghost use Rattle.vdb_c.specs.Calls.{IsWriteFor, OnHeld, OnValid, Probes, Reads, ReadsBy, Writes, grid_kind, write_of};
 ghost use Rattle.vdb_c.specs.Values.{accessor_of, is_on as number_is_on, state_number as number_of_state, value_number as number_of_value, value_of};
 
 use crate::cells::{go_to, near_cell};
@@ -56,7 +56,7 @@ pub extern "C" fn vdb_grid_probe(
     active: &mut i32,
 ) -> i32
     ensures { OnHeld handle.old.grid.held handle.new.grid.held result ((value.new ≡ value.old) × (active.new ≡ active.old)) (λ g h.
-        OnValid (accessor_of number) g h result ((value.new ≡ value.old) × (active.new ≡ active.old)) (λ _. Reads g h result
+        OnValid (accessor_of number) g h result ((value.new ≡ value.old) × (active.new ≡ active.old)) (λ _. ReadsBy g h result
         ((value.new ≡ number_of_value ((grid_field g).cell (coord x y z)).value) × (active.new ≡ number_of_state ((grid_field g).cell (coord x y z)).on)))) }
 {
     let Some(grid) = handle.grid.grid_mut() else {

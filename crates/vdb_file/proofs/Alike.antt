@@ -19,7 +19,8 @@ use Rattle.vdb_file.specs.Spelling.{counted, grid_bytes, head_bytes, kind_bytes,
 use Rattle.vdb_file.proofs.Agreement.{Agree}
 use Rattle.vdb_file.proofs.RowInstances.{is_root_row, member_inside}
 use Rattle.vdb_file.proofs.Rows.{held_same, texts_same}
-use Rattle.vdb_file.proofs.Scenes.{scalar_values, standard_bits}
+use Rattle.vdb_file.proofs.Scenes.{scalar_values}
+use Rattle.vdb_file.proofs.Standard.{standard_bits}
 
 -- ---- fields with one background and the same cells in the range
 

@@ -15,9 +15,8 @@ use Rattle.vdb_tree.specs.ConstantBlocks.{is_constant}
 use Rattle.vdb_tree.specs.Field.{Field, field, fill}
 use Rattle.vdb_tree.specs.Leaves.{with_leaf}
 use Rattle.vdb_file.specs.Bodies.{block_bytes, leaf_body, listed, voxel_body}
-use Rattle.vdb_file.specs.Faults.{is_read_fault}
 use Rattle.vdb_file.specs.declared.fault.LoadFault.{LoadFault}
-use Rattle.vdb_file.specs.declared.fault.LoadFault.TheVariants.{Memory, Truncated}
+use Rattle.vdb_file.specs.declared.fault.LoadFault.TheVariants.{Memory}
 use Rattle.vdb_file.specs.declared.loading.block_head.Head.TheVariants.{Node, One}
 use Rattle.vdb_file.specs.internal.LeafVoxels.{HasValues, IsMixed, leaf_field, voxel_count, voxels_bytes}
 use Rattle.vdb_file.specs.internal.Loading.{IsSpelled, head_bytes}
@@ -33,23 +32,6 @@ use Rattle.vdb_file.proofs.RowInstances.{is_leaf_row}
 use Rattle.vdb_file.proofs.Rows.{texts_same}
 
 -- ---- allocation failures
-
--- an allocation failure is neither the end nor a failure of the reader
-pub memory_ended : (result : Result (Unit {0}) LoadFault) → IfErr result (λ fault. fault ≡ Memory) → {C : Type 0} → result ≡ Err Truncated → C
-memory_ended (Ok x) h e = absurd cc
-memory_ended (Err fault) h e = absurd (let never : Memory ≡ Truncated = sym h ∙ same fault Truncated e in cc)
-  where
-    same : (a b : LoadFault) → ◌≡◌ {A = Result (Unit {0}) LoadFault} (Err a) (Err b) → a ≡ b
-    same a b e = cc
-
-pub memory_failed : (result : Result (Unit {0}) LoadFault) → IfErr result (λ fault. fault ≡ Memory) → (old : Bool) → old ≡ (old || is_read_fault result)
-memory_failed (Ok x) h true = refl
-memory_failed (Ok x) h false = refl
-memory_failed (Err fault) h old = rw h (either old)
-  where
-    either : (b : Bool) → b ≡ (b || false)
-    either true = refl
-    either false = refl
 
 -- an allocation failure claims nothing about the bytes
 memory_silent : {A : Type 0} (P : A → Type 0) (code : A → List ℕ) (fault : LoadFault) (old : Position) → fault ≡ Memory → Fails P code fault old

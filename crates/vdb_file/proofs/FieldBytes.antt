@@ -1,7 +1,7 @@
 -- Fields of fixed lengths.
 use Rattle.std.proofs.Common.{◌≡◌, ℕ, ◌+◌, ◌-◌, ◌*◌, ◌/◌, ◌%◌, ◌<◌, ◌≤◌, List, [], ◌∷◌, ◌++◌, length, take, drop, get_or, refl, sym, ap, subst, ◌∙◌, append_assoc, take-append-drop, length-take, drop-drop, arith}
 use Rattle.std.proofs.lemmas.Grind.{common_steps}
-use Rattle.std.specs.Prelude.{Bool, true, false, nat_le, if◌then◌else◌, Option, Some, None}
+use Rattle.std.specs.Prelude.{Bool, true, false, ◌^◌, min, nat_le, if◌then◌else◌, Option, Some, None}
 use Rattle.std.specs.List.{slice_range}
 use Rattle.std.proofs.lemmas.List.{drop-take}
 use Rattle.std.specs.Int.{w16, w32, to_be_bytes}
@@ -57,15 +57,24 @@ gave_few s (Some x) (Some y) h = let zero_first : 0 + length x ≡ length x = om
     counted true few e = let same : given_count s + length y ≡ length x = cc in grind (arith, common_steps)
     counted false few e = absurd cc
 
+-- a reader that has ended, and of which no byte is unread, gave no more bytes than a file may have, and reported its end
+pub ended_within : (s : Stock) (given empty more_given more_empty : ℕ) → s.unread ≡ [] → s.ended ≡ true
+    → ((n m : ℕ) → GaveWithin n m (record { unread = []; capacity = 268435456; ended = false }) given empty → GaveWithin n m s more_given more_empty)
+    → (more_given ≤ given + 268435456) × (more_empty ≡ min (empty + 1) (2 ^ 64 - 1))
+unfolding GaveWithin
+ended_within s given empty more_given more_empty none ended h =
+    let within = h given empty (omega arith, omega arith, refl) in
+    (omega (arith, within.0, ap length none), within.2 ∙ (λ i. if ended i then min (empty + 1) (2 ^ 64 - 1) else empty))
+
 -- a reader gave at most one byte more than a file may have, and reported its end at most once
 pub gave_within : (s : Stock) (given empty more_given more_empty : ℕ)
     → ((n m : ℕ) → GaveWithin n m (record { unread = []; capacity = 268435456; ended = false }) given empty → GaveWithin n m s more_given more_empty)
     → (more_given ≤ given + 268435457) × (more_empty ≤ empty + 1)
 unfolding GaveWithin
 gave_within s given empty more_given more_empty h =
-    let within = h given empty (omega arith, omega arith, omega arith) in
+    let within = h given empty (omega arith, omega arith, refl) in
     (omega (arith, within.0, within.1), at_most_one s.ended within.2)
   where
-    at_most_one : (ended : Bool) → more_empty ≤ empty + (if ended then 1 else 0) → more_empty ≤ empty + 1
-    at_most_one true h = h
+    at_most_one : (ended : Bool) → more_empty ≡ (if ended then min (empty + 1) (2 ^ 64 - 1) else empty) → more_empty ≤ empty + 1
+    at_most_one true h = omega (arith, h)
     at_most_one false h = omega (arith, h)

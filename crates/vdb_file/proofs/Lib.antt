@@ -17,6 +17,7 @@ pub mod Ordered
 pub mod PutRoots
 pub mod Values
 pub mod Pairs
+pub mod Standard
 pub mod Scenes
 pub mod Alike
 mod Checks
@@ -32,7 +33,7 @@ pub mod HeadParts
 pub mod TypedGrids
 pub mod KindsOfValues
 pub mod ValueCodes
-pub mod Failures
+pub mod Moves
 pub mod GridParts
 pub mod SceneParts
 pub mod WholeFiles
@@ -42,6 +43,7 @@ pub mod Rows
 pub mod RowFrames
 pub mod RowReads
 pub mod RowInstances
+pub mod Levels
 pub mod RowLoops
 pub mod LeafReads
 pub mod LoadedBlocks

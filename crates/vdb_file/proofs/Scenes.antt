@@ -4,7 +4,6 @@ use Rattle.std.specs.Prelude.{codes}
 use Rattle.std.specs.List.{AllByRecursion, flat_map}
 use Rattle.std.specs.Int.{w16, to_be_bytes}
 use Rattle.vdb_coord.specs.Blocks.{vdb}
-use Rattle.vdb_coord.specs.Entries.{AreBits}
 use Rattle.vdb_value.specs.declared.Kind.{Kind}
 use Rattle.vdb_tree.specs.ConstantBlocks.{roots}
 use Rattle.vdb_tree.specs.Field.{Field}
@@ -21,10 +20,7 @@ use Rattle.vdb_file.proofs.Values.{says_kinded, says_scalar}
 use Rattle.vdb_file.proofs.Agreement.{AreAlike, AreValues}
 use Rattle.vdb_file.proofs.Roots.{same_field, says_roots}
 use Rattle.vdb_file.proofs.Pairs.{says_pairs}
-
--- the bits of the standard tree
-pub standard_bits : AreBits vdb
-standard_bits = ((omega arith, omega arith), (omega arith, omega arith), (omega arith, omega arith))
+use Rattle.vdb_file.proofs.Standard.{standard_bits}
 
 -- the values of one type
 pub scalar_values : (k : Kind) → AreValues scalar_eq scalar_bytes (λ v. is_value_of k v ≡ true)

@@ -4,9 +4,9 @@ use Rattle.std.specs.Prelude.{Option, Some, None, IfSome}
 use Rattle.std.specs.List.{AllByRecursion}
 use Rattle.std.specs.Io.KnownBytes.{Consumes, IsAtEnd, Keeps, prepend_known}
 use Rattle.vdb_scene.specs.Scene.{Grid, Scene}
-use Rattle.vdb_file.specs.Faults.{Claims}
+use Rattle.vdb_file.specs.Faults.{BeginsAsFile, Claims}
 use Rattle.vdb_scene.specs.ValidScenes.{IsGrid, IsScene}
-use Rattle.vdb_file.specs.Scenes.{BeginsWithFile}
+use Rattle.vdb_file.specs.Scenes.{BeginsWithFile, EndsEarly}
 use Rattle.vdb_file.specs.Spelling.{IsFileOf, IsOldGrid}
 use Rattle.vdb_file.specs.internal.Parts.{IsFile, IsNamed, IsSceneOf, bytes_of_file}
 use Rattle.vdb_file.specs.internal.Reading.{Fails, Position, Took}
@@ -68,6 +68,17 @@ no_file fault None h claims = tt
 no_file fault (Some bytes) h claims = λ s is file.
     let v = of_version bytes s is file in
     h.none claims (v.0, s) [] v.1 (subst (λ t. length t ≤ 268435456) v.2 v.3) (v.2 ∙ sym (append-nil (bytes_of_file (v.0, s))))
+
+-- bytes that begin as a file does, and of which such a fault shows that no file is at their front
+pub ends_early : (fault : LoadFault) (known : Option (List ℕ)) → Fails IsFile bytes_of_file fault (record { known = prepend_known [] known; capacity = 268435456 })
+    → Claims fault → IfSome (prepend_known [] known) BeginsAsFile → IfSome known EndsEarly
+ends_early fault None h claims begins = tt
+ends_early fault (Some bytes) h claims begins = (
+  begins,
+  λ b.
+      let v = of_version b.file b.scene b.is_scene b.is_file in
+      h.none claims (v.0, b.scene) (b.byte ∷ b.rest) v.1 (subst (λ t. length t ≤ 268435456) v.2 v.3) (b.begins ∙ ap (λ t. t ++ (b.byte ∷ b.rest)) v.2),
+)
 
 -- all bytes were read
 pub whole_file : (file : Version × Scene) (known : Option (List ℕ)) (mid : Position) → IsFile file → Took (record { known = prepend_known [] known; capacity = 268435456 }) mid (bytes_of_file file) → IsAtEnd mid.known

@@ -46,3 +46,7 @@ pub record HasOtherVersion (bytes : List ℕ) : Type 0 where
   pub behind : List ℕ
   pub begins : bytes ≡ codes "VDBS" ++ behind
   pub other : StartsWithOther behind
+
+-- as far as the bytes go, they begin with `VDBS` and the number of a version
+abbrev pub BeginsAsFile : List ℕ → Type 0
+BeginsAsFile bytes = (HasOtherMagic bytes → ⊥) × (HasOtherVersion bytes → ⊥)

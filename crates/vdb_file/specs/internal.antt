@@ -7,3 +7,4 @@ pub mod Parts
 pub mod Loading
 pub mod LeafVoxels
 pub mod LoadedFields
+pub mod Levels

@@ -8,5 +8,5 @@ mod saving;
 
 pub use fault::{LoadFault, SaveFault};
 pub use laws::spelling_laws;
-pub use loading::load;
+pub use loading::{load, load_bytes};
 pub use saving::{FILE_LIMIT, length, save};

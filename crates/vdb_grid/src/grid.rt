@@ -51,8 +51,10 @@ impl<V: Stored<512> + Stored<64> + Stored<8>, const K: usize> Model for Grid<V, 
 
 impl<V: Stored<512> + Stored<64> + Stored<8>, const K: usize> Grid<V, K> {
     /// Returns a grid without nodes, whose every coordinate has the background, inactive. At most `limit` of its upper
-    /// extents may hold another cell. Its accessors were given no coordinate and cache no node.
+    /// extents may hold another cell; the limit is 1 to 65,536. Its accessors were given no coordinate and cache no node.
     pub fn new(alloc: Global, background: V, limit: u32) -> Self
+        requires some { 1 ≤ limit }
+        requires few { limit ≤ 65536 }
         ensures field { field_of vdb result.tree ≡ new background }
         ensures limit { result.tree.limit ≡ limit }
         ensures last { (k : ℕ) → last result.coords k ≡ None }
@@ -213,6 +215,7 @@ impl<V: Stored<512> + Stored<64> + Stored<8>, const K: usize> Grid<V, K> {
         ensures last { self.new.coords ≡ slice_set self.old.coords k (Some p) }
         ensures near { IsTrue (has_leaf (last self.old.coords k) (path self.old.paths k) p)
             → IsOk result × IsVoxelWritten vdb self.old.tree self.new.tree p (written change ((field_of vdb self.old.tree).cell p)) × (steps.new ≤ steps.old + 1) }
+        ensures elsewhere { HasCapacity self.old.tree (key vdb p) → KeepsElsewhere vdb self.old.tree self.new.tree p }
         ensures unchanged { written change ((field_of vdb self.old.tree).cell p) ≡ (field_of vdb self.old.tree).cell p → IsOk result }
         ensures leaf { IsTrue (in_leaf vdb self.old.tree p) → IsOk result }
         ensures non_constant { is_constant V.eq (field_of vdb self.old.tree) (block_around vdb Leaf p) ≡ false → IsOk result }
@@ -240,6 +243,7 @@ impl<V: Stored<512> + Stored<64> + Stored<8>, const K: usize> Grid<V, K> {
             (write p change (field_of vdb self.old.tree)) (field_of vdb self.new.tree) (Ok tt) }
         ensures limit { self.new.tree.limit ≡ self.old.tree.limit }
         ensures alone { IsTrue result → IsVoxelWritten vdb self.old.tree self.new.tree p (written change ((field_of vdb self.old.tree).cell p)) }
+        ensures elsewhere { KeepsElsewhere vdb self.old.tree self.new.tree p }
         ensures last { IsTrue result → self.new.coords ≡ slice_set self.old.coords k (Some p) }
         ensures untouched { result ≡ false → self.new ≡ self.old }
         ensures steps { steps.new ≤ steps.old + (if result then 1 else 0) }
@@ -262,6 +266,8 @@ impl<V: Stored<512> + Stored<64> + Stored<8>, const K: usize> Grid<V, K> {
         ensures limit { self.new.tree.limit ≡ self.old.tree.limit }
         ensures alone { IsTrue result → IsVoxelWritten vdb self.old.tree self.new.tree p (written change ((field_of vdb self.old.tree).cell p)) }
         ensures whole { IsTrue result → IsWhole vdb self.new.tree (path self.new.paths k) p }
+        ensures elsewhere { KeepsElsewhere vdb self.old.tree self.new.tree p }
+        ensures paths { self.new.paths ≡ self.old.paths }
         ensures last { self.new.coords ≡ self.old.coords }
         ensures untouched { result ≡ false → self.new ≡ self.old }
         ensures steps { steps.new ≤ steps.old + (if result then 1 else 0) }
@@ -293,6 +299,7 @@ impl<V: Stored<512> + Stored<64> + Stored<8>, const K: usize> Grid<V, K> {
         ensures limit { self.new.tree.limit ≡ self.old.tree.limit }
         ensures alone { IsTrue result → IsVoxelWritten vdb self.old.tree self.new.tree p (written change ((field_of vdb self.old.tree).cell p)) }
         ensures whole { IsTrue result → IsWhole vdb self.new.tree (path self.new.paths k) p }
+        ensures others { (j : ℕ) → j ≢ k → path self.new.paths j ≡ path self.old.paths j }
         ensures last { IsTrue result → self.new.coords ≡ slice_set self.old.coords k (Some p) }
         ensures untouched { result ≡ false → self.new ≡ self.old }
         ensures steps { steps.new ≤ steps.old + ((if has_lower (last self.old.coords k) (path self.old.paths k) p then 1 else 0) + (if result then 1 else 0)) }

@@ -5,6 +5,7 @@ use Rattle.std.specs.Cmp.Lexicographic.{slice_cmp}
 use Rattle.std.specs.Map.{lookup, remove_entry, set_value}
 use Rattle.std.specs.BTreeMap.{insert_entry}
 use Rattle.vdb_coord.specs.declared.Coord.{Coord}
+use Rattle.vdb_scene.specs.Accessors.{HasUnusedAccessors}
 use Rattle.vdb_scene.specs.Grids.{HasSameTree, IsCopyOf, IsPruned, IsVoxelised, coords_after, grid_coords, scene_of}
 use Rattle.vdb_scene.specs.Scene as abstract_scene
 use Rattle.vdb_scene.specs.Scene.{is_named}
@@ -75,10 +76,11 @@ PutsMetas old name new = (was : GridEntry) × (metas : Pairs) × (lookup (is_nam
 
 -- The trees after a command that succeeds, beside their cells. Each grid is unchanged, except the one that the
 -- command changes, creates or removes. `get` and the writes of a voxel move the accessor that they name, and `get` nothing else;
--- every other accessor keeps its coordinate. `copy` makes the same tiles and nodes, and accessors without a coordinate.
+-- every other accessor keeps its coordinate. `grid` makes accessors that were never used, and `copy` the same tiles and nodes,
+-- and accessors without a coordinate.
 -- `prune` leaves its grid pruned, and `voxelise` puts each active voxel of its box into a leaf of its grid.
 abbrev pub Shapes : Command → Scene → Scene → Type 0
-Shapes (commands.Grid name kind v limit) old new = (e : GridEntry) × AddsGrid old name e new
+Shapes (commands.Grid name kind v limit) old new = (e : GridEntry) × AddsGrid old name e new × HasUnusedAccessors e.grid
 Shapes (commands.Drop name) old new = RemovesGrid old name new
 Shapes (commands.Copy from to) old new = (was : GridEntry) × (e : GridEntry) × (lookup (is_named from) old.grids.entries ≡ Some was) × AddsGrid old to e new × IsCopyOf was.grid e.grid
 Shapes (commands.Get name k p) old new = (was : GridEntry) × (e : GridEntry) × PutsAccessed old name k p was e new × HasSameTree was.grid e.grid

@@ -9,6 +9,7 @@ ghost use Rattle.vdb_tree.specs.ConstantBlocks.{count as active_count};
 ghost use Rattle.vdb_tree.specs.declared.refusal.TreeRefusal.TheVariants.{Memory};
 ghost use Rattle.vdb_morph.specs.Growth.{IsGrowth};
 ghost use Rattle.vdb_walk.specs.Reports.{IsActiveBounds, census as census_of};
+ghost use Rattle.vdb_scene.specs.Accessors.{HasUnusedAccessors};
 ghost use Rattle.vdb_scene.specs.Scalars.{is_of, kind_of, scalar_eq};
 ghost use Rattle.vdb_scene.specs.Grids.{HasRootCapacity, HasSameTree, IsCopyOf, IsPruned, IsVoxelised, coords_after, grid_coords, grid_field, grid_root_limit};
 ghost use Rattle.vdb_scene.specs.Step.{passes, write_takes_memory};
@@ -36,11 +37,14 @@ pub enum AnyGrid {
 }
 
 impl AnyGrid {
-    /// Creates a grid of the background's type that has never been written. At most `limit` of its root blocks may have a cell
-    /// other than the inactive background. Allocates nothing.
+    /// Creates a grid of the background's type that has never been written. At most `limit` of its root blocks, 1 to
+    /// `MOST_ROOT_LIMIT`, may have a cell other than the inactive background. Its accessors cache no path. Allocates nothing.
     pub fn new(alloc: Global, background: Scalar, limit: u32) -> AnyGrid
+        requires some { 1 ≤ limit }
+        requires few { limit ≤ 65536 }
         ensures field { grid_field result ≡ new background }
         ensures limit { grid_root_limit result ≡ limit }
+        ensures unused { HasUnusedAccessors result }
     {
         match background {
             Scalar::Bool(value) => AnyGrid::Bool(Grid::new(alloc, value, limit)),

@@ -1,5 +1,5 @@
 //! The coordinates, accessors and limits in the numbers of a line.
-ghost use Rattle.std.specs.Prelude.{◌≡◌, ◌<◌, ℕ, IfOk, IfErr, Some, None, false, ◌∷◌, [], true, if◌then◌else◌, ◌||◌, nat_lt};
+ghost use Rattle.std.specs.Prelude.{◌≡◌, ◌<◌, ◌≤◌, ℕ, IfOk, IfErr, IfSome, Some, None, false, ◌∷◌, [], true, if◌then◌else◌, ◌||◌, nat_lt};
 ghost use Rattle.vdb_coord.specs.Space.{extent, is_box};
 ghost use Rattle.vdb_scene.specs.Scalars.{number};
 ghost use Rattle.vdb_scene.specs.Arguments.{accessor_of, are_coords, box_between, count_of, flat as flat_corners, is_accessor, is_component, is_limit, is_coord, is_root_limit, coord_of, root_limit_of};
@@ -99,7 +99,8 @@ pub(crate) fn limit_of(limit: Num) -> Option<u32>
 /// Returns the root limit that a line names, or `ROOT_LIMIT` if it names none: `None` for a number outside 1 to
 /// `MOST_ROOT_LIMIT`.
 pub(crate) fn root_limit_of(limit: Option<Num>) -> Option<u32>
-    ensures { result ≡ (if is_root_limit limit then Some (root_limit_of limit) else None) }
+    ensures limit { result ≡ (if is_root_limit limit then Some (root_limit_of limit) else None) }
+    ensures within { IfSome result (λ n. (1 ≤ n) × (n ≤ 65536)) }
 {
     match limit {
         None => Some(ROOT_LIMIT),

@@ -1,15 +1,17 @@
 //! Calls on a grid of one type of values, or on its tree, in the terms of a grid of any type.
 
-ghost use Rattle.std.specs.Prelude.{◌≡◌, ◌&&◌, ◌+◌, ◌*◌, ◌<◌, ◌≤◌, ℕ, Some, false, if◌then◌else◌, IfErr, IsOk, IsTrue, Ok};
+ghost use Rattle.std.specs.Prelude.{◌≡◌, ◌≢◌, ◌&&◌, ◌+◌, ◌*◌, ◌<◌, ◌≤◌, ℕ, Some, false, if◌then◌else◌, IfErr, IsOk, IsTrue, Ok, slice_set};
 ghost use Rattle.std.specs.Option.{unwrap_or};
 ghost use Rattle.vdb_coord.specs.Blocks.{key, vdb};
 ghost use Rattle.vdb_coord.specs.Space.{everywhere};
-ghost use Rattle.vdb_tree.specs.Field.{as_cell_of, as_field_of, as_write_of, clip as clipped, dilate as dilation, erode as erosion, fill as filled, turns as turned, write};
+ghost use Rattle.vdb_tree.specs.Field.{as_cell_of, as_field_of, as_write_of, clip as clipped, dilate as dilation, erode as erosion, fill as filled, turns as turned, write, written};
 ghost use Rattle.vdb_tree.specs.Layout.{field_of};
+ghost use Rattle.vdb_tree.specs.Leaves.{IsVoxelWritten};
 ghost use Rattle.vdb_tree.specs.Outcome.{IsOutcome};
-ghost use Rattle.vdb_tree.specs.Paths.{in_leaf};
+ghost use Rattle.vdb_tree.specs.Paths.{IsWhole, in_leaf};
 ghost use Rattle.vdb_tree.specs.Table.{HasCapacity};
 ghost use Rattle.vdb_tree.specs.ConstantBlocks.{count as active_count};
+ghost use Rattle.vdb_tree.specs.declared.Write.{Write};
 ghost use Rattle.vdb_tree.specs.declared.refusal.TreeRefusal.TheVariants.{Memory};
 ghost use Rattle.vdb_morph.specs.Growth.{IsGrowth};
 ghost use Rattle.vdb_grid.specs.Grid.{has_leaf, has_lower, last, path};
@@ -82,8 +84,8 @@ pub fn write<V: GridValue>(
     }
 }
 
-/// Writes a voxel in the leaf that ends an accessor's path or, if `IN_LOWER`, in another leaf of the path's lower node. Returns
-/// whether that leaf holds the voxel; if not, nothing changes.
+/// Writes a voxel in the leaf that ends an accessor's path or, if `IN_LOWER`, in another leaf of the path's lower node, by at most
+/// two node visits. Returns whether that leaf holds the voxel; if not, nothing changes.
 #[inline(always)]
 pub fn write_in_leaf<V: GridValue, const IN_LOWER: bool>(
     grid: &mut Grid<V, ACCESSORS>,
@@ -98,7 +100,15 @@ pub fn write_in_leaf<V: GridValue, const IN_LOWER: bool>(
     ensures outcome { IsTrue result → IsOutcome scalar_eq vdb grid.old.tree.limit (as_field_of V.as_scalar (field_of vdb grid.old.tree))
         (write at change (as_field_of V.as_scalar (field_of vdb grid.old.tree))) (as_field_of V.as_scalar (field_of vdb grid.new.tree)) (Ok tt) }
     ensures limit { grid.new.tree.limit ≡ grid.old.tree.limit }
+    // The accessor caches the path to the voxel. In another leaf of the path's lower node it is given the voxel's coordinate.
+    ensures last { grid.new.coords ≡ (if IN_LOWER && result then slice_set grid.old.coords k (Some at) else grid.old.coords) }
+    ensures whole { IsTrue result → IsWhole vdb grid.new.tree (path grid.new.paths k) at }
+    ensures others { (j : ℕ) → j ≢ k → path grid.new.paths j ≡ path grid.old.paths j }
+    // Nothing else of the tree changes.
+    ensures alone { IsTrue result → (w : Write V) × (as_write_of V.as_scalar w ≡ change)
+        × IsVoxelWritten vdb grid.old.tree grid.new.tree at (written w ((field_of vdb grid.old.tree).cell at)) }
     ensures untouched { result ≡ false → grid.new ≡ grid.old }
+    ensures steps { steps.new ≤ steps.old + ((if IN_LOWER && has_lower (last grid.old.coords k) (path grid.old.paths k) at then 1 else 0) + (if result then 1 else 0)) }
 {
     let change = of_kind(change);
     if IN_LOWER {

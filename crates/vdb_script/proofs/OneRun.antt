@@ -15,7 +15,7 @@ use Rattle.vdb_scene.specs.declared.command.Command.TheVariants as commands
 use Rattle.vdb_scene.specs.declared.answer.Refusal.{Refusal}
 use Rattle.vdb_scene.specs.declared.answer.Refusal.TheVariants as refusals
 use Rattle.vdb_scene.specs.declared.scalar.Scalar.{Scalar}
-use Rattle.vdb_script.specs.Run.{HadMemory, Run, TakesLine, read}
+use Rattle.vdb_script.specs.Run.{NoMemoryError, Run, TakesLine, read}
 
 -- ---- bounds
 
@@ -126,28 +126,28 @@ one_step s c a b x y h k clear clear₂ = elim h [
 
 -- ---- runs
 
-clear_front : (xs ys : List Reply) → HadMemory (xs ++ ys) → HadMemory xs
+clear_front : (xs ys : List Reply) → NoMemoryError (xs ++ ys) → NoMemoryError xs
 clear_front [] ys h = tt
 clear_front (x ∷ xs) ys h = (h.0, clear_front xs ys h.1)
 
-clear_rest : (xs ys : List Reply) → HadMemory (xs ++ ys) → HadMemory ys
+clear_rest : (xs ys : List Reply) → NoMemoryError (xs ++ ys) → NoMemoryError ys
 clear_rest [] ys h = h
 clear_rest (x ∷ xs) ys h = clear_rest xs ys h.1
 
 -- a line
-one_line : (s : Scene) (line : Result (Option Command) Refusal) (a b : List Reply) (x y : Scene) → TakesLine s line a x → TakesLine s line b y → HadMemory a → HadMemory b → (a ≡ b) × (x ≡ y)
+one_line : (s : Scene) (line : Result (Option Command) Refusal) (a b : List Reply) (x y : Scene) → TakesLine s line a x → TakesLine s line b y → NoMemoryError a → NoMemoryError b → (a ≡ b) × (x ≡ y)
 one_line s (Ok None) a b x y h k clear clear₂ = (h.0 ∙ sym k.0, h.1 ∙ sym k.1)
 one_line s (Ok (Some c)) a b x y h k clear clear₂ =
-    let step = one_step s c h.0 k.0 x y h.2 k.2 (subst HadMemory h.1 clear).0 (subst HadMemory k.1 clear₂).0 in
+    let step = one_step s c h.0 k.0 x y h.2 k.2 (subst NoMemoryError h.1 clear).0 (subst NoMemoryError k.1 clear₂).0 in
     (h.1 ∙ ap (λ reply. reply ∷ []) step.0 ∙ sym k.1, step.1)
 one_line s (Err r) a b x y h k clear clear₂ = (h.0 ∙ sym k.0, h.1 ∙ sym k.1)
 
 -- all lines
-pub one_run : (s : Scene) (ls : List (List ℕ)) (a b : List Reply) (x y : Scene) → Run s ls a x → Run s ls b y → HadMemory a → HadMemory b → (a ≡ b) × (x ≡ y)
+pub one_run : (s : Scene) (ls : List (List ℕ)) (a b : List Reply) (x y : Scene) → Run s ls a x → Run s ls b y → NoMemoryError a → NoMemoryError b → (a ≡ b) × (x ≡ y)
 one_run s [] a b x y h k clear clear₂ = (h.0 ∙ sym k.0, h.1 ∙ sym k.1)
 one_run s (l ∷ ls) a b x y h k clear clear₂ =
-    let all = subst HadMemory h.3 clear in
-    let all₂ = subst HadMemory k.3 clear₂ in
+    let all = subst NoMemoryError h.3 clear in
+    let all₂ = subst NoMemoryError k.3 clear₂ in
     let line = one_line s (read l) h.0 k.0 h.2 k.2 h.4 k.4 (clear_front h.0 h.1 all) (clear_front k.0 k.1 all₂) in
     let rest = one_run k.2 ls h.1 k.1 x y (subst (λ m. Run m ls h.1 x) line.1 h.5) k.5 (clear_rest h.0 h.1 all) (clear_rest k.0 k.1 all₂) in
     (h.3 ∙ ap (λ l. l ++ h.1) line.0 ∙ ap (λ l. k.0 ++ l) rest.0 ∙ sym k.3, rest.1)

@@ -26,5 +26,5 @@ Run s (line ∷ lines) replies last =
     (first : List Reply) × (rest : List Reply) × (next : Scene) × (replies ≡ first ++ rest) × TakesLine s (read line) first next × Run next lines rest last
 
 -- no answer is `error memory`
-abbrev pub HadMemory : List Reply → Type 0
-HadMemory replies = AllByRecursion (λ reply. reply ≢ Refused refusals.Memory) replies
+abbrev pub NoMemoryError : List Reply → Type 0
+NoMemoryError replies = AllByRecursion (λ reply. reply ≢ Refused refusals.Memory) replies

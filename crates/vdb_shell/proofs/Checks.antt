@@ -3,16 +3,17 @@ use Rattle.std.proofs.Common.{◌≡◌, refl, ℕ, pos, false, List, [], ◌∷
 use Rattle.std.specs.Fmt.{digits}
 use Rattle.vdb_value.specs.declared.Kind.TheVariants as kinds
 use Rattle.vdb_scene.specs.Scene.{Scene}
-use Rattle.vdb_scene.specs.Replies.{Reply, Done, Value}
+use Rattle.vdb_scene.specs.Replies.{Reply, Done, Pairs, Refused, Value}
 use Rattle.vdb_scene.specs.Step.{after}
 use Rattle.vdb_scene.specs.declared.scalar.Scalar.TheVariants.{I32}
+use Rattle.vdb_scene.specs.declared.answer.Refusal.TheVariants as refusals
 use Rattle.vdb_scene.specs.declared.command.Command.TheVariants as commands
 use Rattle.vdb_scene.specs.declared.command.Literal.TheVariants.{Number}
 use Rattle.vdb_scene.specs.declared.command.Num.TheVariants.{Near}
 use Rattle.vdb_script.specs.Lines.{lines}
-use Rattle.vdb_script.specs.Run.{Run}
+use Rattle.vdb_script.specs.Run.{NoMemoryError, Run}
 use Rattle.vdb_script.specs.Text.{answers_text}
-use Rattle.vdb_shell.specs.Determined.{IsUndisturbed, NamesNoMemory}
+use Rattle.vdb_shell.specs.Determined.{IsUndisturbed}
 use Rattle.vdb_shell.specs.Session.{Plays}
 use Rattle.vdb_shell.specs.declared.fault.Fault.TheVariants.{Answers}
 
@@ -36,7 +37,7 @@ cut : Plays [] script (Some Answers) script (codes "ok\nval") (Done ∷ shown �
 unfolding digits
 cut = (2, Done ∷ [], shown, codes "val", omega arith, runs, refl, refl, (codes "ue 0 off\n", refl))
 
--- a session without a failure, and answers that tell of one
+-- a session without a failure
 undisturbed : IsUndisturbed None script (record { fault = None; code = 0; given = script; written = codes "ok\nvalue 0 off\n"; last = with_a })
 unfolding digits
 undisturbed = record {
@@ -50,14 +51,28 @@ undisturbed = record {
     },
   );
   fault = tt;
-  memory = (ok_line, (value_line, tt));
+  memory = (no_failure, (no_value, tt));
 }
   where
-    ok_line : codes "ok" ≡ codes "error memory" → ⊥
-    ok_line h = cc
+    no_failure : Done ≡ Refused refusals.Memory → ⊥
+    no_failure h = cc
 
-    value_line : codes "value 0 off" ≡ codes "error memory" → ⊥
-    value_line h = cc
+    no_value : shown ≡ Refused refusals.Memory → ⊥
+    no_value h = cc
 
-disturbed : NamesNoMemory (codes "ok\nerror memory\n") → ⊥
+-- the error, and a metadata pair that prints the same line without a failure
+disturbed : NoMemoryError (Done ∷ Refused refusals.Memory ∷ []) → ⊥
 disturbed h = h.1.0 refl
+
+abbrev pair : List Reply
+pair = Pairs ((codes "error", codes "memory") ∷ []) ∷ []
+
+same_line : answers_text pair ≡ codes "error memory\nend 1\n"
+unfolding digits
+same_line = refl
+
+no_error : NoMemoryError pair
+no_error = (other, tt)
+  where
+    other : Pairs ((codes "error", codes "memory") ∷ []) ≡ Refused refusals.Memory → ⊥
+    other h = cc

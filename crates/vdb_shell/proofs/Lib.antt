@@ -6,6 +6,5 @@ pub mod LineSteps
 pub mod Told
 pub mod Turns
 pub mod Parts
-pub mod Memory
 pub mod OneSession
 pub mod ValidSessions

@@ -10,16 +10,15 @@ use Rattle.vdb_file.specs.declared.fault.LoadFault.{LoadFault}
 use Rattle.vdb_file.specs.declared.fault.SaveFault.{SaveFault}
 use Rattle.vdb_file.specs.declared.fault.SaveFault.TheVariants as save_faults
 use Rattle.vdb_script.specs.Lines.{lines, whole_lines}
-use Rattle.vdb_script.specs.Run.{Run}
+use Rattle.vdb_script.specs.Run.{NoMemoryError, Run}
 use Rattle.vdb_script.specs.Text.{answers_text}
 use Rattle.vdb_script.specs.declared.source.ScriptFault.TheVariants as script_faults
 use Rattle.vdb_script.proofs.OneRun.{one_run}
-use Rattle.vdb_shell.specs.Determined.{End, IsOfBytes, IsUndisturbed, NamesNoMemory}
+use Rattle.vdb_shell.specs.Determined.{End, IsOfBytes, IsUndisturbed, replies_of}
 use Rattle.vdb_shell.specs.Files.{Begins}
 use Rattle.vdb_shell.specs.Session.{IsSession, IsUnloaded, Plays, PlaysOn, Saves, is_refused, of_script, status}
 use Rattle.vdb_shell.specs.declared.fault.Fault.{Fault}
 use Rattle.vdb_shell.specs.declared.fault.Fault.TheVariants.{Load, Script, Answers, Save}
-use Rattle.vdb_shell.proofs.Memory.{had_memory}
 
 -- ---- loading
 
@@ -38,10 +37,10 @@ one_first (Some bytes) s t h k = k.2 s h.0 h.1
 
 -- ---- playing
 
-module _ (s : Scene) (script : List ℕ) (given other written answers : List ℕ) (a b : List Reply) (x y : Scene) (clear : NamesNoMemory written) (clear₂ : NamesNoMemory answers) where
+module _ (s : Scene) (script : List ℕ) (given other written answers : List ℕ) (a b : List Reply) (x y : Scene) (clear : NoMemoryError a) (clear₂ : NoMemoryError b) where
   one_text : (ls : List (List ℕ)) → Run s ls a x × (written ≡ answers_text a) → Run s ls b y × (answers ≡ answers_text b) → (a ≡ b) × (x ≡ y) × (written ≡ answers)
   one_text ls h k =
-      let run = one_run s ls a b x y h.0 k.0 (had_memory a (subst NamesNoMemory h.1 clear)) (had_memory b (subst NamesNoMemory k.1 clear₂)) in
+      let run = one_run s ls a b x y h.0 k.0 clear clear₂ in
       (run.0, run.1, h.1 ∙ ap answers_text run.0 ∙ sym k.1)
 
   one_play : (f g : Option Fault) → IsOfBytes f → IsOfBytes g → Plays s script f given written a x → Plays s script g other answers b y → ((a ≡ b) × (x ≡ y) × (written ≡ answers)) × (f ≡ g)
@@ -92,41 +91,48 @@ record BothUnload (a b : End) : Type 0 where
 abbrev Unloads : Option (List ℕ) → End → Type 0
 Unloads file e = (l : LoadFault) × (e.fault ≡ Some (Load l)) × NoFile file × (e.code ≡ 3) × (e.written ≡ [])
 
-abbrev Loads : Option (List ℕ) → List ℕ → End → Type 0
-Loads file script e = (first : Scene) × Begins file first × PlaysOn first script e.fault e.code e.given e.written e.last
+-- the script is played from this scene, and no answer is `error memory`
+abbrev PlaysClear : Scene → List ℕ → Option Fault → ℕ → List ℕ → List ℕ → Scene → Type 0
+PlaysClear first script fault code given written last = (on : PlaysOn first script fault code given written last) × NoMemoryError on.plays.replies
 
-either : (file : Option (List ℕ)) (script : List ℕ) (fault : Option Fault) (code : ℕ) (given written : List ℕ) (last : Scene) → IsOfBytes fault → IsSession file script fault code given written last
-    → ((l : LoadFault) × (fault ≡ Some (Load l)) × NoFile file × (code ≡ 3) × (written ≡ [])) ⊎ ((first : Scene) × Begins file first × PlaysOn first script fault code given written last)
-either file script None code given written last of h = inr h
-either None script (Some (Load l)) code given written last of h = absurd h.0
-either (Some bytes) script (Some (Load l)) code given written last of h = inl (l, refl, h.0 of, h.1, h.3)
-either file script (Some (Script c)) code given written last of h = inr h
-either file script (Some Answers) code given written last of h = inr h
-either file script (Some (Save v)) code given written last of h = inr h
+abbrev Loads : Option (List ℕ) → List ℕ → End → Type 0
+Loads file script e = (first : Scene) × Begins file first × PlaysClear first script e.fault e.code e.given e.written e.last
+
+either : (file : Option (List ℕ)) (script : List ℕ) (fault : Option Fault) (code : ℕ) (given written : List ℕ) (last : Scene) → IsOfBytes fault
+    → (h : IsSession file script fault code given written last) → NoMemoryError (replies_of file script fault code given written last h)
+    → ((l : LoadFault) × (fault ≡ Some (Load l)) × NoFile file × (code ≡ 3) × (written ≡ [])) ⊎ ((first : Scene) × Begins file first × PlaysClear first script fault code given written last)
+either file script None code given written last of h clear = inr (h.0, h.1, (h.2, clear))
+either None script (Some (Load l)) code given written last of h clear = absurd h.0
+either (Some bytes) script (Some (Load l)) code given written last of h clear = inl (l, refl, h.0 of, h.1, h.3)
+either file script (Some (Script c)) code given written last of h clear = inr (h.0, h.1, (h.2, clear))
+either file script (Some Answers) code given written last of h clear = inr (h.0, h.1, (h.2, clear))
+either file script (Some (Save v)) code given written last of h clear = inr (h.0, h.1, (h.2, clear))
 
 module _ (file : Option (List ℕ)) (script : List ℕ) (a b : End) (h : IsUndisturbed file script a) (k : IsUndisturbed file script b) where
   both_play : Loads file script a → Loads file script b → BothPlay a b
   both_play p q =
       let begun : p.0 ≡ q.0 = one_first file p.0 q.0 p.1 q.1 in
-      let on : PlaysOn q.0 script a.fault a.code a.given a.written a.last = subst (λ s. PlaysOn s script a.fault a.code a.given a.written a.last) begun p.2 in
-      let one = one_play q.0 script a.given b.given a.written b.written on.plays.replies q.2.plays.replies a.last b.last h.memory k.memory
-      (of_script a.fault) (of_script b.fault) (of_bytes a.fault h.fault) (of_bytes b.fault k.fault) on.plays.plays q.2.plays.plays in
+      let played : PlaysClear q.0 script a.fault a.code a.given a.written a.last = subst (λ s. PlaysClear s script a.fault a.code a.given a.written a.last) begun p.2 in
+      let on : PlaysOn q.0 script a.fault a.code a.given a.written a.last = played.0 in
+      let other : PlaysOn q.0 script b.fault b.code b.given b.written b.last = q.2.0 in
+      let one = one_play q.0 script a.given b.given a.written b.written on.plays.replies other.plays.replies a.last b.last played.1 q.2.1
+      (of_script a.fault) (of_script b.fault) (of_bytes a.fault h.fault) (of_bytes b.fault k.fault) on.plays.plays other.plays.plays in
       record {
         last = one.0.1;
         written = one.0.2;
         script = one.1;
         refused = on.refused;
         code = on.status;
-        other = q.2.status ∙ ap (λ r. status r b.fault) (q.2.plays.refused ∙ ap (list_any is_refused) (sym one.0.0) ∙ sym on.plays.refused);
+        other = other.status ∙ ap (λ r. status r b.fault) (other.plays.refused ∙ ap (list_any is_refused) (sym one.0.0) ∙ sym on.plays.refused);
       }
 
   pair : BothUnload a b ⊎ BothPlay a b
-  pair = elim (either file script a.fault a.code a.given a.written a.last h.fault h.session) [
-    | inl u ↦ elim (either file script b.fault b.code b.given b.written b.last k.fault k.session) [
+  pair = elim (either file script a.fault a.code a.given a.written a.last h.fault h.session h.memory) [
+    | inl u ↦ elim (either file script b.fault b.code b.given b.written b.last k.fault k.session k.memory) [
       | inl v ↦ inl (record { fault = u.0; fault₂ = v.0; is = u.1; is₂ = v.1; written = u.4 ∙ sym v.4; code = u.3 ∙ sym v.3 })
       | inr q ↦ absurd (no_file file q.0 u.2 q.1)
     ]
-    | inr p ↦ elim (either file script b.fault b.code b.given b.written b.last k.fault k.session) [
+    | inr p ↦ elim (either file script b.fault b.code b.given b.written b.last k.fault k.session k.memory) [
       | inl v ↦ absurd (no_file file p.0 v.2 p.1)
       | inr q ↦ inr (both_play p q)
     ]

@@ -1,5 +1,5 @@
 -- The parts of a session: loading before its script, and saving after it.
-use Rattle.std.proofs.Common.{◌≡◌, ◌∙◌, refl, sym, ap, subst, ℕ, Bool, false, is_some, List, [], Option, Some, None, option_map, IfSome, IfOk, IfErr, Result, Ok, Err}
+use Rattle.std.proofs.Common.{◌≡◌, ◌∙◌, refl, sym, ap, subst, arith, ℕ, ◌≤◌, Bool, true, false, is_some, List, [], Option, Some, None, option_map, IfSome, IfOk, IfErr, Result, Ok, Err}
 use Rattle.std.proofs.lemmas.Option.{same_Some}
 use Rattle.std.specs.Io.KnownBytes.{Keeps}
 use Rattle.vdb_scene.specs.Grids.{scene_of}
@@ -85,3 +85,12 @@ plays_unsaved s script fault played f code refused given written last is none to
   plays = subst (λ h. PlaysFrom s script h refused given written last) (none ∙ sym (ap of_script is)) plays;
   status = told ∙ ap (status refused) (sym is);
 }
+
+-- the status without a fault is 0 or 1
+pub completed : (refused : Bool) (fault : Option Fault) (code : ℕ) → code ≡ status refused fault → fault ≡ None → code ≤ 1
+completed true None code is none = let one : code ≡ 1 = is in omega (arith, one)
+completed false None code is none = let zero : code ≡ 0 = is in omega (arith, zero)
+completed refused (Some f) code is none = absurd (no none)
+  where
+    no : Some f ≡ None → ⊥
+    no h = cc

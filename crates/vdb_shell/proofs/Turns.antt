@@ -1,5 +1,5 @@
 -- One step of playing a script: a line whose answer was written, and a line whose answer was not.
-use Rattle.std.proofs.Common.{◌≡◌, refl, sym, ap, ◌∙◌, subst, ℕ, Bool, true, false, ◌||◌, is_err, List, [], ◌∷◌, ◌++◌, ◌^◌, Option, Some, None, Result, Ok, Err}
+use Rattle.std.proofs.Common.{◌≡◌, refl, sym, ap, ◌∙◌, subst, ℕ, Bool, true, false, ◌||◌, is_err, List, [], ◌∷◌, ◌++◌, ◌^◌, ◌+◌, ◌<◌, ◌≤◌, arith, Option, Some, None, Result, Ok, Err}
 use Rattle.std.specs.Io.KnownBytes.{Appends, Consumes, prepend_known}
 use Rattle.std.proofs.KnownBytes.{Appends-nil, Appends-trans}
 use Rattle.std.proofs.lemmas.Grind.{flat_map-append}
@@ -11,7 +11,7 @@ use Rattle.vdb_script.specs.Writing.{HasCut}
 use Rattle.vdb_script.specs.declared.output.WriteFault.{WriteFault}
 use Rattle.vdb_script.specs.declared.source.ScriptFault.{ScriptFault}
 use Rattle.vdb_script.specs.declared.source.ScriptFault.TheVariants.{Read, TooLong}
-use Rattle.vdb_shell.specs.internal.Answering.{GoesOut, TakesTurn, is_read_ending}
+use Rattle.vdb_shell.specs.internal.Answering.{GoesOut, TakesTurn, excess_at_end, is_read_ending}
 use Rattle.vdb_shell.specs.Session.{PlaysFrom}
 use Rattle.vdb_shell.specs.declared.fault.Fault.{Fault}
 use Rattle.vdb_shell.specs.declared.playing.Turn.{Turn}
@@ -94,3 +94,9 @@ never_failed old new ending fresh same failed is = false_true (sym (same ∙ fre
   where
     false_true : false ≡ true → ⊥
     false_true h = cc
+
+-- a script whose reader gave more bytes than the limit is too long
+pub too_long_fault : (fault : ScriptFault) (start old new left after : ℕ) → old + left ≤ start + 2 ^ 24 → new + after ≤ old + left + excess_at_end {A = Turn} (Err (Some fault)) → start + 2 ^ 24 < new
+    → Some (Script fault) ≡ Some (Script TooLong)
+too_long_fault Read start old new left after within given more = absurd (omega (arith, within, given, more))
+too_long_fault TooLong start old new left after within given more = refl

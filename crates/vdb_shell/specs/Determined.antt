@@ -1,10 +1,10 @@
 -- Sessions whose outcome depends on nothing but the bytes of their files.
-use Rattle.std.specs.Prelude.{◌≢◌, ℕ, List, Option, Some, None, codes, ⊤}
-use Rattle.std.specs.List.{AllByRecursion}
+use Rattle.std.specs.Prelude.{ℕ, List, [], Option, Some, None, ⊤}
+use Rattle.vdb_scene.specs.Replies.{Reply}
 use Rattle.vdb_scene.specs.Scene.{Scene}
 use Rattle.vdb_file.specs.Faults.{Claims}
 use Rattle.vdb_file.specs.declared.fault.SaveFault.TheVariants as save_faults
-use Rattle.vdb_script.specs.Lines.{lines}
+use Rattle.vdb_script.specs.Run.{NoMemoryError}
 use Rattle.vdb_script.specs.declared.source.ScriptFault.TheVariants as script_faults
 use Rattle.vdb_shell.specs.Session.{IsSession}
 use Rattle.vdb_shell.specs.declared.fault.Fault.{Fault}
@@ -29,12 +29,17 @@ IsOfBytes (Some Answers) = ⊥
 IsOfBytes (Some (Save save_faults.TooLong)) = ⊤
 IsOfBytes (Some (Save save_faults.Write)) = ⊥
 
--- no line of the answers is `error memory`
-abbrev pub NamesNoMemory : List ℕ → Type 0
-NamesNoMemory written = AllByRecursion (λ line. line ≢ codes "error memory") (lines written)
+-- the answers of a session's run: none if nothing was loaded
+abbrev pub replies_of : (file : Option (List ℕ)) (script : List ℕ) (fault : Option Fault) (code : ℕ) (given written : List ℕ) (last : Scene)
+    → IsSession file script fault code given written last → List Reply
+replies_of file script None code given written last session = session.2.plays.replies
+replies_of file script (Some (Load fault)) code given written last session = []
+replies_of file script (Some (Script fault)) code given written last session = session.2.plays.replies
+replies_of file script (Some Answers) code given written last session = session.2.plays.replies
+replies_of file script (Some (Save fault)) code given written last session = session.2.plays.replies
 
 -- A session in which no allocation, reader or writer failed.
 pub record IsUndisturbed (file : Option (List ℕ)) (script : List ℕ) (e : End) : Type 0 where
   pub session : IsSession file script e.fault e.code e.given e.written e.last
   pub fault : IsOfBytes e.fault
-  pub memory : NamesNoMemory e.written
+  pub memory : NoMemoryError (replies_of file script e.fault e.code e.given e.written e.last session)

@@ -5,7 +5,7 @@ ghost use Rattle.vdb_scene.specs.Accessors.{HaveUnusedAccessors};
 ghost use Rattle.vdb_scene.specs.Grids.{scene_of};
 ghost use Rattle.vdb_scene.specs.ValidScenes.{IsScene};
 ghost use Rattle.vdb_scene.specs.Watched.{bytes_given, empty_reads, source};
-ghost use Rattle.vdb_file.specs.Readers.{GaveAtMost};
+ghost use Rattle.vdb_file.specs.Readers.{EndedWithin, GaveAtMost};
 ghost use Rattle.vdb_file.specs.Spelling.{Spells, file_limit, spelling};
 ghost use Rattle.vdb_shell.specs.Files.{Begins, Refuses, any_failed, given_file, held};
 
@@ -36,7 +36,8 @@ pub fn start<R: Read>(
     ensures kept { is_some load.new ≡ is_some load.old }
     // At most one byte past the limit of a scene file is read.
     ensures few { IfSome load.old (λ before. IfSome load.new (λ after. GaveAtMost (file_limit + 1) (R.remaining (source before)) (R.remaining (source after)))) }
-    // Any reader, also one that never ends, gives at most that one byte past the limit, and reports its end at most once.
+    // Any reader gives at most that one byte past the limit, and reports its end at most once; no scene comes from one that never ends.
+    ensures ended { OnOk result (IfSome load.old (λ before. IfSome load.new (λ after. EndedWithin file_limit before after))) }
     ensures given { IfSome load.old (λ before. IfSome load.new (λ after. bytes_given after ≤ bytes_given before + (file_limit + 1))) }
     ensures once { IfSome load.old (λ before. IfSome load.new (λ after. empty_reads after ≤ empty_reads before + 1)) }
     // `Read` is the error if and only if the reader failed.

@@ -8,7 +8,7 @@ ghost use Rattle.vdb_scene.specs.Watched.{bytes_given, empty_reads, has_failed, 
 ghost use Rattle.vdb_script.specs.Reading.{EndsWith, YieldsEnd, YieldsLine, YieldsPart, YieldsTooMuch, ahead, budget, end_count};
 ghost use Rattle.vdb_script.specs.Text.{text};
 ghost use Rattle.vdb_script.specs.Writing.{Writes};
-ghost use Rattle.vdb_shell.specs.internal.Answering.{TakesTurn, is_read_ending};
+ghost use Rattle.vdb_shell.specs.internal.Answering.{TakesTurn, excess_at_end, is_read_ending};
 ghost use Rattle.vdb_shell.specs.Session.{IsOfScript, PlaysFrom, is_refused};
 
 use crate::Fault;
@@ -64,6 +64,8 @@ pub fn play<R: Read, W: Write>(
     // Any reader, also one that never ends, gives at most one byte past the limit, and reports its end at most once.
     ensures few { bytes_given script.new ≤ bytes_given script.old + (2 ^ 24 + 1) }
     ensures once { empty_reads script.new ≤ empty_reads script.old + 1 }
+    // If any reader gives more bytes than the limit, the script is too long.
+    ensures too_long { bytes_given script.old + 2 ^ 24 < bytes_given script.new → result.fault ≡ Some (Fault.Script ScriptFault.TooLong) }
 {
     let mut lines = Lines::new();
     let mut refused = false;
@@ -116,6 +118,7 @@ fn play_line<R: Read, W: Write>(
     ensures failed { has_failed script.new ≡ (has_failed script.old || is_read_ending result) }
     ensures given { OnOk result (bytes_given script.new + lines.new.source.left ≤ bytes_given script.old + lines.old.source.left) }
     ensures few { bytes_given script.new + lines.new.source.left ≤ bytes_given script.old + lines.old.source.left + 1 }
+    ensures over { bytes_given script.new + lines.new.source.left ≤ bytes_given script.old + lines.old.source.left + excess_at_end result }
     ensures once { empty_reads script.new + end_count lines.old.source ≤ empty_reads script.old + end_count lines.new.source }
     ensures answers_failed { IfOk result (λ turn. has_failed answers.new ≡ (has_failed answers.old || is_err turn.written)) }
     ensures quiet { lines.old.source.ended ≡ true → script.new ≡ script.old }

@@ -1,10 +1,10 @@
 //! Sessions.
-ghost use Rattle.std.specs.Prelude.{◌≡◌, ◌+◌, ◌^◌, ◌≤◌, ◌↔◌, false, true, Option, Some, IfSome, IsSome, IsTrue, is_some, ℕ, List};
+ghost use Rattle.std.specs.Prelude.{◌≡◌, ◌+◌, ◌^◌, ◌<◌, ◌≤◌, ◌↔◌, false, true, Option, Some, None, IfSome, IsSome, IsTrue, is_some, ℕ, List};
 ghost use Rattle.std.specs.Io.KnownBytes.{Appends, Consumes};
 ghost use Rattle.vdb_scene.specs.Grids.{scene_of};
 ghost use Rattle.vdb_scene.specs.Scene.{Scene as AbstractScene};
 ghost use Rattle.vdb_scene.specs.Watched.{bytes_given, empty_reads, has_failed, source};
-ghost use Rattle.vdb_file.specs.Readers.{GaveAtMost};
+ghost use Rattle.vdb_file.specs.Readers.{EndedWithin, GaveAtMost};
 ghost use Rattle.vdb_file.specs.Spelling.{file_limit};
 ghost use Rattle.vdb_shell.specs.Files.{any_failed, given_file, held};
 ghost use Rattle.vdb_shell.specs.Session.{IsSession, IsUnloaded, PlaysOn, Saves, WritesNoFile, status as status_of};
@@ -48,8 +48,9 @@ pub fn session<L: Read, R: Read, W: Write, S: Write>(
         × Appends (W.contents (source answers.old)) (W.contents (source answers.new)) written
         × IsSession file bytes result.fault result.status given written last
         × IfSome save.old (λ _. Saves result.fault last (held S.contents save.old) (held S.contents save.new)) }
-    // The status of a fault is its own, also after a line that failed.
+    // The status of a fault is its own, also after a line that failed. Without a fault it is 0 or 1.
     ensures status { IfSome result.fault (λ fault. result.status ≡ status_of true (Some fault)) }
+    ensures completed { result.fault ≡ None → result.status ≤ 1 }
     // If nothing was loaded, script and answers are unchanged.
     ensures unloaded { IsUnloaded result.fault → (script.new ≡ script.old) × (answers.new ≡ answers.old) }
     // If the scene's encoding is too long, or a fault came before, the writer of the file is unchanged.
@@ -59,11 +60,15 @@ pub fn session<L: Read, R: Read, W: Write, S: Write>(
     ensures save_kept { is_some save.new ≡ is_some save.old }
     // At most one byte past the limit of a scene file is read.
     ensures load_few { IfSome load.old (λ before. IfSome load.new (λ after. GaveAtMost (file_limit + 1) (L.remaining (source before)) (L.remaining (source after)))) }
-    // Any reader, also one that never ends, gives at most one byte past the limit, and reports its end at most once.
+    // Any reader gives at most one byte past the limit, and reports its end at most once. Nothing is loaded from a reader of the scene
+    // that never ends.
+    ensures load_ended { (IsUnloaded result.fault → ⊥) → IfSome load.old (λ before. IfSome load.new (λ after. EndedWithin file_limit before after)) }
     ensures load_given { IfSome load.old (λ before. IfSome load.new (λ after. bytes_given after ≤ bytes_given before + (file_limit + 1))) }
     ensures load_once { IfSome load.old (λ before. IfSome load.new (λ after. empty_reads after ≤ empty_reads before + 1)) }
     ensures script_few { bytes_given script.new ≤ bytes_given script.old + (2 ^ 24 + 1) }
     ensures script_once { empty_reads script.new ≤ empty_reads script.old + 1 }
+    // If any reader gives more bytes than the limit, the script is too long.
+    ensures script_too_long { bytes_given script.old + 2 ^ 24 < bytes_given script.new → result.fault ≡ Some (Fault.Script ScriptFault.TooLong) }
     // A fault of reading or writing comes if and only if that reader or writer failed.
     ensures load { (result.fault ≡ Some (Fault.Load LoadFault.Read)) ↔ IsTrue (any_failed load.new) }
     ensures script { (result.fault ≡ Some (Fault.Script ScriptFault.Read)) ↔ IsTrue (has_failed script.new) }
@@ -94,6 +99,7 @@ fn play_and_save<R: Read, W: Write, S: Write>(
         × Appends (W.contents (source answers.old)) (W.contents (source answers.new)) written
         × PlaysOn (scene_of scene.old) bytes result.fault result.status given written (scene_of scene.new) }
     ensures status { IfSome result.fault (λ fault. result.status ≡ status_of true (Some fault)) }
+    ensures completed { result.fault ≡ None → result.status ≤ 1 }
     ensures saves { IfSome save.old (λ _. Saves result.fault (scene_of scene.new) (held S.contents save.old) (held S.contents save.new)) }
     ensures unsaved { WritesNoFile result.fault → save.new ≡ save.old }
     ensures nowhere { (fault : SaveFault) → result.fault ≡ Some (Fault.Save fault) → IsSome save.old }
@@ -101,6 +107,7 @@ fn play_and_save<R: Read, W: Write, S: Write>(
     ensures loaded { IsUnloaded result.fault → ⊥ }
     ensures script_few { bytes_given script.new ≤ bytes_given script.old + (2 ^ 24 + 1) }
     ensures script_once { empty_reads script.new ≤ empty_reads script.old + 1 }
+    ensures script_too_long { bytes_given script.old + 2 ^ 24 < bytes_given script.new → result.fault ≡ Some (Fault.Script ScriptFault.TooLong) }
     ensures script { (result.fault ≡ Some (Fault.Script ScriptFault.Read)) ↔ IsTrue (has_failed script.new) }
     ensures answers { (result.fault ≡ Some Fault.Answers) ↔ IsTrue (has_failed answers.new) }
     ensures save { (result.fault ≡ Some (Fault.Save SaveFault.Write)) ↔ IsTrue (any_failed save.new) }
@@ -119,6 +126,7 @@ fn play_and_save<R: Read, W: Write, S: Write>(
 fn ended(refused: bool, fault: Option<Fault>) -> Outcome
     ensures fault { result.fault ≡ fault }
     ensures status { result.status ≡ status_of refused fault }
+    ensures completed { fault ≡ None → result.status ≤ 1 }
 {
     Outcome {
         status: status(refused, fault.as_ref()),

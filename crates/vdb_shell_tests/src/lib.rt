@@ -1,20 +1,6 @@
-//! Tests of the crates vdb_scene, vdb_file, vdb_script and vdb_shell, by public calls alone: calls that no row reaches, and readers
-//! and writers that fail, are slow or never end.
+//! Calls over readers and writers of a type of their own, which nothing else that is proved makes: a line is read and an answer is
+//! printed. tests/library/shell has the other tests of vdb_scene, vdb_file, vdb_script and vdb_shell.
 #![tactic(auto)]
 
 #[cfg(test)]
-mod command_lines;
-#[cfg(test)]
-mod files;
-#[cfg(test)]
-mod lines;
-#[cfg(test)]
-mod metadata;
-#[cfg(test)]
-mod printing;
-#[cfg(test)]
-mod scenes;
-#[cfg(test)]
-mod sessions;
-#[cfg(test)]
-mod streams;
+mod calls;

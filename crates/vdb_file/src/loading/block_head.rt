@@ -1,26 +1,21 @@
 //! Reads the heads of blocks and the numbers of their entries.
 
-ghost use Rattle.std.specs.Prelude.{◌≡◌, ℕ, ◌≤◌, ◌||◌, ◌↔◌, Err, FitsSigned, IfErr, IsTrue, Some};
+ghost use Rattle.std.specs.Prelude.{◌≡◌, ◌≤◌, ◌↔◌, Err, FitsSigned, IfErr, IsTrue, Some};
 ghost use Rattle.std.specs.Int.{w16, w32, to_be_bytes};
-ghost use Rattle.std.specs.Io.KnownBytes.{IsAtEnd};
 ghost use Rattle.std.specs.Ordering.{nat_cmp};
-ghost use Rattle.vdb_coord.specs.Blocks.{entries};
-ghost use Rattle.vdb_coord.specs.Entries.{AreBits};
+ghost use Rattle.vdb_coord.specs.Blocks.{entries, vdb};
 ghost use Rattle.vdb_coord.specs.Space.{coord_cmp};
-ghost use Rattle.vdb_scene.specs.Watched.{bytes_given, empty_reads, has_failed, source};
 ghost use Rattle.vdb_file.specs.Bodies.{cell_bytes, key_bytes};
-ghost use Rattle.vdb_file.specs.Faults.{is_read_fault};
 ghost use Rattle.vdb_file.specs.internal.FieldFaults.{IsInner};
 ghost use Rattle.vdb_file.specs.internal.Following.{Follows};
 ghost use Rattle.vdb_file.specs.internal.Loading.{IsHead, IsIndex, IsKey, IsSpelled, head_bytes};
-ghost use Rattle.vdb_file.specs.internal.Reading.{EndsWith, GaveWithin, Reads, byte_total, position};
+ghost use Rattle.vdb_file.specs.internal.Reading.{EndsWith, Moves, Reads, ahead};
 
 use crate::fault::LoadFault;
 use crate::loading::fields::{take_u8, take_u16, take_value};
 use crate::loading::input::Input;
-use std::io::Read;
+use crate::loading::source::Source;
 use vdb_coord::{Bits, Bounds, Coord, Level};
-use vdb_scene::Watched;
 use vdb_value::{Cell, Voxel};
 
 /// The head of a block.
@@ -33,23 +28,19 @@ pub(crate) enum Head<V> {
 }
 
 /// Reads the value of a cell with this state. The cell must not be the background.
-fn take_state<V: Voxel, R: Read>(
+fn take_state<V: Voxel, S: Source>(
     on: bool,
     background: V,
     input: &mut Input,
-    reader: &mut Watched<R>,
+    reader: &mut S,
 ) -> Result<Cell<V>, LoadFault>
-    requires ends { EndsWith input.old (R.remaining (source reader.old)) }
-    ensures ends { EndsWith input.new (R.remaining (source reader.new)) }
-    ensures total { (n : ℕ) → byte_total input.old (R.remaining (source reader.old)) ≡ Some n → byte_total input.new (R.remaining (source reader.new)) ≡ Some n }
-    ensures given { (n m : ℕ) → GaveWithin n m input.old (bytes_given reader.old) (empty_reads reader.old) → GaveWithin n m input.new (bytes_given reader.new) (empty_reads reader.new) }
+    requires ends { EndsWith input.old (S.state reader.old) }
+    ensures moves { Moves input.old (S.state reader.old) input.new (S.state reader.new) result }
     ensures reads { Reads (λ c. c) (λ c. IsSpelled V.eq V.is_value background c × (c.on ≡ on)) (λ c. V.bytes_of c.value) result
-        (position input.old (R.remaining (source reader.old))) (position input.new (R.remaining (source reader.new))) }
+        (ahead input.old (S.state reader.old)) (ahead input.new (S.state reader.new)) }
     ensures inner { IfErr result IsInner }
-    ensures ended { result ≡ Err LoadFault.Truncated → IsAtEnd (position input.new (R.remaining (source reader.new))).known }
-    ensures failed { has_failed reader.new ≡ (has_failed reader.old || is_read_fault result) }
 {
-    let value = take_value::<V, R>(input, reader)?;
+    let value = take_value::<V, S>(input, reader)?;
     if !on && value == background {
         return Err(LoadFault::Background);
     }
@@ -57,20 +48,16 @@ fn take_state<V: Voxel, R: Read>(
 }
 
 /// Reads a cell, which must not be the background.
-pub(crate) fn take_cell<V: Voxel, R: Read>(
+pub(crate) fn take_cell<V: Voxel, S: Source>(
     background: V,
     input: &mut Input,
-    reader: &mut Watched<R>,
+    reader: &mut S,
 ) -> Result<Cell<V>, LoadFault>
-    requires ends { EndsWith input.old (R.remaining (source reader.old)) }
-    ensures ends { EndsWith input.new (R.remaining (source reader.new)) }
-    ensures total { (n : ℕ) → byte_total input.old (R.remaining (source reader.old)) ≡ Some n → byte_total input.new (R.remaining (source reader.new)) ≡ Some n }
-    ensures given { (n m : ℕ) → GaveWithin n m input.old (bytes_given reader.old) (empty_reads reader.old) → GaveWithin n m input.new (bytes_given reader.new) (empty_reads reader.new) }
+    requires ends { EndsWith input.old (S.state reader.old) }
+    ensures moves { Moves input.old (S.state reader.old) input.new (S.state reader.new) result }
     ensures reads { Reads (λ c. c) (IsSpelled V.eq V.is_value background) (cell_bytes V.eq V.bytes_of) result
-        (position input.old (R.remaining (source reader.old))) (position input.new (R.remaining (source reader.new))) }
+        (ahead input.old (S.state reader.old)) (ahead input.new (S.state reader.new)) }
     ensures inner { IfErr result IsInner }
-    ensures ended { result ≡ Err LoadFault.Truncated → IsAtEnd (position input.new (R.remaining (source reader.new))).known }
-    ensures failed { has_failed reader.new ≡ (has_failed reader.old || is_read_fault result) }
 {
     let tag = take_u8(input, reader)?;
     match tag {
@@ -81,20 +68,12 @@ pub(crate) fn take_cell<V: Voxel, R: Read>(
 }
 
 /// Reads the count of a block's listed entries: at least one and at most `most`.
-fn take_count<R: Read>(
-    most: u16,
-    input: &mut Input,
-    reader: &mut Watched<R>,
-) -> Result<u16, LoadFault>
-    requires ends { EndsWith input.old (R.remaining (source reader.old)) }
-    ensures ends { EndsWith input.new (R.remaining (source reader.new)) }
-    ensures total { (n : ℕ) → byte_total input.old (R.remaining (source reader.old)) ≡ Some n → byte_total input.new (R.remaining (source reader.new)) ≡ Some n }
-    ensures given { (n m : ℕ) → GaveWithin n m input.old (bytes_given reader.old) (empty_reads reader.old) → GaveWithin n m input.new (bytes_given reader.new) (empty_reads reader.new) }
+fn take_count<S: Source>(most: u16, input: &mut Input, reader: &mut S) -> Result<u16, LoadFault>
+    requires ends { EndsWith input.old (S.state reader.old) }
+    ensures moves { Moves input.old (S.state reader.old) input.new (S.state reader.new) result }
     ensures reads { Reads (λ n. n) (λ n. (1 ≤ n) × (n ≤ most)) (to_be_bytes w16) result
-        (position input.old (R.remaining (source reader.old))) (position input.new (R.remaining (source reader.new))) }
+        (ahead input.old (S.state reader.old)) (ahead input.new (S.state reader.new)) }
     ensures inner { IfErr result IsInner }
-    ensures ended { result ≡ Err LoadFault.Truncated → IsAtEnd (position input.new (R.remaining (source reader.new))).known }
-    ensures failed { has_failed reader.new ≡ (has_failed reader.old || is_read_fault result) }
 {
     let count = take_u16(input, reader)?;
     if count == 0 {
@@ -107,21 +86,17 @@ fn take_count<R: Read>(
 }
 
 /// Reads the head of a block with this many entries.
-pub(crate) fn take_head<V: Voxel, R: Read>(
+pub(crate) fn take_head<V: Voxel, S: Source>(
     background: V,
     most: u16,
     input: &mut Input,
-    reader: &mut Watched<R>,
+    reader: &mut S,
 ) -> Result<Head<V>, LoadFault>
-    requires ends { EndsWith input.old (R.remaining (source reader.old)) }
-    ensures ends { EndsWith input.new (R.remaining (source reader.new)) }
-    ensures total { (n : ℕ) → byte_total input.old (R.remaining (source reader.old)) ≡ Some n → byte_total input.new (R.remaining (source reader.new)) ≡ Some n }
-    ensures given { (n m : ℕ) → GaveWithin n m input.old (bytes_given reader.old) (empty_reads reader.old) → GaveWithin n m input.new (bytes_given reader.new) (empty_reads reader.new) }
+    requires ends { EndsWith input.old (S.state reader.old) }
+    ensures moves { Moves input.old (S.state reader.old) input.new (S.state reader.new) result }
     ensures reads { Reads (λ h. h) (IsHead V.eq V.is_value background most) (head_bytes V.eq V.bytes_of) result
-        (position input.old (R.remaining (source reader.old))) (position input.new (R.remaining (source reader.new))) }
+        (ahead input.old (S.state reader.old)) (ahead input.new (S.state reader.new)) }
     ensures inner { IfErr result IsInner }
-    ensures ended { result ≡ Err LoadFault.Truncated → IsAtEnd (position input.new (R.remaining (source reader.new))).known }
-    ensures failed { has_failed reader.new ≡ (has_failed reader.old || is_read_fault result) }
 {
     let tag = take_u8(input, reader)?;
     match tag {
@@ -133,21 +108,17 @@ pub(crate) fn take_head<V: Voxel, R: Read>(
 }
 
 /// Reads the number of an entry, below `most`, which must come after the one before.
-pub(crate) fn take_index<R: Read>(
+pub(crate) fn take_index<S: Source>(
     most: u16,
     before: Option<u16>,
     input: &mut Input,
-    reader: &mut Watched<R>,
+    reader: &mut S,
 ) -> Result<u16, LoadFault>
-    requires ends { EndsWith input.old (R.remaining (source reader.old)) }
-    ensures ends { EndsWith input.new (R.remaining (source reader.new)) }
-    ensures total { (n : ℕ) → byte_total input.old (R.remaining (source reader.old)) ≡ Some n → byte_total input.new (R.remaining (source reader.new)) ≡ Some n }
-    ensures given { (n m : ℕ) → GaveWithin n m input.old (bytes_given reader.old) (empty_reads reader.old) → GaveWithin n m input.new (bytes_given reader.new) (empty_reads reader.new) }
+    requires ends { EndsWith input.old (S.state reader.old) }
+    ensures moves { Moves input.old (S.state reader.old) input.new (S.state reader.new) result }
     ensures reads { Reads (λ i. i) (IsIndex most before) (to_be_bytes w16) result
-        (position input.old (R.remaining (source reader.old))) (position input.new (R.remaining (source reader.new))) }
+        (ahead input.old (S.state reader.old)) (ahead input.new (S.state reader.new)) }
     ensures inner { IfErr result IsInner }
-    ensures ended { result ≡ Err LoadFault.Truncated → IsAtEnd (position input.new (R.remaining (source reader.new))).known }
-    ensures failed { has_failed reader.new ≡ (has_failed reader.old || is_read_fault result) }
 {
     let i = take_u16(input, reader)?;
     if i >= most {
@@ -160,25 +131,19 @@ pub(crate) fn take_index<R: Read>(
 }
 
 /// Reads the number of an entry of one of the level's nodes, which must come after the one before.
-pub(crate) fn take_entry_number<R: Read>(
-    bits: Bits,
+pub(crate) fn take_entry_number<S: Source>(
     level: Level,
     before: Option<u16>,
     input: &mut Input,
-    reader: &mut Watched<R>,
+    reader: &mut S,
 ) -> Result<u16, LoadFault>
-    requires configured { AreBits bits }
-    requires ends { EndsWith input.old (R.remaining (source reader.old)) }
-    ensures ends { EndsWith input.new (R.remaining (source reader.new)) }
-    ensures total { (n : ℕ) → byte_total input.old (R.remaining (source reader.old)) ≡ Some n → byte_total input.new (R.remaining (source reader.new)) ≡ Some n }
-    ensures given { (n m : ℕ) → GaveWithin n m input.old (bytes_given reader.old) (empty_reads reader.old) → GaveWithin n m input.new (bytes_given reader.new) (empty_reads reader.new) }
-    ensures reads { Reads (λ i. i) (IsIndex (entries bits level) before) (to_be_bytes w16) result
-        (position input.old (R.remaining (source reader.old))) (position input.new (R.remaining (source reader.new))) }
+    requires ends { EndsWith input.old (S.state reader.old) }
+    ensures moves { Moves input.old (S.state reader.old) input.new (S.state reader.new) result }
+    ensures reads { Reads (λ i. i) (IsIndex (entries vdb level) before) (to_be_bytes w16) result
+        (ahead input.old (S.state reader.old)) (ahead input.new (S.state reader.new)) }
     ensures inner { IfErr result IsInner }
-    ensures ended { result ≡ Err LoadFault.Truncated → IsAtEnd (position input.new (R.remaining (source reader.new))).known }
-    ensures failed { has_failed reader.new ≡ (has_failed reader.old || is_read_fault result) }
 {
-    let most = bits.entries(level);
+    let most = Bits::VDB.entries(level);
     take_index(most, before, input, reader)
 }
 
@@ -193,46 +158,36 @@ fn index_follows(before: Option<u16>, i: u16) -> bool
 }
 
 /// Reads three signed numbers, as one field of twelve bytes.
-fn take_coord<R: Read>(input: &mut Input, reader: &mut Watched<R>) -> Result<Coord, LoadFault>
-    requires ends { EndsWith input.old (R.remaining (source reader.old)) }
-    ensures ends { EndsWith input.new (R.remaining (source reader.new)) }
-    ensures total { (n : ℕ) → byte_total input.old (R.remaining (source reader.old)) ≡ Some n → byte_total input.new (R.remaining (source reader.new)) ≡ Some n }
-    ensures given { (n m : ℕ) → GaveWithin n m input.old (bytes_given reader.old) (empty_reads reader.old) → GaveWithin n m input.new (bytes_given reader.new) (empty_reads reader.new) }
+fn take_coord<S: Source>(input: &mut Input, reader: &mut S) -> Result<Coord, LoadFault>
+    requires ends { EndsWith input.old (S.state reader.old) }
+    ensures moves { Moves input.old (S.state reader.old) input.new (S.state reader.new) result }
     ensures reads { Reads (λ k. k) (λ k. FitsSigned w32 k.x × FitsSigned w32 k.y × FitsSigned w32 k.z) key_bytes result
-        (position input.old (R.remaining (source reader.old))) (position input.new (R.remaining (source reader.new))) }
+        (ahead input.old (S.state reader.old)) (ahead input.new (S.state reader.new)) }
     ensures inner { IfErr result IsInner }
-    ensures ended { result ≡ Err LoadFault.Truncated → IsAtEnd (position input.new (R.remaining (source reader.new))).known }
-    ensures failed { has_failed reader.new ≡ (has_failed reader.old || is_read_fault result) }
 {
     if input.capacity() < 12 {
         return Err(LoadFault::TooLong);
     }
-    let x = take_value::<i32, R>(input, reader)?;
-    let y = take_value::<i32, R>(input, reader)?;
-    let z = take_value::<i32, R>(input, reader)?;
+    let x = take_value::<i32, S>(input, reader)?;
+    let y = take_value::<i32, S>(input, reader)?;
+    let z = take_value::<i32, S>(input, reader)?;
     Ok(Coord { x, y, z })
 }
 
 /// Reads the key of a root block, which must come after the one before.
-pub(crate) fn take_key<R: Read>(
-    bits: Bits,
+pub(crate) fn take_key<S: Source>(
     before: Option<Coord>,
     input: &mut Input,
-    reader: &mut Watched<R>,
+    reader: &mut S,
 ) -> Result<Coord, LoadFault>
-    requires configured { AreBits bits }
-    requires ends { EndsWith input.old (R.remaining (source reader.old)) }
-    ensures ends { EndsWith input.new (R.remaining (source reader.new)) }
-    ensures total { (n : ℕ) → byte_total input.old (R.remaining (source reader.old)) ≡ Some n → byte_total input.new (R.remaining (source reader.new)) ≡ Some n }
-    ensures given { (n m : ℕ) → GaveWithin n m input.old (bytes_given reader.old) (empty_reads reader.old) → GaveWithin n m input.new (bytes_given reader.new) (empty_reads reader.new) }
-    ensures reads { Reads (λ k. k) (IsKey bits before) key_bytes result
-        (position input.old (R.remaining (source reader.old))) (position input.new (R.remaining (source reader.new))) }
+    requires ends { EndsWith input.old (S.state reader.old) }
+    ensures moves { Moves input.old (S.state reader.old) input.new (S.state reader.new) result }
+    ensures reads { Reads (λ k. k) (IsKey vdb before) key_bytes result
+        (ahead input.old (S.state reader.old)) (ahead input.new (S.state reader.new)) }
     ensures inner { IfErr result IsInner }
-    ensures ended { result ≡ Err LoadFault.Truncated → IsAtEnd (position input.new (R.remaining (source reader.new))).known }
-    ensures failed { has_failed reader.new ≡ (has_failed reader.old || is_read_fault result) }
 {
     let key = take_coord(input, reader)?;
-    let keys = Bounds::all().block_numbers_in(bits, Level::Upper);
+    let keys = Bounds::all().block_numbers_in(Bits::VDB, Level::Upper);
     if !keys.contains(key) {
         return Err(LoadFault::Key);
     }

@@ -1,414 +1,200 @@
-//! Reads the blocks above the leaf blocks from a file: lower blocks and root blocks.
+//! Reads the blocks of a tree from a file, by their level.
 
-ghost use Rattle.std.specs.Prelude.{◌≡◌, ℕ, ◌<◌, ◌||◌, false, Err, IfErr, IfOk, OnOk, Some};
+ghost use Rattle.std.specs.Prelude.{◌≡◌, ◌<◌, false, Err, IfErr, IfOk, OnOk, Some};
 ghost use Rattle.std.specs.Int.{w16, to_be_bytes};
-ghost use Rattle.std.specs.Io.KnownBytes.{IsAtEnd};
-ghost use Rattle.vdb_coord.specs.Blocks.{block_around, entries, entry_numbers};
-ghost use Rattle.vdb_coord.specs.Entries.{AreBits};
-ghost use Rattle.vdb_coord.specs.declared.Level.TheVariants.{Leaf as leaf_level, Lower, Upper};
+ghost use Rattle.vdb_coord.specs.Blocks.{block_around, entries, entry_numbers, vdb};
 ghost use Rattle.vdb_tree.specs.ConstantBlocks.{is_constant};
-ghost use Rattle.vdb_tree.specs.Layout.{bits_of, field_of};
-ghost use Rattle.vdb_scene.specs.Watched.{bytes_given, empty_reads, has_failed, source};
-ghost use Rattle.vdb_file.specs.Bodies.{leaf_body, listed, lower_body, root_body};
-ghost use Rattle.vdb_file.specs.Faults.{is_read_fault};
+ghost use Rattle.vdb_tree.specs.Layout.{field_of};
+ghost use Rattle.vdb_tree.specs.Parts.{IsNextAbove};
+ghost use Rattle.vdb_file.specs.Bodies.{listed};
 ghost use Rattle.vdb_file.specs.internal.FieldFaults.{IsInner};
+ghost use Rattle.vdb_file.specs.internal.Levels.{inner_body, level_body};
 ghost use Rattle.vdb_file.specs.internal.LoadedFields.{AreLoadable, IsNext, IsLoadable, KeptOutside, ShowsIn, ShowsInEach, entry_box, next_bytes};
 ghost use Rattle.vdb_file.specs.internal.Loading.{IsIndex};
-ghost use Rattle.vdb_file.specs.internal.Reading.{EndsWith, GaveWithin, Reads, byte_total, position};
+ghost use Rattle.vdb_file.specs.internal.Reading.{EndsWith, Moves, Reads, ahead};
 ghost use Rattle.vdb_file.specs.internal.Written.{numbered};
 
 use crate::fault::LoadFault;
 use crate::loading::block_head::{Head, take_entry_number, take_head};
 use crate::loading::input::Input;
 use crate::loading::leaf_blocks::{fill_block, take_leaf_block};
-use std::io::Read;
+use crate::loading::source::Source;
 use vdb_coord::{Bits, Coord, Level};
-use vdb_node::Stored;
 use vdb_pool::Steps;
-use vdb_scene::Watched;
-use vdb_tree::TreeOf;
+use vdb_scene::GridValue;
+use vdb_tree::Tree;
 
 /// Returns the least corner of an entry of the level's block around a coordinate.
-fn entry_corner(p: Coord, bits: Bits, level: Level, i: u16) -> Coord
-    requires configured { AreBits bits }
-    requires within { i < entries bits level }
-    ensures { result ≡ (entry_box bits level p i).min }
+fn entry_corner(p: Coord, level: Level, i: u16) -> Coord
+    requires { i < entries vdb level }
+    ensures { result ≡ (entry_box vdb level p i).min }
 {
-    p.entry_block_in(bits, level, i).min()
+    p.entry_block_in(Bits::VDB, level, i).min()
 }
 
-/// Reads the leaf block of an entry of the lower block around a coordinate.
-fn take_leaf_block_at<
-    V: Stored<WU> + Stored<WL> + Stored<WF>,
-    R: Read,
-    const U: u32,
-    const L: u32,
-    const F: u32,
-    const WU: usize,
-    const WL: usize,
-    const WF: usize,
->(
+/// Reads the level's block around a coordinate, which still holds nothing but the background.
+#[cycle(blocks)]
+pub(crate) fn take_block<V: GridValue, S: Source>(
+    level: Level,
     p: Coord,
-    i: u16,
-    tree: &mut TreeOf<V, U, L, F, WU, WL, WF>,
+    tree: &mut Tree<V>,
     input: &mut Input,
-    reader: &mut Watched<R>,
+    reader: &mut S,
     steps: &mut Steps,
 ) -> Result<(), LoadFault>
-    requires ends { EndsWith input.old (R.remaining (source reader.old)) }
-    requires within { i < entries (bits_of U L F) Lower }
-    requires loadable { IsLoadable V.eq V.is_value (bits_of U L F) tree.old.limit leaf_level (entry_box (bits_of U L F) Lower p i).min (field_of (bits_of U L F) tree.old) }
-    ensures ends { EndsWith input.new (R.remaining (source reader.new)) }
-    ensures total { (n : ℕ) → byte_total input.old (R.remaining (source reader.old)) ≡ Some n → byte_total input.new (R.remaining (source reader.new)) ≡ Some n }
-    ensures given { (n m : ℕ) → GaveWithin n m input.old (bytes_given reader.old) (empty_reads reader.old) → GaveWithin n m input.new (bytes_given reader.new) (empty_reads reader.new) }
-    ensures reads { Reads (λ _. field_of (bits_of U L F) tree.new) (ShowsIn V.eq V.is_value tree.old.background (entry_box (bits_of U L F) Lower p i)) (λ f. leaf_body V.eq V.bytes_of (bits_of U L F) f (entry_box (bits_of U L F) Lower p i)) result
-        (position input.old (R.remaining (source reader.old))) (position input.new (R.remaining (source reader.new))) }
-    ensures kept { OnOk result (KeptOutside (entry_box (bits_of U L F) Lower p i) (field_of (bits_of U L F) tree.old) (field_of (bits_of U L F) tree.new)) }
+    requires ends { EndsWith input.old (S.state reader.old) }
+    requires loadable { IsLoadable V.eq V.is_value vdb tree.old.limit level p (field_of vdb tree.old) }
+    ensures moves { Moves input.old (S.state reader.old) input.new (S.state reader.new) result }
+    ensures reads { Reads (λ _. field_of vdb tree.new) (ShowsIn V.eq V.is_value tree.old.background (block_around vdb level p)) (λ f. level_body V.eq V.bytes_of vdb level f (block_around vdb level p)) result
+        (ahead input.old (S.state reader.old)) (ahead input.new (S.state reader.new)) }
+    ensures kept { OnOk result (KeptOutside (block_around vdb level p) (field_of vdb tree.old) (field_of vdb tree.new)) }
     ensures limit { OnOk result (tree.new.limit ≡ tree.old.limit) }
     ensures inner { IfErr result IsInner }
-    ensures ended { result ≡ Err LoadFault.Truncated → IsAtEnd (position input.new (R.remaining (source reader.new))).known }
-    ensures failed { has_failed reader.new ≡ (has_failed reader.old || is_read_fault result) }
 {
-    let bits = tree.bits();
-    let corner = entry_corner(p, bits, Level::Lower, i);
-    take_leaf_block(corner, tree, input, reader, steps)
-}
-
-/// Reads the number of an entry of the lower block around a coordinate, which must come after the one before, and then the entry.
-fn take_next_leaf_block<
-    V: Stored<WU> + Stored<WL> + Stored<WF>,
-    R: Read,
-    const U: u32,
-    const L: u32,
-    const F: u32,
-    const WU: usize,
-    const WL: usize,
-    const WF: usize,
->(
-    p: Coord,
-    before: Option<u16>,
-    tree: &mut TreeOf<V, U, L, F, WU, WL, WF>,
-    input: &mut Input,
-    reader: &mut Watched<R>,
-    steps: &mut Steps,
-) -> Result<u16, LoadFault>
-    requires ends { EndsWith input.old (R.remaining (source reader.old)) }
-    requires loadable { AreLoadable V.eq V.is_value (bits_of U L F) tree.old.limit leaf_level (IsIndex (entries (bits_of U L F) Lower) before) (entry_box (bits_of U L F) Lower p) (field_of (bits_of U L F) tree.old) }
-    ensures ends { EndsWith input.new (R.remaining (source reader.new)) }
-    ensures total { (n : ℕ) → byte_total input.old (R.remaining (source reader.old)) ≡ Some n → byte_total input.new (R.remaining (source reader.new)) ≡ Some n }
-    ensures given { (n m : ℕ) → GaveWithin n m input.old (bytes_given reader.old) (empty_reads reader.old) → GaveWithin n m input.new (bytes_given reader.new) (empty_reads reader.new) }
-    ensures reads { Reads (λ i. (i, field_of (bits_of U L F) tree.new)) (IsNext V.eq V.is_value tree.old.background (IsIndex (entries (bits_of U L F) Lower) before) (entry_box (bits_of U L F) Lower p)) (next_bytes (to_be_bytes w16) (leaf_body V.eq V.bytes_of (bits_of U L F)) (entry_box (bits_of U L F) Lower p)) result
-        (position input.old (R.remaining (source reader.old))) (position input.new (R.remaining (source reader.new))) }
-    ensures kept { IfOk result (λ i. KeptOutside (entry_box (bits_of U L F) Lower p i) (field_of (bits_of U L F) tree.old) (field_of (bits_of U L F) tree.new)) }
-    ensures limit { OnOk result (tree.new.limit ≡ tree.old.limit) }
-    ensures inner { IfErr result IsInner }
-    ensures ended { result ≡ Err LoadFault.Truncated → IsAtEnd (position input.new (R.remaining (source reader.new))).known }
-    ensures failed { has_failed reader.new ≡ (has_failed reader.old || is_read_fault result) }
-{
-    let bits = tree.bits();
-    let i = take_entry_number(bits, Level::Lower, before, input, reader)?;
-    take_leaf_block_at(p, i, tree, input, reader, steps)?;
-    Ok(i)
-}
-
-/// Reads this many entries of the lower block around a coordinate, each after its number.
-fn take_leaf_blocks<
-    V: Stored<WU> + Stored<WL> + Stored<WF>,
-    R: Read,
-    const U: u32,
-    const L: u32,
-    const F: u32,
-    const WU: usize,
-    const WL: usize,
-    const WF: usize,
->(
-    p: Coord,
-    count: u16,
-    tree: &mut TreeOf<V, U, L, F, WU, WL, WF>,
-    input: &mut Input,
-    reader: &mut Watched<R>,
-    steps: &mut Steps,
-) -> Result<(), LoadFault>
-    requires ends { EndsWith input.old (R.remaining (source reader.old)) }
-    requires loadable { IsLoadable V.eq V.is_value (bits_of U L F) tree.old.limit Lower p (field_of (bits_of U L F) tree.old) }
-    ensures ends { EndsWith input.new (R.remaining (source reader.new)) }
-    ensures total { (n : ℕ) → byte_total input.old (R.remaining (source reader.old)) ≡ Some n → byte_total input.new (R.remaining (source reader.new)) ≡ Some n }
-    ensures given { (n m : ℕ) → GaveWithin n m input.old (bytes_given reader.old) (empty_reads reader.old) → GaveWithin n m input.new (bytes_given reader.new) (empty_reads reader.new) }
-    ensures reads { Reads (λ _. field_of (bits_of U L F) tree.new) (ShowsInEach V.eq V.is_value tree.old.background (entry_box (bits_of U L F) Lower p) (entry_numbers (bits_of U L F) Lower) count) (λ f. numbered (λ i. leaf_body V.eq V.bytes_of (bits_of U L F) f (entry_box (bits_of U L F) Lower p i)) (listed V.eq V.bytes_of (bits_of U L F) f Lower (block_around (bits_of U L F) Lower p))) result
-        (position input.old (R.remaining (source reader.old))) (position input.new (R.remaining (source reader.new))) }
-    ensures kept { OnOk result (KeptOutside (block_around (bits_of U L F) Lower p) (field_of (bits_of U L F) tree.old) (field_of (bits_of U L F) tree.new)) }
-    ensures limit { OnOk result (tree.new.limit ≡ tree.old.limit) }
-    ensures inner { IfErr result IsInner }
-    ensures ended { result ≡ Err LoadFault.Truncated → IsAtEnd (position input.new (R.remaining (source reader.new))).known }
-    ensures failed { has_failed reader.new ≡ (has_failed reader.old || is_read_fault result) }
-{
-    let mut before = None;
-    for _ in 0..count {
-        let i = take_next_leaf_block(p, before, tree, input, reader, steps)?;
-        before = Some(i);
+    match level {
+        Level::Leaf => take_leaf_block(p, tree, input, reader, steps),
+        Level::Lower => take_inner(Level::Lower, Level::Leaf, p, tree, input, reader, steps),
+        Level::Upper => take_inner(Level::Upper, Level::Lower, p, tree, input, reader, steps),
     }
-    Ok(())
 }
 
-/// Reads this many entries of the lower block around a coordinate. The block's cells must differ.
-fn take_lower_node<
-    V: Stored<WU> + Stored<WL> + Stored<WF>,
-    R: Read,
-    const U: u32,
-    const L: u32,
-    const F: u32,
-    const WU: usize,
-    const WL: usize,
-    const WF: usize,
->(
+/// Reads the level's block around a coordinate, whose entries are blocks of the level below.
+#[cycle(blocks)]
+fn take_inner<V: GridValue, S: Source>(
+    level: Level,
+    below: Level,
     p: Coord,
-    count: u16,
-    tree: &mut TreeOf<V, U, L, F, WU, WL, WF>,
+    tree: &mut Tree<V>,
     input: &mut Input,
-    reader: &mut Watched<R>,
+    reader: &mut S,
     steps: &mut Steps,
 ) -> Result<(), LoadFault>
-    requires ends { EndsWith input.old (R.remaining (source reader.old)) }
-    requires loadable { IsLoadable V.eq V.is_value (bits_of U L F) tree.old.limit Lower p (field_of (bits_of U L F) tree.old) }
-    ensures ends { EndsWith input.new (R.remaining (source reader.new)) }
-    ensures total { (n : ℕ) → byte_total input.old (R.remaining (source reader.old)) ≡ Some n → byte_total input.new (R.remaining (source reader.new)) ≡ Some n }
-    ensures given { (n m : ℕ) → GaveWithin n m input.old (bytes_given reader.old) (empty_reads reader.old) → GaveWithin n m input.new (bytes_given reader.new) (empty_reads reader.new) }
-    ensures reads { Reads (λ _. field_of (bits_of U L F) tree.new) (λ f. ShowsInEach V.eq V.is_value tree.old.background (entry_box (bits_of U L F) Lower p) (entry_numbers (bits_of U L F) Lower) count f × (is_constant V.eq f (block_around (bits_of U L F) Lower p) ≡ false)) (λ f. numbered (λ i. leaf_body V.eq V.bytes_of (bits_of U L F) f (entry_box (bits_of U L F) Lower p i)) (listed V.eq V.bytes_of (bits_of U L F) f Lower (block_around (bits_of U L F) Lower p))) result
-        (position input.old (R.remaining (source reader.old))) (position input.new (R.remaining (source reader.new))) }
-    ensures kept { OnOk result (KeptOutside (block_around (bits_of U L F) Lower p) (field_of (bits_of U L F) tree.old) (field_of (bits_of U L F) tree.new)) }
+    requires ends { EndsWith input.old (S.state reader.old) }
+    requires levels { IsNextAbove level below }
+    requires loadable { IsLoadable V.eq V.is_value vdb tree.old.limit level p (field_of vdb tree.old) }
+    ensures moves { Moves input.old (S.state reader.old) input.new (S.state reader.new) result }
+    ensures reads { Reads (λ _. field_of vdb tree.new) (ShowsIn V.eq V.is_value tree.old.background (block_around vdb level p)) (λ f. inner_body V.eq V.bytes_of vdb level below f (block_around vdb level p)) result
+        (ahead input.old (S.state reader.old)) (ahead input.new (S.state reader.new)) }
+    ensures kept { OnOk result (KeptOutside (block_around vdb level p) (field_of vdb tree.old) (field_of vdb tree.new)) }
     ensures limit { OnOk result (tree.new.limit ≡ tree.old.limit) }
     ensures inner { IfErr result IsInner }
-    ensures ended { result ≡ Err LoadFault.Truncated → IsAtEnd (position input.new (R.remaining (source reader.new))).known }
-    ensures failed { has_failed reader.new ≡ (has_failed reader.old || is_read_fault result) }
 {
-    take_leaf_blocks(p, count, tree, input, reader, steps)?;
-    if tree.constant(Level::Lower, p, steps).is_some() {
+    let most = Bits::VDB.entries(level);
+    match take_head(tree.background(), most, input, reader)? {
+        Head::One(cell) => fill_block(level, p, cell, tree, steps),
+        Head::Node(count) => take_node(level, below, p, count, tree, input, reader, steps),
+    }
+}
+
+/// Reads this many entries of the level's block around a coordinate. The block's cells must differ.
+#[cycle(blocks)]
+fn take_node<V: GridValue, S: Source>(
+    level: Level,
+    below: Level,
+    p: Coord,
+    count: u16,
+    tree: &mut Tree<V>,
+    input: &mut Input,
+    reader: &mut S,
+    steps: &mut Steps,
+) -> Result<(), LoadFault>
+    requires ends { EndsWith input.old (S.state reader.old) }
+    requires levels { IsNextAbove level below }
+    requires loadable { IsLoadable V.eq V.is_value vdb tree.old.limit level p (field_of vdb tree.old) }
+    ensures moves { Moves input.old (S.state reader.old) input.new (S.state reader.new) result }
+    ensures reads { Reads (λ _. field_of vdb tree.new) (λ f. ShowsInEach V.eq V.is_value tree.old.background (entry_box vdb level p) (entry_numbers vdb level) count f × (is_constant V.eq f (block_around vdb level p) ≡ false)) (λ f. numbered (λ i. level_body V.eq V.bytes_of vdb below f (entry_box vdb level p i)) (listed V.eq V.bytes_of vdb f level (block_around vdb level p))) result
+        (ahead input.old (S.state reader.old)) (ahead input.new (S.state reader.new)) }
+    ensures kept { OnOk result (KeptOutside (block_around vdb level p) (field_of vdb tree.old) (field_of vdb tree.new)) }
+    ensures limit { OnOk result (tree.new.limit ≡ tree.old.limit) }
+    ensures inner { IfErr result IsInner }
+{
+    take_entries(level, below, p, count, tree, input, reader, steps)?;
+    if tree.constant(level, p, steps).is_some() {
         return Err(LoadFault::ConstantNode);
     }
     Ok(())
 }
 
-/// Reads the lower block around a coordinate, which still holds nothing but the background.
-fn take_lower_block<
-    V: Stored<WU> + Stored<WL> + Stored<WF>,
-    R: Read,
-    const U: u32,
-    const L: u32,
-    const F: u32,
-    const WU: usize,
-    const WL: usize,
-    const WF: usize,
->(
-    p: Coord,
-    tree: &mut TreeOf<V, U, L, F, WU, WL, WF>,
-    input: &mut Input,
-    reader: &mut Watched<R>,
-    steps: &mut Steps,
-) -> Result<(), LoadFault>
-    requires ends { EndsWith input.old (R.remaining (source reader.old)) }
-    requires loadable { IsLoadable V.eq V.is_value (bits_of U L F) tree.old.limit Lower p (field_of (bits_of U L F) tree.old) }
-    ensures ends { EndsWith input.new (R.remaining (source reader.new)) }
-    ensures total { (n : ℕ) → byte_total input.old (R.remaining (source reader.old)) ≡ Some n → byte_total input.new (R.remaining (source reader.new)) ≡ Some n }
-    ensures given { (n m : ℕ) → GaveWithin n m input.old (bytes_given reader.old) (empty_reads reader.old) → GaveWithin n m input.new (bytes_given reader.new) (empty_reads reader.new) }
-    ensures reads { Reads (λ _. field_of (bits_of U L F) tree.new) (ShowsIn V.eq V.is_value tree.old.background (block_around (bits_of U L F) Lower p)) (λ f. lower_body V.eq V.bytes_of (bits_of U L F) f (block_around (bits_of U L F) Lower p)) result
-        (position input.old (R.remaining (source reader.old))) (position input.new (R.remaining (source reader.new))) }
-    ensures kept { OnOk result (KeptOutside (block_around (bits_of U L F) Lower p) (field_of (bits_of U L F) tree.old) (field_of (bits_of U L F) tree.new)) }
-    ensures limit { OnOk result (tree.new.limit ≡ tree.old.limit) }
-    ensures inner { IfErr result IsInner }
-    ensures ended { result ≡ Err LoadFault.Truncated → IsAtEnd (position input.new (R.remaining (source reader.new))).known }
-    ensures failed { has_failed reader.new ≡ (has_failed reader.old || is_read_fault result) }
-{
-    let most = tree.bits().entries(Level::Lower);
-    match take_head(tree.background(), most, input, reader)? {
-        Head::One(cell) => fill_block(Level::Lower, p, cell, tree, steps),
-        Head::Node(count) => take_lower_node(p, count, tree, input, reader, steps),
-    }
-}
-
-/// Reads the lower block of an entry of the upper block around a coordinate.
-fn take_lower_block_at<
-    V: Stored<WU> + Stored<WL> + Stored<WF>,
-    R: Read,
-    const U: u32,
-    const L: u32,
-    const F: u32,
-    const WU: usize,
-    const WL: usize,
-    const WF: usize,
->(
-    p: Coord,
-    i: u16,
-    tree: &mut TreeOf<V, U, L, F, WU, WL, WF>,
-    input: &mut Input,
-    reader: &mut Watched<R>,
-    steps: &mut Steps,
-) -> Result<(), LoadFault>
-    requires ends { EndsWith input.old (R.remaining (source reader.old)) }
-    requires within { i < entries (bits_of U L F) Upper }
-    requires loadable { IsLoadable V.eq V.is_value (bits_of U L F) tree.old.limit Lower (entry_box (bits_of U L F) Upper p i).min (field_of (bits_of U L F) tree.old) }
-    ensures ends { EndsWith input.new (R.remaining (source reader.new)) }
-    ensures total { (n : ℕ) → byte_total input.old (R.remaining (source reader.old)) ≡ Some n → byte_total input.new (R.remaining (source reader.new)) ≡ Some n }
-    ensures given { (n m : ℕ) → GaveWithin n m input.old (bytes_given reader.old) (empty_reads reader.old) → GaveWithin n m input.new (bytes_given reader.new) (empty_reads reader.new) }
-    ensures reads { Reads (λ _. field_of (bits_of U L F) tree.new) (ShowsIn V.eq V.is_value tree.old.background (entry_box (bits_of U L F) Upper p i)) (λ f. lower_body V.eq V.bytes_of (bits_of U L F) f (entry_box (bits_of U L F) Upper p i)) result
-        (position input.old (R.remaining (source reader.old))) (position input.new (R.remaining (source reader.new))) }
-    ensures kept { OnOk result (KeptOutside (entry_box (bits_of U L F) Upper p i) (field_of (bits_of U L F) tree.old) (field_of (bits_of U L F) tree.new)) }
-    ensures limit { OnOk result (tree.new.limit ≡ tree.old.limit) }
-    ensures inner { IfErr result IsInner }
-    ensures ended { result ≡ Err LoadFault.Truncated → IsAtEnd (position input.new (R.remaining (source reader.new))).known }
-    ensures failed { has_failed reader.new ≡ (has_failed reader.old || is_read_fault result) }
-{
-    let bits = tree.bits();
-    let corner = entry_corner(p, bits, Level::Upper, i);
-    take_lower_block(corner, tree, input, reader, steps)
-}
-
-/// Reads the number of an entry of the upper block around a coordinate, which must come after the one before, and then the entry.
-fn take_next_lower_block<
-    V: Stored<WU> + Stored<WL> + Stored<WF>,
-    R: Read,
-    const U: u32,
-    const L: u32,
-    const F: u32,
-    const WU: usize,
-    const WL: usize,
-    const WF: usize,
->(
-    p: Coord,
-    before: Option<u16>,
-    tree: &mut TreeOf<V, U, L, F, WU, WL, WF>,
-    input: &mut Input,
-    reader: &mut Watched<R>,
-    steps: &mut Steps,
-) -> Result<u16, LoadFault>
-    requires ends { EndsWith input.old (R.remaining (source reader.old)) }
-    requires loadable { AreLoadable V.eq V.is_value (bits_of U L F) tree.old.limit Lower (IsIndex (entries (bits_of U L F) Upper) before) (entry_box (bits_of U L F) Upper p) (field_of (bits_of U L F) tree.old) }
-    ensures ends { EndsWith input.new (R.remaining (source reader.new)) }
-    ensures total { (n : ℕ) → byte_total input.old (R.remaining (source reader.old)) ≡ Some n → byte_total input.new (R.remaining (source reader.new)) ≡ Some n }
-    ensures given { (n m : ℕ) → GaveWithin n m input.old (bytes_given reader.old) (empty_reads reader.old) → GaveWithin n m input.new (bytes_given reader.new) (empty_reads reader.new) }
-    ensures reads { Reads (λ i. (i, field_of (bits_of U L F) tree.new)) (IsNext V.eq V.is_value tree.old.background (IsIndex (entries (bits_of U L F) Upper) before) (entry_box (bits_of U L F) Upper p)) (next_bytes (to_be_bytes w16) (lower_body V.eq V.bytes_of (bits_of U L F)) (entry_box (bits_of U L F) Upper p)) result
-        (position input.old (R.remaining (source reader.old))) (position input.new (R.remaining (source reader.new))) }
-    ensures kept { IfOk result (λ i. KeptOutside (entry_box (bits_of U L F) Upper p i) (field_of (bits_of U L F) tree.old) (field_of (bits_of U L F) tree.new)) }
-    ensures limit { OnOk result (tree.new.limit ≡ tree.old.limit) }
-    ensures inner { IfErr result IsInner }
-    ensures ended { result ≡ Err LoadFault.Truncated → IsAtEnd (position input.new (R.remaining (source reader.new))).known }
-    ensures failed { has_failed reader.new ≡ (has_failed reader.old || is_read_fault result) }
-{
-    let bits = tree.bits();
-    let i = take_entry_number(bits, Level::Upper, before, input, reader)?;
-    take_lower_block_at(p, i, tree, input, reader, steps)?;
-    Ok(i)
-}
-
-/// Reads this many entries of the upper block around a coordinate, each after its number.
-fn take_lower_blocks<
-    V: Stored<WU> + Stored<WL> + Stored<WF>,
-    R: Read,
-    const U: u32,
-    const L: u32,
-    const F: u32,
-    const WU: usize,
-    const WL: usize,
-    const WF: usize,
->(
+/// Reads this many entries of the level's block around a coordinate, each after its number.
+#[cycle(blocks)]
+fn take_entries<V: GridValue, S: Source>(
+    level: Level,
+    below: Level,
     p: Coord,
     count: u16,
-    tree: &mut TreeOf<V, U, L, F, WU, WL, WF>,
+    tree: &mut Tree<V>,
     input: &mut Input,
-    reader: &mut Watched<R>,
+    reader: &mut S,
     steps: &mut Steps,
 ) -> Result<(), LoadFault>
-    requires ends { EndsWith input.old (R.remaining (source reader.old)) }
-    requires loadable { IsLoadable V.eq V.is_value (bits_of U L F) tree.old.limit Upper p (field_of (bits_of U L F) tree.old) }
-    ensures ends { EndsWith input.new (R.remaining (source reader.new)) }
-    ensures total { (n : ℕ) → byte_total input.old (R.remaining (source reader.old)) ≡ Some n → byte_total input.new (R.remaining (source reader.new)) ≡ Some n }
-    ensures given { (n m : ℕ) → GaveWithin n m input.old (bytes_given reader.old) (empty_reads reader.old) → GaveWithin n m input.new (bytes_given reader.new) (empty_reads reader.new) }
-    ensures reads { Reads (λ _. field_of (bits_of U L F) tree.new) (ShowsInEach V.eq V.is_value tree.old.background (entry_box (bits_of U L F) Upper p) (entry_numbers (bits_of U L F) Upper) count) (λ f. numbered (λ i. lower_body V.eq V.bytes_of (bits_of U L F) f (entry_box (bits_of U L F) Upper p i)) (listed V.eq V.bytes_of (bits_of U L F) f Upper (block_around (bits_of U L F) Upper p))) result
-        (position input.old (R.remaining (source reader.old))) (position input.new (R.remaining (source reader.new))) }
-    ensures kept { OnOk result (KeptOutside (block_around (bits_of U L F) Upper p) (field_of (bits_of U L F) tree.old) (field_of (bits_of U L F) tree.new)) }
+    requires ends { EndsWith input.old (S.state reader.old) }
+    requires levels { IsNextAbove level below }
+    requires loadable { IsLoadable V.eq V.is_value vdb tree.old.limit level p (field_of vdb tree.old) }
+    ensures moves { Moves input.old (S.state reader.old) input.new (S.state reader.new) result }
+    ensures reads { Reads (λ _. field_of vdb tree.new) (ShowsInEach V.eq V.is_value tree.old.background (entry_box vdb level p) (entry_numbers vdb level) count) (λ f. numbered (λ i. level_body V.eq V.bytes_of vdb below f (entry_box vdb level p i)) (listed V.eq V.bytes_of vdb f level (block_around vdb level p))) result
+        (ahead input.old (S.state reader.old)) (ahead input.new (S.state reader.new)) }
+    ensures kept { OnOk result (KeptOutside (block_around vdb level p) (field_of vdb tree.old) (field_of vdb tree.new)) }
     ensures limit { OnOk result (tree.new.limit ≡ tree.old.limit) }
     ensures inner { IfErr result IsInner }
-    ensures ended { result ≡ Err LoadFault.Truncated → IsAtEnd (position input.new (R.remaining (source reader.new))).known }
-    ensures failed { has_failed reader.new ≡ (has_failed reader.old || is_read_fault result) }
 {
     let mut before = None;
     for _ in 0..count {
-        let i = take_next_lower_block(p, before, tree, input, reader, steps)?;
+        let i = take_next(level, below, p, before, tree, input, reader, steps)?;
         before = Some(i);
     }
     Ok(())
 }
 
-/// Reads this many entries of the upper block around a coordinate. The block's cells must differ.
-fn take_upper_node<
-    V: Stored<WU> + Stored<WL> + Stored<WF>,
-    R: Read,
-    const U: u32,
-    const L: u32,
-    const F: u32,
-    const WU: usize,
-    const WL: usize,
-    const WF: usize,
->(
+/// Reads the number of an entry of the level's block around a coordinate, which must come after the one before, and then the entry.
+#[cycle(blocks)]
+fn take_next<V: GridValue, S: Source>(
+    level: Level,
+    below: Level,
     p: Coord,
-    count: u16,
-    tree: &mut TreeOf<V, U, L, F, WU, WL, WF>,
+    before: Option<u16>,
+    tree: &mut Tree<V>,
     input: &mut Input,
-    reader: &mut Watched<R>,
+    reader: &mut S,
     steps: &mut Steps,
-) -> Result<(), LoadFault>
-    requires ends { EndsWith input.old (R.remaining (source reader.old)) }
-    requires loadable { IsLoadable V.eq V.is_value (bits_of U L F) tree.old.limit Upper p (field_of (bits_of U L F) tree.old) }
-    ensures ends { EndsWith input.new (R.remaining (source reader.new)) }
-    ensures total { (n : ℕ) → byte_total input.old (R.remaining (source reader.old)) ≡ Some n → byte_total input.new (R.remaining (source reader.new)) ≡ Some n }
-    ensures given { (n m : ℕ) → GaveWithin n m input.old (bytes_given reader.old) (empty_reads reader.old) → GaveWithin n m input.new (bytes_given reader.new) (empty_reads reader.new) }
-    ensures reads { Reads (λ _. field_of (bits_of U L F) tree.new) (λ f. ShowsInEach V.eq V.is_value tree.old.background (entry_box (bits_of U L F) Upper p) (entry_numbers (bits_of U L F) Upper) count f × (is_constant V.eq f (block_around (bits_of U L F) Upper p) ≡ false)) (λ f. numbered (λ i. lower_body V.eq V.bytes_of (bits_of U L F) f (entry_box (bits_of U L F) Upper p i)) (listed V.eq V.bytes_of (bits_of U L F) f Upper (block_around (bits_of U L F) Upper p))) result
-        (position input.old (R.remaining (source reader.old))) (position input.new (R.remaining (source reader.new))) }
-    ensures kept { OnOk result (KeptOutside (block_around (bits_of U L F) Upper p) (field_of (bits_of U L F) tree.old) (field_of (bits_of U L F) tree.new)) }
+) -> Result<u16, LoadFault>
+    requires ends { EndsWith input.old (S.state reader.old) }
+    requires levels { IsNextAbove level below }
+    requires loadable { AreLoadable V.eq V.is_value vdb tree.old.limit below (IsIndex (entries vdb level) before) (entry_box vdb level p) (field_of vdb tree.old) }
+    ensures moves { Moves input.old (S.state reader.old) input.new (S.state reader.new) result }
+    ensures reads { Reads (λ i. (i, field_of vdb tree.new)) (IsNext V.eq V.is_value tree.old.background (IsIndex (entries vdb level) before) (entry_box vdb level p)) (next_bytes (to_be_bytes w16) (level_body V.eq V.bytes_of vdb below) (entry_box vdb level p)) result
+        (ahead input.old (S.state reader.old)) (ahead input.new (S.state reader.new)) }
+    ensures kept { IfOk result (λ i. KeptOutside (entry_box vdb level p i) (field_of vdb tree.old) (field_of vdb tree.new)) }
     ensures limit { OnOk result (tree.new.limit ≡ tree.old.limit) }
     ensures inner { IfErr result IsInner }
-    ensures ended { result ≡ Err LoadFault.Truncated → IsAtEnd (position input.new (R.remaining (source reader.new))).known }
-    ensures failed { has_failed reader.new ≡ (has_failed reader.old || is_read_fault result) }
 {
-    take_lower_blocks(p, count, tree, input, reader, steps)?;
-    if tree.constant(Level::Upper, p, steps).is_some() {
-        return Err(LoadFault::ConstantNode);
-    }
-    Ok(())
+    let i = take_entry_number(level, before, input, reader)?;
+    take_entry(level, below, p, i, tree, input, reader, steps)?;
+    Ok(i)
 }
 
-/// Reads the upper block around a coordinate, which still holds nothing but the background.
-pub(crate) fn take_root_block<
-    V: Stored<WU> + Stored<WL> + Stored<WF>,
-    R: Read,
-    const U: u32,
-    const L: u32,
-    const F: u32,
-    const WU: usize,
-    const WL: usize,
-    const WF: usize,
->(
+/// Reads an entry of the level's block around a coordinate: a block of the level below.
+#[cycle(blocks)]
+fn take_entry<V: GridValue, S: Source>(
+    level: Level,
+    below: Level,
     p: Coord,
-    tree: &mut TreeOf<V, U, L, F, WU, WL, WF>,
+    i: u16,
+    tree: &mut Tree<V>,
     input: &mut Input,
-    reader: &mut Watched<R>,
+    reader: &mut S,
     steps: &mut Steps,
 ) -> Result<(), LoadFault>
-    requires ends { EndsWith input.old (R.remaining (source reader.old)) }
-    requires loadable { IsLoadable V.eq V.is_value (bits_of U L F) tree.old.limit Upper p (field_of (bits_of U L F) tree.old) }
-    ensures ends { EndsWith input.new (R.remaining (source reader.new)) }
-    ensures total { (n : ℕ) → byte_total input.old (R.remaining (source reader.old)) ≡ Some n → byte_total input.new (R.remaining (source reader.new)) ≡ Some n }
-    ensures given { (n m : ℕ) → GaveWithin n m input.old (bytes_given reader.old) (empty_reads reader.old) → GaveWithin n m input.new (bytes_given reader.new) (empty_reads reader.new) }
-    ensures reads { Reads (λ _. field_of (bits_of U L F) tree.new) (ShowsIn V.eq V.is_value tree.old.background (block_around (bits_of U L F) Upper p)) (λ f. root_body V.eq V.bytes_of (bits_of U L F) f (block_around (bits_of U L F) Upper p)) result
-        (position input.old (R.remaining (source reader.old))) (position input.new (R.remaining (source reader.new))) }
-    ensures kept { OnOk result (KeptOutside (block_around (bits_of U L F) Upper p) (field_of (bits_of U L F) tree.old) (field_of (bits_of U L F) tree.new)) }
+    requires ends { EndsWith input.old (S.state reader.old) }
+    requires levels { IsNextAbove level below }
+    requires within { i < entries vdb level }
+    requires loadable { IsLoadable V.eq V.is_value vdb tree.old.limit below (entry_box vdb level p i).min (field_of vdb tree.old) }
+    ensures moves { Moves input.old (S.state reader.old) input.new (S.state reader.new) result }
+    ensures reads { Reads (λ _. field_of vdb tree.new) (ShowsIn V.eq V.is_value tree.old.background (entry_box vdb level p i)) (λ f. level_body V.eq V.bytes_of vdb below f (entry_box vdb level p i)) result
+        (ahead input.old (S.state reader.old)) (ahead input.new (S.state reader.new)) }
+    ensures kept { OnOk result (KeptOutside (entry_box vdb level p i) (field_of vdb tree.old) (field_of vdb tree.new)) }
     ensures limit { OnOk result (tree.new.limit ≡ tree.old.limit) }
     ensures inner { IfErr result IsInner }
-    ensures ended { result ≡ Err LoadFault.Truncated → IsAtEnd (position input.new (R.remaining (source reader.new))).known }
-    ensures failed { has_failed reader.new ≡ (has_failed reader.old || is_read_fault result) }
 {
-    let most = tree.bits().entries(Level::Upper);
-    match take_head(tree.background(), most, input, reader)? {
-        Head::One(cell) => fill_block(Level::Upper, p, cell, tree, steps),
-        Head::Node(count) => take_upper_node(p, count, tree, input, reader, steps),
-    }
+    let corner = entry_corner(p, level, i);
+    take_block(below, corner, tree, input, reader, steps)
 }

@@ -1,15 +1,12 @@
 //! Reads the grids of a file.
 
-ghost use Rattle.std.specs.Prelude.{◌≡◌, ℕ, ◌||◌, Err, IfErr, IfOk, Some};
-ghost use Rattle.std.specs.Io.KnownBytes.{IsAtEnd};
+ghost use Rattle.std.specs.Prelude.{Err, IfErr, IfOk};
 ghost use Rattle.vdb_coord.specs.Blocks.{vdb};
 ghost use Rattle.vdb_scene.specs.Grids.{grid_with};
-ghost use Rattle.vdb_scene.specs.Watched.{bytes_given, empty_reads, has_failed, source};
 ghost use Rattle.vdb_scene.specs.Accessors.{HasUnusedAccessors};
-ghost use Rattle.vdb_file.specs.Faults.{is_read_fault};
 ghost use Rattle.vdb_file.specs.internal.FieldFaults.{IsInner};
 ghost use Rattle.vdb_file.specs.internal.Parts.{IsBody, IsItem, IsLoadedGrid, IsNamed, body_bytes, loaded, loaded_bytes, name_of, named_bytes, named_view};
-ghost use Rattle.vdb_file.specs.internal.Reading.{EndsWith, GaveWithin, Reads, byte_total, position};
+ghost use Rattle.vdb_file.specs.internal.Reading.{EndsWith, Moves, Reads, ahead};
 
 use crate::fault::LoadFault;
 use crate::loading::fields::{take_u8, take_value};
@@ -17,34 +14,29 @@ use crate::loading::grid_head::take_head;
 use crate::loading::input::Input;
 use crate::loading::names::take_name;
 use crate::loading::roots::take_roots;
+use crate::loading::source::Source;
 use crate::loading::versions::Version;
 use std::alloc::Global;
-use std::io::Read;
 use vdb_grid::Grid;
-use vdb_node::Stored;
 use vdb_pool::Steps;
-use vdb_scene::{AnyGrid, Metas, Name, Watched};
+use vdb_scene::{AnyGrid, GridValue, Metas, Name};
 use vdb_tree::Tree;
 
 /// Reads the rest of a grid after the number of its type: a tree and its metadata pairs.
-fn take_tree<V: Stored<512> + Stored<64> + Stored<8>, R: Read>(
+fn take_tree<V: GridValue, S: Source>(
     alloc: Global,
     input: &mut Input,
-    reader: &mut Watched<R>,
+    reader: &mut S,
     version: Version,
     steps: &mut Steps,
 ) -> Result<(Tree<V>, Metas), LoadFault>
-    requires ends { EndsWith input.old (R.remaining (source reader.old)) }
-    ensures ends { EndsWith input.new (R.remaining (source reader.new)) }
-    ensures total { (n : ℕ) → byte_total input.old (R.remaining (source reader.old)) ≡ Some n → byte_total input.new (R.remaining (source reader.new)) ≡ Some n }
-    ensures given { (n m : ℕ) → GaveWithin n m input.old (bytes_given reader.old) (empty_reads reader.old) → GaveWithin n m input.new (bytes_given reader.new) (empty_reads reader.new) }
+    requires ends { EndsWith input.old (S.state reader.old) }
+    ensures moves { Moves input.old (S.state reader.old) input.new (S.state reader.new) result }
     ensures reads { Reads (λ r. loaded r.0 r.1) (IsLoadedGrid V.is_value V.eq V.bytes_of version) (loaded_bytes V.is_value V.eq V.bytes_of version) result
-        (position input.old (R.remaining (source reader.old))) (position input.new (R.remaining (source reader.new))) }
+        (ahead input.old (S.state reader.old)) (ahead input.new (S.state reader.new)) }
     ensures inner { IfErr result IsInner }
-    ensures ended { result ≡ Err LoadFault.Truncated → IsAtEnd (position input.new (R.remaining (source reader.new))).known }
-    ensures failed { has_failed reader.new ≡ (has_failed reader.old || is_read_fault result) }
 {
-    let background = take_value::<V, R>(input, reader)?;
+    let background = take_value::<V, S>(input, reader)?;
     let head = take_head(alloc, input, reader, version)?;
     let mut tree = Tree::new(alloc, background, head.limit);
     take_roots(&mut tree, input, reader, steps)?;
@@ -52,36 +44,32 @@ fn take_tree<V: Stored<512> + Stored<64> + Stored<8>, R: Read>(
 }
 
 /// Reads a grid after its name.
-fn take_grid<R: Read>(
+fn take_grid<S: Source>(
     alloc: Global,
     input: &mut Input,
-    reader: &mut Watched<R>,
+    reader: &mut S,
     version: Version,
     steps: &mut Steps,
 ) -> Result<(AnyGrid, Metas), LoadFault>
-    requires ends { EndsWith input.old (R.remaining (source reader.old)) }
-    ensures ends { EndsWith input.new (R.remaining (source reader.new)) }
-    ensures total { (n : ℕ) → byte_total input.old (R.remaining (source reader.old)) ≡ Some n → byte_total input.new (R.remaining (source reader.new)) ≡ Some n }
-    ensures given { (n m : ℕ) → GaveWithin n m input.old (bytes_given reader.old) (empty_reads reader.old) → GaveWithin n m input.new (bytes_given reader.new) (empty_reads reader.new) }
+    requires ends { EndsWith input.old (S.state reader.old) }
+    ensures moves { Moves input.old (S.state reader.old) input.new (S.state reader.new) result }
     ensures reads { Reads (λ r. grid_with r.0 r.1) (IsBody version) (body_bytes version) result
-        (position input.old (R.remaining (source reader.old))) (position input.new (R.remaining (source reader.new))) }
+        (ahead input.old (S.state reader.old)) (ahead input.new (S.state reader.new)) }
     ensures unused { IfOk result (λ r. HasUnusedAccessors r.0) }
     ensures inner { IfErr result IsInner }
-    ensures ended { result ≡ Err LoadFault.Truncated → IsAtEnd (position input.new (R.remaining (source reader.new))).known }
-    ensures failed { has_failed reader.new ≡ (has_failed reader.old || is_read_fault result) }
 {
     let kind = take_u8(input, reader)?;
     match kind {
         0 => {
-            let truths = take_tree::<bool, R>(alloc, input, reader, version, steps)?;
+            let truths = take_tree::<bool, S>(alloc, input, reader, version, steps)?;
             Ok((AnyGrid::Bool(Grid::from_tree(truths.0)), truths.1))
         }
         1 => {
-            let numbers = take_tree::<i32, R>(alloc, input, reader, version, steps)?;
+            let numbers = take_tree::<i32, S>(alloc, input, reader, version, steps)?;
             Ok((AnyGrid::I32(Grid::from_tree(numbers.0)), numbers.1))
         }
         2 => {
-            let longs = take_tree::<i64, R>(alloc, input, reader, version, steps)?;
+            let longs = take_tree::<i64, S>(alloc, input, reader, version, steps)?;
             Ok((AnyGrid::I64(Grid::from_tree(longs.0)), longs.1))
         }
         _ => Err(LoadFault::Kind),
@@ -97,24 +85,20 @@ pub(crate) struct Named {
 }
 
 /// Reads a name, which must come after `before`, and then its grid.
-pub(crate) fn take_named<R: Read>(
+pub(crate) fn take_named<S: Source>(
     alloc: Global,
     input: &mut Input,
-    reader: &mut Watched<R>,
+    reader: &mut S,
     version: Version,
     before: Option<Name>,
     steps: &mut Steps,
 ) -> Result<Named, LoadFault>
-    requires ends { EndsWith input.old (R.remaining (source reader.old)) }
-    ensures ends { EndsWith input.new (R.remaining (source reader.new)) }
-    ensures total { (n : ℕ) → byte_total input.old (R.remaining (source reader.old)) ≡ Some n → byte_total input.new (R.remaining (source reader.new)) ≡ Some n }
-    ensures given { (n m : ℕ) → GaveWithin n m input.old (bytes_given reader.old) (empty_reads reader.old) → GaveWithin n m input.new (bytes_given reader.new) (empty_reads reader.new) }
+    requires ends { EndsWith input.old (S.state reader.old) }
+    ensures moves { Moves input.old (S.state reader.old) input.new (S.state reader.new) result }
     ensures reads { Reads named_view (IsItem (IsNamed version) name_of before) (named_bytes version) result
-        (position input.old (R.remaining (source reader.old))) (position input.new (R.remaining (source reader.new))) }
+        (ahead input.old (S.state reader.old)) (ahead input.new (S.state reader.new)) }
     ensures unused { IfOk result (λ named. HasUnusedAccessors named.grid) }
     ensures inner { IfErr result IsInner }
-    ensures ended { result ≡ Err LoadFault.Truncated → IsAtEnd (position input.new (R.remaining (source reader.new))).known }
-    ensures failed { has_failed reader.new ≡ (has_failed reader.old || is_read_fault result) }
 {
     let name = take_name(input, reader, before, LoadFault::Name)?;
     let read = take_grid(alloc, input, reader, version, steps)?;

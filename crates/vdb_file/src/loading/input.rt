@@ -2,14 +2,12 @@
 
 ghost use Rattle.std.specs.Prelude.{◌≡◌, ℕ, ◌+◌, ◌++◌, ◌-◌, ◌<◌, ◌≤◌, ◌||◌, true, false, List, [], Option, is_err, length, min, take, drop, IfErr, IfNone, IfSome, Ok, OnOk, Some};
 ghost use Rattle.std.specs.Io.KnownBytes.{IsAtEnd, Keeps, prepend_known};
-ghost use Rattle.vdb_scene.specs.Watched.{bytes_given, empty_reads, has_failed, source};
 ghost use Rattle.vdb_file.specs.Faults.{is_read_fault};
 ghost use Rattle.vdb_file.specs.internal.Reading.{EndsWith, GaveWithin, byte_total};
 
 use crate::fault::LoadFault;
-use std::io::Read;
+use crate::loading::source::Source;
 use std::marker::Model;
-use vdb_scene::Watched;
 
 /// The most bytes that one call asks the reader for.
 const PAGE: usize = 65536;
@@ -61,20 +59,21 @@ impl Input {
     }
 
     /// Returns whether an unread byte exists. If none does, it first asks the reader for more, unless the reader has ended.
-    pub(crate) fn fill<R: Read>(&mut self, reader: &mut Watched<R>) -> Result<bool, LoadFault>
-        requires ends { EndsWith self.old (R.remaining (source reader.old)) }
-        ensures ends { EndsWith self.new (R.remaining (source reader.new)) }
-        ensures total { (n : ℕ) → byte_total self.old (R.remaining (source reader.old)) ≡ Some n → byte_total self.new (R.remaining (source reader.new)) ≡ Some n }
-        ensures given { (n m : ℕ) → GaveWithin n m self.old (bytes_given reader.old) (empty_reads reader.old) → GaveWithin n m self.new (bytes_given reader.new) (empty_reads reader.new) }
+    pub(crate) fn fill<S: Source>(&mut self, reader: &mut S) -> Result<bool, LoadFault>
+        requires ends { EndsWith self.old (S.state reader.old) }
+        ensures ends { EndsWith self.new (S.state reader.new) }
+        ensures total { (n : ℕ) → byte_total self.old (S.state reader.old).remaining ≡ Some n → byte_total self.new (S.state reader.new).remaining ≡ Some n }
+        ensures given { (n m : ℕ) → GaveWithin n m self.old (S.state reader.old).given (S.state reader.old).empty → GaveWithin n m self.new (S.state reader.new).given (S.state reader.new).empty }
         ensures some { result ≡ Ok true → 0 < length self.new.unread }
         ensures none { result ≡ Ok false → self.new.unread ≡ [] }
-        ensures end { result ≡ Ok false → IsAtEnd (R.remaining (source reader.new)) }
-        ensures kept { OnOk result (Keeps (prepend_known self.old.unread (R.remaining (source reader.old)))
-            (prepend_known self.new.unread (R.remaining (source reader.new)))) }
+        ensures end { result ≡ Ok false → IsAtEnd (S.state reader.new).remaining }
+        ensures ended { result ≡ Ok false → self.new.ended ≡ true }
+        ensures kept { OnOk result (Keeps (prepend_known self.old.unread (S.state reader.old).remaining)
+            (prepend_known self.new.unread (S.state reader.new).remaining)) }
         ensures capacity { self.new.capacity ≡ self.old.capacity }
         ensures quiet { self.old.ended ≡ true → reader.new ≡ reader.old }
         ensures read { IfErr result (λ fault. fault ≡ LoadFault.Read) }
-        ensures failed { has_failed reader.new ≡ (has_failed reader.old || is_read_fault result) }
+        ensures failed { (S.state reader.new).failed ≡ ((S.state reader.old).failed || is_read_fault result) }
     {
         if self.start < self.end {
             return Ok(true);
@@ -85,25 +84,25 @@ impl Input {
 
     /// Asks the reader for bytes, unless the reader has ended. No byte is unread.
     #[tactic(auto, unfolding(crate::specs::internal::Reading::GaveWithin))]
-    fn refill<R: Read>(&mut self, reader: &mut Watched<R>) -> Result<(), LoadFault>
+    fn refill<S: Source>(&mut self, reader: &mut S) -> Result<(), LoadFault>
         requires unread { self.old.unread ≡ [] }
-        requires ends { EndsWith self.old (R.remaining (source reader.old)) }
-        ensures ends { EndsWith self.new (R.remaining (source reader.new)) }
-        ensures total { (n : ℕ) → byte_total self.old (R.remaining (source reader.old)) ≡ Some n → byte_total self.new (R.remaining (source reader.new)) ≡ Some n }
-        ensures given { (n m : ℕ) → GaveWithin n m self.old (bytes_given reader.old) (empty_reads reader.old) → GaveWithin n m self.new (bytes_given reader.new) (empty_reads reader.new) }
+        requires ends { EndsWith self.old (S.state reader.old) }
+        ensures ends { EndsWith self.new (S.state reader.new) }
+        ensures total { (n : ℕ) → byte_total self.old (S.state reader.old).remaining ≡ Some n → byte_total self.new (S.state reader.new).remaining ≡ Some n }
+        ensures given { (n m : ℕ) → GaveWithin n m self.old (S.state reader.old).given (S.state reader.old).empty → GaveWithin n m self.new (S.state reader.new).given (S.state reader.new).empty }
         ensures marks { OnOk result (self.new.unread ≡ [] → self.new.ended ≡ true) }
-        ensures kept { OnOk result (Keeps (prepend_known self.old.unread (R.remaining (source reader.old)))
-            (prepend_known self.new.unread (R.remaining (source reader.new)))) }
+        ensures kept { OnOk result (Keeps (prepend_known self.old.unread (S.state reader.old).remaining)
+            (prepend_known self.new.unread (S.state reader.new).remaining)) }
         ensures capacity { self.new.capacity ≡ self.old.capacity }
         ensures quiet { self.old.ended ≡ true → reader.new ≡ reader.old }
         ensures read { IfErr result (λ fault. fault ≡ LoadFault.Read) }
-        ensures failed { has_failed reader.new ≡ (has_failed reader.old || is_err result) }
+        ensures failed { (S.state reader.new).failed ≡ ((S.state reader.old).failed || is_err result) }
     {
         if self.ended {
             return Ok(());
         }
         let wanted = (self.capacity + 1).min(PAGE); // a byte beyond the capacity shows that the file is too long
-        let came = match reader.read(&mut self.page[..wanted]) {
+        let came = match reader.read_into(&mut self.page[..wanted]) {
             Ok(came) => came,
             Err(_) => return Err(LoadFault::Read),
         };

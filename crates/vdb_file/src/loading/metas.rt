@@ -1,36 +1,29 @@
 //! Reads the metadata pairs of a file.
 
-ghost use Rattle.std.specs.Prelude.{◌≡◌, ℕ, ◌||◌, true, Err, IfErr, OnOk, Some};
-ghost use Rattle.std.specs.Io.KnownBytes.{IsAtEnd};
+ghost use Rattle.std.specs.Prelude.{◌≡◌, true, Err, IfErr, OnOk, Some};
 ghost use Rattle.std.specs.List.{flat_map};
 ghost use Rattle.vdb_scene.specs.Metas.{is_text, with_pair};
-ghost use Rattle.vdb_scene.specs.Watched.{bytes_given, empty_reads, has_failed, source};
-ghost use Rattle.vdb_file.specs.Faults.{is_read_fault};
 ghost use Rattle.vdb_file.specs.internal.FieldFaults.{IsInner};
 ghost use Rattle.vdb_scene.specs.ValidScenes.{ArePairs, IsPair};
 ghost use Rattle.vdb_file.specs.Spelling.{counted, pairs_bytes};
 ghost use Rattle.vdb_file.specs.internal.Parts.{AreItems, IsItem, name_of, pair_bytes};
-ghost use Rattle.vdb_file.specs.internal.Reading.{EndsWith, GaveWithin, Reads, byte_total, position};
+ghost use Rattle.vdb_file.specs.internal.Reading.{EndsWith, Moves, Reads, ahead};
 
 use crate::fault::LoadFault;
 use crate::loading::fields::{take_field, take_u8};
 use crate::loading::input::Input;
 use crate::loading::names::take_name;
+use crate::loading::source::Source;
 use std::alloc::Global;
-use std::io::Read;
-use vdb_scene::{META_LIMIT, MetaText, Metas, Name, TEXT_LIMIT, Watched};
+use vdb_scene::{META_LIMIT, MetaText, Metas, Name, TEXT_LIMIT};
 
 /// Reads the text of a pair.
-fn take_text<R: Read>(input: &mut Input, reader: &mut Watched<R>) -> Result<MetaText, LoadFault>
-    requires ends { EndsWith input.old (R.remaining (source reader.old)) }
-    ensures ends { EndsWith input.new (R.remaining (source reader.new)) }
-    ensures total { (n : ℕ) → byte_total input.old (R.remaining (source reader.old)) ≡ Some n → byte_total input.new (R.remaining (source reader.new)) ≡ Some n }
-    ensures given { (n m : ℕ) → GaveWithin n m input.old (bytes_given reader.old) (empty_reads reader.old) → GaveWithin n m input.new (bytes_given reader.new) (empty_reads reader.new) }
+fn take_text<S: Source>(input: &mut Input, reader: &mut S) -> Result<MetaText, LoadFault>
+    requires ends { EndsWith input.old (S.state reader.old) }
+    ensures moves { Moves input.old (S.state reader.old) input.new (S.state reader.new) result }
     ensures reads { Reads (λ text. text) (λ text. is_text text ≡ true) counted result
-        (position input.old (R.remaining (source reader.old))) (position input.new (R.remaining (source reader.new))) }
+        (ahead input.old (S.state reader.old)) (ahead input.new (S.state reader.new)) }
     ensures inner { IfErr result IsInner }
-    ensures ended { result ≡ Err LoadFault.Truncated → IsAtEnd (position input.new (R.remaining (source reader.new))).known }
-    ensures failed { has_failed reader.new ≡ (has_failed reader.old || is_read_fault result) }
 {
     let len = take_u8(input, reader)?;
     let len = len as usize;
@@ -47,20 +40,16 @@ fn take_text<R: Read>(input: &mut Input, reader: &mut Watched<R>) -> Result<Meta
 }
 
 /// Reads a key, which must come after `before`, and then its text.
-fn take_pair<R: Read>(
+fn take_pair<S: Source>(
     input: &mut Input,
-    reader: &mut Watched<R>,
+    reader: &mut S,
     before: Option<Name>,
 ) -> Result<(Name, MetaText), LoadFault>
-    requires ends { EndsWith input.old (R.remaining (source reader.old)) }
-    ensures ends { EndsWith input.new (R.remaining (source reader.new)) }
-    ensures total { (n : ℕ) → byte_total input.old (R.remaining (source reader.old)) ≡ Some n → byte_total input.new (R.remaining (source reader.new)) ≡ Some n }
-    ensures given { (n m : ℕ) → GaveWithin n m input.old (bytes_given reader.old) (empty_reads reader.old) → GaveWithin n m input.new (bytes_given reader.new) (empty_reads reader.new) }
+    requires ends { EndsWith input.old (S.state reader.old) }
+    ensures moves { Moves input.old (S.state reader.old) input.new (S.state reader.new) result }
     ensures reads { Reads (λ pair. pair) (IsItem IsPair name_of before) pair_bytes result
-        (position input.old (R.remaining (source reader.old))) (position input.new (R.remaining (source reader.new))) }
+        (ahead input.old (S.state reader.old)) (ahead input.new (S.state reader.new)) }
     ensures inner { IfErr result IsInner }
-    ensures ended { result ≡ Err LoadFault.Truncated → IsAtEnd (position input.new (R.remaining (source reader.new))).known }
-    ensures failed { has_failed reader.new ≡ (has_failed reader.old || is_read_fault result) }
 {
     let key = take_name(input, reader, before, LoadFault::Meta)?;
     let text = take_text(input, reader)?;
@@ -68,21 +57,17 @@ fn take_pair<R: Read>(
 }
 
 /// Reads this many pairs.
-fn take_each_pair<R: Read>(
+fn take_each_pair<S: Source>(
     alloc: Global,
     input: &mut Input,
-    reader: &mut Watched<R>,
+    reader: &mut S,
     count: u8,
 ) -> Result<Metas, LoadFault>
-    requires ends { EndsWith input.old (R.remaining (source reader.old)) }
-    ensures ends { EndsWith input.new (R.remaining (source reader.new)) }
-    ensures total { (n : ℕ) → byte_total input.old (R.remaining (source reader.old)) ≡ Some n → byte_total input.new (R.remaining (source reader.new)) ≡ Some n }
-    ensures given { (n m : ℕ) → GaveWithin n m input.old (bytes_given reader.old) (empty_reads reader.old) → GaveWithin n m input.new (bytes_given reader.new) (empty_reads reader.new) }
+    requires ends { EndsWith input.old (S.state reader.old) }
+    ensures moves { Moves input.old (S.state reader.old) input.new (S.state reader.new) result }
     ensures reads { Reads (λ metas. metas) (AreItems IsPair name_of count) (flat_map pair_bytes) result
-        (position input.old (R.remaining (source reader.old))) (position input.new (R.remaining (source reader.new))) }
+        (ahead input.old (S.state reader.old)) (ahead input.new (S.state reader.new)) }
     ensures inner { IfErr result IsInner }
-    ensures ended { result ≡ Err LoadFault.Truncated → IsAtEnd (position input.new (R.remaining (source reader.new))).known }
-    ensures failed { has_failed reader.new ≡ (has_failed reader.old || is_read_fault result) }
 {
     let mut metas = Metas::new(alloc);
     let mut before = None;
@@ -106,20 +91,16 @@ fn put(metas: &mut Metas, key: Name, text: MetaText) -> Result<(), LoadFault>
 }
 
 /// Reads the count of the pairs, and then the pairs.
-pub(crate) fn take_pairs<R: Read>(
+pub(crate) fn take_pairs<S: Source>(
     alloc: Global,
     input: &mut Input,
-    reader: &mut Watched<R>,
+    reader: &mut S,
 ) -> Result<Metas, LoadFault>
-    requires ends { EndsWith input.old (R.remaining (source reader.old)) }
-    ensures ends { EndsWith input.new (R.remaining (source reader.new)) }
-    ensures total { (n : ℕ) → byte_total input.old (R.remaining (source reader.old)) ≡ Some n → byte_total input.new (R.remaining (source reader.new)) ≡ Some n }
-    ensures given { (n m : ℕ) → GaveWithin n m input.old (bytes_given reader.old) (empty_reads reader.old) → GaveWithin n m input.new (bytes_given reader.new) (empty_reads reader.new) }
+    requires ends { EndsWith input.old (S.state reader.old) }
+    ensures moves { Moves input.old (S.state reader.old) input.new (S.state reader.new) result }
     ensures reads { Reads (λ metas. metas) ArePairs pairs_bytes result
-        (position input.old (R.remaining (source reader.old))) (position input.new (R.remaining (source reader.new))) }
+        (ahead input.old (S.state reader.old)) (ahead input.new (S.state reader.new)) }
     ensures inner { IfErr result IsInner }
-    ensures ended { result ≡ Err LoadFault.Truncated → IsAtEnd (position input.new (R.remaining (source reader.new))).known }
-    ensures failed { has_failed reader.new ≡ (has_failed reader.old || is_read_fault result) }
 {
     let count = take_u8(input, reader)?;
     if count as usize > META_LIMIT {

@@ -1,64 +1,46 @@
 //! Reads the root blocks of a tree from a file.
 
-ghost use Rattle.std.specs.Prelude.{◌≡◌, ℕ, ◌≤◌, ◌++◌, ◌||◌, Err, IfErr, IfOk, IsTrue, OnOk, Some};
-ghost use Rattle.std.specs.Io.KnownBytes.{IsAtEnd};
+ghost use Rattle.std.specs.Prelude.{◌≡◌, ◌≤◌, ◌++◌, Err, IfErr, IfOk, IsTrue, OnOk, Some};
 ghost use Rattle.std.specs.List.{flat_map};
-ghost use Rattle.vdb_coord.specs.Blocks.{block, block_numbers};
-ghost use Rattle.vdb_coord.specs.Entries.{AreBits};
+ghost use Rattle.vdb_coord.specs.Blocks.{block, block_numbers, vdb};
 ghost use Rattle.vdb_coord.specs.Space.{coordinates, is_inside};
 ghost use Rattle.vdb_coord.specs.declared.Level.TheVariants.{Upper};
 ghost use Rattle.vdb_tree.specs.ConstantBlocks.{root_keys};
 ghost use Rattle.vdb_tree.specs.Field.{new};
-ghost use Rattle.vdb_tree.specs.Layout.{bits_of, field_of};
-ghost use Rattle.vdb_scene.specs.Watched.{bytes_given, empty_reads, has_failed, source};
+ghost use Rattle.vdb_tree.specs.Layout.{field_of};
 ghost use Rattle.vdb_file.specs.Bodies.{key_bytes, root_body, roots_bytes};
-ghost use Rattle.vdb_file.specs.Faults.{is_read_fault};
 ghost use Rattle.vdb_file.specs.internal.FieldFaults.{IsInner};
 ghost use Rattle.vdb_file.specs.internal.LoadedFields.{AreLoadable, IsNext, IsLoadable, IsWithin, KeptOutside, ShowsIn, ShowsInEach, next_bytes};
 ghost use Rattle.vdb_file.specs.internal.Loading.{IsKey};
-ghost use Rattle.vdb_file.specs.internal.Reading.{EndsWith, GaveWithin, Reads, byte_total, position};
+ghost use Rattle.vdb_file.specs.internal.Reading.{EndsWith, Moves, Reads, ahead};
 
 use crate::fault::LoadFault;
 use crate::loading::block_head::take_key;
-use crate::loading::blocks::take_root_block;
+use crate::loading::blocks::take_block;
 use crate::loading::fields::take_u32;
 use crate::loading::input::Input;
-use std::io::Read;
+use crate::loading::source::Source;
 use vdb_coord::{Bits, Coord, Level};
-use vdb_node::Stored;
 use vdb_pool::Steps;
-use vdb_scene::Watched;
-use vdb_tree::TreeOf;
+use vdb_scene::GridValue;
+use vdb_tree::Tree;
 
 /// Reads the count of the root blocks, which must not exceed the tree's root limit, and then each block after its key. The tree
 /// still holds nothing but the background.
-pub(crate) fn take_roots<
-    V: Stored<WU> + Stored<WL> + Stored<WF>,
-    R: Read,
-    const U: u32,
-    const L: u32,
-    const F: u32,
-    const WU: usize,
-    const WL: usize,
-    const WF: usize,
->(
-    tree: &mut TreeOf<V, U, L, F, WU, WL, WF>,
+pub(crate) fn take_roots<V: GridValue, S: Source>(
+    tree: &mut Tree<V>,
     input: &mut Input,
-    reader: &mut Watched<R>,
+    reader: &mut S,
     steps: &mut Steps,
 ) -> Result<(), LoadFault>
-    requires ends { EndsWith input.old (R.remaining (source reader.old)) }
-    requires fresh { field_of (bits_of U L F) tree.old ≡ new tree.old.background }
+    requires ends { EndsWith input.old (S.state reader.old) }
+    requires fresh { field_of vdb tree.old ≡ new tree.old.background }
     requires value { V.is_value tree.old.background }
-    ensures ends { EndsWith input.new (R.remaining (source reader.new)) }
-    ensures total { (n : ℕ) → byte_total input.old (R.remaining (source reader.old)) ≡ Some n → byte_total input.new (R.remaining (source reader.new)) ≡ Some n }
-    ensures given { (n m : ℕ) → GaveWithin n m input.old (bytes_given reader.old) (empty_reads reader.old) → GaveWithin n m input.new (bytes_given reader.new) (empty_reads reader.new) }
-    ensures reads { Reads (λ _. field_of (bits_of U L F) tree.new) (IsWithin V.eq V.is_value tree.old.background (bits_of U L F) tree.old.limit) (roots_bytes V.eq V.bytes_of (bits_of U L F)) result
-        (position input.old (R.remaining (source reader.old))) (position input.new (R.remaining (source reader.new))) }
+    ensures moves { Moves input.old (S.state reader.old) input.new (S.state reader.new) result }
+    ensures reads { Reads (λ _. field_of vdb tree.new) (IsWithin V.eq V.is_value tree.old.background vdb tree.old.limit) (roots_bytes V.eq V.bytes_of vdb) result
+        (ahead input.old (S.state reader.old)) (ahead input.new (S.state reader.new)) }
     ensures limit { OnOk result (tree.new.limit ≡ tree.old.limit) }
     ensures inner { IfErr result IsInner }
-    ensures ended { result ≡ Err LoadFault.Truncated → IsAtEnd (position input.new (R.remaining (source reader.new))).known }
-    ensures failed { has_failed reader.new ≡ (has_failed reader.old || is_read_fault result) }
 {
     let limit = tree.limit();
     let count = take_u32(input, reader)?;
@@ -69,38 +51,24 @@ pub(crate) fn take_roots<
 }
 
 /// Reads this many root blocks, each after its key.
-fn take_keyed_roots<
-    V: Stored<WU> + Stored<WL> + Stored<WF>,
-    R: Read,
-    const U: u32,
-    const L: u32,
-    const F: u32,
-    const WU: usize,
-    const WL: usize,
-    const WF: usize,
->(
+fn take_keyed_roots<V: GridValue, S: Source>(
     count: u32,
-    tree: &mut TreeOf<V, U, L, F, WU, WL, WF>,
+    tree: &mut Tree<V>,
     input: &mut Input,
-    reader: &mut Watched<R>,
+    reader: &mut S,
     steps: &mut Steps,
 ) -> Result<(), LoadFault>
-    requires ends { EndsWith input.old (R.remaining (source reader.old)) }
-    requires fresh { field_of (bits_of U L F) tree.old ≡ new tree.old.background }
+    requires ends { EndsWith input.old (S.state reader.old) }
+    requires fresh { field_of vdb tree.old ≡ new tree.old.background }
     requires value { V.is_value tree.old.background }
     requires few { count ≤ tree.old.limit }
-    ensures ends { EndsWith input.new (R.remaining (source reader.new)) }
-    ensures total { (n : ℕ) → byte_total input.old (R.remaining (source reader.old)) ≡ Some n → byte_total input.new (R.remaining (source reader.new)) ≡ Some n }
-    ensures given { (n m : ℕ) → GaveWithin n m input.old (bytes_given reader.old) (empty_reads reader.old) → GaveWithin n m input.new (bytes_given reader.new) (empty_reads reader.new) }
-    ensures reads { Reads (λ _. field_of (bits_of U L F) tree.new) (ShowsInEach V.eq V.is_value tree.old.background (block (bits_of U L F) Upper) (coordinates (block_numbers (bits_of U L F) Upper)) count)
-        (λ f. flat_map (λ k. key_bytes k ++ root_body V.eq V.bytes_of (bits_of U L F) f (block (bits_of U L F) Upper k)) (root_keys V.eq (bits_of U L F) f)) result
-        (position input.old (R.remaining (source reader.old))) (position input.new (R.remaining (source reader.new))) }
+    ensures moves { Moves input.old (S.state reader.old) input.new (S.state reader.new) result }
+    ensures reads { Reads (λ _. field_of vdb tree.new) (ShowsInEach V.eq V.is_value tree.old.background (block vdb Upper) (coordinates (block_numbers vdb Upper)) count)
+        (λ f. flat_map (λ k. key_bytes k ++ root_body V.eq V.bytes_of vdb f (block vdb Upper k)) (root_keys V.eq vdb f)) result
+        (ahead input.old (S.state reader.old)) (ahead input.new (S.state reader.new)) }
     ensures limit { OnOk result (tree.new.limit ≡ tree.old.limit) }
     ensures inner { IfErr result IsInner }
-    ensures ended { result ≡ Err LoadFault.Truncated → IsAtEnd (position input.new (R.remaining (source reader.new))).known }
-    ensures failed { has_failed reader.new ≡ (has_failed reader.old || is_read_fault result) }
 {
-    let _ = tree.bits(); // the proof learns from it how large the blocks are
     let mut before = None;
     for _ in 0..count {
         let key = take_next_root(before, tree, input, reader, steps)?;
@@ -110,82 +78,53 @@ fn take_keyed_roots<
 }
 
 /// Reads the key of a root block, which must come after the one before, and then the block.
-fn take_next_root<
-    V: Stored<WU> + Stored<WL> + Stored<WF>,
-    R: Read,
-    const U: u32,
-    const L: u32,
-    const F: u32,
-    const WU: usize,
-    const WL: usize,
-    const WF: usize,
->(
+fn take_next_root<V: GridValue, S: Source>(
     before: Option<Coord>,
-    tree: &mut TreeOf<V, U, L, F, WU, WL, WF>,
+    tree: &mut Tree<V>,
     input: &mut Input,
-    reader: &mut Watched<R>,
+    reader: &mut S,
     steps: &mut Steps,
 ) -> Result<Coord, LoadFault>
-    requires ends { EndsWith input.old (R.remaining (source reader.old)) }
-    requires loadable { AreLoadable V.eq V.is_value (bits_of U L F) tree.old.limit Upper (IsKey (bits_of U L F) before) (block (bits_of U L F) Upper) (field_of (bits_of U L F) tree.old) }
-    ensures ends { EndsWith input.new (R.remaining (source reader.new)) }
-    ensures total { (n : ℕ) → byte_total input.old (R.remaining (source reader.old)) ≡ Some n → byte_total input.new (R.remaining (source reader.new)) ≡ Some n }
-    ensures given { (n m : ℕ) → GaveWithin n m input.old (bytes_given reader.old) (empty_reads reader.old) → GaveWithin n m input.new (bytes_given reader.new) (empty_reads reader.new) }
-    ensures reads { Reads (λ k. (k, field_of (bits_of U L F) tree.new)) (IsNext V.eq V.is_value tree.old.background (IsKey (bits_of U L F) before) (block (bits_of U L F) Upper)) (next_bytes key_bytes (root_body V.eq V.bytes_of (bits_of U L F)) (block (bits_of U L F) Upper)) result
-        (position input.old (R.remaining (source reader.old))) (position input.new (R.remaining (source reader.new))) }
-    ensures kept { IfOk result (λ k. KeptOutside (block (bits_of U L F) Upper k) (field_of (bits_of U L F) tree.old) (field_of (bits_of U L F) tree.new)) }
+    requires ends { EndsWith input.old (S.state reader.old) }
+    requires loadable { AreLoadable V.eq V.is_value vdb tree.old.limit Upper (IsKey vdb before) (block vdb Upper) (field_of vdb tree.old) }
+    ensures moves { Moves input.old (S.state reader.old) input.new (S.state reader.new) result }
+    ensures reads { Reads (λ k. (k, field_of vdb tree.new)) (IsNext V.eq V.is_value tree.old.background (IsKey vdb before) (block vdb Upper)) (next_bytes key_bytes (root_body V.eq V.bytes_of vdb) (block vdb Upper)) result
+        (ahead input.old (S.state reader.old)) (ahead input.new (S.state reader.new)) }
+    ensures kept { IfOk result (λ k. KeptOutside (block vdb Upper k) (field_of vdb tree.old) (field_of vdb tree.new)) }
     ensures limit { OnOk result (tree.new.limit ≡ tree.old.limit) }
     ensures inner { IfErr result IsInner }
-    ensures ended { result ≡ Err LoadFault.Truncated → IsAtEnd (position input.new (R.remaining (source reader.new))).known }
-    ensures failed { has_failed reader.new ≡ (has_failed reader.old || is_read_fault result) }
 {
-    let bits = tree.bits();
-    let key = take_key(bits, before, input, reader)?;
+    let key = take_key(before, input, reader)?;
     take_root_at(key, tree, input, reader, steps)?;
     Ok(key)
 }
 
 /// Reads the root block of a key.
-fn take_root_at<
-    V: Stored<WU> + Stored<WL> + Stored<WF>,
-    R: Read,
-    const U: u32,
-    const L: u32,
-    const F: u32,
-    const WU: usize,
-    const WL: usize,
-    const WF: usize,
->(
+fn take_root_at<V: GridValue, S: Source>(
     key: Coord,
-    tree: &mut TreeOf<V, U, L, F, WU, WL, WF>,
+    tree: &mut Tree<V>,
     input: &mut Input,
-    reader: &mut Watched<R>,
+    reader: &mut S,
     steps: &mut Steps,
 ) -> Result<(), LoadFault>
-    requires ends { EndsWith input.old (R.remaining (source reader.old)) }
-    requires within { IsTrue (is_inside (block_numbers (bits_of U L F) Upper) key) }
-    requires loadable { IsLoadable V.eq V.is_value (bits_of U L F) tree.old.limit Upper (block (bits_of U L F) Upper key).min (field_of (bits_of U L F) tree.old) }
-    ensures ends { EndsWith input.new (R.remaining (source reader.new)) }
-    ensures total { (n : ℕ) → byte_total input.old (R.remaining (source reader.old)) ≡ Some n → byte_total input.new (R.remaining (source reader.new)) ≡ Some n }
-    ensures given { (n m : ℕ) → GaveWithin n m input.old (bytes_given reader.old) (empty_reads reader.old) → GaveWithin n m input.new (bytes_given reader.new) (empty_reads reader.new) }
-    ensures reads { Reads (λ _. field_of (bits_of U L F) tree.new) (ShowsIn V.eq V.is_value tree.old.background (block (bits_of U L F) Upper key)) (λ f. root_body V.eq V.bytes_of (bits_of U L F) f (block (bits_of U L F) Upper key)) result
-        (position input.old (R.remaining (source reader.old))) (position input.new (R.remaining (source reader.new))) }
-    ensures kept { OnOk result (KeptOutside (block (bits_of U L F) Upper key) (field_of (bits_of U L F) tree.old) (field_of (bits_of U L F) tree.new)) }
+    requires ends { EndsWith input.old (S.state reader.old) }
+    requires within { IsTrue (is_inside (block_numbers vdb Upper) key) }
+    requires loadable { IsLoadable V.eq V.is_value vdb tree.old.limit Upper (block vdb Upper key).min (field_of vdb tree.old) }
+    ensures moves { Moves input.old (S.state reader.old) input.new (S.state reader.new) result }
+    ensures reads { Reads (λ _. field_of vdb tree.new) (ShowsIn V.eq V.is_value tree.old.background (block vdb Upper key)) (λ f. root_body V.eq V.bytes_of vdb f (block vdb Upper key)) result
+        (ahead input.old (S.state reader.old)) (ahead input.new (S.state reader.new)) }
+    ensures kept { OnOk result (KeptOutside (block vdb Upper key) (field_of vdb tree.old) (field_of vdb tree.new)) }
     ensures limit { OnOk result (tree.new.limit ≡ tree.old.limit) }
     ensures inner { IfErr result IsInner }
-    ensures ended { result ≡ Err LoadFault.Truncated → IsAtEnd (position input.new (R.remaining (source reader.new))).known }
-    ensures failed { has_failed reader.new ≡ (has_failed reader.old || is_read_fault result) }
 {
-    let bits = tree.bits();
-    let corner = root_corner(key, bits);
-    take_root_block(corner, tree, input, reader, steps)
+    let corner = root_corner(key);
+    take_block(Level::Upper, corner, tree, input, reader, steps)
 }
 
 /// Returns the least corner of the root block of a key.
-fn root_corner(key: Coord, bits: Bits) -> Coord
-    requires configured { AreBits bits }
-    requires within { IsTrue (is_inside (block_numbers bits Upper) key) }
-    ensures { result ≡ (block bits Upper key).min }
+fn root_corner(key: Coord) -> Coord
+    requires { IsTrue (is_inside (block_numbers vdb Upper) key) }
+    ensures { result ≡ (block vdb Upper key).min }
 {
-    key.numbered_block_in(bits, Level::Upper).min()
+    key.numbered_block_in(Bits::VDB, Level::Upper).min()
 }

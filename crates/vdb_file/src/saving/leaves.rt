@@ -2,13 +2,13 @@
 
 ghost use Rattle.std.specs.Prelude.{◌≡◌, ◌≤◌, ◌∷◌, ◌++◌, ◌||◌, true, not, is_err, is_some, length, IfSome, IsOk, OnOk};
 ghost use Rattle.std.specs.Int.{w16, to_be_bytes};
-ghost use Rattle.vdb_coord.specs.Blocks.{block, block_around, entries, sub_block};
+ghost use Rattle.vdb_coord.specs.Blocks.{block, block_around, entries, sub_block, vdb};
 ghost use Rattle.vdb_coord.specs.declared.Level.TheVariants.{Leaf as leaf_level};
 ghost use Rattle.vdb_node.specs.Entries.{IsFirstWithout};
 ghost use Rattle.vdb_node.specs.Leaf.{cell_in};
 ghost use Rattle.vdb_node.specs.Nodes.{entry_count};
 ghost use Rattle.vdb_tree.specs.ConstantBlocks.{cell_eq, is_background, is_constant};
-ghost use Rattle.vdb_tree.specs.Layout.{bits_of, field_of};
+ghost use Rattle.vdb_tree.specs.Layout.{field_of};
 ghost use Rattle.vdb_tree.specs.Leaves.{IsLeafAround};
 ghost use Rattle.vdb_tree.specs.Parts.{IsNextAbove};
 ghost use Rattle.vdb_scene.specs.Watched.{has_failed, source};
@@ -18,11 +18,11 @@ ghost use Rattle.vdb_file.specs.internal.Written.{Puts, numbered, passing, sent}
 use crate::fault::SaveFault;
 use crate::saving::output::Output;
 use std::io::Write;
-use vdb_coord::{Coord, Level};
+use vdb_coord::{Bits, Coord, Level};
 use vdb_node::{Leaf, Stored};
 use vdb_pool::Steps;
-use vdb_scene::Watched;
-use vdb_tree::TreeOf;
+use vdb_scene::{GridValue, Watched};
+use vdb_tree::Tree;
 use vdb_value::{Cell, Voxel};
 
 /// The byte before the entries of a block whose cells differ.
@@ -74,16 +74,8 @@ pub(crate) fn put_head<W: Write, const C: u32>(
 }
 
 /// Returns the first entry, from this one on, that holds anything but the background, of the block around a coordinate.
-pub(crate) fn next_listed<
-    V: Stored<WU> + Stored<WL> + Stored<WF>,
-    const U: u32,
-    const L: u32,
-    const F: u32,
-    const WU: usize,
-    const WL: usize,
-    const WF: usize,
->(
-    tree: &TreeOf<V, U, L, F, WU, WL, WF>,
+pub(crate) fn next_listed<V: GridValue>(
+    tree: &Tree<V>,
     level: Level,
     below: Level,
     p: Coord,
@@ -91,18 +83,17 @@ pub(crate) fn next_listed<
     steps: &mut Steps,
 ) -> Option<u32>
     requires levels { IsNextAbove level below }
-    requires within { from ≤ entries (bits_of U L F) level }
-    ensures { IsFirstWithout (λ i. is_background V.eq (field_of (bits_of U L F) tree.now) (sub_block (bits_of U L F) level (block_around (bits_of U L F) level p) i) ≡ true)
-        (entries (bits_of U L F) level) from result }
+    requires within { from ≤ entries vdb level }
+    ensures { IsFirstWithout (λ i. is_background V.eq (field_of vdb tree.now) (sub_block vdb level (block_around vdb level p) i) ≡ true)
+        (entries vdb level) from result }
 {
-    let bits = tree.bits();
     let background = Cell {
         value: tree.background(),
         on: false,
     };
     let mut at = from;
     while let Some(i) = tree.next_unlike(level, p, background, at, steps) {
-        let corner = p.entry_block_in(bits, level, i as u16).min();
+        let corner = p.entry_block_in(Bits::VDB, level, i as u16).min();
         if !tree.is_block_of(below, corner, background, steps) {
             return Some(i);
         }
@@ -112,25 +103,16 @@ pub(crate) fn next_listed<
 }
 
 /// Returns how many entries of the block around a coordinate hold anything but the background.
-pub(crate) fn count_listed<
-    V: Stored<WU> + Stored<WL> + Stored<WF>,
-    const U: u32,
-    const L: u32,
-    const F: u32,
-    const WU: usize,
-    const WL: usize,
-    const WF: usize,
->(
-    tree: &TreeOf<V, U, L, F, WU, WL, WF>,
+pub(crate) fn count_listed<V: GridValue>(
+    tree: &Tree<V>,
     level: Level,
     below: Level,
     p: Coord,
     steps: &mut Steps,
 ) -> u16
     requires { IsNextAbove level below }
-    ensures { result ≡ length (listed V.eq V.bytes_of (bits_of U L F) (field_of (bits_of U L F) tree.now) level (block_around (bits_of U L F) level p)) }
+    ensures { result ≡ length (listed V.eq V.bytes_of vdb (field_of vdb tree.now) level (block_around vdb level p)) }
 {
-    let _ = tree.bits(); // the proof learns from it how many entries a block has at most
     let mut count = 0;
     let mut from = 0;
     while let Some(i) = next_listed(tree, level, below, p, from, steps) {
@@ -141,12 +123,8 @@ pub(crate) fn count_listed<
 }
 
 /// Returns how many of the first voxels of a leaf aren't the background.
-fn count_voxels<V: Stored<WF>, const F: u32, const WF: usize>(
-    leaf: &Leaf<V, F, WF>,
-    background: Cell<V>,
-    n: u32,
-) -> u16
-    requires within { n ≤ entry_count F }
+fn count_voxels<V: Stored<8>>(leaf: &Leaf<V, 3, 8>, background: Cell<V>, n: u32) -> u16
+    requires within { n ≤ entry_count 3 }
     requires few { n ≤ 32768 }
     ensures { (d : Cell V) → result ≡ length (passing (λ i. not (cell_eq V.eq (cell_in d leaf.now i) background)) n) }
 {
@@ -159,7 +137,7 @@ fn count_voxels<V: Stored<WF>, const F: u32, const WF: usize>(
     count
 }
 
-/// Writes the number of a voxel, and then its cell.
+/// Writes the number of a voxel, and then its cell, as one piece.
 fn put_voxel<V: Voxel, W: Write, const C: u32>(
     out: &mut Output<C>,
     writer: &mut Watched<W>,
@@ -171,19 +149,24 @@ fn put_voxel<V: Voxel, W: Write, const C: u32>(
         (to_be_bytes w16 i ++ cell_bytes V.eq V.bytes_of cell)) }
     ensures failed { has_failed writer.new ≡ (has_failed writer.old || is_err result) }
 {
-    out.put(writer, i.to_be_bytes().as_slice())?;
-    put_cell(out, writer, cell)
+    let mut bytes = [0; 11];
+    bytes[..2].copy_from_slice(&i.to_be_bytes());
+    bytes[2] = if cell.on { 2 } else { 1 };
+    let mut value = [0; 8];
+    let count = cell.value.to_bytes(&mut value);
+    bytes[3..].copy_from_slice(&value);
+    out.put(writer, &bytes[..3 + count])
 }
 
 /// Writes those of the first voxels of a leaf that aren't the background, each after its number.
-fn put_voxels<V: Stored<WF>, W: Write, const F: u32, const WF: usize, const C: u32>(
+fn put_voxels<V: Stored<8>, W: Write, const C: u32>(
     out: &mut Output<C>,
     writer: &mut Watched<W>,
-    leaf: &Leaf<V, F, WF>,
+    leaf: &Leaf<V, 3, 8>,
     background: Cell<V>,
     n: u32,
 ) -> Result<(), SaveFault>
-    requires within { n ≤ entry_count F }
+    requires within { n ≤ entry_count 3 }
     requires few { n ≤ 32768 }
     ensures counts { C ≡ 1 → IsOk result }
     ensures puts { (d : Cell V) → OnOk result (Puts (sent C out.old (W.contents (source writer.old))) (sent C out.new (W.contents (source writer.new)))
@@ -200,88 +183,55 @@ fn put_voxels<V: Stored<WF>, W: Write, const F: u32, const WF: usize, const C: u
 }
 
 /// Returns the cell of the leaf block around a coordinate if all its voxels have that cell.
-fn one_cell<
-    V: Stored<WU> + Stored<WL> + Stored<WF>,
-    const U: u32,
-    const L: u32,
-    const F: u32,
-    const WU: usize,
-    const WL: usize,
-    const WF: usize,
->(tree: &TreeOf<V, U, L, F, WU, WL, WF>, p: Coord, leaf: &Leaf<V, F, WF>) -> Option<Cell<V>>
-    requires { IsLeafAround (bits_of U L F) (field_of (bits_of U L F) tree.now) p leaf.now }
-    ensures test { is_some result ≡ is_constant V.eq (field_of (bits_of U L F) tree.now) (block_around (bits_of U L F) leaf_level p) }
-    ensures cell { IfSome result (λ cell. (field_of (bits_of U L F) tree.now).cell (block_around (bits_of U L F) leaf_level p).min ≡ cell) }
+fn one_cell<V: GridValue>(tree: &Tree<V>, p: Coord, leaf: &Leaf<V, 3, 8>) -> Option<Cell<V>>
+    requires { IsLeafAround vdb (field_of vdb tree.now) p leaf.now }
+    ensures test { is_some result ≡ is_constant V.eq (field_of vdb tree.now) (block_around vdb leaf_level p) }
+    ensures cell { IfSome result (λ cell. (field_of vdb tree.now).cell (block_around vdb leaf_level p).min ≡ cell) }
 {
-    tree.has_leaf_words();
-    let bits = tree.bits();
-    let _ = leaf.entry(u32::from(bits.entries(Level::Leaf)) - 1); // the proof learns from it that each entry has a cell
+    let _ = leaf.entry(u32::from(Bits::VDB.entries(Level::Leaf)) - 1); // the proof learns from it that each entry has a cell
     leaf.constant()
 }
 
 /// Writes the body of the leaf block around a coordinate, which has a leaf.
-fn put_leaf_cells<
-    V: Stored<WU> + Stored<WL> + Stored<WF>,
-    W: Write,
-    const U: u32,
-    const L: u32,
-    const F: u32,
-    const WU: usize,
-    const WL: usize,
-    const WF: usize,
-    const C: u32,
->(
+fn put_leaf_cells<V: GridValue, W: Write, const C: u32>(
     out: &mut Output<C>,
     writer: &mut Watched<W>,
-    tree: &TreeOf<V, U, L, F, WU, WL, WF>,
+    tree: &Tree<V>,
     p: Coord,
-    leaf: &Leaf<V, F, WF>,
+    leaf: &Leaf<V, 3, 8>,
 ) -> Result<(), SaveFault>
-    requires { IsLeafAround (bits_of U L F) (field_of (bits_of U L F) tree.now) p leaf.now }
+    requires { IsLeafAround vdb (field_of vdb tree.now) p leaf.now }
     ensures counts { C ≡ 1 → IsOk result }
     ensures puts { OnOk result (Puts (sent C out.old (W.contents (source writer.old))) (sent C out.new (W.contents (source writer.new)))
-        (leaf_body V.eq V.bytes_of (bits_of U L F) (field_of (bits_of U L F) tree.now) (block_around (bits_of U L F) leaf_level p))) }
+        (leaf_body V.eq V.bytes_of vdb (field_of vdb tree.now) (block_around vdb leaf_level p))) }
     ensures failed { has_failed writer.new ≡ (has_failed writer.old || is_err result) }
 {
     if let Some(cell) = one_cell(tree, p, leaf) {
         return put_cell(out, writer, cell);
     }
-    tree.has_leaf_words();
     let background = Cell {
         value: tree.background(),
         on: false,
     };
-    let n = u32::from(tree.bits().entries(Level::Leaf));
+    let n = u32::from(Bits::VDB.entries(Level::Leaf));
     let count = count_voxels(leaf, background, n);
     put_head(out, writer, count)?;
     put_voxels(out, writer, leaf, background, n)
 }
 
 /// Writes the body of the leaf block around a coordinate.
-pub(crate) fn put_leaf<
-    V: Stored<WU> + Stored<WL> + Stored<WF>,
-    W: Write,
-    const U: u32,
-    const L: u32,
-    const F: u32,
-    const WU: usize,
-    const WL: usize,
-    const WF: usize,
-    const C: u32,
->(
+pub(crate) fn put_leaf<V: GridValue, W: Write, const C: u32>(
     out: &mut Output<C>,
     writer: &mut Watched<W>,
-    tree: &TreeOf<V, U, L, F, WU, WL, WF>,
+    tree: &Tree<V>,
     p: Coord,
     steps: &mut Steps,
 ) -> Result<(), SaveFault>
     ensures counts { C ≡ 1 → IsOk result }
     ensures puts { OnOk result (Puts (sent C out.old (W.contents (source writer.old))) (sent C out.new (W.contents (source writer.new)))
-        (leaf_body V.eq V.bytes_of (bits_of U L F) (field_of (bits_of U L F) tree.now) (block_around (bits_of U L F) leaf_level p))) }
+        (leaf_body V.eq V.bytes_of vdb (field_of vdb tree.now) (block_around vdb leaf_level p))) }
     ensures failed { has_failed writer.new ≡ (has_failed writer.old || is_err result) }
 {
-    tree.has_leaf_words();
-    let _ = tree.bits(); // the proof learns from it that blocks lie in the range
     match tree.leaf(p, steps) {
         Some(leaf) => put_leaf_cells(out, writer, tree, p, leaf),
         None => put_cell(out, writer, tree.get(p, steps)),

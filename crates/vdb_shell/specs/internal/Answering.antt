@@ -30,3 +30,10 @@ is_read_ending (Ok a) = false
 is_read_ending (Err None) = false
 is_read_ending (Err (Some Read)) = true
 is_read_ending (Err (Some TooLong)) = false
+
+-- how many bytes past the script's limit the reader gave: 1 if the script is too long, otherwise 0
+abbrev pub excess_at_end : {A : Type 0} → Result A (Option ScriptFault) → ℕ
+excess_at_end (Ok a) = 0
+excess_at_end (Err None) = 0
+excess_at_end (Err (Some Read)) = 0
+excess_at_end (Err (Some TooLong)) = 1

@@ -1,9 +1,9 @@
-use Rattle.std.proofs.Common.{◌≡◌, ap, subst, Err}
+use Rattle.std.proofs.Common.{◌≡◌, ap, arith, subst, Err}
 use Rattle.std.proofs.lemmas.Result.{err_from_is_err_and}
 use Rattle.vdb_scene.specs.Grids.{scene_of}
 use Rattle.vdb_file.specs.internal.FieldFaults.{IsInner, IsMagicFault, IsVersionFault}
-use Rattle.vdb_file.specs.declared.fault.LoadFault.TheVariants.{Magic, Version}
-use Rattle.vdb_file.proofs.Beginnings.{has_other_version, inner_field, magic_field, version_field}
+use Rattle.vdb_file.specs.declared.fault.LoadFault.TheVariants.{Magic, Truncated, Version}
+use Rattle.vdb_file.proofs.Beginnings.{begins_as_file, has_other_version, inner_field, is_version, magic_field, short_magic, version_field}
 use Rattle.vdb_file.proofs.SceneParts.{file_read, no_file_scene, no_file_version, no_magic}
 use Rattle.vdb_file.proofs.loading.take_file.Goals as goal
 
@@ -65,3 +65,21 @@ returns-in_err-scene-clause-version g c =
 pub returns-clause-reads : goal.returns-clause-reads
 returns-clause-reads g c =
     file_read _ _ _ _ c.in_ok-version.version (scene_of c.in_ok-scene.scene) c.in_ok-scene.ensures.reads.0 c.in_ok-take_magic.ensures.reads.1 c.in_ok-version.ensures.reads.1 c.in_ok-scene.ensures.reads.1
+
+pub returns-in_err-take_magic-clause-short : goal.returns-in_err-take_magic-clause-short
+returns-in_err-take_magic-clause-short g c =
+    let p = err_from_is_err_and c.from_residual.result c.from_residual.ensures.1 in
+    rw (p.1, p.2) (λ e fits. let k : c.in_err-take_magic.field-0.0 ≡ Truncated = cc in short_magic _ (c.in_err-take_magic.ensures.short (ap Err k) (omega (arith, fits))))
+
+pub returns-in_err-version-clause-short : goal.returns-in_err-version-clause-short
+returns-in_err-version-clause-short g c =
+    let p = err_from_is_err_and c.from_residual-in_err-version.result c.from_residual-in_err-version.ensures.1 in
+    rw (p.1, p.2) (λ e fits.
+    let k : c.in_err-version.field-0.0 ≡ Truncated = cc in
+    let took = c.in_ok-take_magic.ensures.reads.1 in
+    begins_as_file _ _ took.bytes (c.in_err-version.ensures.short (ap Err k) (omega (arith, fits, took.fewer))))
+
+pub returns-in_err-scene-clause-short : goal.returns-in_err-scene-clause-short
+returns-in_err-scene-clause-short g c =
+    let p = err_from_is_err_and c.from_residual-in_err-scene.result c.from_residual-in_err-scene.ensures.1 in
+    rw (p.1, p.2) (λ e fits. begins_as_file _ _ c.in_ok-take_magic.ensures.reads.1.bytes (is_version _ _ c.in_ok-version.version c.in_ok-version.ensures.reads.1.bytes))

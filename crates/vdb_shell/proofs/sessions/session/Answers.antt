@@ -2,6 +2,7 @@ use Rattle.std.proofs.Common.{refl, sym, subst, [], Some}
 use Rattle.std.specs.Io.KnownBytes.{Consumes}
 use Rattle.std.proofs.KnownBytes.{Appends-nil}
 use Rattle.vdb_scene.specs.Grids.{scene_of}
+use Rattle.vdb_shell.specs.Session.{IsUnloaded}
 use Rattle.vdb_shell.proofs.Parts.{loaded_session, saves_nothing, unloaded}
 use Rattle.vdb_shell.proofs.sessions.session.Goals as goal
 
@@ -28,3 +29,6 @@ returns-in-Ok-clause-session g c = λ file given bytes is.
       loaded_session file bytes c.play_and_save.result.fault c.play_and_save.result.status played.0 played.1 last c.play_and_save.ensures.loaded (scene_of c.in-Ok.scene) (c.in-Ok.ensures.begins file given) played.4,
       c.play_and_save.ensures.saves,
     )
+
+pub returns-in-Err-clause-load_ended : goal.returns-in-Err-clause-load_ended
+returns-in-Err-clause-load_ended g c = λ loaded. absurd (loaded (subst IsUnloaded (sym c.ended.ensures.fault) tt))

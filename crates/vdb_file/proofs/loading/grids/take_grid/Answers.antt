@@ -10,6 +10,7 @@ use Rattle.vdb_scene.specs.declared.scalar.Scalar.TheVariants.{Bool as truth, I3
 use Rattle.vdb_file.proofs.GridParts.{no_kind}
 use Rattle.vdb_file.proofs.KindsOfValues.{are_i32s, are_i64s, are_truths, number_of, truth_of}
 use Rattle.vdb_file.proofs.TypedGrids.{no_typed, tree_typed}
+use Rattle.vdb_file.proofs.Moves.{moves_ok, moves_then}
 use Rattle.vdb_file.proofs.loading.grids.take_grid.Goals as goal
 
 pub returns-in_err-kind-clause-reads : goal.returns-in_err-kind-clause-reads
@@ -50,26 +51,17 @@ returns-in_ok-longs-in-2-clause-reads g c =
 pub returns-in_ok-truths-in-0-clause-unused : goal.returns-in_ok-truths-in-0-clause-unused
 returns-in_ok-truths-in-0-clause-unused g c = λ k. (c.from_tree.ensures.last k, c.from_tree.ensures.empty k)
 
-pub returns-in_ok-numbers-in-1-clause-total : goal.returns-in_ok-numbers-in-1-clause-total
-returns-in_ok-numbers-in-1-clause-total g c = λ n is. c.in_ok-numbers-in-1.ensures.total n (c.in_ok-kind.ensures.total n is)
-
-pub returns-in_ok-numbers-in-1-clause-given : goal.returns-in_ok-numbers-in-1-clause-given
-returns-in_ok-numbers-in-1-clause-given g c = λ n m within. c.in_ok-numbers-in-1.ensures.given n m (c.in_ok-kind.ensures.given n m within)
-
 pub returns-in_ok-numbers-in-1-clause-unused : goal.returns-in_ok-numbers-in-1-clause-unused
 returns-in_ok-numbers-in-1-clause-unused g c = λ k. (c.from_tree-in-1.ensures.last k, c.from_tree-in-1.ensures.empty k)
-
-pub returns-in_ok-longs-in-2-clause-total : goal.returns-in_ok-longs-in-2-clause-total
-returns-in_ok-longs-in-2-clause-total g c = λ n is. c.in_ok-longs-in-2.ensures.total n (c.in_ok-kind.ensures.total n is)
-
-pub returns-in_ok-longs-in-2-clause-given : goal.returns-in_ok-longs-in-2-clause-given
-returns-in_ok-longs-in-2-clause-given g c = λ n m within. c.in_ok-longs-in-2.ensures.given n m (c.in_ok-kind.ensures.given n m within)
 
 pub returns-in_ok-longs-in-2-clause-unused : goal.returns-in_ok-longs-in-2-clause-unused
 returns-in_ok-longs-in-2-clause-unused g c = λ k. (c.from_tree-in-2.ensures.last k, c.from_tree-in-2.ensures.empty k)
 
-pub returns-in_ok-truths-in-0-clause-total : goal.returns-in_ok-truths-in-0-clause-total
-returns-in_ok-truths-in-0-clause-total g c = λ n h. c.take_tree.ensures.total n (c.take_u8.ensures.total n h)
+pub returns-in_ok-truths-in-0-clause-moves : goal.returns-in_ok-truths-in-0-clause-moves
+returns-in_ok-truths-in-0-clause-moves g c = moves_ok (moves_then c.in_ok-kind.ensures.moves c.in_ok-truths-in-0.ensures.moves)
 
-pub returns-in_ok-truths-in-0-clause-given : goal.returns-in_ok-truths-in-0-clause-given
-returns-in_ok-truths-in-0-clause-given g c = λ n m h. c.take_tree.ensures.given n m (c.take_u8.ensures.given n m h)
+pub returns-in_ok-numbers-in-1-clause-moves : goal.returns-in_ok-numbers-in-1-clause-moves
+returns-in_ok-numbers-in-1-clause-moves g c = moves_ok (moves_then c.in_ok-kind.ensures.moves c.in_ok-numbers-in-1.ensures.moves)
+
+pub returns-in_ok-longs-in-2-clause-moves : goal.returns-in_ok-longs-in-2-clause-moves
+returns-in_ok-longs-in-2-clause-moves g c = moves_ok (moves_then c.in_ok-kind.ensures.moves c.in_ok-longs-in-2.ensures.moves)

@@ -3,9 +3,9 @@ use Rattle.std.proofs.lemmas.Result.{err_from_is_err_and}
 use Rattle.vdb_coord.specs.Blocks.{vdb}
 use Rattle.vdb_tree.specs.Layout.{field_of}
 use Rattle.vdb_file.specs.internal.Parts.{head_view}
-use Rattle.vdb_file.proofs.Failures.{third_failed}
 use Rattle.vdb_file.proofs.GridParts.{no_background, no_head, no_roots, tree_read}
 use Rattle.vdb_file.proofs.ValueCodes.{value_code}
+use Rattle.vdb_file.proofs.Moves.{moves_err, moves_then}
 use Rattle.vdb_file.proofs.loading.grids.take_tree.Goals as goal
 
 pub returns-in_err-background-clause-reads : goal.returns-in_err-background-clause-reads
@@ -27,13 +27,13 @@ returns-in_err-take_roots-clause-reads g c =
     rw (p.1, p.2) (no_roots g.V.Voxel.is_value g.V.PartialEq.eq g.V.Voxel.bytes_of code c.args.version c.in_err-take_roots.field-0.0 _ _ c.in_ok-background.background c.in_ok-background.ensures.reads.0 c.in_ok-background.ensures.reads.1
     _ (head_view c.in_ok-head.head) c.new-tree.result.background c.new-tree.result.limit (ap (λ f. f.background) c.new-tree.ensures.field) c.new-tree.ensures.limit c.in_ok-head.ensures.reads.0 c.in_ok-head.ensures.reads.1 c.in_err-take_roots.ensures.reads)
 
-pub returns-in_err-take_roots-clause-failed : goal.returns-in_err-take_roots-clause-failed
-returns-in_err-take_roots-clause-failed g c =
-    let p = err_from_is_err_and c.from_residual-in_err-take_roots.result c.from_residual-in_err-take_roots.ensures.1 in
-    rw (p.1, p.2) (third_failed _ _ _ _ c.in_err-take_roots.field-0.0 c.in_ok-background.ensures.failed c.in_ok-head.ensures.failed c.in_err-take_roots.ensures.failed)
-
 pub returns-clause-reads : goal.returns-clause-reads
 returns-clause-reads g c =
     tree_read g.V.Voxel.is_value g.V.PartialEq.eq g.V.Voxel.bytes_of c.args.version _ _ _ _ c.in_ok-background.background c.new-tree.result.background c.new-tree.result.limit c.take_roots.new.tree.limit (head_view c.in_ok-head.head)
     (field_of vdb c.take_roots.new.tree) (ap (λ f. f.background) c.new-tree.ensures.field) c.new-tree.ensures.limit c.in_ok-take_roots.ensures.limit c.in_ok-background.ensures.reads.0 c.in_ok-head.ensures.reads.0
     c.in_ok-take_roots.ensures.reads.0 c.in_ok-background.ensures.reads.1 c.in_ok-head.ensures.reads.1 c.in_ok-take_roots.ensures.reads.1
+
+pub returns-in_err-take_roots-clause-moves : goal.returns-in_err-take_roots-clause-moves
+returns-in_err-take_roots-clause-moves g c =
+    let p = err_from_is_err_and c.from_residual-in_err-take_roots.result c.from_residual-in_err-take_roots.ensures.1 in
+    rw (p.1, p.2) (moves_err (moves_then c.in_ok-background.ensures.moves (moves_then c.in_ok-head.ensures.moves c.in_err-take_roots.ensures.moves)))

@@ -1,22 +1,21 @@
 use Rattle.std.proofs.Common.{◌∙◌, ap, subst}
 use Rattle.std.specs.Prelude.{Err}
-use Rattle.vdb_coord.specs.Blocks.{block_around}
+use Rattle.vdb_coord.specs.Blocks.{block_around, vdb}
 use Rattle.vdb_coord.specs.Space.{Box}
 use Rattle.vdb_coord.specs.declared.Level.TheVariants.{Upper}
 use Rattle.vdb_tree.specs.Field.{fill}
-use Rattle.vdb_tree.specs.Layout.{bits_of, cell_at, field_of}
+use Rattle.vdb_tree.specs.Layout.{cell_at, field_of}
 use Rattle.vdb_tree.specs.Outcome.{IsOutcome}
 use Rattle.vdb_file.proofs.LoadedBlocks.{fill_keeps, in_upper, kept_wider, no_root_limit}
 use Rattle.vdb_file.proofs.loading.leaf_blocks.fill_block.Goals as goal
 
 pub unreachable-requires : goal.unreachable-requires
 unreachable-requires g c =
-    let bits = bits_of g.row.U g.row.L g.row.F in
     let t = c.args.tree.now in
     let p = c.args.p in
     let level = c.args.level in
-    let box = rw c.bits.ensures.value at c.block_in-bounds.ensures in
-    let changed = fill (block_around bits level p) c.args.cell (field_of bits t) in
-    let outcome = subst (λ (b : Box). IsOutcome g.V.PartialEq.eq bits t.limit (field_of bits t) (fill b c.args.cell (field_of bits t)) (field_of bits c.fill.new.tree) c.fill.result) box c.fill.ensures.outcome in
-    no_root_limit g.V.PartialEq.eq bits t.limit (block_around bits Upper p) (field_of bits t) changed (field_of bits c.fill.new.tree) c.fill.result outcome (c.in-Err-RootLimit.is ∙ ap Err c.in-Err-RootLimit.field-0-is) c.requires
-    (kept_wider (block_around bits Upper p) (block_around bits level p) (field_of bits t) changed (in_upper bits level p) (fill_keeps (block_around bits level p) t.background (cell_at bits t) c.args.cell))
+    let box = c.block-bounds.ensures in
+    let changed = fill (block_around vdb level p) c.args.cell (field_of vdb t) in
+    let outcome = subst (λ (b : Box). IsOutcome g.V.PartialEq.eq vdb t.limit (field_of vdb t) (fill b c.args.cell (field_of vdb t)) (field_of vdb c.fill.new.tree) c.fill.result) box c.fill.ensures.outcome in
+    no_root_limit g.V.PartialEq.eq vdb t.limit (block_around vdb Upper p) (field_of vdb t) changed (field_of vdb c.fill.new.tree) c.fill.result outcome (c.in-Err-RootLimit.is ∙ ap Err c.in-Err-RootLimit.field-0-is) c.requires
+    (kept_wider (block_around vdb Upper p) (block_around vdb level p) (field_of vdb t) changed (in_upper vdb level p) (fill_keeps (block_around vdb level p) t.background (cell_at vdb t) c.args.cell))

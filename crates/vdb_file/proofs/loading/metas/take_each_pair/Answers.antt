@@ -1,10 +1,9 @@
 use Rattle.std.proofs.Common.{rules, ◌≡◌, ◌++◌, ◌∷◌, [], ◌∙◌, length-append, sym, subst, arith}
 use Rattle.std.specs.Prelude.{None}
 use Rattle.std.proofs.lemmas.Result.{err_from_is_err_and}
-use Rattle.vdb_scene.specs.Watched.{source}
 use Rattle.vdb_scene.specs.ValidScenes.{IsPair}
 use Rattle.vdb_file.specs.internal.Parts.{IsItem, name_of, pair_bytes}
-use Rattle.vdb_file.specs.internal.Reading.{Fails, position}
+use Rattle.vdb_file.specs.internal.Reading.{Fails, ahead}
 use Rattle.vdb_file.proofs.Items.{are_items, chain_more, fails_within, last_more, more_read, put_last}
 use Rattle.vdb_file.proofs.PairParts.{pair_code}
 use Rattle.vdb_file.proofs.loading.metas.take_each_pair.Goals as goal
@@ -12,8 +11,8 @@ use Rattle.vdb_file.proofs.loading.metas.take_each_pair.Goals as goal
 pub returns-in_err-pair-clause-reads : goal.returns-in_err-pair-clause-reads
 returns-in_err-pair-clause-reads g c =
     let p = err_from_is_err_and c.from_residual.result c.from_residual.ensures.1 in
-    let mid = position c.loop.input (g.R.Read.remaining (source c.loop.reader)) in
-    rw (p.1, p.2) (fails_within IsPair name_of pair_bytes pair_code ([], []) c.in_err-pair.field-0.0 c.args.count c.loop.metas (position c.args.input.now (g.R.Read.remaining (source c.args.reader.now))) mid
+    let mid = ahead c.loop.input (g.S.Source.state c.loop.reader) in
+    rw (p.1, p.2) (fails_within IsPair name_of pair_bytes pair_code ([], []) c.in_err-pair.field-0.0 c.args.count c.loop.metas (ahead c.args.input.now (g.S.Source.state c.args.reader.now)) mid
     (omega (arith, c.loop.invariant.count, c.loop-test.true)) c.loop.invariant.chain c.loop.invariant.took
     (subst (λ before. Fails (IsItem IsPair name_of before) pair_bytes c.in_err-pair.field-0.0 mid) c.loop.invariant.before c.in_err-pair.ensures.reads))
 
@@ -24,10 +23,10 @@ loop-preserved g c =
     let item = subst (λ before. IsItem IsPair name_of before e) c.loop.invariant.before c.in_ok-pair.ensures.reads.0 in
     let grown : c.put.new.metas ≡ done ++ e ∷ [] = c.in_ok-put.ensures.ok ∙ put_last IsPair done e c.loop.invariant.chain item in
     rw grown (record {
-      took = more_read IsPair name_of pair_bytes (position c.args.input.now (g.R.Read.remaining (source c.args.reader.now))) (position c.loop.input (g.R.Read.remaining (source c.loop.reader))) _ done e c.loop.invariant.took c.in_ok-pair.ensures.reads.1;
-      ends = c.in_ok-pair.ensures.ends;
-      total = λ n h. c.in_ok-pair.ensures.total n (c.loop.invariant.total n h);
-      given = λ n m h. c.in_ok-pair.ensures.given n m (c.loop.invariant.given n m h);
+      took = more_read IsPair name_of pair_bytes (ahead c.args.input.now (g.S.Source.state c.args.reader.now)) (ahead c.loop.input (g.S.Source.state c.loop.reader)) _ done e c.loop.invariant.took c.in_ok-pair.ensures.reads.1;
+      ends = c.in_ok-pair.ensures.moves.ends;
+      total = λ n h. c.in_ok-pair.ensures.moves.total n (c.loop.invariant.total n h);
+      given = λ n m h. c.in_ok-pair.ensures.moves.given n m (c.loop.invariant.given n m h);
       count = omega (arith, length-append done (e ∷ []), c.loop.invariant.count);
       chain = chain_more IsPair name_of None done e c.loop.invariant.chain item;
       before = sym (last_more IsPair name_of None done e);

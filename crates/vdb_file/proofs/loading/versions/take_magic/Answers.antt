@@ -2,10 +2,11 @@ use Rattle.std.proofs.Common.{rules, ◌≡◌, length, true, false, not, nat_eq
 use Rattle.std.specs.Prelude.{codes, ⊤}
 use Rattle.std.proofs.lemmas.Result.{err_from_is_err_and}
 use Rattle.std.specs.Cmp.Lexicographic.{pointwise}
+use Rattle.vdb_file.specs.Faults.{Claims}
 use Rattle.vdb_file.specs.internal.FieldFaults.{IsInner}
-use Rattle.vdb_file.specs.declared.fault.LoadFault.TheVariants.{Magic}
+use Rattle.vdb_file.specs.declared.fault.LoadFault.TheVariants.{Magic, Truncated}
 use Rattle.vdb_file.proofs.Fronts.{fails_turn}
-use Rattle.vdb_file.proofs.Beginnings.{has_other_magic, inner_magic, other_magic}
+use Rattle.vdb_file.proofs.Beginnings.{fewer_than, has_other_magic, inner_magic, other_magic}
 use Rattle.vdb_file.proofs.loading.versions.take_magic.Goals as goal
 
 pub returns-in_err-take_field-clause-reads : goal.returns-in_err-take_field-clause-reads
@@ -40,3 +41,10 @@ returns-then-ne-clause-magic g c f =
     let z = c.as_slice-2.ensures in
     let same : c.ne.result ≡ false = x ∙ (λ j. not (pointwise nat_eq ((y ∙ e) j) (z j))) in
     let never : true ≡ false = sym c.if-ne.true ∙ same in cc)
+
+pub returns-in_err-take_field-clause-short : goal.returns-in_err-take_field-clause-short
+returns-in_err-take_field-clause-short g c =
+    let p = err_from_is_err_and c.from_residual.result c.from_residual.ensures.1 in
+    rw (p.1, p.2) (λ e fits.
+    let k : c.in_err-take_field.field-0.0 ≡ Truncated = cc in
+    fewer_than 4 c.in_err-take_field.field-0.0 _ (subst Claims (sym k) tt) fits c.in_err-take_field.ensures.reads)

@@ -1,16 +1,16 @@
 use Rattle.std.proofs.Common.{◌≡◌, ◌≤◌, ◌-◌, length, not}
-use Rattle.vdb_coord.specs.Blocks.{block_around, entries, sub_block}
+use Rattle.vdb_coord.specs.Blocks.{block_around, entries, sub_block, vdb}
 use Rattle.vdb_tree.specs.ConstantBlocks.{is_background}
-use Rattle.vdb_tree.specs.Layout.{bits_of, field_of}
+use Rattle.vdb_tree.specs.Layout.{field_of}
 use Rattle.vdb_file.specs.internal.Written.{passing}
 use Rattle.vdb_file.proofs.saving.leaves.count_listed.Given as goal
 
 -- the listed entries among those passed are counted
 abbrev pub invariant-loop-i : goal.invariant-loop-i
-invariant-loop-i g l = let bits = bits_of g.row.U g.row.L g.row.F in record {
-  within : l.from ≤ entries bits l.level;
-  counted : l.count ≡ length (passing (λ i. not (is_background g.V.PartialEq.eq (field_of bits l.tree) (sub_block bits l.level (block_around bits l.level l.p) i))) l.from);
+invariant-loop-i g l = record {
+  within : l.from ≤ entries vdb l.level;
+  counted : l.count ≡ length (passing (λ i. not (is_background g.V.PartialEq.eq (field_of vdb l.tree) (sub_block vdb l.level (block_around vdb l.level l.p) i))) l.from);
 }
 
 abbrev pub decreases-loop-i : goal.decreases-loop-i
-decreases-loop-i g l = entries (bits_of g.row.U g.row.L g.row.F) l.level - l.from
+decreases-loop-i g l = entries vdb l.level - l.from

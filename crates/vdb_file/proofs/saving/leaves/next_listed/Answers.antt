@@ -1,53 +1,52 @@
 use Rattle.std.proofs.Common.{◌≡◌, ◌∙◌, arith, ap}
+use Rattle.vdb_coord.specs.Blocks.{vdb}
 use Rattle.vdb_coord.specs.Space.{Box}
-use Rattle.vdb_tree.specs.Layout.{bits_of, field_of}
+use Rattle.vdb_tree.specs.Layout.{field_of}
 use Rattle.vdb_tree.proofs.Constants.{entries_few}
 use Rattle.vdb_tree.proofs.Uniform.{exact_by}
 use Rattle.vdb_file.proofs.ListedEntries.{around, flat_more, flat_rest, flat_test, listed_next}
+use Rattle.vdb_file.proofs.Standard.{standard_bits}
 use Rattle.vdb_file.proofs.saving.leaves.next_listed.Goals as goal
 
 pub overflow_cast-i : goal.overflow_cast-i
 overflow_cast-i g c =
-    let few = entries_few (bits_of g.row.U g.row.L g.row.F) c.args.level (rw c.bits-bits.ensures.value at c.bits-bits.ensures.configured) in
+    let few = entries_few vdb c.args.level standard_bits in
     let h = c.in-Some.ensures.within in
     omega (arith, few, h)
 
 pub overflow_add-at : goal.overflow_add-at
 overflow_add-at g c =
-    let few = entries_few (bits_of g.row.U g.row.L g.row.F) c.args.level (rw c.bits-bits.ensures.value at c.bits-bits.ensures.configured) in
+    let few = entries_few vdb c.args.level standard_bits in
     let h = c.in-Some.ensures.within in
     omega (arith, few, h)
 
 pub returns-then-not-is_block_of : goal.returns-then-not-is_block_of
 returns-then-not-is_block_of g c =
     let exact = exact_by g.V.PartialEq.eq g.V.Ord.cmp g.met.V.Ord.matches_eq g.met.V.Voxel.exact in
-    let bits = bits_of g.row.U g.row.L g.row.F in
     let p = c.args.p in
-    let f = field_of bits c.args.tree.now in
+    let f = field_of vdb c.args.tree.now in
     let next = rw c.background.ensures at c.in-Some.ensures in
-    let corner : c.min-corner.result ≡ (around bits p c.args.level c.in-Some.i).min = c.min-corner.ensures.corner ∙ ap (λ (b : Box). b.min) (rw c.bits-bits.ensures.value at c.entry_block_in.ensures) in
-    let test = flat_test bits p g.V.PartialEq.eq exact g.met.V.Eq.laws.refl f c.args.level c.args.below c.requires.levels c.in-Some.i next.within c.min-corner.result corner c.is_block_of.result (rw c.background.ensures at c.is_block_of.ensures) in
-    listed_next bits p g.V.PartialEq.eq exact g.met.V.Eq.laws.refl f c.args.level c.args.from c.loop-i.at c.loop-i.invariant.from_on c.loop-i.invariant.flat c.in-Some.i next
+    let corner : c.min-corner.result ≡ (around vdb p c.args.level c.in-Some.i).min = c.min-corner.ensures.corner ∙ ap (λ (b : Box). b.min) c.entry_block_in.ensures in
+    let test = flat_test vdb p g.V.PartialEq.eq exact g.met.V.Eq.laws.refl f c.args.level c.args.below c.requires.levels c.in-Some.i next.within c.min-corner.result corner c.is_block_of.result (rw c.background.ensures at c.is_block_of.ensures) in
+    listed_next vdb p g.V.PartialEq.eq exact g.met.V.Eq.laws.refl f c.args.level c.args.from c.loop-i.at c.loop-i.invariant.from_on c.loop-i.invariant.flat c.in-Some.i next
     (test ∙ c.if-not-is_block_of.true)
 
 pub loop-i-preserved : goal.loop-i-preserved
 loop-i-preserved g c =
     let exact = exact_by g.V.PartialEq.eq g.V.Ord.cmp g.met.V.Ord.matches_eq g.met.V.Voxel.exact in
-    let bits = bits_of g.row.U g.row.L g.row.F in
     let p = c.args.p in
-    let f = field_of bits c.args.tree.now in
+    let f = field_of vdb c.args.tree.now in
     let next = rw c.background.ensures at c.in-Some.ensures in
-    let corner : c.min-corner.result ≡ (around bits p c.args.level c.in-Some.i).min = c.min-corner.ensures.corner ∙ ap (λ (b : Box). b.min) (rw c.bits-bits.ensures.value at c.entry_block_in.ensures) in
-    let test = flat_test bits p g.V.PartialEq.eq exact g.met.V.Eq.laws.refl f c.args.level c.args.below c.requires.levels c.in-Some.i next.within c.min-corner.result corner c.is_block_of.result (rw c.background.ensures at c.is_block_of.ensures) in
+    let corner : c.min-corner.result ≡ (around vdb p c.args.level c.in-Some.i).min = c.min-corner.ensures.corner ∙ ap (λ (b : Box). b.min) c.entry_block_in.ensures in
+    let test = flat_test vdb p g.V.PartialEq.eq exact g.met.V.Eq.laws.refl f c.args.level c.args.below c.requires.levels c.in-Some.i next.within c.min-corner.result corner c.is_block_of.result (rw c.background.ensures at c.is_block_of.ensures) in
     record {
       within = let h = next.within in omega (arith, h);
       from_on = let a = c.loop-i.invariant.from_on in let b = next.from_on in omega (arith, a, b);
-      flat = flat_more bits p g.V.PartialEq.eq exact g.met.V.Eq.laws.refl f c.args.level c.args.from c.loop-i.at c.loop-i.invariant.from_on c.loop-i.invariant.flat c.in-Some.i next
+      flat = flat_more vdb p g.V.PartialEq.eq exact g.met.V.Eq.laws.refl f c.args.level c.args.from c.loop-i.at c.loop-i.invariant.from_on c.loop-i.invariant.flat c.in-Some.i next
           (test ∙ c.if-not-is_block_of.false);
     }
 
 pub returns : goal.returns
 returns g c =
     let exact = exact_by g.V.PartialEq.eq g.V.Ord.cmp g.met.V.Ord.matches_eq g.met.V.Voxel.exact in
-    let bits = bits_of g.row.U g.row.L g.row.F in
-    flat_rest bits c.args.p g.V.PartialEq.eq exact g.met.V.Eq.laws.refl (field_of bits c.args.tree.now) c.args.level c.args.from c.loop-i.at c.loop-i.invariant.from_on c.loop-i.invariant.flat (rw c.background.ensures at c.in_default.ensures)
+    flat_rest vdb c.args.p g.V.PartialEq.eq exact g.met.V.Eq.laws.refl (field_of vdb c.args.tree.now) c.args.level c.args.from c.loop-i.at c.loop-i.invariant.from_on c.loop-i.invariant.flat (rw c.background.ensures at c.in_default.ensures)

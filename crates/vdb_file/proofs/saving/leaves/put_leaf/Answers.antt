@@ -1,22 +1,22 @@
 use Rattle.std.proofs.Common.{◌∙◌, refl, sym, rules}
 use Rattle.std.proofs.lemmas.Result.{on_ok_weaker}
-use Rattle.vdb_coord.specs.Blocks.{block_around}
+use Rattle.vdb_coord.specs.Blocks.{block_around, vdb}
 use Rattle.vdb_coord.specs.declared.Level.TheVariants.{Leaf}
 use Rattle.vdb_coord.proofs.Meeting.{fits_everywhere}
-use Rattle.vdb_tree.specs.Layout.{bits_of, field_of}
+use Rattle.vdb_tree.specs.Layout.{field_of}
 use Rattle.vdb_tree.proofs.Uniform.{exact_by}
 use Rattle.vdb_file.specs.Bodies.{voxel_body}
 use Rattle.vdb_file.proofs.LeafVoxels.{one_everywhere}
 use Rattle.vdb_file.proofs.PutBlocks.{cell_put}
+use Rattle.vdb_file.proofs.Standard.{standard_bits}
 use Rattle.vdb_file.proofs.saving.leaves.put_leaf.Goals as goal
 
 pub returns-in-None-clause-puts : goal.returns-in-None-clause-puts
 returns-in-None-clause-puts g c =
     let exact = exact_by g.V.PartialEq.eq g.V.Ord.cmp g.met.V.Ord.matches_eq g.met.V.Voxel.exact in
-    let bits = bits_of g.row.U g.row.L g.row.F in
-    let f = field_of bits c.args.tree.now in
+    let f = field_of vdb c.args.tree.now in
     let eq = g.V.PartialEq.eq in
     let bytes = g.V.Voxel.bytes_of in
     let inside = fits_everywhere c.args.p (search rules) (search rules) (search rules) in
-    let one = one_everywhere eq exact g.met.V.Eq.laws.refl bits (rw c.bits.ensures.value at c.bits.ensures.configured) Leaf f c.args.p inside (f.cell c.args.p) (c.in-None.ensures.tile refl) in
-    on_ok_weaker c.put_cell.result (λ h. cell_put eq bytes bits f (voxel_body eq bytes bits f) Leaf (block_around bits Leaf c.args.p) _ _ c.get.result one.0 (one.1 ∙ sym c.get.ensures.cell) h) c.put_cell.ensures.puts
+    let one = one_everywhere eq exact g.met.V.Eq.laws.refl vdb standard_bits Leaf f c.args.p inside (f.cell c.args.p) (c.in-None.ensures.tile refl) in
+    on_ok_weaker c.put_cell.result (λ h. cell_put eq bytes vdb f (voxel_body eq bytes vdb f) Leaf (block_around vdb Leaf c.args.p) _ _ c.get.result one.0 (one.1 ∙ sym c.get.ensures.cell) h) c.put_cell.ensures.puts

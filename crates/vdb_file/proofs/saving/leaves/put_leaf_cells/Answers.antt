@@ -1,50 +1,38 @@
 use Rattle.std.proofs.Common.{◌≡◌, ◌∙◌, arith, ap, sym, length, rules}
 use Rattle.std.proofs.lemmas.Result.{on_ok_weaker}
-use Rattle.vdb_coord.specs.Blocks.{block_around, entries}
+use Rattle.vdb_coord.specs.Blocks.{block_around, entries, vdb}
 use Rattle.vdb_coord.specs.declared.Level.TheVariants.{Leaf}
 use Rattle.vdb_coord.proofs.Meeting.{fits_everywhere}
-use Rattle.vdb_coord.proofs.Positions.{entries_is}
 use Rattle.vdb_tree.specs.Field.{off}
-use Rattle.vdb_tree.specs.Layout.{bits_of, field_of}
-use Rattle.vdb_tree.proofs.Constants.{entries_few}
-use Rattle.vdb_tree.proofs.Sizes.{leaf_small}
+use Rattle.vdb_tree.specs.Layout.{field_of}
 use Rattle.vdb_tree.proofs.Uniform.{exact_by}
 use Rattle.vdb_file.specs.Bodies.{voxel_body}
 use Rattle.vdb_file.proofs.LeafVoxels.{listed_voxels, voxels_put}
 use Rattle.vdb_file.proofs.PutBlocks.{node_put}
+use Rattle.vdb_file.proofs.Standard.{standard_bits}
 use Rattle.vdb_file.proofs.saving.leaves.put_leaf_cells.Goals as goal
 
 pub count_voxels-count-requires : goal.count_voxels-count-requires
 count_voxels-count-requires g c =
-    let small = g.met.V.Stored-3.row_small in
-    let bits = bits_of g.row.U g.row.L g.row.F in
-    let count : c.from-n.result ≡ entries bits Leaf = c.from-n.ensures ∙ c.entries.ensures ∙ ap (λ b. entries b Leaf) c.bits.ensures.value in
-    let few = entries_few bits Leaf (rw c.bits.ensures.value at c.bits.ensures.configured) in
-    let f = entries_is bits Leaf in
-    (leaf_small _ _ g.row.WF _ c.has_leaf_words.ensures.few small.1 small.1 small.0, (omega (arith, count, f), omega (arith, count, few)))
+    let count : c.from-n.result ≡ entries vdb Leaf = c.from-n.ensures ∙ c.entries.ensures in
+    record { within = omega (arith, count); few = omega (arith, count) }
 
 pub put_voxels-requires : goal.put_voxels-requires
 put_voxels-requires g c =
-    let small = g.met.V.Stored-3.row_small in
-    let bits = bits_of g.row.U g.row.L g.row.F in
-    let count : c.from-n.result ≡ entries bits Leaf = c.from-n.ensures ∙ c.entries.ensures ∙ ap (λ b. entries b Leaf) c.bits.ensures.value in
-    let few = entries_few bits Leaf (rw c.bits.ensures.value at c.bits.ensures.configured) in
-    let f = entries_is bits Leaf in
-    (omega arith, (leaf_small _ _ g.row.WF _ c.has_leaf_words.ensures.few small.1 small.1 small.0, (omega (arith, count, f), omega (arith, count, few))))
+    let count : c.from-n.result ≡ entries vdb Leaf = c.from-n.ensures ∙ c.entries.ensures in
+    (omega arith, (omega (arith, count), omega (arith, count)))
 
 pub returns-clause-puts : goal.returns-clause-puts
 returns-clause-puts g c =
     let exact = exact_by g.V.PartialEq.eq g.V.Ord.cmp g.met.V.Ord.matches_eq g.met.V.Voxel.exact in
-    let bits = bits_of g.row.U g.row.L g.row.F in
     let t = c.args.tree.now in
     let eq = g.V.PartialEq.eq in
     let bytes = g.V.Voxel.bytes_of in
     let inside = fits_everywhere c.args.p (search rules) (search rules) (search rules) in
-    let configured = rw c.bits.ensures.value at c.bits.ensures.configured in
-    let n : c.from-n.result ≡ entries bits Leaf = c.from-n.ensures ∙ c.entries.ensures ∙ ap (λ b. entries b Leaf) c.bits.ensures.value in
-    let listed_are = listed_voxels eq exact g.met.V.Eq.laws.refl bits configured t c.args.p inside c.args.leaf.now c.requires bytes in
+    let n : c.from-n.result ≡ entries vdb Leaf = c.from-n.ensures ∙ c.entries.ensures in
+    let listed_are = listed_voxels eq exact g.met.V.Eq.laws.refl vdb standard_bits t c.args.p inside c.args.leaf.now c.requires bytes in
     let count = (rw (c.background.ensures, n) at c.count_voxels-count.ensures (off t.background)) ∙ ap length (sym listed_are) in
     on_ok_weaker c.put_voxels.result
-    (λ h. node_put eq bytes bits (field_of bits t) (voxel_body eq bytes bits (field_of bits t)) Leaf (block_around bits Leaf c.args.p) _ _ _ c.count_voxels-count.result (sym c.in_default.ensures.test) c.in_ok-put_head.ensures.puts count
-    (voxels_put eq exact g.met.V.Eq.laws.refl bits configured t c.args.p inside c.args.leaf.now c.requires bytes _ _ h))
+    (λ h. node_put eq bytes vdb (field_of vdb t) (voxel_body eq bytes vdb (field_of vdb t)) Leaf (block_around vdb Leaf c.args.p) _ _ _ c.count_voxels-count.result (sym c.in_default.ensures.test) c.in_ok-put_head.ensures.puts count
+    (voxels_put eq exact g.met.V.Eq.laws.refl vdb standard_bits t c.args.p inside c.args.leaf.now c.requires bytes _ _ h))
     (rw (c.background.ensures, n) at c.put_voxels.ensures.puts (off t.background))

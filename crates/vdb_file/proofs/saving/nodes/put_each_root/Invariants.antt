@@ -1,8 +1,8 @@
 use Rattle.std.proofs.Common.{◌≡◌, ◌++◌}
 use Rattle.std.specs.List.{flat_map}
-use Rattle.vdb_coord.specs.Blocks.{block}
+use Rattle.vdb_coord.specs.Blocks.{block, vdb}
 use Rattle.vdb_coord.specs.declared.Level.TheVariants.{Upper}
-use Rattle.vdb_tree.specs.Layout.{bits_of, field_of}
+use Rattle.vdb_tree.specs.Layout.{field_of}
 use Rattle.vdb_tree.proofs.KeysPast.{keys_past}
 use Rattle.vdb_scene.specs.Watched.{has_failed, source}
 use Rattle.vdb_file.specs.Bodies.{key_bytes, root_body}
@@ -12,9 +12,9 @@ use Rattle.vdb_file.proofs.saving.nodes.put_each_root.Given as goal
 
 -- the root blocks that hold something, among those whose keys were passed, are written
 abbrev pub invariant-loop-key : goal.invariant-loop-key
-invariant-loop-key g l = let bits = bits_of g.row.U g.row.L g.row.F in record {
+invariant-loop-key g l = record {
   puts : Puts (sent g.row.C l.fn.out (g.W.Write.contents (source l.fn.writer))) (sent g.row.C l.out (g.W.Write.contents (source l.writer)))
-      (flat_map (λ k. key_bytes k ++ root_body g.V.PartialEq.eq g.V.Voxel.bytes_of bits (field_of bits l.tree) (block bits Upper k)) (put_keys g.V.PartialEq.eq bits l.tree l.passed));
+      (flat_map (λ k. key_bytes k ++ root_body g.V.PartialEq.eq g.V.Voxel.bytes_of vdb (field_of vdb l.tree) (block vdb Upper k)) (put_keys g.V.PartialEq.eq vdb l.tree l.passed));
   failed : has_failed l.writer ≡ has_failed l.fn.writer;
 }
 

@@ -32,3 +32,26 @@ returns-clause-steps g c =
     let first = rw c.if-write_near.false at c.write_near.ensures.steps in
     let second = rw c.if-write_near-2.false at c.write_near-2.ensures.steps in
     rw (← e, ← c.go_to.ensures.tree, ← f) (λ has. omega (arith, c.write.ensures.steps has, c.go_to.ensures.steps, first, second))
+
+pub returns-then-write_near-2-clause-elsewhere : goal.returns-then-write_near-2-clause-elsewhere
+returns-then-write_near-2-clause-elsewhere g c =
+    let e = c.write_near.ensures.untouched c.if-write_near.false in
+    rw (← e, ← c.go_to.ensures.tree) (λ _. c.write_near-2.ensures.elsewhere)
+
+pub returns-clause-elsewhere : goal.returns-clause-elsewhere
+returns-clause-elsewhere g c =
+    let e = c.write_near.ensures.untouched c.if-write_near.false in
+    let f = c.write_near-2.ensures.untouched c.if-write_near-2.false in
+    rw (← e, ← c.go_to.ensures.tree, ← f) c.write.ensures.elsewhere
+
+pub returns-clause-unchanged : goal.returns-clause-unchanged
+returns-clause-unchanged g c =
+    let e = c.write_near.ensures.untouched c.if-write_near.false in
+    let f = c.write_near-2.ensures.untouched c.if-write_near-2.false in
+    rw (← e, ← c.go_to.ensures.tree, ← f) c.write.ensures.unchanged
+
+pub returns-clause-leaf : goal.returns-clause-leaf
+returns-clause-leaf g c =
+    let e = c.write_near.ensures.untouched c.if-write_near.false in
+    let f = c.write_near-2.ensures.untouched c.if-write_near-2.false in
+    rw (← e, ← c.go_to.ensures.tree, ← f) c.write.ensures.leaf

@@ -1,5 +1,8 @@
 use Rattle.std.proofs.Common.{sym, ◌∙◌}
-use Rattle.vdb_grid.proofs.NearLeaves.{whole_here}
+use Rattle.vdb_coord.specs.Blocks.{vdb}
+use Rattle.vdb_tree.specs.Field.{written}
+use Rattle.vdb_tree.specs.Layout.{field_of}
+use Rattle.vdb_grid.proofs.NearLeaves.{near_elsewhere, whole_here}
 use Rattle.vdb_grid.proofs.grid.Grid.write_in_leaf.Goals as goal
 
 pub invariant_of-self : goal.invariant_of-self
@@ -11,3 +14,10 @@ returns-clause-alone g c = λ t. rw (← c.self.view_is) (c.write_near-written.e
 pub returns-clause-whole : goal.returns-clause-whole
 returns-clause-whole g c = λ t.
     c.write_near-written.ensures.paths _ _ (whole_here _ c.in-Some.q c.args.p _ (sym c.write_near-written.ensures.answer ∙ t) (c.self.invariant.0 c.args.k c.in-Some.q c.in-Some.is))
+
+pub returns-clause-elsewhere : goal.returns-clause-elsewhere
+returns-clause-elsewhere g c =
+    let cell = written c.args.change ((field_of vdb c.self.inside.tree).cell c.args.p) in
+    rw (← c.self.view_is)
+    (near_elsewhere c.self.inside.tree c.write_near-written.new.self c.self.inside.coords c.self.inside.paths c.args.k c.in-Some.q c.args.p cell c.write_near-written.result
+    c.self.invariant.0 c.in-Some.is c.write_near-written.ensures.answer c.write_near-written.ensures.alone c.write_near-written.ensures.untouched)

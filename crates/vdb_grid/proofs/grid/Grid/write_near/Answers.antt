@@ -7,3 +7,6 @@ invariant_of-self g c =
 
 pub returns-clause-alone : goal.returns-clause-alone
 returns-clause-alone g c = λ t. rw (← c.self.view_is) at (c.write_in_leaf.ensures.alone c.if-not-write_in_leaf.false)
+
+pub returns-clause-elsewhere : goal.returns-clause-elsewhere
+returns-clause-elsewhere g c = rw (← c.self.view_is) at c.write_in_leaf.ensures.elsewhere

@@ -18,3 +18,12 @@ pub returns-in-I64-clause-field : goal.returns-in-I64-clause-field
 returns-in-I64-clause-field c =
     let same : to_z w64 (of_z w64 c.in-I64.value) ≡ c.in-I64.value = grind (arith, to_z-of_z) in
     ap (as_field_of scalars.I64) (c.new-in-I64.ensures.field ∙ ap new same) ∙ as_field_of_new scalars.I64 c.in-I64.value ∙ ap new (sym c.in-I64.is)
+
+pub returns-in-Bool-clause-unused : goal.returns-in-Bool-clause-unused
+returns-in-Bool-clause-unused c = λ k. (c.new.ensures.last k, c.new.ensures.empty k)
+
+pub returns-in-I32-clause-unused : goal.returns-in-I32-clause-unused
+returns-in-I32-clause-unused c = λ k. (c.new-in-I32.ensures.last k, c.new-in-I32.ensures.empty k)
+
+pub returns-in-I64-clause-unused : goal.returns-in-I64-clause-unused
+returns-in-I64-clause-unused c = λ k. (c.new-in-I64.ensures.last k, c.new-in-I64.ensures.empty k)
