@@ -1,31 +1,36 @@
 #!/usr/bin/env python3
 # SPDX-License-Identifier: Apache-2.0
-"""Makes each allocation of each row fail in turn: allocations.py [SUBJECT..]. A row is a script with its answers, and a subject a
-file of rows in crates/vdb_rows/data.
+"""Makes each allocation of each row fail: allocations.py [SUBJECT..]. A row is a script with its answers, and a subject a file of
+rows in crates/vdb_rows/data.
 
-The shim counts calls of malloc, realloc and the other allocating functions, from the first read on. One allocation fails in
-each run: the first, then the second, until no allocation is left to fail. A row with more than 120 allocations has runs for
-the first 60, for as many at even distances and for the last three. ALLOCATIONS gives another number than 60. A row with
-more than 5,000 is left out. Each run must show:
+The shim counts calls of malloc, realloc and the other allocating functions, from the first read on. A row is run once, and at an
+allocation the program is copied: in the copy this allocation alone fails. Of a row with more than 250 allocations the first 250 fail
+and some 200 of the others at even distances, and a line says so. ALLOCATIONS gives another number than 250. The rows are played side
+by side, one on each processor. Each copy must show:
 
 - The command whose allocation failed answers `error memory`, and no other command does. If the row has another error for
   that command, it answers this one. Only in a dilation may `memory` replace `root-limit`.
 - The scene then saves the same bytes as the scene before that command.
 - Each accessor with a last coordinate answers the same there as before.
-- The command and all that follow, given again, have the row's answers.
+- The command and all that follow, given again, have the row's answers, and the scene saves the row's bytes.
 - No allocation fails outside a command, or in a command that allocates nothing: the row marks those lines.
 
 In further runs one allocation and all after it fail. The lines that don't answer `error memory` must then answer, and the
 scene must save, as if the others weren't in the script."""
+import concurrent.futures
 import os
 import sys
+import tempfile
+from itertools import repeat
+from pathlib import Path
 from planted import planted
-from program import Run, Tally, Workplace
+from program import FAST, Run, Tally, Workplace, content, counts
 from vectors import rows_of
 
 ALL_AFTER_RUNS = 20
-MOST_ALLOCATIONS = 5000
-EACH_OF_FIRST = int(os.environ.get("ALLOCATIONS", "60"))
+EACH_UP_TO = int(os.environ.get("ALLOCATIONS", "250"))
+SAMPLED = 200
+PATIENCE = 1_200  # seconds for a row and its copies
 SUBJECTS = ["accessors", "boxes", "dilate-and-erode", "layouts", "metadata", "pruned-leaf", "root-limit", "two-grids", "value-ranges", "voxels"]
 ALLOCATES_NOTHING = {"get", "drop", "prune", "count", "bounds", "list", "slice", "census", "unmeta", "metas"}
 BY_ACCESSOR = {"get", "set", "unset", "only", "state"}
@@ -66,14 +71,6 @@ def memory_may_replace(line, error):
     return line.startswith(b"dilate ") and error == b"error root-limit\n"
 
 
-def numbers_to_fail(allocations):
-    """Returns the numbers of the allocations to fail, and one more, which no run reaches."""
-    if allocations <= 2 * EACH_OF_FIRST:
-        return [*range(1, allocations + 2)]
-    first, stride = EACH_OF_FIRST, -(-(allocations - EACH_OF_FIRST) // EACH_OF_FIRST)
-    return sorted({*range(1, first + 1), *range(first, allocations, stride), *range(allocations - 2, allocations + 2)})
-
-
 class Row:
     """The runs of one row."""
 
@@ -97,26 +94,43 @@ class Row:
         self.check(whole.answers == b"".join(self.answers), "the answers are not the row's")
         self.check(whole.saved is not None and "allocations" in whole.counts, "the run didn't end by itself")
         allocations = whole.counts.get("allocations", 0)
-        self.check(allocations > 0, "the shim counted no allocation")
-        if allocations > MOST_ALLOCATIONS:
-            return
-        for number in numbers_to_fail(allocations):
-            self.one(number, number > allocations)
+        self.check(allocations > 0 or b"ok\n" not in self.answers, "the shim counted no allocation")
+        with tempfile.TemporaryDirectory(prefix="branches-", dir=FAST) as folder:
+            self.each(whole, allocations, Path(folder))
         for number in range(1, allocations + 1, -(-allocations // ALL_AFTER_RUNS) or 1):
             self.all_after(number)
 
-    def one(self, number, beyond):
-        """Checks the run in which this allocation alone fails."""
-        run = self.run(self.lines, fail_allocation=number)
-        if "failed-after" not in run.counts:
-            self.check(beyond, f"allocation {number} was never reached")
-            self.check(MEMORY not in run.answers, "a command answers memory, but no allocation failed")
-            self.check(run.answers == b"".join(self.answers), "the answers are not the row's")
-            return
-        index = self.line_after(run.counts["failed-after"])
+    def each(self, whole, allocations, folder):
+        """Runs the row with a copy at each allocation, and checks the copies."""
+        for index in range(len(self.lines)):
+            rest = [*self.probes_after(index), b"", *self.lines[index:]]
+            (folder / f"{index + 1}.rest").write_bytes(script_of(rest))
+        stride = max(0, allocations - EACH_UP_TO) // SAMPLED + 1
+        script = self.place.path_of("script", script_of(self.lines))
+        words, injected = ["--save", "saved"], {"branches": folder, "branch_each": EACH_UP_TO, "branch_stride": stride}
+        trunk = self.place.execute(words, script, PATIENCE, **injected)
+        self.check((trunk.status, trunk.answers, trunk.errors) == (whole.status, whole.answers, b""), f"with copies: {trunk.status}, {trunk.errors!r}")
+        met = trunk.counts.get("allocations", 0)
+        numbers = [it for it in range(1, met + 1) if it <= EACH_UP_TO or it % stride == 0]
+        if len(numbers) < met:
+            print(f"{self.name}: {len(numbers)} of {met} allocations", flush=True)
+        for number in numbers:
+            self.one(number, folder / str(number), whole)
+
+    def one(self, number, folder, whole):
+        """Checks the copy in which this allocation failed."""
+        files = {name: content(folder / name) if (folder / name).exists() else None for name in ("answers", "before", "saved")}
+        found = counts(folder / "report")
+        ends = found.get("status"), found.get("status-before")
+        failed_after = found.get("failed-after", 0)
+        answers = whole.answers[:failed_after] + (files["answers"] or b"")
+        run = planted("allocations", Run(ends[0], answers, b"", files["before"], found), {"fail_allocation": number})
+        index = self.line_after(run.counts.get("failed-after", 0))
+        self.check(ends == (1, 1), f"allocation {number}: the statuses are {ends}")
         self.check(index is not None, f"allocation {number} failed outside any command")
         if index is not None:
-            self.failed_line(number, index)
+            self.failed_line(number, index, run)
+            self.check(files["saved"] == whole.saved, f"allocation {number}, line {index + 1}: given again, the row ends with another scene")
 
     def all_after(self, number):
         """Checks the run in which this allocation and all after it fail."""
@@ -139,31 +153,30 @@ class Row:
             written -= len(answer)
         return None
 
-    def failed_line(self, number, index):
-        """Checks the line in which this allocation fails: the scene and the accessors then, and the line given again."""
+    def failed_line(self, number, index, run):
+        """Checks the line in which this allocation failed: the scene and the accessors then, and the line given again."""
         what = f"allocation {number}, line {index + 1}"
         line = self.lines[index]
         allocates_nothing = line.split()[0].decode() in ALLOCATES_NOTHING or index in self.marked
         self.check(not allocates_nothing, f"{what}: {line!r} allocates")
-        gets = probes(self.lines[: index + 1], [*self.answers[:index], MEMORY])
-        saved, probed = self.before_line(index, gets)
-        lines = [*self.lines[: index + 1], *gets]
-        then = self.run(lines, fail_allocation=number)
+        saved, probed = self.before_line(index)
         before = b"".join(self.answers[:index])
         error = self.answers[index] if self.answers[index].startswith(b"error ") else MEMORY
-        if memory_may_replace(line, error) and then.answers.startswith(before + MEMORY):
+        if memory_may_replace(line, error) and run.answers.startswith(before + MEMORY):
             error = MEMORY
         wanted = before + error + probed
-        self.check(then.answers == wanted, f"{what}: the failed command and the probes after it have other answers")
-        self.check(then.saved == saved, f"{what}: the scene is not the one before")
-        again = self.run([*lines, *self.lines[index:]], fail_allocation=number)
-        self.check(again.answers == wanted + b"".join(self.answers[index:]), f"{what}: given again, it answers otherwise")
-        self.check(again.status == 1 and again.errors == b"", f"{what}: the status is {again.status}")
+        self.check(run.answers.startswith(wanted), f"{what}: the failed command and the probes after it have other answers")
+        self.check(run.saved == saved, f"{what}: the scene is not the one before")
+        self.check(run.answers == wanted + b"".join(self.answers[index:]), f"{what}: given again, it answers otherwise")
 
-    def before_line(self, index, gets):
-        """Returns what the scene before a line saves, and its answers to these probes, if no allocation fails."""
+    def probes_after(self, index):
+        """Returns the probes of accessors after a line in which an allocation failed."""
+        return probes(self.lines[: index + 1], [*self.answers[:index], MEMORY])
+
+    def before_line(self, index):
+        """Returns what the scene before a line saves, and its answers to the probes, if no allocation fails."""
         if index not in self.before:
-            run = self.run([*self.lines[:index], *gets])
+            run = self.run([*self.lines[:index], *self.probes_after(index)])
             self.before[index] = run.saved, run.answers[len(b"".join(self.answers[:index])) :]
         return self.before[index]
 
@@ -174,12 +187,19 @@ def is_plain(row):
     return lines and row.load is None and row.status < 2 and all(line.count(b"\n") == 1 and line.endswith(b"\n") for line in lines)
 
 
+def played(subject, name, shim):
+    """Plays a row, and returns how many checks passed and failed."""
+    tally = Tally("allocations")
+    Row(rows_of(subject)[name], Workplace(shim=shim), tally).all()
+    return tally.passed, tally.failed
+
+
 def main():
     tally, place = Tally("allocations"), Workplace()
-    for subject in sys.argv[1:] or SUBJECTS:
-        for row in rows_of(subject).values():
-            if is_plain(row):
-                Row(row, place, tally).all()
+    chosen = [(subject, name) for subject in sys.argv[1:] or SUBJECTS for name, row in rows_of(subject).items() if is_plain(row)]
+    with concurrent.futures.ProcessPoolExecutor(1 if "PLANTED" in os.environ else len(os.sched_getaffinity(0))) as pool:
+        for passed, failed in pool.map(played, *zip(*chosen), repeat(place.shim)):
+            tally.passed, tally.failed = tally.passed + passed, tally.failed + failed
     tally.end()
 
 

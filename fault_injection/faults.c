@@ -1,7 +1,18 @@
 /* SPDX-License-Identifier: Apache-2.0 */
 // Injects faults into calls of the C library. It is preloaded into the program (LD_PRELOAD) and makes an allocation fail,
-// or a read or write fail, move no byte or move few. README.md lists the environment variables that select the call.
+// or a read or write fail, move no byte or move few; calls.c makes any call on the program's own files fail, and branches.c each
+// allocation of one run. The variables:
+//   FAIL_ALLOCATION=N     allocation N fails: a call of malloc, realloc, aligned_alloc, posix_memalign or mmap
+//   FAIL_ALL_AFTER=1      all allocations after N fail too
+//   COUNT_FROM_START=1    allocations count from the start of the program, otherwise from its first read on
+//   READ_OF_FILE=1        the next ones concern opened files, otherwise standard input
+//   READ_AT=N             read N fails; with READ_KIND=nothing it returns no byte, which is the end
+//   READ_MOST=N           a read returns at most N bytes
+//   READ_AFTER=N          every read after N bytes fails
+//   WRITE_OF_FILE, WRITE_AT, WRITE_KIND, WRITE_MOST, WRITE_AFTER   the same for writes, to opened files or standard output
+//   REPORT=FILE           the shim writes its counts to FILE, and how many bytes of answers came before the first failed allocation
 #define _GNU_SOURCE
+#include "faults.h"
 #include <dlfcn.h>
 #include <errno.h>
 #include <fcntl.h>
@@ -34,7 +45,7 @@ static struct fault reading, writing;
 static struct traffic script, answers, loaded, saved;
 static const char *report;
 
-static long number(const char *name, long otherwise)
+long number(const char *name, long otherwise)
 {
     const char *text = getenv(name);
     return text ? atol(text) : otherwise;
@@ -46,8 +57,13 @@ static enum kind kind_of(const char *name)
     return text && strcmp(text, "nothing") == 0 ? NOTHING : FAIL;
 }
 
-__attribute__((constructor)) static void begin(void)
+// Reads the variables: at the start of the program, and in a copy of it that has set others. The programs that it starts go without
+// the shim.
+__attribute__((constructor)) void faults_begin(void)
 {
+    unsetenv("LD_PRELOAD");
+    begin_calls();
+    begin_branches();
     fail_at = number("FAIL_ALLOCATION", 0);
     fail_all_after = number("FAIL_ALL_AFTER", 0) != 0;
     counting = number("COUNT_FROM_START", 0) != 0;
@@ -71,26 +87,32 @@ static int write_number(char *text, long value)
     return length;
 }
 
-// Appends the line 'WORD NUMBER' to the report. Allocates nothing.
-static void append(const char *word, long value)
+void append_to(const char *path, const char *word, long value)
 {
     char text[64];
     int length = strlen(word);
-    if (!report)
+    if (!path)
         return;
     memcpy(text, word, length);
     text[length++] = ' ';
     length += write_number(text + length, value);
     text[length++] = '\n';
-    int file = syscall(SYS_openat, AT_FDCWD, report, O_WRONLY | O_CREAT | O_APPEND, 0600);
+    int file = syscall(SYS_openat, AT_FDCWD, path, O_WRONLY | O_CREAT | O_APPEND, 0600);
     if (file < 0)
         return;
     syscall(SYS_write, file, text, length);
     syscall(SYS_close, file);
 }
 
-__attribute__((destructor)) static void end(void)
+static void append(const char *word, long value)
 {
+    append_to(report, word, value);
+}
+
+// Writes the report: at the end of the program, and of a copy of it.
+__attribute__((destructor)) void faults_end(void)
+{
+    end_calls(report);
     append("allocations", allocations);
     append("script-reads", script.calls);
     append("script-furthest", script.furthest);
@@ -109,6 +131,10 @@ static int fails(void)
     if (!counting)
         return 0;
     allocations++;
+    if (branches(allocations)) {
+        fail_at = allocations;
+        report = "report";
+    }
     if (fail_at == 0 || allocations < fail_at || (allocations > fail_at && !fail_all_after))
         return 0;
     if (failed++ == 0)
@@ -117,44 +143,57 @@ static int fails(void)
     return 1;
 }
 
+// The calls of the C library, looked up at the first allocation: dlsym itself reallocates to tell of an error.
+static void *(*real_malloc)(size_t);
+static void *(*real_realloc)(void *, size_t);
+static void *(*real_aligned_alloc)(size_t, size_t);
+static int (*real_posix_memalign)(void **, size_t, size_t);
+static void *(*real_mmap)(void *, size_t, int, int, int, off_t);
+
+static void look_up(void)
+{
+    if (real_mmap)
+        return;
+    real_malloc = dlsym(RTLD_NEXT, "malloc");
+    real_realloc = dlsym(RTLD_NEXT, "realloc");
+    real_aligned_alloc = dlsym(RTLD_NEXT, "aligned_alloc");
+    real_posix_memalign = dlsym(RTLD_NEXT, "posix_memalign");
+    real_mmap = dlsym(RTLD_NEXT, "mmap");
+}
+
 void *malloc(size_t size)
 {
-    static void *(*real)(size_t);
-    if (!real)
-        real = dlsym(RTLD_NEXT, "malloc");
-    return fails() ? NULL : real(size);
+    look_up();
+    return fails() ? NULL : real_malloc(size);
 }
 
 void *realloc(void *old, size_t size)
 {
-    static void *(*real)(void *, size_t);
-    if (!real)
-        real = dlsym(RTLD_NEXT, "realloc");
-    return fails() ? NULL : real(old, size);
+    look_up();
+    return fails() ? NULL : real_realloc(old, size);
 }
 
 void *aligned_alloc(size_t alignment, size_t size)
 {
-    static void *(*real)(size_t, size_t);
-    if (!real)
-        real = dlsym(RTLD_NEXT, "aligned_alloc");
-    return fails() ? NULL : real(alignment, size);
+    look_up();
+    return fails() ? NULL : real_aligned_alloc(alignment, size);
 }
 
 int posix_memalign(void **place, size_t alignment, size_t size)
 {
-    static int (*real)(void **, size_t, size_t);
-    if (!real)
-        real = dlsym(RTLD_NEXT, "posix_memalign");
-    return fails() ? ENOMEM : real(place, alignment, size);
+    look_up();
+    return fails() ? ENOMEM : real_posix_memalign(place, alignment, size);
 }
 
 void *mmap(void *place, size_t size, int allowed, int flags, int file, off_t offset)
 {
-    static void *(*real)(void *, size_t, int, int, int, off_t);
-    if (!real)
-        real = dlsym(RTLD_NEXT, "mmap");
-    return fails() ? MAP_FAILED : real(place, size, allowed, flags, file, offset);
+    look_up();
+    return fails() || is_failing("mmap", file) ? MAP_FAILED : real_mmap(place, size, allowed, flags, file, offset);
+}
+
+void *mmap64(void *place, size_t size, int allowed, int flags, int file, off_t offset)
+{
+    return mmap(place, size, allowed, flags, file, offset);
 }
 
 // Returns whether the fault concerns this file descriptor.
@@ -182,7 +221,10 @@ static ssize_t allowed(const struct fault *fault, const struct traffic *traffic,
 ssize_t read(int file, void *place, size_t size)
 {
     struct traffic *traffic = file > 2 ? &loaded : &script;
-    ssize_t count = size;
+    ssize_t count = moved("read", file, size);
+    if (count < 0)
+        return -1;
+    size = count;
     counting = 1;
     traffic->calls++;
     traffic->after_end += traffic->ended;
@@ -195,7 +237,7 @@ ssize_t read(int file, void *place, size_t size)
         return -1;
     }
     if (count > 0)
-        count = syscall(SYS_read, file, place, count);
+        count = read_script(file, place, count);
     if (count > 0)
         traffic->bytes += count;
     if (count == 0 && size > 0)
@@ -206,7 +248,10 @@ ssize_t read(int file, void *place, size_t size)
 ssize_t write(int file, const void *place, size_t size)
 {
     struct traffic *traffic = file > 2 ? &saved : &answers;
-    ssize_t count = size;
+    ssize_t count = moved("write", file, size);
+    if (count < 0)
+        return -1;
+    size = count;
     if (file == 2)
         return syscall(SYS_write, file, place, size);
     traffic->calls++;
@@ -218,6 +263,7 @@ ssize_t write(int file, const void *place, size_t size)
     }
     if (count > 0)
         count = syscall(SYS_write, file, place, count);
+    end_write();
     if (count > 0)
         traffic->bytes += count;
     return count;

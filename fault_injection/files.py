@@ -3,11 +3,11 @@
 """Scene files: truncated, extended, changed and endless ones, and reads and writes that fail. files.py [PART..]"""
 import sys
 from itertools import chain
-import encoding
-import vectors
 from feeding import feeding
 from planted import planted
 from program import LOAD_LIMIT, TIMEOUT, Tally, Workplace, some
+import encoding
+import vectors
 
 TALLY, PLACE = Tally("files"), Workplace()
 NO_SCRIPT = b""

@@ -10,37 +10,44 @@ from dataclasses import dataclass, field, replace
 from pathlib import Path
 
 HERE = Path(__file__).resolve().parent
+sys.path.append(str(HERE.parent / "tests"))  # encoding.py and vectors.py
 PROGRAM = os.environ.get("VDB", str(HERE.parent / "crates" / "vdb" / "out" / "vdb"))
 STRIDE = int(os.environ.get("STRIDE", "1"))
 TIMEOUT = int(os.environ.get("TIMEOUT", "60"))
+#: where the files of many runs lie, in memory if there is such a place: on a busy disk a file takes milliseconds, and fsync seconds
+FAST = "/dev/shm" if os.access("/dev/shm", os.W_OK) else None
 LOAD_LIMIT = 268_435_456
 SCRIPT_LIMIT = 16_777_216
 
 
 @dataclass
 class Run:
-    """The result of a run: the exit status, the answers, the text on standard error, the saved file (None if there is none)
-    and the shim's counts."""
+    """The result of a run: the exit status, the answers, the text on standard error, the saved file (None if there is none),
+    the shim's counts, the files beside the saved one that were made, changed or removed, and the names of the calls on own files."""
 
     status: int
     answers: bytes
     errors: bytes
     saved: "bytes | None"
     counts: dict = field(default_factory=dict)
+    left: set = field(default_factory=set)
+    calls: list = field(default_factory=list)
 
 
 class Workplace:
-    """A folder for one set of runs, with the built shim."""
+    """A folder for one set of runs, with the built shim, or that of another workplace."""
 
-    def __init__(self, program=PROGRAM, variable="VDB"):
+    def __init__(self, program=PROGRAM, variable="VDB", shim=None):
         if not os.access(program, os.X_OK):
             crate = f"crates/{Path(program).name}"
             sys.exit(f"no program {program}: build it with 'rt run < /dev/null' in {crate}, or name another in {variable}")
         self.program = program
         self.holder = tempfile.TemporaryDirectory(prefix="faults-")
         self.folder = Path(self.holder.name)
-        self.shim = self.folder / "faults.so"
-        subprocess.run(["gcc", "-O2", "-shared", "-fPIC", "-o", self.shim, HERE / "faults.c"], check=True)
+        self.shim = shim or self.folder / "faults.so"
+        if not shim:
+            sources = [HERE / f"{name}.c" for name in ("faults", "calls", "branches")]
+            subprocess.run(["gcc", "-O2", "-shared", "-fPIC", "-o", self.shim, *sources], check=True)
 
     def run(self, script, load=None, save_as=None, seconds=TIMEOUT, named=False, more=(), **injected):
         """Runs a script (bytes, or the path of a file) from standard input, or as a SCRIPT word if `named`. `load` is the
@@ -64,15 +71,18 @@ class Workplace:
         remove(report)
         environment = {"REPORT": report, "LD_PRELOAD": str(self.shim)} if counted else {}
         environment.update((name.upper(), str(value)) for name, value in injected.items())
-        new = os.O_WRONLY | os.O_CREAT | os.O_TRUNC
-        opened = [(os.POSIX_SPAWN_OPEN, 1, answers, new, 0o600), (os.POSIX_SPAWN_OPEN, 2, errors, new, 0o600)]
-        with open(path, "rb") as standard_input:
-            actions = [(os.POSIX_SPAWN_DUP2, standard_input.fileno(), 0), *opened]
-            child = os.posix_spawn(self.program, [self.program, *words], environment, file_actions=actions)
-            status = status_of(child, seconds)
+        status = self.status([self.program, *words], environment, [path, answers, errors], seconds)
         if status == -signal.SIGKILL:
             return Run(status, b"", f"killed, or no end within {seconds} seconds".encode(), None)
         return Run(status, content(answers), content(errors), None, counts(report) if counted else {})
+
+    def status(self, words, environment, streams, seconds):
+        """Starts a program with the files at these paths as its standard streams. Returns its status once it has ended."""
+        new = os.O_WRONLY | os.O_CREAT | os.O_TRUNC
+        opened = [(os.POSIX_SPAWN_OPEN, number, path, new, 0o600) for number, path in enumerate(streams) if number > 0]
+        with open(streams[0], "rb") as standard_input:
+            actions = [(os.POSIX_SPAWN_DUP2, standard_input.fileno(), 0), *opened]
+            return status_of(os.posix_spawn(words[0], words, environment, file_actions=actions), seconds)
 
     def path_of(self, name, text):
         """Returns the path of a file with this text, which may itself be a path."""
@@ -132,7 +142,7 @@ class Tally:
             return
         self.failed += 1
         if self.failed <= 20:
-            print(f"FAILED {self.subject}: {what}")
+            print(f"FAILED {self.subject}: {what}"[:1000])
         if "PLANTED" in os.environ:
             self.end()
 

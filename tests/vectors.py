@@ -1,10 +1,6 @@
 # SPDX-License-Identifier: Apache-2.0
 """Scene files: those of the rows, with the scripts that make their scenes, and larger ones that are made here."""
-import sys
-from pathlib import Path
-
-sys.path.append(str(Path(__file__).resolve().parent.parent / "tests"))
-import rows  # noqa: E402
+import rows
 
 
 def from_hex(text):

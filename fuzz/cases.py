@@ -1,0 +1,159 @@
+# SPDX-License-Identifier: Apache-2.0
+"""The cases of the fuzzer. Each function plays one case by all drivers and returns the first difference as a text, or an empty one."""
+import random
+import re
+import sys
+
+from mutating import encoding, lines_of  # before modules of tests and fault_injection, whose folders it adds
+import by_openvdb
+from allocations import answer_of_each, memory_may_replace
+from by_c import C
+from by_package import Package, loaded_by_package, vdb
+from cells import TooLarge
+from drivers import same
+from language import Scene, error_of
+from program import Workplace
+
+MOST_LEAVES = 3000  # of a scene after a line; a line that makes more is left out, since it takes time and memory
+MOST_PARTS = 60  # leaf and upper extents of a scene whose file the model writes
+MEMORY = [b"error memory\n"]
+DOUBTFUL = re.compile(rb"meta \S+ (end|more|error) ")  # makes lines of `metas` that look like the last one, or like an error
+
+
+def vetted(lines, most=MOST_LEAVES, scene=None):
+    """Returns the lines that the model can answer, and whose scene has no more leaves, each with its answer, and the last scene. The first
+    scene has no grids unless it is given."""
+    scene, kept = scene or Scene(), []
+    for line in lines:
+        before = {name: grid.copy() for name, grid in scene.grids.items()}
+        try:
+            answer = scene.answer(line)
+            if scene.leaves() > most:
+                raise TooLarge
+            kept.append((line, answer))
+        except TooLarge:
+            scene.grids = before
+    return kept, scene
+
+
+def text_of(lines):
+    return b"".join(line + b"\n" for line in lines)
+
+
+def as_bytes(answers):
+    return "".join(f"{line}\n" for answer in answers for line in answer).encode("latin-1")
+
+
+def first_difference(kept, found):
+    """Returns which line of a script has another answer."""
+    rest = found.decode("latin-1").split("\n")
+    for line, answer in kept:
+        got, rest = rest[: len(answer)], rest[len(answer) :]
+        if got != answer:
+            return f"{line!r} answers {got[:5]}, not {answer[:5]}"
+    return f"more answers {rest[:5]}"
+
+
+class Cases:
+    """The drivers, and a folder for the program's files."""
+
+    def __init__(self):
+        self.place = Workplace()
+        self.played = {"calls of C": 0, "calls of Python": 0}
+
+    # -- scripts
+
+    def script(self, lines, chance):
+        """Plays a script by the program and by both libraries, with the answers and the file of the model."""
+        kept, scene = vetted(lines)
+        return self.vetted_script(kept, scene, chance) or (by_openvdb.fault(lines) if by_openvdb.PROGRAM else "")
+
+    def vetted_script(self, kept, scene, chance):
+        lines, wanted = [line for line, _ in kept], as_bytes(answer for _, answer in kept)
+        run = self.place.run(text_of(lines), counted=False)
+        if run.answers != wanted:
+            return f"the program: {first_difference(kept, run.answers)}"
+        if (run.status, run.errors) == (4, b"vdb: save: too-long\n") and scene.parts() > MOST_PARTS:
+            return ""  # so many parts may be more bytes than a file may have
+        status = int(any(error_of(answer) for _, answer in kept))
+        if (run.status, run.errors) != (status, b"") or run.saved is None:
+            return f"the program: status {run.status}, {run.errors!r}"
+        if scene.parts() <= MOST_PARTS and scene.saved() != run.saved:
+            return "the program saves another file than the model"
+        at = chance.randrange(len(lines) + 1)
+        return self.called(kept, run.saved, chance) or (self.in_two(lines, at, run) if chance.random() < 0.3 else "")
+
+    def in_two(self, lines, at, run):
+        """Plays a script in two sessions, the second of which loads what the first saved."""
+        first = self.place.run(text_of(lines[:at]), counted=False)
+        second = self.place.run(text_of(lines[at:]), load=first.saved, counted=False)
+        if first.answers + second.answers != run.answers or second.saved != run.saved:
+            return f"the program: another end in two sessions, split before line {at + 1}"
+        return ""
+
+    def called(self, kept, saved, chance):
+        """Plays a script by the calls of both libraries."""
+        for name, driver in (("C", C(chance)), ("Python", Package(chance))):
+            for line, answer in kept:
+                if answer:
+                    found = driver.answer(line.decode("latin-1").split(), answer)
+                    self.played[f"calls of {name}"] += found is not None
+                    if found is not None and not same(found, answer):
+                        return f"{name}: {line!r} answers {found[:5]}, not {answer[:5]}"
+            if driver.saved() != saved:
+                return f"{name}: another file than the program's"
+            driver.end()
+        return ""
+
+    def row(self, row, chance):
+        """Plays a row, whose answers and files must be those of the model."""
+        if row.stderr:
+            same_fault = encoding.verdict(row.load) == row.stderr.decode().split()[-1]
+            return self.file(row.load, chance) if same_fault else "encoding.py has another fault"
+        kept, scene = vetted(lines_of(row), sys.maxsize, row.load and Scene.loaded(row.load))
+        if [line for _, answer in kept for line in answer] != [answer.text for answer in row.answers]:
+            return "the model has other answers"
+        return self.file(row.load, chance) if row.load else self.vetted_script(kept, scene, chance)
+
+    # -- memory
+
+    def memory(self, lines, chance):
+        """Makes one allocation of a script fail, or it and all after it. The other lines answer as if the failed ones weren't there."""
+        lines = [b" ".join(re.findall(rb"[^ \t\r]+", line)) for line, answer in vetted(lines)[0] if answer and len(line) <= 256]
+        lines = [line for line in lines if not DOUBTFUL.match(line)]
+        plain = self.place.run(text_of(lines))
+        allocations = plain.counts.get("allocations", 0)
+        if not allocations:
+            return ""
+        failing, after = chance.randint(1, allocations), chance.randrange(2)
+        run = self.place.run(text_of(lines), fail_allocation=failing, fail_all_after=after)
+        whole, found = ([[it] for it in answer_of_each(lines, done.answers)] for done in (plain, run))
+        kept = [number for number, answer in enumerate(found) if answer != MEMORY]
+        failed = [number for number, answer in enumerate(found) if answer == MEMORY]
+        what = f"allocation {failing} fails{', and all after it' if after else ''}"
+        if failed and whole[failed[0]][0].startswith(b"error ") and not memory_may_replace(lines[failed[0]], whole[failed[0]][0]):
+            return f"{what}: {lines[failed[0]]!r} answers memory, not {whole[failed[0]][0]!r}"
+        if (run.errors, run.status) != (b"", int(any(answer[0].startswith(b"error ") for answer in found))):
+            return f"{what}: status {run.status}, {run.errors!r}"
+        other = self.place.run(text_of(lines[number] for number in kept), counted=False)
+        if other.answers != b"".join(found[number][0] for number in kept) or other.saved != run.saved:
+            return f"{what}: the other lines have other answers, or another file"
+        return ""
+
+    # -- files
+
+    def file(self, text, chance):
+        """Loads a file by the libraries, and sometimes by the program, with the fault or the bytes of encoding.py."""
+        wanted = encoding.verdict(text)
+        ways = [("C", C(chance).loaded), ("vdb", lambda text: loaded_by_package(text, vdb))]
+        for name, way in [*ways, ("vdb.scenefile", lambda text: loaded_by_package(text, vdb.scenefile))]:
+            found = way(text)
+            if found != wanted:
+                return f"{name}: {found!r}, not {wanted!r}"
+        if chance.random() < 0.05:
+            run = self.place.run(b"", load=text, counted=False)
+            end = run.status, run.answers, run.errors, run.saved
+            bad = isinstance(wanted, str)
+            if end != ((3, b"", f"vdb: load: {wanted}\n".encode(), None) if bad else (0, b"", b"", wanted)):
+                return f"the program: {end}, not {wanted!r}"
+        return ""
