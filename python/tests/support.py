@@ -9,7 +9,7 @@ import unittest
 from pathlib import Path
 
 TOP = Path(__file__).resolve().parents[2]
-sys.path[:0] = [str(TOP / "python"), str(TOP / "fault_injection")]
+sys.path[:0] = [str(TOP / "python"), str(TOP / "tests"), str(TOP / "fuzz")]
 
 try:
     import numpy as np

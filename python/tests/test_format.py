@@ -1,6 +1,7 @@
 # SPDX-License-Identifier: Apache-2.0
 """Files of docs/FORMAT.md, good and bad, and files a byte away from them, against the independent reader."""
 import re
+import tracemalloc
 import unittest
 from unittest import mock
 
@@ -33,7 +34,7 @@ FILE = bytes_of(table("| Offset | Bytes | Field |"))
 
 
 def changes():
-    """The changes of that file that the document tells by a place and bytes, each with its fault."""
+    """The changes of that file that the document gives by a place and bytes, each with its fault."""
     for change, fault in table("| Change | Fault |"):
         if fault == "constant-node":
             continue
@@ -102,6 +103,12 @@ class Document(unittest.TestCase):
 
 
 class Vectors(unittest.TestCase):
+    def test_most_pairs(self):
+        """A grid with 16 metadata pairs, each as long as it may be."""
+        pairs = [(b"a_key_of_sixteen"[:14] + b"%02d" % number, b"~" * 64) for number in range(16)]
+        data = encoding.save([encoding.Grid(b"a", 1, 0, pairs=pairs)])
+        self.assertEqual((encoding.verdict(data), verdict(data)), (data, data))
+
     def test_made(self):
         for name, (data, _) in vectors.MADE.items():
             self.assertEqual(verdict(data), data, name)
@@ -197,6 +204,19 @@ class Constant(unittest.TestCase):
         self.check(upper)
         self.check([*upper[:-1], (32767, (2, 7))])
         self.check([*upper[:-1], (32767, [(0, (2, 7))])])
+
+
+class Memory(unittest.TestCase):
+    def test_most(self):
+        """A file of tiles of four bytes, whose grid takes the most memory for a byte."""
+        tiles = [(index, (2, index % 2)) for index in range(4096)]
+        data = encoding.save([encoding.Grid(b"m", 0, 0, 1, [], [((0, 0, 0), [(index, tiles) for index in range(12)])])])
+        tracemalloc.start()
+        found = scenefile.loads(data)
+        peak = tracemalloc.get_traced_memory()[1]
+        tracemalloc.stop()
+        self.assertLess(peak, 10 * len(data))
+        self.assertEqual(found.to_bytes(), data)
 
 
 class TooLong(unittest.TestCase):

@@ -46,6 +46,19 @@ class Arrays(unittest.TestCase):
                     self.assertEqual(cell(grid, place), (values[at].item(), bool(active[at])))
                 self.part(dice, grid, values, active, low, background)
 
+    def test_equal_tiles_of_other_states(self):
+        active = np.ones((128, 128, 128), np.bool_)
+        active[:8, :8, :8] = False
+        self.check(np.full(active.shape, 5, np.int32), active, (0, 0, 0), 0)
+
+    def test_a_box_that_begins_in_the_only_leaf(self):
+        values = np.arange(1, 513, dtype=np.int32).reshape(8, 8, 8)
+        wanted = np.zeros((17, 17, 17), np.int32)
+        wanted[:4, :4, :4] = values[4:, 4:, 4:]
+        found = scenefile.Grid.from_array(values).to_array(((4, 4, 4), (20, 20, 20)))
+        np.testing.assert_array_equal(found[0], wanted)
+        np.testing.assert_array_equal(found[1], wanted != 0)
+
     def part(self, dice, grid, values, active, low, background):
         """A box that goes over the array's edges, with and without a fill."""
         first = [dice.randint(-20, side) for side in values.shape]
@@ -82,6 +95,17 @@ class Arrays(unittest.TestCase):
         with self.assertRaises(ValueError):
             scenefile.Grid("i32")[0, 0, 2**31]
 
+    def test_a_thin_array(self):
+        """A long array of few voxels has many root blocks; those that hold nothing but the background are passed over."""
+        values = np.zeros((1, 3, 30000), np.int32)
+        values[0, 1, 20000] = 7
+        active = np.zeros(values.shape, np.bool_)
+        active[0, 2, 10000] = True
+        for states, wanted in ((None, {(5, 0, 0): (7, True)}), (active, {(5, 0, 0): (7, False), (5, 1, -10000): (0, True)})):
+            grid = scenefile.Grid.from_array(values, states, origin=(5, -1, -20000))
+            found = {at: (int(grid[at]), bool(grid.active[at])) for at in [(5, 0, 0), (5, 1, -10000), (5, 0, 1), (5, -1, -20000)]}
+            self.assertEqual(found, {(5, 0, 1): (0, False), (5, -1, -20000): (0, False), (5, 1, -10000): (0, False), **wanted})
+
     def test_default_active(self):
         values = np.arange(24, dtype=np.int32).reshape(2, 3, 4)
         for background in (0, 5, -1):
@@ -97,6 +121,16 @@ class Arrays(unittest.TestCase):
         self.assertEqual(grid.tile_counts, {8: 1, 128: 1, 4096: 0})
         self.assertEqual(list(grid.tiles()), [((0, -128, 256), 128, 9, True), ((0, -120, 384), 8, 4, False)])
         self.assertEqual(cell(grid, (0, -120, 384)), (4, False))
+
+    def test_tiles_with_a_fill(self):
+        """Inactive voxels of tiles have the fill, active ones their value."""
+        values, active = np.full((16, 8, 8), 5, np.int32), np.ones((16, 8, 8), np.bool_)
+        active[8:] = False
+        grid = scenefile.Grid.from_array(values, active)
+        self.assertEqual(grid.tile_counts[8], 2)
+        found, states = grid.to_array(((0, 0, 0), (15, 7, 7)), fill=-1)
+        self.assertEqual([found[:8].min(), found[:8].max(), found[8:].min(), found[8:].max()], [5, 5, -1, -1])
+        np.testing.assert_array_equal(states, active)
 
     def test_root_tile(self):
         """A root block of one value, which a file holds and no array of a reasonable size."""
@@ -215,7 +249,10 @@ class Forms(unittest.TestCase):
 
     def test_bounds(self):
         grid = scenefile.Grid("i32")
-        for bounds, error in ((((1, 0, 0), (0, 0, 0)), ValueError), (((0, 0), (1, 1, 1)), TypeError), (((0, 0, 0), (0, 0, 0.5)), TypeError)):
+        for bounds, error in (
+            (((1, 0, 0), (0, 0, 0)), vdb.RangeError), (((0, 0), (1, 1, 1)), vdb.DtypeError), (((0, 0, 0), (0, 0, 0.5)), vdb.DtypeError),
+            (5, vdb.DtypeError), (((0, 0, 0),), vdb.DtypeError),
+        ):  # fmt: skip
             with self.assertRaises(error):
                 grid.to_array(bounds)
         with self.assertRaises(TypeError):

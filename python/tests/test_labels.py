@@ -1,6 +1,7 @@
 # SPDX-License-Identifier: Apache-2.0
 """Labels: their numbers, boxes, choices and growth, against dense arrays."""
 import unittest
+from unittest import mock
 
 from .support import DTYPES, EXTREMES, boxes, chance, encoding, library_missing, np, random_array, rows, scenefile, vdb
 
@@ -23,13 +24,13 @@ def sample(seed, kind=None):
 
 
 def grid_of(values, active, low, form="pruned"):
-    """A grid of the engine whose tree has tiles, or none, or as it comes."""
+    """A grid of the engine whose tree has tiles, or none, or what `set_box` leaves."""
     grid = vdb.Grid.from_array(values, active, low)
     if form == "voxelised" and grid.bounds:
         grid.voxelise(grid.bounds)
     elif form == "raw":
         grid = vdb.Grid(values.dtype)
-        grid.set_box(low, values, active)
+        grid.write_box(low, values, active)
     return grid
 
 
@@ -57,6 +58,17 @@ class Reports(unittest.TestCase):
                 self.check(scenefile.Grid.from_array(values, active, low), values, active, low)
                 for form in FORMS if vdb in PACKAGES else ():
                     self.check(grid_of(values, active, low, form), values, active, low)
+
+    def test_many_labels(self):
+        """Leaves of many labels, which are grouped after a few leaves: then voxels within the box of their label are only counted."""
+        for seed, step in enumerate([1, 1, 5000, -(2**26)]):
+            dice = np.random.default_rng(seed)
+            values = (dice.integers(1, 30, (40, 24, 30)) * step).astype(np.int32)
+            active, low = dice.random(values.shape) < 0.6, (-9, 0, 4090)
+            for package in PACKAGES:
+                grid = package.Grid.from_array(values, active, low)
+                with mock.patch("vdb.blocks.MANY", 40), mock.patch("vdb.walk.LEAVES", 2), mock.patch("vdb.scenefile.tree.LEAVES", 2):
+                    self.assertEqual(rows(grid.labels()), boxes(values, active, low)[1])
 
     def test_types(self):
         for package in PACKAGES:
@@ -99,6 +111,10 @@ class Choices(unittest.TestCase):
                         mask = active & np.isin(values, wanted)
                         self.assertEqual((found.kind, found.background, found.tree_leaf_count), ("bool", False, found.leaf_count))
                         self.assertEqual(found, vdb.Grid.from_array(mask, origin=low))
+        ends = np.array([[[*range(20), -(2**63), 2**63 - 1, -1]]])
+        grid = vdb.Grid.from_array(ends, ends != 3)
+        for wanted in (range(1, 12), [-(2**63), *range(9)], [*range(9), 2**63 - 1]):
+            self.assertEqual(grid.select([*wanted])[0, 0, 0:23].tolist(), (np.isin(ends, [*wanted]) & (ends != 3))[0, 0].tolist())
         with self.assertRaisesRegex(vdb.DtypeError, "1.5"):
             vdb.Grid("i32").select(1.5)
         self.assertEqual(vdb.Grid("i32").select([]).count, 0)
@@ -135,6 +151,21 @@ class Choices(unittest.TestCase):
                 self.assertEqual(grid.where(grid), vdb.Grid.from_array(values * active, active, low))
         with self.assertRaises(TypeError):
             grid.where(mask)
+
+    def test_tiles_stay_tiles(self):
+        """Choices in a grid of 2^36 voxels make leaves only where leaves are."""
+        grid = vdb.Grid("i32")
+        grid.fill(((0, 0, 0), (4095, 4095, 4095)), 6)
+        grid.fill(((-128, 0, 0), (-1, 127, 127)), 3)
+        grid[-200, 0, 0] = 3
+        for found, voxels, leaves in (
+            (grid.select(6), 2**36, 0), (grid.select(3), 2**21 + 1, 1), (grid.select([3, 6]), grid.count, 1),
+            (grid.relabel({6: 7}), grid.count, 1), (grid.where(grid.select(6)), 2**36, 0),
+        ):  # fmt: skip
+            self.assertEqual((found.count, found.tree_leaf_count), (voxels, leaves))
+        self.assertEqual(rows(grid.relabel({6: 7}).labels()), [(3, *rows(grid.labels())[0][1:]), (7, *rows(grid.labels())[1][1:])])
+        grid.dilate_label(3)
+        self.assertEqual(grid.select(6).count, 2**36)
 
     def test_dilate_label(self):
         for seed in range(25):

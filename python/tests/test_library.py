@@ -2,6 +2,7 @@
 """Grids and scenes of the engine, against brute force and against scenefile."""
 import copy
 import os
+import signal
 import tempfile
 import unittest
 from pathlib import Path
@@ -57,9 +58,9 @@ class Arrays(unittest.TestCase):
                 self.assertTrue((found[~states] == EXTREMES[grid.kind][1]).all())
                 self.assertEqual(int(states.sum()), grid.count)
 
-    def test_slabs(self):
-        """Arrays that cross in several slabs, which end between leaves."""
-        with mock.patch("vdb.arrays.SLAB", 700):
+    def test_bricks(self):
+        """Arrays that cross in several slabs and bricks, which end between leaves."""
+        with mock.patch("vdb.arrays.SLAB", 700), mock.patch("vdb.arrays.BRICK", 700):
             self.test_random()
 
     def test_empty(self):
@@ -100,7 +101,7 @@ class Many(unittest.TestCase):
                     at = np.array(places, np.int64).reshape(-1, 3)
                     values = np.array([dice.choice(EXTREMES[kind]) for _ in at], DTYPES[kind])
                     active = np.array([dice.random() < 0.5 for _ in at], np.bool_)
-                    grid.set_many(at, values, active)
+                    grid.write_many(at, values, active)
                     cells.update({tuple(key): (value, on) for key, value, on in zip(at.tolist(), values.tolist(), active.tolist())})
                 keys = list(cells) + [(5, 5, 5)]
                 values, active = grid.get_many(np.array(keys))
@@ -110,24 +111,24 @@ class Many(unittest.TestCase):
 
     def test_one_value_for_all(self):
         grid = vdb.Grid("i32", 4)
-        grid.set_many(np.array([[0, 0, 0], [1, 2, 3]]), 7, False)
+        grid.write_many(np.array([[0, 0, 0], [1, 2, 3]]), 7, False)
         self.assertEqual((cell(grid, (0, 0, 0)), cell(grid, (1, 2, 3)), cell(grid, (0, 0, 1))), ((7, False), (7, False), (4, False)))
 
     def test_errors(self):
         grid = vdb.Grid("i32", limit=1)
         for at, error in (([[0, 0]], ValueError), ([0, 0, 0], ValueError), ([[0.0, 0, 0]], TypeError), ([[0, 0, MOST + 1]], ValueError)):
             with self.subTest(at=at), self.assertRaises(error):
-                grid.set_many(np.array(at), 1)
+                grid.write_many(np.array(at), 1)
         with self.assertRaises(vdb.RangeError):
-            grid.set_many(np.array([[0, 0, 0], [0, 0, 1]]), np.array([1, MOST + 1]))
+            grid.write_many(np.array([[0, 0, 0], [0, 0, 1]]), np.array([1, MOST + 1]))
         self.assertEqual(grid.count, 0)
         with self.assertRaises(vdb.RootLimitError):
-            grid.set_many(np.array([[0, 0, 0], [0, 0, 4096], [0, 0, 1]]), 1)
+            grid.write_many(np.array([[0, 0, 0], [0, 0, 4096], [0, 0, 1]]), 1)
         self.assertEqual((grid.count, cell(grid, (0, 0, 0))), (1, (1, True)))
 
 
 class Boxes(unittest.TestCase):
-    def test_set_box(self):
+    def test_write_box(self):
         dice = np.random.default_rng(3)
         for kind, dtype in DTYPES.items():
             values = dice.integers(0, 2, (9, 5, 17)).astype(dtype)
@@ -135,7 +136,7 @@ class Boxes(unittest.TestCase):
             for states in (active, True, False):
                 with self.subTest(kind=kind, states=type(states)):
                     grid = vdb.Grid(kind)
-                    grid.set_box((-4, 3, -9), values[:, ::-1], states)
+                    grid.write_box((-4, 3, -9), values[:, ::-1], states)
                     read, on = grid.to_array(((-4, 3, -9), (4, 7, 7)))
                     np.testing.assert_array_equal(read, values[:, ::-1])
                     np.testing.assert_array_equal(on, np.broadcast_to(states, values.shape))
@@ -143,18 +144,18 @@ class Boxes(unittest.TestCase):
     def test_errors(self):
         grid = vdb.Grid("i32")
         with self.assertRaises(vdb.RangeError):
-            grid.set_box((0, 0, 0), np.array([[[1, MOST + 1]]]))
+            grid.write_box((0, 0, 0), np.array([[[1, MOST + 1]]]))
         with self.assertRaises(ValueError):
-            grid.set_box((MOST, 0, 0), np.zeros((2, 1, 1), np.int32))
+            grid.write_box((MOST, 0, 0), np.zeros((2, 1, 1), np.int32))
         with self.assertRaises(ValueError):
-            grid.set_box((0, 0, 0), np.zeros((2, 1, 1), np.int32), np.zeros((1, 1, 1), np.bool_))
+            grid.write_box((0, 0, 0), np.zeros((2, 1, 1), np.int32), np.zeros((1, 1, 1), np.bool_))
         self.assertEqual(grid.count, 0)
 
     def test_leaves(self):
         grid = vdb.Grid("i32", 5)
         self.assertEqual((grid.leaf_count, list(grid.leaves())), (0, []))
         for number in range(600):
-            grid.set_many([[number * 8 - 2400, -3, 2**31 - 1]], number + 6, number % 3 == 0)
+            grid.write_many([[number * 8 - 2400, -3, 2**31 - 1]], number + 6, number % 3 == 0)
         self.assertEqual(grid.leaf_count, 600)
         for number, (at, values, states) in enumerate(sorted(grid.leaves(), key=lambda leaf: leaf[0])):
             self.assertEqual((at, values.shape, values.dtype), ((number * 8 - 2400, -8, 2**31 - 8), (8, 8, 8), np.int32))
@@ -167,7 +168,7 @@ class Calls(unittest.TestCase):
         grid = vdb.Grid("i32", -1, limit=3)
         self.assertEqual((grid.kind, grid.background, grid.limit, cell(grid, (1, 2, 3))), ("i32", -1, 3, (-1, False)))
         grid[1, 2, 3] = 5
-        grid.set_many([[1, 2, 4]], 6, False)
+        grid.write_many([[1, 2, 4]], 6, False)
         grid.set_active((1, 2, 5), True)
         grid.set_value((1, 2, 3), np.int32(7))
         self.assertEqual([cell(grid, (1, 2, z)) for z in (3, 4, 5)], [(7, True), (6, False), (-1, True)])
@@ -205,6 +206,18 @@ class Calls(unittest.TestCase):
                 other.erode(times)
                 np.testing.assert_array_equal(grid.to_array(box)[1], grown)
                 np.testing.assert_array_equal(other.to_array(box)[1], shrunk)
+
+    def test_iterations_are_reported_and_an_interrupted_one_changes_nothing(self):
+        grid, seen = vdb.Grid("i32"), []
+        grid.fill(((0, 0, 0), (9, 9, 9)), 5)
+        grid.dilate(3, lambda *reported: seen.append(reported))
+        self.assertEqual((seen, grid.bounds), ([(1, 3), (2, 3), (3, 3)], ((-3, -3, -3), (12, 12, 12))))
+        whole = grid.copy()
+        with self.assertRaises(KeyboardInterrupt):
+            grid.erode(5, lambda done, _all: signal.raise_signal(signal.SIGINT) if done == 2 else None)
+        self.assertEqual(grid, whole)
+        grid.erode(3)
+        self.assertEqual(grid.count, 1000)
 
     def test_two_grids(self):
         for seed in range(20):

@@ -2,10 +2,13 @@
 """NumPy's manners of grids, with NumPy itself as the oracle: those of the engine and those of scene files."""
 import copy
 import gc
+import inspect
 import pickle
+import re
 import threading
 import time
 import unittest
+from collections.abc import Iterator
 from unittest import mock
 
 from .support import DTYPES, EXTREMES, chance, encoding, library_missing, np, random_array, scenefile, vdb
@@ -118,7 +121,7 @@ class Dense(unittest.TestCase):
                 grid.to_array(dtype=np.uint8)
             with self.assertRaisesRegex(vdb.RangeError, "-3 is outside uint64"):
                 np.asarray(grid, np.uint64)
-            for wrong in (np.float32, np.bool_, "U1"):
+            for wrong in (np.float32, np.bool_, "U1", "none", 5.0):
                 with self.assertRaises(vdb.DtypeError):
                     grid.to_array(dtype=wrong)
             mask = package.Grid.from_array(values == 0)
@@ -164,6 +167,9 @@ class Coordinates(unittest.TestCase):
         for package in PACKAGES:
             first = next(package.loads(data)["a"].active_coordinates(rows=1000))
             self.assertEqual((first.shape, first[0].tolist(), first[-1].tolist()), ((1000, 3), [-4096, 0, 0], [-4096 + 7, 4, 15]))
+            for wrong in (0, -1):
+                with self.assertRaises(vdb.RangeError):
+                    next(package.loads(data)["a"].active_coordinates(rows=wrong))
 
 
 class Copies(unittest.TestCase):
@@ -184,6 +190,7 @@ class Copies(unittest.TestCase):
                 self.assertNotEqual(package.Grid.from_array(values, active ^ (values != values[0, 0, 0]) ^ True, LOW), grid)
                 self.assertNotEqual(package.Grid.from_array(values, active, LOW, True if kind == "bool" else 1), grid)
                 self.assertNotEqual(grid, package.Grid("i64" if kind == "i32" else "i32"))
+                self.assertNotEqual(package.Grid(kind, EXTREMES[kind][0]), package.Grid(kind, EXTREMES[kind][1]))
                 self.assertNotEqual(grid, 5)
                 with self.assertRaises(TypeError):
                     hash(grid)
@@ -209,7 +216,56 @@ class Copies(unittest.TestCase):
             self.assertEqual(repr(package.Grid("bool", True)), "<Grid bool, background True, 0 active voxels>")
 
 
+def plain(found):
+    """A result as lists, with the names of its types. What a call yields part by part is joined."""
+    if isinstance(found, Iterator):
+        parts = list(found)
+        if isinstance(parts[0], np.ndarray):
+            return plain(np.concatenate(parts))
+        return plain(vdb.Boxes(*map(np.concatenate, zip(*parts)))) if isinstance(parts[0], vdb.Boxes) else [plain(it) for it in parts]
+    if isinstance(found, np.ndarray):
+        return str(found.dtype), found.tolist()
+    if isinstance(found, tuple):
+        return type(found).__name__, [plain(it) for it in found]
+    return type(found).__name__, found
+
+
+class Same(unittest.TestCase):
+    NAMES = (
+        "active active_coordinates background bounds boxes copy count dtype from_array kind labels leaf_count leaves limit metadata to_array"
+    )
+
+    @needs_library
+    def test_what_both_packages_have_is_the_same(self):
+        """Names, arguments, and results with their types."""
+        values, active = sample(3)
+        active[0, 0, 0] = True
+        one, other = (package.Grid.from_array(values, active, LOW, 5, 9, {"unit": "mm"}) for package in (vdb, scenefile))
+        shared = sorted(name for name in {*dir(one)} & {*dir(other)} if not name.startswith("_"))
+        self.assertEqual(" ".join(shared), self.NAMES)
+        for name in shared:
+            found = [getattr(grid, name) for grid in (one, other)]
+            if callable(found[0]):
+                arguments = [[(it.name, it.default, it.kind) for it in inspect.signature(call).parameters.values()] for call in found]
+                self.assertEqual(*arguments, name)
+                found = [values] * 2 if name == "from_array" else [call() for call in found]
+            if name in ("copy", "active"):
+                found = [np.asarray(it) for it in found]
+            self.assertEqual(*map(plain, found), name)
+        for name in ("Scene", "Metadata"):
+            self.assertEqual(*([it for it in dir(getattr(package, name)) if it[0] != "_"] for package in (vdb, scenefile)))
+
+
 class Errors(unittest.TestCase):
+    def test_the_table(self):
+        """The table of the documentation names the built-in class of each error."""
+        table, builtin = {}, ""
+        for line in (it for it in vdb.errors.__doc__.splitlines() if it.startswith("    ")):
+            builtin = line[4:23].strip() or builtin
+            table.update({name: builtin for name in re.findall(r"\w+Error", line[23:])})
+        kinds = {name: getattr(vdb, name) for name in vdb.errors.__all__ if name.endswith("Error") and name != "VdbError"}
+        self.assertEqual(table, {name: next(it for it in kind.__mro__ if it.__module__ == "builtins").__name__ for name, kind in kinds.items()})
+
     def test_one_tree(self):
         for name in vdb.errors.__all__:
             kind = getattr(vdb, name)
@@ -280,9 +336,9 @@ class Assignments(unittest.TestCase):
         self.assertEqual(grid[0:8, 0, 0].tolist(), [1, 2, 3, 1, 0, 1, 250, 251])
         before, flags = grid.copy(), vdb.Grid("bool")
         for call, error, text in (
-            (lambda it: grid.__setitem__((slice(0, 2), 0, 0), it), TypeError, "1.7"), (lambda it: grid.set_many([[0, 0, 0]] * 2, it), TypeError, "1.7"),
-            (lambda it: grid.set_box((0, 0, 0), np.reshape(it, (2, 1, 1))), TypeError, "1.7"),
-            (lambda it: grid.set_many(np.reshape([it] * 3, (2, 3)), 1), TypeError, "1.7"),
+            (lambda it: grid.__setitem__((slice(0, 2), 0, 0), it), TypeError, "1.7"), (lambda it: grid.write_many([[0, 0, 0]] * 2, it), TypeError, "1.7"),
+            (lambda it: grid.write_box((0, 0, 0), np.reshape(it, (2, 1, 1))), TypeError, "1.7"),
+            (lambda it: grid.write_many(np.reshape([it] * 3, (2, 3)), 1), TypeError, "1.7"),
         ):  # fmt: skip
             for given in ([1.7, 2.0], np.array([1.7, np.nan], np.float32)):
                 with self.assertRaisesRegex(error, text):
@@ -291,15 +347,19 @@ class Assignments(unittest.TestCase):
             with self.assertRaisesRegex(ValueError, text):
                 grid[0 : len(given), 0, 0] = given
             with self.assertRaisesRegex(ValueError, text):
-                grid.set_many([[0, 0, 0]] * len(given), given)
+                grid.write_many([[0, 0, 0]] * len(given), given)
         for given in (float("nan"), 1.0, True, "1", None, 2j):
             with self.assertRaises(TypeError):
                 grid[0, 0, 0] = given
         for given in ([0, 1], [1.0, 0.0]):
             with self.assertRaises(TypeError):
                 flags[0:2, 0, 0] = given
-        with self.assertRaises(TypeError):
-            grid.active[0:2, 0, 0] = [0, 1]
+        for call in (
+            lambda: grid.active.__setitem__((slice(0, 2), 0, 0), [0, 1]), lambda: grid.set_active((0, 0, 0), 1),
+            lambda: grid.fill(((0, 0, 0), (1, 1, 1)), 1, "off"), lambda: grid.write_many([[0, 0, 0]], 1, 0.0),
+        ):  # fmt: skip
+            with self.assertRaises(vdb.DtypeError):
+                call()
         with self.assertRaisesRegex(ValueError, r"\(3,\) doesn't fit the shape \(2,\)"):
             grid[0:2, 0, 0] = [1, 2, 3]
         self.assertEqual(grid, before)
@@ -318,7 +378,7 @@ class Lives(unittest.TestCase):
         values, active = sample(2)
         active[0, 0, 0] = True
         data = vdb.Scene({"g": vdb.Grid.from_array(values, active, LOW)}).to_bytes()
-        for make in (lambda grid: grid.leaves(), lambda grid: grid.voxels(), lambda grid: grid.active_coordinates()):
+        for make in (vdb.Grid.leaves, vdb.Grid.voxels, vdb.Grid.active_coordinates, vdb.Grid.boxes):
             walk = make(vdb.loads(data)["g"])
             gc.collect()
             self.assertGreater(len(list(walk)), 0)
@@ -341,7 +401,7 @@ class Threads(unittest.TestCase):
         """While one thread dilates, another one looks at the clock in the middle half of the call. With the lock of the interpreter held, it
         would stand still all the time."""
         sparse = vdb.Grid("bool")
-        sparse.set_many(np.argwhere(np.ones((24, 24, 24))) * 9, True)
+        sparse.write_many(np.argwhere(np.ones((24, 24, 24))) * 9, True)
         for _ in range(20):
             grid, span, ticks = sparse.copy(), [], []
 
@@ -380,7 +440,7 @@ class Threads(unittest.TestCase):
 
     def test_one_grid_in_several_threads(self):
         grid = vdb.Grid("i32")
-        threads = [threading.Thread(target=lambda k=k: [grid.set_many([[k, n, 0]], k) for n in range(200)]) for k in range(4)]
+        threads = [threading.Thread(target=lambda k=k: [grid.write_many([[k, n, 0]], k) for n in range(200)]) for k in range(4)]
         for thread in threads:
             thread.start()
         for thread in threads:

@@ -1,5 +1,6 @@
 # SPDX-License-Identifier: Apache-2.0
 """Files are replaced whole: their modes, links, devices and errors. And what the package is: its types, and what it needs."""
+import inspect
 import os
 import stat
 import subprocess
@@ -12,6 +13,7 @@ from unittest import mock
 
 from .support import TOP, np, scenefile, vdb
 
+from vdb import formats
 from vdb.files import replacing
 
 
@@ -112,6 +114,14 @@ class Package(unittest.TestCase):
         environment = {**os.environ, "PYTHONPATH": str(TOP / "python"), "VDB_LIBRARY": "/missing.so"}
         ran = subprocess.run([sys.executable, "-c", text], env=environment, capture_output=True, text=True, timeout=60)
         self.assertEqual((ran.returncode, ran.stderr, ran.stdout.count("build it by tools/build-libvdb")), (0, "", 3))
+
+    def test_every_public_name_is_documented(self):
+        for module in (vdb, scenefile, formats):
+            for name in module.__all__:
+                it = getattr(module, name)
+                parts = inspect.getmembers(it, lambda part: inspect.isroutine(part) or isinstance(part, property)) if inspect.isclass(it) else []
+                documented = [(name, it)] * callable(it) + [(f"{name}.{part}", what) for part, what in parts if part[0] != "_"]
+                self.assertEqual([name for name, what in documented if not inspect.getdoc(what)], [], module.__name__)
 
     def test_types(self):
         """mypy accepts the package and a use of it, and finds a wrong one."""

@@ -56,7 +56,8 @@ class Wheel(unittest.TestCase):
         self.assertRegex(wheel.name, r"\Avdb-[\d.]+-py3-none-linux_x86_64\.whl\Z")
         names = zipfile.ZipFile(wheel).namelist()
         files = {str(it.relative_to(TOP / "python")) for it in (TOP / "python" / "vdb").rglob("*.py")}
-        self.assertLessEqual(files | {"vdb/libvdb.so", "vdb/py.typed"}, {*names})
+        pages = {f"vdb/command/{name}" for name in ("page.html", "page.js", "faces.js")}
+        self.assertLessEqual(files | pages | {"vdb/libvdb.so", "vdb/py.typed"}, {*names})
         self.assertEqual(zipfile.ZipFile(wheel).read("vdb/libvdb.so"), Path(self.library["VDB_LIBRARY"]).read_bytes())
         self.assertEqual(self.made("again").read_bytes(), wheel.read_bytes())
 
@@ -75,6 +76,8 @@ class Wheel(unittest.TestCase):
         self.run_it(python, "-m", "pip", "install", "--no-index", "--disable-pip-version-check", self.made(), env=self.environment)
         self.run_it(python, "-c", USE, "a.vdbs", env=self.environment)
         self.assertIn("active voxels  81\n", self.run_it(self.folder / "env" / "bin" / "vdb-scene", "info", "a.vdbs", env=self.environment))
+        self.run_it(self.folder / "env" / "bin" / "vdb-scene", "view", "a.vdbs", "a", "a.html", env=self.environment)
+        self.assertIn("</html>", (self.folder / "a.html").read_text(encoding="utf-8"))
         shutil.rmtree(self.folder / "env")
 
 

@@ -2,17 +2,23 @@
 """Arrays that cross to and from a handle of a grid or a view: voxels by coordinates, and boxes slab by slab."""
 from __future__ import annotations
 
-from ctypes import byref, c_size_t
-from typing import Iterator, Sequence
+import math
+from ctypes import byref, c_int64, c_size_t, c_uint8
+from itertools import product
+from typing import Iterator, Sequence, Tuple
 
 import numpy as np
 
 from .errors import RangeError
 from .forms import KINDS, Array, Kind, Value, check_limit, narrow
-from .library import BUFFER, COORD, I64, Box, Coord, GridHandle, Held, Strides
+from .library import BUFFER, COORD, I64, LIBRARY, Box, Coord, GridHandle, Held, Strides
 
-#: How many voxels of a dense array cross at a time, about, and the accessor of calls on many voxels.
-SLAB, ACCESSOR = 2**21, 0
+#: How many voxels of a dense array are written at a time, about, and how many are read: their numbers fit the processor's cache.
+SLAB, BRICK = 2**21, 2**18
+#: The accessor of calls on many voxels.
+ACCESSOR = 0
+
+Brick = Tuple[slice, slice, slice]
 
 
 def box_of(low: Sequence[int], high: Sequence[int]) -> Box:
@@ -20,13 +26,23 @@ def box_of(low: Sequence[int], high: Sequence[int]) -> Box:
     return Box(Coord(*low), Coord(*high))
 
 
-def slabs(low: int, shape: Sequence[int]) -> "Iterator[tuple[int, int]]":
-    """Yields the first index along x of each slab of an array, and the one after its last. Slabs end between leaves."""
-    thick = max(1, SLAB // max(1, shape[1] * shape[2]) // 8) * 8
+def bricks(low: Sequence[int], shape: Sequence[int], is_whole: bool = False) -> "Iterator[Brick]":
+    """Yields the indices of parts of an array that begins at a coordinate, by x, then y, then z. They end between leaves, and have about
+    BRICK voxels; if they are to be whole, only x is cut, and they have about SLAB voxels."""
+    most, size = [0, 0, 0], 1
+    for axis in (2, 1, 0):
+        wanted = SLAB if is_whole else BRICK
+        most[axis] = shape[axis] + 8 if is_whole and axis else max(1, wanted // max(1, size * 8**axis) // 8) * 8
+        size *= min(shape[axis], most[axis])
+    yield from product(*map(spans, low, shape, most))
+
+
+def spans(low: int, length: int, most: int) -> "Iterator[slice]":
+    """Yields the parts of an axis that begins at a coordinate: at most this many indices, a multiple of 8. They end between leaves."""
     first = 0
-    while first < shape[0] and min(shape) > 0:
-        end = min(shape[0], first + thick - (low + first) % 8)
-        yield first, end
+    while first < length:
+        end = min(length, first + most - (low + first) % 8)
+        yield slice(first, end)
         first = end
 
 
@@ -58,44 +74,65 @@ def write_voxels(held: Held, at: np.ndarray, numbers: np.ndarray, states: np.nda
     held.call("write_many", ACCESSOR, at.ctypes.data_as(COORD), len(at), *pointers(*parts), byref(c_size_t()))
 
 
-def slab_of(low: Sequence[int], first: int, shape: "tuple[int, ...]") -> tuple:
-    """Returns the arguments for the box and the strides of a slab of this shape that begins `first` voxels past the least corner."""
-    side_x, side_y, side_z = shape
-    x, y, z = low[0] + first, low[1], low[2]
-    return byref(box_of((x, y, z), (x + side_x - 1, y + side_y - 1, z + side_z - 1))), byref(Strides(side_y * side_z, side_z, 1))
+def shape_of(part: Brick) -> "tuple[int, int, int]":
+    """Returns the shape of a part of an array."""
+    x, y, z = part
+    return x.stop - x.start, y.stop - y.start, z.stop - z.start
 
 
-def read_box(held: Held, low: Sequence[int], values: "np.ndarray | None", active: "np.ndarray | None", fill: "Value | None") -> None:
+class Room:
+    """Arrays of a dtype, one after another in the same memory, since new memory takes longer than to fill it."""
+
+    def __init__(self, dtype: type) -> None:
+        self.memory: np.ndarray = np.empty(0, dtype)
+
+    def array(self, shape: "tuple[int, ...]") -> np.ndarray:
+        """Returns an array without gaps. The one before isn't used any more."""
+        size = math.prod(shape)
+        if size > self.memory.size:
+            self.memory = np.empty(size, self.memory.dtype)
+        return self.memory[:size].reshape(shape)
+
+
+def place_of(low: Sequence[int], part: Brick) -> tuple:
+    """Returns the arguments for the box and the strides of a part of an array that begins at a coordinate. The part has no gaps."""
+    _, side_y, side_z = shape_of(part)
+    corners = ([at + end for at, end in zip(low, ends)] for ends in ([it.start for it in part], [it.stop - 1 for it in part]))
+    return byref(box_of(*corners)), byref(Strides(side_y * side_z, side_z, 1))
+
+
+def read_box(
+    held: Held, kind: Kind, low: Sequence[int], values: "np.ndarray | None", active: "np.ndarray | None", fill: "Value | None"
+) -> None:
     """Writes a box of voxels to dense arrays of one shape. With `fill`, inactive voxels have that value. Either array may be left out.
 
-    Raises RangeError, after the slabs before it, if the dtype of `values` holds a value of a slab neither safely nor in fact.
+    Raises RangeError, after the bricks before it, if the dtype of `values` holds a value of a brick neither safely nor in fact.
     """
     some = values if values is not None else active
     assert some is not None
-    for first, end in slabs(low[0], some.shape):
-        shape = (end - first, *some.shape[1:])
-        part = None if values is None else values[first:end]
-        direct = part is not None and part.dtype == np.int64 and part.flags.c_contiguous
-        numbers = part if part is not None and direct else np.empty(0 if part is None else shape, np.int64)
-        states = np.empty(shape if active is not None or fill is not None else 0, np.bool_)
-        held.call("read_box", *slab_of(low, first, shape), *pointers(numbers, states))
-        if fill is not None and part is not None:
-            numbers[~states] = fill
-        if part is not None and not direct:
-            narrow(numbers, part)
+    direct = values is not None and values.dtype == np.int64 and values.flags.c_contiguous
+    room, marks = Room(np.int64), Room(np.bool_)
+    for part in bricks(low, some.shape, direct):
+        shape = shape_of(part)
+        numbers = values[part] if values is not None and direct else room.array((0,) if values is None else shape)
+        states = marks.array(shape if active is not None or fill is not None else (0,))
+        held.call("read_box", *place_of(low, part), *pointers(numbers, states))
+        if fill is not None and values is not None:
+            np.copyto(numbers, fill, where=~states)
+        if values is not None and not direct:
+            narrow(numbers, values[part], kind.dtype)
         if active is not None:
-            active[first:end] = states
+            active[part] = states
 
 
 def write_box(held: Held, low: Sequence[int], values: "np.ndarray | None", active: "np.ndarray | None") -> None:
-    """Sets the values, the states or both of a box of voxels, slab by slab. An array that is left out is kept."""
+    """Sets the values, the states or both of a box of voxels, by x, then y, then z. An array that is left out is kept."""
     some = values if values is not None else active
     assert some is not None
-    for first, end in slabs(low[0], some.shape):
-        numbers = np.empty(0, np.int64) if values is None else np.ascontiguousarray(values[first:end], np.int64)
-        states = np.empty(0, np.bool_) if active is None else np.ascontiguousarray(active[first:end])
-        place = slab_of(low, first, (end - first, *some.shape[1:]))
-        held.call("write_box", ACCESSOR, *place, *pointers(numbers, states), byref(c_size_t()))
+    for part in bricks(low, some.shape, is_whole=True):
+        numbers = np.empty(0, np.int64) if values is None else np.ascontiguousarray(values[part], np.int64)
+        states = np.empty(0, np.bool_) if active is None else np.ascontiguousarray(active[part])
+        held.call("write_box", ACCESSOR, *place_of(low, part), *pointers(numbers, states), byref(c_size_t()))
 
 
 def new_grid(kind: Kind, background: "Value | None", limit: int) -> Held:
@@ -106,12 +143,55 @@ def new_grid(kind: Kind, background: "Value | None", limit: int) -> Held:
 
 
 def from_dense(held: Held, low: Sequence[int], values: np.ndarray, active: "np.ndarray | None", background: Value) -> None:
-    """Writes dense arrays to an empty grid: what is active, or differs from the background."""
-    for first, end in slabs(low[0], values.shape):
-        part = values[first:end]
-        differs = part != background
-        states = differs if active is None else active[first:end]
-        at = np.argwhere(differs | states)
-        places = tuple(at.T)
-        write_voxels(held, coordinates_of(at + (low[0] + first, low[1], low[2])), part[places], states[places])
+    """Writes dense arrays to an empty grid, by the leaf extents that have a voxel which is active or differs from the background."""
+    for part in bricks(low, values.shape, is_whole=True):
+        some = values[part]
+        listed = np.not_equal(some, background, out=np.empty(some.shape, np.bool_))
+        states = listed if active is None else np.ascontiguousarray(active[part])
+        corner = np.array([at + it.start for at, it in zip(low, part)], np.int64)
+        begins, ends = leaf_runs(corner, listed if active is None else listed | states)
+        if len(begins):
+            lows, highs = ((corner + at).astype(np.int32) for at in (begins, ends - 1))
+            steps = some.shape[1] * some.shape[2], some.shape[2], 1
+            write_boxes(held, lows, highs, np.ascontiguousarray(some, np.int64), states, begins @ steps, Strides(*steps))
     held.call("prune")
+
+
+def leaf_runs(corner: np.ndarray, listed: np.ndarray) -> "tuple[np.ndarray, np.ndarray]":
+    """Returns the parts of an array in runs along z of leaf extents that have a listed voxel: the first indices (n x 3) and those past the
+    last. `corner` is the coordinate of `listed[0, 0, 0]`."""
+    before, shape = corner % 8, np.array(listed.shape)
+    x, y, z = ((before + shape + 7) // 8).tolist()
+    if (before | shape % 8).any():
+        padded = np.zeros((8 * x, 8 * y, 8 * z), np.bool_)
+        padded[tuple(slice(first, past) for first, past in zip(before, before + shape))] = listed
+        listed = padded
+    rows = listed.view(np.uint64).reshape(x, 8, y, 8, z)
+    found = np.zeros((x, y, z + 2), np.bool_)
+    np.not_equal(np.bitwise_or.reduce(np.bitwise_or.reduce(rows, axis=3), axis=1), 0, out=found[:, :, 1:-1])
+    turns = np.argwhere(found[:, :, 1:] != found[:, :, :-1])  # a run begins at each even one and ends at the next
+    begins, ends = turns[::2] * 8 - before, (turns[1::2] + (1, 1, 0)) * 8 - before
+    return np.maximum(begins, 0), np.minimum(ends, shape)
+
+
+def write_boxes(
+    held: Held,
+    low: np.ndarray,
+    high: np.ndarray,
+    numbers: np.ndarray,
+    states: "np.ndarray | None",
+    offsets: np.ndarray,
+    strides: Strides,
+) -> None:
+    """Sets the voxels of boxes, which have these corners, both included (n x 3, int32), to values, and to states unless these are left out.
+
+    Values (int64) and states (bool) are arrays without gaps of one size, in which the least voxel of each box has this offset.
+    """
+    corners, marks = np.array(np.concatenate([low, high], axis=1), order="C"), np.zeros(1, np.bool_) if states is None else states
+    first, mark = c_int64.from_address(numbers.ctypes.data), c_uint8.from_address(marks.ctypes.data)
+    call, handle, steps, written = LIBRARY.vdb_grid_write_box, byref(held.handle), byref(strides), byref(c_size_t())
+    with held.lock:
+        for box, at in zip((Box * len(corners)).from_buffer(corners.data), offsets.tolist()):
+            left = numbers.size - at
+            chosen = (mark, 0) if states is None else (byref(mark, at), left)
+            call(handle, ACCESSOR, byref(box), steps, byref(first, 8 * at), left, *chosen, written)

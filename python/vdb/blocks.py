@@ -6,6 +6,7 @@ from typing import Iterator, NamedTuple, Sequence, Union
 
 import numpy as np
 
+
 class Rows(NamedTuple):
     """Leaves: least corners (n x 3, int32), values (n x 512, integers or bool) and states (n x 512, bool). Voxel 64 dx + 8 dy + dz of a row
     lies dx, dy and dz past the corner."""
@@ -80,7 +81,11 @@ def coordinates(parts: Iterator[Part]) -> Iterator[np.ndarray]:
 
 def places(origins: np.ndarray, mask: np.ndarray) -> np.ndarray:
     """Returns the coordinates (m x 3, int32) of the voxels of leaves that are marked in `mask` (n x 512)."""
-    numbers = np.flatnonzero(mask.ravel())
+    return numbered(origins, np.flatnonzero(mask))
+
+
+def numbered(origins: np.ndarray, numbers: np.ndarray) -> np.ndarray:
+    """Returns the coordinates (m x 3, int32) of voxels of leaves by their numbers, 512 a leaf."""
     return origins[numbers >> 9] + OFFSETS[numbers & 511]
 
 
@@ -111,49 +116,116 @@ def runs(rows: Rows) -> Boxes:
     return Boxes(origins + OFFSETS[begins & 511], origins + OFFSETS[ends & 511], values[begins])
 
 
-#: Up to so many labels of a leaf, or of a choice, are looked for one by one.
+#: Up to this number of labels of a leaf, or of a choice, are searched for one by one.
 FEW = 8
+#: Labels are grouped when so many have come. Up to so many, those of voxels are looked up among them.
+MANY = 1 << 15
+#: The widest range of values of which a table is made.
+SPAN = 1 << 16
 
 
 def labels(parts: Iterator[Part], dtype: np.dtype) -> Labels:
     """Returns the values of the active voxels of parts, with their numbers and bounding boxes."""
     corners = np.zeros((0, 3), np.int32)
-    groups = [Labels(np.zeros(0, dtype), np.zeros(0, np.int64), corners, corners)]
+    total, size = Labels(np.zeros(0, dtype), np.zeros(0, np.int64), corners, corners), 0
+    waiting = [total]
     for part in parts:
         if isinstance(part, Cubes):
             counts = np.full(len(part.low), part.side**3, np.int64)
-            groups.append(grouped(Labels(part.values, counts, part.low, part.low + np.int32(part.side - 1))))
+            waiting.append(Labels(part.values, counts, part.low, part.low + np.int32(part.side - 1)))
+            size += len(part.low)
         else:
-            groups += labels_of_rows(part)
-    found = grouped(joined(groups))
+            for found in labels_of_rows(part, total):
+                waiting.append(found)
+                size += len(found.values)
+        if size > max(MANY, len(total.values)):
+            total, size = grouped(joined(waiting)), 0
+            waiting = [total]
+    found = grouped(joined(waiting))
     return found._replace(values=found.values.astype(dtype, copy=False))
 
 
-def labels_of_rows(rows: Rows) -> "Iterator[Labels]":
-    """Yields the labels of leaves, each perhaps more than once: the first ones of each leaf by comparing, what is left then by sorting."""
-    origins, values, left = rows
+def labels_of_rows(rows: Rows, total: Labels) -> "Iterator[Labels]":
+    """Yields the labels of leaves, each perhaps more than once: the first ones of each leaf by comparing, what is left then voxel by voxel.
+    Adds to the counts of `total` the voxels that change no more of it."""
+    origins, values, left = rows.origins, rows.values, words_of(rows.active)
+    voxels = np.count_nonzero(rows.active)
     for _ in range(FEW):
         some = left.any(axis=1)
         if not some.all():
             origins, values, left = origins[some], values[some], left[some]
         if not len(origins):
             return
-        label = values[np.arange(len(values)), left.argmax(axis=1)]
-        mask = left & (values == label[:, None])
+        label = values[np.arange(len(values)), first_of(left)]
+        mask = left & words_of(values == label[:, None])
         left = left ^ mask
         low, high = extents(mask)
-        yield grouped(Labels(label, np.count_nonzero(mask, axis=1), origins + low, origins + high))
-    at = places(origins, left)
-    yield grouped(Labels(values[left], np.ones(len(at), np.int64), at, at))
+        counts = COUNT[mask.view(np.uint8)].sum(axis=1)
+        yield Labels(label, counts, origins + low, origins + high)
+        found = int(counts.sum())
+        if FEW * found < voxels:  # the leaves have many labels
+            break
+        voxels -= found
+    numbers = np.flatnonzero(np.unpackbits(left.view(np.uint8), bitorder="little"))
+    values = values.ravel()[numbers]
+    others = ~counted(total, values, origins.min(axis=0), origins.max(axis=0) + 7)
+    at = numbered(origins, numbers[others])
+    yield Labels(values[others], np.ones(len(at), np.int64), at, at)
 
 
-def extents(mask: np.ndarray) -> "tuple[np.ndarray, np.ndarray]":
-    """Returns the least and the greatest offset (n x 3, int32) of the voxels that are marked in each leaf (n x 512, bool), some of them."""
-    slices = np.packbits(mask, axis=1).view(np.uint64)  # a word for each x, in it a byte for each y, whose highest bit is the least z
-    columns = np.bitwise_or.reduce(slices, axis=1)[:, None].view(np.uint8)
-    rows = np.bitwise_or.reduce(columns, axis=1)[:, None]
-    marked = np.stack([slices != 0, columns != 0, np.unpackbits(rows, axis=1).view(np.bool_)], axis=1)
-    return marked.argmax(axis=2).astype(np.int32), (7 - marked[:, :, ::-1].argmax(axis=2)).astype(np.int32)
+def counted(total: Labels, values: np.ndarray, low: np.ndarray, high: np.ndarray) -> np.ndarray:
+    """Adds voxels with these values to the counts of the labels whose bounding box has all of a box, in which the voxels lie. Returns which
+    voxels those are."""
+    inside = ((total.low <= low) & (total.high >= high)).all(axis=1) if len(total.values) <= MANY else np.zeros(0, np.bool_)
+    if not inside.any():
+        return np.zeros(len(values), np.bool_)
+    known = total.values[inside]
+    at = ranks(values.astype(np.int64, copy=False), known)
+    found = known[at] == values
+    total.counts[inside] += np.bincount(at[found], minlength=len(known))
+    return found
+
+
+def ranks(values: np.ndarray, among: np.ndarray) -> np.ndarray:
+    """Returns the index of each value (int64) among rising ones, or another index if it isn't there."""
+    least, span = int(among[0]), int(among[-1]) - int(among[0]) + 1
+    if span > SPAN:
+        return np.searchsorted(among, values).clip(max=len(among) - 1)
+    table = np.zeros(span + 1, np.intp)
+    table[among.astype(np.int64) - least] = np.arange(len(among))
+    return table.take(past(values, least, span))
+
+
+def past(values: np.ndarray, least: int, span: int) -> np.ndarray:
+    """Returns how far each value (int64) is past the least one, or `span` if that isn't below `span`."""
+    return np.minimum(values.view(np.uint64) - np.uint64(least % 2**64), np.uint64(span)).view(np.int64)
+
+
+#: Of each byte: how many bits are set, and the number of the least and of the greatest one, 0 if there is none.
+BITS = np.unpackbits(np.arange(256, dtype=np.uint8)[:, None], axis=1, bitorder="little")
+COUNT, LEAST = BITS.sum(axis=1, dtype=np.int64), BITS.argmax(axis=1).astype(np.int32)
+GREATEST = np.where(COUNT, 7 - BITS[:, ::-1].argmax(axis=1), 0).astype(np.int32)
+
+
+def words_of(mask: np.ndarray) -> np.ndarray:
+    """Returns the marks of leaves (n x 512, bool) as bits (n x 8, uint64): a word for each x, in it a byte for each y, in it a bit for each
+    z, the lowest first."""
+    return np.packbits(mask, bitorder="little").view(np.uint64).reshape(-1, 8)
+
+
+def first_of(words: np.ndarray) -> np.ndarray:
+    """Returns the number (n) of the first marked voxel of each leaf, some of which are."""
+    columns = words.view(np.uint8)
+    at = (columns != 0).argmax(axis=1)
+    return at * 8 + LEAST[columns[np.arange(len(columns)), at]]
+
+
+def extents(words: np.ndarray) -> "tuple[np.ndarray, np.ndarray]":
+    """Returns the least and the greatest offset (n x 3, int32) of the marked voxels of each leaf, some of which are."""
+    columns = np.bitwise_or.reduce(words, axis=1).view(np.uint8).reshape(-1, 8)
+    x, y = (np.packbits(marked != 0, bitorder="little") for marked in (words, columns))
+    marked = np.stack([x, y, np.bitwise_or.reduce(columns, axis=1)], axis=1)
+    return LEAST[marked], GREATEST[marked]
 
 
 def joined(groups: "Sequence[Labels]") -> Labels:

@@ -2,13 +2,15 @@
 """Scenes of the library: their bytes, and grids moved into them and out of them."""
 from __future__ import annotations
 
-from ctypes import byref, c_uint8, c_uint64, create_string_buffer
+from ctypes import byref, c_uint64, create_string_buffer
 from typing import Mapping, Sequence
+
+import numpy as np
 
 from .arrays import box_of
 from .errors import SceneTooLongError
 from .forms import COORDINATE_SPAN, MAX_FILE, MAX_NAME, MAX_TEXT
-from .library import Held, SceneHandle
+from .library import BUFFER, Held, SceneHandle
 
 NAME = b"a"
 EVERYWHERE = ((-COORDINATE_SPAN,) * 3, (COORDINATE_SPAN - 1,) * 3)
@@ -23,7 +25,7 @@ class Encoded:
         if data is None:
             self.scene.call("new")
         else:
-            self.scene.call("load", (c_uint8 * max(1, len(data))).from_buffer_copy(data or b"\0"), len(data))
+            self.scene.call("load", np.frombuffer(data or b"\0", np.uint8).ctypes.data_as(BUFFER), len(data))
 
     def length(self) -> int:
         """Returns how many bytes the scene file would have."""
@@ -31,14 +33,14 @@ class Encoded:
         self.scene.call("length", byref(length))
         return length.value
 
-    def to_bytes(self) -> bytes:
-        """Returns the bytes of the scene file. Raises SceneTooLongError if a file can't have as many."""
+    def encoding(self) -> np.ndarray:
+        """Returns the bytes of the scene file (uint8). Raises SceneTooLongError if a file can't have as many."""
         length = self.length()
         if length > MAX_FILE:
             raise SceneTooLongError(length, MAX_FILE)
-        buffer = (c_uint8 * length)()
-        self.scene.call("save", buffer, length, byref(c_uint64()))
-        return bytes(buffer)
+        made = np.empty(length, np.uint8)
+        self.scene.call("save", made.ctypes.data_as(BUFFER), length, byref(c_uint64()))
+        return made
 
     def names(self) -> "list[bytes]":
         count, used, buffer = c_uint64(), c_uint64(), create_string_buffer(MAX_NAME)
@@ -77,7 +79,7 @@ class Encoded:
 
 
 def same_cells(first: Held, second: Held, head: int, box: "Sequence[Sequence[int]]" = EVERYWHERE) -> bool:
-    """Returns whether two grids of one type and background have the same cells. The first `head` bytes of a grid's file tell none.
+    """Returns whether two grids of one type and background have the same cells. The first `head` bytes of a grid's file aren't compared.
 
     A grid has one encoding. Where it is too long for a file, the halves of the box are compared.
     """
@@ -89,7 +91,7 @@ def same_cells(first: Held, second: Held, head: int, box: "Sequence[Sequence[int
     if one.length() != two.length():
         return False
     if one.length() <= MAX_FILE:
-        return one.to_bytes()[head:] == two.to_bytes()[head:]
+        return np.array_equal(one.encoding()[head:], two.encoding()[head:])
     del one, two, scenes
     low, high = box
     axis = max(range(3), key=lambda axis: high[axis] - low[axis])

@@ -1,14 +1,24 @@
 # SPDX-License-Identifier: Apache-2.0
-"""The errors of the package. Each is a `VdbError`, and also of the built-in class of its kind.
+"""The errors of the package. Each is a `VdbError`, and also of the built-in class of its kind:
 
-A call that fails has changed nothing, unless its documentation says otherwise.
+    TypeError          DtypeError, KindsError
+    ValueError         RangeError, TextError, LimitError, EmptyError, RootLimitError, ArrayTooLargeError, SceneTooLongError,
+                       VolumeError, FormatError and its faults
+    KeyError           MissingError
+    OverflowError      SumRangeError
+    MemoryError        OutOfMemoryError
+    OSError            FileError
+    FileNotFoundError  MissingFileError
+    PermissionError    ForbiddenFileError
+
+A call that fails has changed no voxel, unless its documentation says otherwise.
 """
 from __future__ import annotations
 
 __all__ = [
     "VdbError", "DtypeError", "RangeError", "TextError", "LimitError", "MissingError", "EmptyError", "OutOfMemoryError",
-    "RootLimitError", "SumRangeError", "KindsError", "ArrayTooLargeError", "SceneTooLongError", "FileError", "MissingFileError",
-    "ForbiddenFileError", "FormatError", "MagicFault", "VersionFault", "TruncatedFault", "NameFault", "KindFault", "ValueFault",
+    "RootLimitError", "SumRangeError", "KindsError", "ArrayTooLargeError", "SceneTooLongError", "VolumeError", "FileError",
+    "MissingFileError", "ForbiddenFileError", "FormatError", "MagicFault", "VersionFault", "TruncatedFault", "NameFault", "KindFault", "ValueFault",
     "LimitFault", "MetaFault", "KeyFault", "RootLimitFault", "TagFault", "IndexFault", "BackgroundFault", "ConstantNodeFault",
     "TrailingFault", "TooLongFault", "FAULTS",
 ]  # fmt: skip
@@ -96,6 +106,17 @@ class SceneTooLongError(VdbError, ValueError):
         return f"too-long: the scene needs {self.length:,} bytes, and a file has at most {self.most:,}"
 
 
+class VolumeError(VdbError, ValueError):
+    """A file of another format has a fault, or holds what no grid can. `path` is the file, or None if the error isn't of a file."""
+
+    def __init__(self, reason: str, path: "str | None" = None) -> None:
+        super().__init__(reason, path)
+        self.reason, self.path = reason, path
+
+    def __str__(self) -> str:
+        return f"{self.path}: {self.reason}" if self.path else self.reason
+
+
 class FileError(VdbError, OSError):
     """A file can't be read or written. `filename` names it, and `errno` and `strerror` say why."""
 
@@ -122,7 +143,7 @@ class FormatError(VdbError, ValueError):
     """The bytes are no scene file. Each fault of docs/FORMAT.md has a subclass.
 
     `fault` is the word of the fault, as `vdb: load: WORD` prints it. `offset` is the byte, counted from 0, at which the faulty field
-    begins, or None from the library, which doesn't say; for `background` and `constant-node` it is the first byte of the faulty body.
+    begins. For `background` and `constant-node` it is the first byte of the faulty body. From the library it is None.
     `path` is the file, or None for bytes. `reason` says what the field holds.
     """
 
@@ -253,6 +274,7 @@ TEXTS = {
     13: "the grid has no such metadata pair",
     14: "a metadata text is 1 to 64 printable ASCII characters without spaces",
     15: "the buffer is too small",
+    16: "both handles of the call are the same",
     20: "magic: the file doesn't begin with VDBS",
     21: "version: the version is neither 1 nor 2",
     22: "truncated: the file ends before a field or inside it",
@@ -275,6 +297,7 @@ TEXTS = {
 CLASSES: "dict[int, type[VdbError]]" = {
     1: EmptyError, 2: OutOfMemoryError, 3: RootLimitError, 4: RangeError, 5: SumRangeError, 6: KindsError, 7: KindsError,
     8: MissingError, 9: TextError, 10: LimitError, 11: LimitError, 12: LimitError, 13: MissingError, 14: TextError, 15: RangeError,
+    16: RangeError,
 }  # fmt: skip
 
 

@@ -3,6 +3,7 @@
 from __future__ import annotations
 
 import contextlib
+import errno
 import os
 import secrets
 import stat
@@ -33,7 +34,14 @@ def replacing(path: "str | os.PathLike[str]") -> Iterator[BinaryIO]:
     """
     with naming(path):
         place = os.path.realpath(path)
-        old = os.stat(place) if os.path.exists(place) else None
+        try:
+            old = os.lstat(place)
+        except FileNotFoundError:
+            old = None
+        if old and stat.S_ISLNK(old.st_mode):  # realpath passes over a loop, and over a link that it can't read
+            raise OSError(errno.ELOOP, os.strerror(errno.ELOOP))
+        if old and not os.access(place, os.W_OK):
+            raise PermissionError(errno.EACCES, os.strerror(errno.EACCES))
         if old and not stat.S_ISREG(old.st_mode):
             with open(place, "wb") as file:
                 yield file

@@ -1,5 +1,5 @@
 # SPDX-License-Identifier: Apache-2.0
-"""The forms of names, types, values, coordinates and metadata, as docs/FORMAT.md defines them, and the one way to convert arrays."""
+"""The forms of names, types, values, coordinates and metadata, as docs/FORMAT.md defines them, and the conversion of arrays."""
 from __future__ import annotations
 
 import re
@@ -97,23 +97,33 @@ class Kind:
         given = np.asarray(values)
         if np.can_cast(given.dtype, self.dtype, "safe") or given.size == 0:
             return given.astype(self.dtype, copy=False)
+        if given.dtype.kind in "fO" and self.word != "bool" and not isinstance(values, np.ndarray):
+            self.check_size(np.asarray(values, object), what)
         if given.dtype.kind not in "iu" or self.word == "bool":
             raise DtypeError(f"the {what} {given.flat[0]!r} has the dtype {given.dtype}, which doesn't convert safely to {self.dtype}")
         fitting(given, self.dtype, what)
         return given.astype(self.dtype)
 
+    def check_size(self, values: np.ndarray, what: str) -> None:
+        """Raises RangeError if all of these objects are integers, one of which has more than 64 bits: NumPy makes floats of them."""
+        if all(isinstance(it, (int, np.integer)) and not isinstance(it, bool) for it in values.flat):
+            span = np.iinfo(self.dtype)
+            for it in values.flat:
+                if not span.min <= it <= span.max:
+                    raise RangeError(f"the {what} {it} is outside {self.word}: {span.min} to {span.max}")
+
 
 def fitting(values: np.ndarray, dtype: np.dtype, what: str) -> None:
     """Raises RangeError with the first of some integers that a dtype of integers doesn't hold."""
     span = np.iinfo(dtype)
-    outside = values[(values < span.min) | (values > span.max)]
-    if outside.size:
+    if values.size and not span.min <= int(values.min()) <= int(values.max()) <= span.max:
+        outside = values[(values < span.min) | (values > span.max)]
         raise RangeError(f"the {what} {outside.flat[0]} is outside {dtype}: {span.min} to {span.max}")
 
 
-def narrow(numbers: np.ndarray, values: np.ndarray) -> None:
-    """Copies integers to an array of any dtype of numbers. Raises RangeError if its dtype doesn't hold one of them."""
-    if values.dtype.kind in "iu" and not np.can_cast(numbers.dtype, values.dtype, "safe"):
+def narrow(numbers: np.ndarray, values: np.ndarray, dtype: np.dtype) -> None:
+    """Copies integers, all of which a dtype holds, to an array of any dtype of numbers. Raises RangeError if that doesn't hold one."""
+    if values.dtype.kind in "iu" and not np.can_cast(dtype, values.dtype, "safe"):
         fitting(numbers, values.dtype, "value")
     np.copyto(values, numbers, casting="unsafe")
 
@@ -185,12 +195,21 @@ def check_coordinate(at: object, what: str = "coordinate") -> Coordinate:
 
 def check_bounds(bounds: "Sequence[Sequence[int]]") -> Bounds:
     """Returns bounds as Python integers. Raises DtypeError or RangeError if they are no box."""
-    if len(bounds) != 2:
-        raise DtypeError(f"bounds are two coordinates, not {bounds!r}")
-    low, high = check_coordinate(bounds[0], "minimum"), check_coordinate(bounds[1], "maximum")
+    try:
+        first, last = bounds
+    except (TypeError, ValueError):
+        raise DtypeError(f"bounds are two coordinates, not {bounds!r}") from None
+    low, high = check_coordinate(first, "minimum"), check_coordinate(last, "maximum")
     if any(a > b for a, b in zip(low, high)):
         raise RangeError(f"the minimum {low} is greater than the maximum {high}")
     return low, high
+
+
+def check_state(active: object) -> bool:
+    """Returns one state. Raises DtypeError for anything but a bool."""
+    if not isinstance(active, (bool, np.bool_)):
+        raise DtypeError(f"active is True or False, not {active!r}")
+    return bool(active)
 
 
 def check_bools(active: Array) -> np.ndarray:

@@ -3,7 +3,7 @@
 from __future__ import annotations
 
 from ctypes import byref, c_int32, c_int64, c_uint32, c_uint64
-from typing import Any, Iterator, Mapping, NamedTuple, Sequence
+from typing import Any, Callable, Iterator, Mapping, NamedTuple, Sequence
 
 import numpy as np
 
@@ -14,7 +14,7 @@ from .encoded import EVERYWHERE, NAME, Encoded, same_cells
 from .errors import DtypeError, RangeError
 from .forms import (
     DEFAULT_LIMIT, KIND_NUMBERS, Array, Bounds, Coordinate, Leaf, Metadata, Value, check_bools, check_bounds, check_box, check_coordinate,
-    check_states, kind_of, kind_of_array,
+    check_state, check_states, kind_of, kind_of_array,
 )  # fmt: skip
 from .library import Box, CensusCounts, Coord, Count, Held
 from .reading import Active, Key, Walkable, part_of
@@ -23,6 +23,9 @@ from .walk import leaf_rows, parts_of
 __all__ = ["Grid", "Census"]
 
 NO_ACCESSOR = -1
+
+#: Called with the number of iterations that are done, and of all.
+Progress = Callable[[int, int], object]
 
 
 class Census(NamedTuple):
@@ -42,7 +45,7 @@ class Grid(Walkable):
     An open end of a slice goes to the bounding box of the active voxels, and `...` is that box. `grid[...]` are values, and
     `grid.active[...]` states. Bounds are two corners, both included.
 
-    A call that fails has changed nothing, other than `set_many` and a write of arrays to a box. It raises OutOfMemoryError if an allocation
+    A call that fails has changed no voxel, other than `write_many` and a write of arrays to a box. It raises OutOfMemoryError if an allocation
     fails, RootLimitError if the grid would need more root blocks than its limit, and DtypeError or RangeError for wrong arguments.
     Threads may call a grid at the same time; one of them goes on, and the others wait.
     """
@@ -87,7 +90,7 @@ class Grid(Walkable):
         """Pickles the grid as a scene file. Raises SceneTooLongError above 268,435,456 bytes."""
         scene = Encoded()
         scene.put(NAME, self._held, self._metadata)
-        return _unpickled, (scene.to_bytes(),)
+        return _unpickled, (scene.encoding().tobytes(),)
 
     def __eq__(self, other: object) -> bool:
         """Returns whether the other grid has the same type, background and cells. Limits and metadata may differ."""
@@ -117,8 +120,8 @@ class Grid(Walkable):
         (i64). `active` is a bool array of the same shape; without it, each voxel whose value differs from the background is active.
         `origin` is the coordinate of `values[0, 0, 0]`. Outside the array voxels are the background, inactive.
 
-        Raises DtypeError for another dtype, RangeError for another shape, for coordinates outside 32 bits or for a wrong background or
-        limit, and RootLimitError if the grid needs more root blocks than `limit`.
+        Raises DtypeError for another dtype, and RootLimitError if the grid needs more root blocks than `limit`. Raises RangeError for
+        another shape, for coordinates outside 32 bits, or for a wrong background or limit.
         """
         values = np.asarray(values)
         made = cls(kind_of_array(values), background, limit, metadata)
@@ -161,7 +164,7 @@ class Grid(Walkable):
         return self._value(value.value), bool(on.value)
 
     def _read(self, low: Coordinate, values: "np.ndarray | None", active: "np.ndarray | None", fill: "Value | None") -> None:
-        read_box(self._held, low, values, active, fill)
+        read_box(self._held, self._kind, low, values, active, fill)
 
     def __setitem__(self, key: Key, values: Array) -> None:
         """Sets the voxel at x, y, z, or the voxels of a box, and activates them.
@@ -185,13 +188,13 @@ class Grid(Walkable):
 
     def set_active(self, at: Coordinate, active: bool) -> None:
         """Sets the state of a voxel and keeps its value."""
-        self._held.call("set_active", NO_ACCESSOR, *check_coordinate(at), bool(active))
+        self._held.call("set_active", NO_ACCESSOR, *check_coordinate(at), check_state(active))
 
     def get_many(self, at: Array) -> "tuple[np.ndarray, np.ndarray]":
         """Returns the values and the states (bool) of voxels, arrays of length n. `at` has their coordinates, integers of shape (n, 3)."""
         return read_voxels(self._held, self._kind, at)
 
-    def set_many(self, at: Array, values: Array, active: Array = True) -> None:
+    def write_many(self, at: Array, values: Array, active: Array = True) -> None:
         """Sets the values and the states of voxels, one after another. `at` has their coordinates, integers of shape (n, 3); `values` and
         `active` are one for all voxels, or arrays of length n.
 
@@ -201,7 +204,7 @@ class Grid(Walkable):
         at = coordinates_of(at)
         write_voxels(self._held, at, spread(self._kind.array(values), (len(at),)), check_states(active, (len(at),)))
 
-    def set_box(self, origin: Coordinate, values: Array, active: Array = True) -> None:
+    def write_box(self, origin: Coordinate, values: Array, active: Array = True) -> None:
         """Sets the values and the states of a box of voxels: that at `origin` to `values[0, 0, 0]`, and so on along x, y and z. `active`
         is one state for all voxels, or a bool array of the same shape.
 
@@ -213,7 +216,7 @@ class Grid(Walkable):
 
     def fill(self, bounds: Sequence[Sequence[int]], value: Value, active: bool = True) -> None:
         """Sets the value and the state of each voxel of a box."""
-        self._held.call("fill", _box(bounds), self._kind.check(value), bool(active))
+        self._held.call("fill", _box(bounds), self._kind.check(value), check_state(active))
 
     def clip(self, bounds: Sequence[Sequence[int]]) -> None:
         """Sets each voxel outside a box to the background, inactive."""
@@ -224,35 +227,62 @@ class Grid(Walkable):
         self._held.call("prune")
 
     def voxelise(self, bounds: Sequence[Sequence[int]]) -> None:
-        """Puts each active voxel of a box into a leaf. No voxel changes. It visits every cube of 8 voxels in the box, so give it a small
-        box, such as `bounds`."""
+        """Puts each active voxel of a box into a leaf. No voxel changes. It passes an inactive tile at once, so the box may be large. An
+        active tile takes memory: a leaf for each cube of 8 voxels."""
         self._held.call("voxelise", _box(bounds))
 
-    def dilate(self, iterations: int = 1) -> None:
-        """Activates, in each of 1 to 16 iterations, every voxel that has an active face neighbour. No value changes."""
-        self._held.call("dilate", _iterations(iterations))
+    def dilate(self, iterations: int = 1, progress: "Progress | None" = None) -> None:
+        """Activates, in each of 1 to 16 iterations, every voxel that has an active face neighbour. No value changes.
 
-    def erode(self, iterations: int = 1) -> None:
-        """Deactivates, in each of 1 to 16 iterations, every voxel that has an inactive face neighbour. No value changes."""
-        self._held.call("erode", _iterations(iterations))
+        After each iteration it calls `progress(done, iterations)`, if that is given. The iterations are made on a copy of the grid: if one is
+        interrupted by Ctrl-C or an exception of `progress`, nothing changes.
+        """
+        self._iterate("dilate", iterations, progress)
+
+    def erode(self, iterations: int = 1, progress: "Progress | None" = None) -> None:
+        """Deactivates, in each of 1 to 16 iterations, every voxel that has an inactive face neighbour. No value changes. `progress` and an
+        interruption are as for `dilate`."""
+        self._iterate("erode", iterations, progress)
+
+    def _iterate(self, name: str, iterations: int, progress: "Progress | None") -> None:
+        """Makes a call for each iteration on a copy, which then becomes the grid."""
+        count, made = _iterations(iterations), Held()
+        with self._held.lock:
+            self._held.call_with("copy", made)
+            for done in range(1, count + 1):
+                made.call(name, 1)
+                if progress:
+                    progress(done, count)
+            self._held.handle, made.handle = made.handle, self._held.handle
 
     def select(self, values: Array) -> "Grid":
         """Returns a bool grid that is active and True where this grid is active and has the value, or one of some values."""
         wanted = np.unique(self._kind.array(values))
         made = Grid("bool", limit=self.limit)
+        is_most = None
         for part in self._parts():
             chosen = is_one_of(part.values, wanted)
+            active = np.ones(chosen.shape, np.bool_) if isinstance(part, Cubes) else part.active
+            if is_most is None:  # then the other voxels are written, and taken away from all
+                is_most = 2 * np.count_nonzero(chosen & active) > np.count_nonzero(active)
+            chosen = active & (chosen != is_most)
             if isinstance(part, Cubes):
                 write_cubes(made._held, Cubes(part.low[chosen], part.side, np.ones(np.count_nonzero(chosen), np.int64)))
             else:
-                chosen &= part.active
                 some = chosen.any(axis=1)
-                write_leaves(made._held, part.origins[some], chosen[some], chosen[some])
+                written = chosen[some]
+                write_leaves(made._held, part.origins[some], written, written)
+        if is_most:
+            whole, others = Grid("bool", True, self.limit), made
+            whole.unite(self)
+            whole.subtract(others)
+            made = Grid("bool", limit=self.limit)
+            made.replace(whole)
         made.prune()
         return made
 
     def relabel(self, pairs: "Mapping[Any, Any]") -> "Grid":
-        """Returns a copy in which each active voxel whose value is a key of `pairs` has the value beside it. All change at once, so
+        """Returns a copy in which each active voxel whose value is a key of `pairs` has the value of that key. All change at once, so
         {1: 2, 2: 1} exchanges two. Raises DtypeError or RangeError for a value that the grid can't have."""
         old, new = self._kind.array(list(pairs), "key").ravel(), self._kind.array(list(pairs.values())).ravel()
         order = np.argsort(old)
@@ -279,13 +309,13 @@ class Grid(Walkable):
 
     def dilate_label(self, value: Value, iterations: int = 1) -> None:
         """Grows one label into the inactive voxels, in 1 to 16 iterations: in each, every inactive voxel with a face neighbour of the label
-        that is active becomes active and gets the label. Active voxels of other values stay, and bar the way."""
-        turns, label = _iterations(iterations), self._kind.check(value)
+        that is active becomes active and gets the label. Active voxels of other values stay, and block it."""
+        count, label = _iterations(iterations), self._kind.check(value)
         with self._held.lock:
             region = self.select(label)
             others = self - region
-            for _ in range(turns):
-                region.dilate(1)
+            for _ in range(count):
+                region._held.call("dilate", 1)
                 region.subtract(others)
             grown = Grid(self.kind, label, self.limit)
             grown.unite(region)

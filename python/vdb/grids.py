@@ -15,8 +15,8 @@ class Grids(MutableMapping[str, G], Generic[G]):
     """Grids by name, at most 64, in the order of their names.
 
     A name is a letter a to z, then up to 15 of a to z, 0 to 9 and _. The scene holds the grids themselves and not copies. Setting a grid
-    raises TextError or DtypeError for another name, DtypeError for anything but a grid of the scene's class, and LimitError for a grid too
-    many; the scene stays as it was then. A name that the scene doesn't have is a MissingError, which is a KeyError.
+    raises TextError or DtypeError for another name, DtypeError for anything but a grid of the scene's class, and LimitError for a 65th
+    grid. The scene stays as it was then. A name that the scene doesn't have is a MissingError, which is a KeyError.
     """
 
     _form: Type[G]

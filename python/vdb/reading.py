@@ -162,9 +162,9 @@ class Readable:
         that value in place of their own. `out` is an array for the values, or a pair for values and states, each of which may be None;
         what is given is filled and returned. `dtype` is that of the values, if it isn't that of the grid or of `out`.
 
-        Raises ArrayTooLargeError, before anything is allocated, if the new arrays have more than `max_bytes` bytes, RangeError if the
-        dtype doesn't hold a value, which is named, and DtypeError or RangeError for other wrong arguments. After an error `out` may be
-        filled in part.
+        Raises ArrayTooLargeError, before anything is allocated, if the new arrays have more than `max_bytes` bytes. Raises RangeError if
+        the dtype doesn't hold a value, which is named, and DtypeError or RangeError for other wrong arguments. After an error `out` may
+        be filled in part.
         """
         fill = None if fill is None else self._kind.check(fill, "fill")
         box = self.bounds if bounds is None else check_bounds(bounds)
@@ -183,7 +183,10 @@ class Readable:
 
     def _form(self, dtype: Any) -> np.dtype:
         """Returns the dtype for values: an integer one, or one to which the grid's converts safely. None is the grid's."""
-        form = self.dtype if dtype is None else np.dtype(dtype)
+        try:
+            form = self.dtype if dtype is None else np.dtype(dtype)
+        except TypeError:
+            raise DtypeError(f"{dtype!r} is no dtype") from None
         if form.kind in "iu" or np.can_cast(self.dtype, form, "safe") and form.kind in "bfc":
             return form
         raise DtypeError(f"the values of an {self.kind} grid don't convert safely to {form}")
@@ -207,8 +210,8 @@ class Walkable(Readable):
         raise NotImplementedError
 
     def labels(self) -> Labels:
-        """Returns the values of active voxels, each once and rising: arrays of the values (n), of how many voxels have each (n, int64), and
-        of the least and the greatest corners of their bounding boxes, both included (n x 3, int32)."""
+        """Returns the values of active voxels, each once and rising. The arrays are the values (n), how many voxels have each (n, int64),
+        and the least and the greatest corners of their bounding boxes, both included (n x 3, int32)."""
         return blocks.labels(self._parts(), self.dtype)
 
     def boxes(self) -> Iterator[Boxes]:
@@ -220,8 +223,11 @@ class Walkable(Readable):
     def active_coordinates(self, rows: int = 2**16) -> Iterator[np.ndarray]:
         """Yields the coordinates of the active voxels, arrays of shape (n, 3) and dtype int32 with at most `rows` rows.
 
-        First come the voxels of leaves, leaf by leaf in block order, then those of tiles, tile by tile.
+        First come the voxels of leaves, leaf by leaf in block order, then those of tiles, tile by tile. Raises RangeError for fewer rows
+        than 1.
         """
+        if rows < 1:
+            raise RangeError(f"an array has at least 1 row, not {rows}")
         for part in blocks.coordinates(self._parts()):
             for first in range(0, len(part), rows):
                 yield part[first : first + rows]

@@ -4,6 +4,8 @@ from __future__ import annotations
 
 import os
 
+import numpy as np
+
 from .encoded import Encoded
 from .files import naming, replacing
 from .forms import MAX_FILE
@@ -20,10 +22,7 @@ class Scene(Grids[Grid]):
     def to_bytes(self) -> bytes:
         """Returns the encoding of the scene: version 2, the bytes that `vdb --save` writes. Needs memory for a copy of each grid.
         Raises SceneTooLongError if it has more than 268,435,456 bytes."""
-        scene = Encoded()
-        for name, grid in self.items():
-            scene.put(name.encode(), grid._held, grid.metadata)
-        return scene.to_bytes()
+        return self._encoding().tobytes()
 
     def save(self, path: "str | os.PathLike[str]") -> None:
         """Writes the encoding of the scene to a file.
@@ -31,9 +30,16 @@ class Scene(Grids[Grid]):
         The bytes go to a temporary file in the same folder, which then takes the place of `path`. Raises SceneTooLongError if there are
         more than 268,435,456, and FileError if the file can't be written; an existing file stays as it was then.
         """
-        encoding = self.to_bytes()
+        encoding = self._encoding()
         with replacing(path) as file:
-            file.write(encoding)
+            file.write(encoding.data)
+
+    def _encoding(self) -> np.ndarray:
+        """Returns the bytes of the encoding (uint8)."""
+        scene = Encoded()
+        for name, grid in self.items():
+            scene.put(name.encode(), grid._held, grid.metadata)
+        return scene.encoding()
 
 
 def load(path: "str | os.PathLike[str]") -> Scene:

@@ -70,4 +70,4 @@ class View(Readable):
         return (bool(value.value) if self.kind == "bool" else value.value), bool(on.value)
 
     def _read(self, low: Coordinate, values: "np.ndarray | None", active: "np.ndarray | None", fill: "Value | None") -> None:
-        read_box(self._held, low, values, active, fill)
+        read_box(self._held, self._kind, low, values, active, fill)

@@ -9,8 +9,8 @@ import numpy as np
 from ..forms import SIDES, Coordinate, Kind, Value, narrow
 from .tree import CODE_BITS, Leaves, Tiles, Tree, collapse, empty_tree
 
-#: How many voxels along x are handled at once.
-SLAB = 16
+#: How many voxels along x are handled at once, and how many of a root block are few.
+SLAB, FEW = 16, 2**20
 
 
 def tree_of(kind: Kind, values: np.ndarray, active: "np.ndarray | None", origin: "tuple[int, int, int]", background) -> Tree:
@@ -51,8 +51,19 @@ class Source:
     def root_block(self, key: "tuple[int, int, int]", place: int) -> None:
         low = [max(at, part * SIDES[2]) for at, part in zip(self.origin, key)]
         past = [min(at, (part + 1) * SIDES[2]) for at, part in zip(self.past, key)]
+        if self.is_thin_background(low, past):
+            return
         for x, y, z in covering(low, past, SIDES[1]):
             self.lower_extent((x, y, z), place << 15 | (x & 31) << 10 | (y & 31) << 5 | z & 31)
+
+    def is_thin_background(self, low: "list[int]", past: "list[int]") -> bool:
+        """Says whether a box within the array has few voxels, and all of them are the inactive background. A long array of few voxels has
+        many root blocks, each with many lower extents."""
+        part = tuple(slice(a - at, b - at) for a, b, at in zip(low, past, self.origin))
+        values = self.values[part]
+        if values.size > FEW or (values != self.background).any():
+            return False
+        return self.active is None or not self.active[part].any()
 
     def lower_extent(self, number: "tuple[int, int, int]", code: int) -> None:
         """Reads the part of the array in a lower extent, a slab of SLAB voxels along x at a time: block order goes by x first."""
@@ -146,7 +157,7 @@ def fill_arrays(tree: Tree, low: Coordinate, values: "np.ndarray | None", active
         target.put_tiles(level)
     target.put_leaves()
     if values is not None and target.values is not values:
-        narrow(target.values, values)
+        narrow(target.values, values, tree.kind.dtype)
     if active is not None and target.active is not active:
         active[...] = target.active
 
@@ -167,15 +178,20 @@ class Target:
         active[...] = False
 
     def put_tiles(self, level: int) -> None:
-        """Writes the tiles of a level, a slice each."""
-        tiles = self.tree.tiles[level]
-        lows = self.tree.origins(tiles.codes, level) - self.low
-        pasts = np.minimum(lows + SIDES[level], self.values.shape)
+        """Writes the tiles of a level, a slice for those that follow one another along z with one value and state."""
+        tiles, along_z = self.tree.tiles[level], (16, 32, 1)[level]
+        codes, values, active = tiles.codes, tiles.values, tiles.active
+        begins = np.ones(len(codes) + 1, np.bool_)
+        begins[1:-1] = (codes[1:] != codes[:-1] + 1) | (codes[1:] % along_z == 0) | (values[1:] != values[:-1]) | (active[1:] != active[:-1])
+        ends = np.flatnonzero(begins)
+        first, last = ends[:-1], ends[1:] - 1
+        lows = self.tree.origins(codes[first], level) - self.low
+        pasts = np.minimum(self.tree.origins(codes[last], level) - self.low + SIDES[level], self.values.shape)
         meets = (lows < self.values.shape).all(axis=1) & (pasts > 0).all(axis=1)
         if self.only_active:
-            meets &= tiles.active
-        lows, pasts = np.maximum(lows[meets], 0), pasts[meets]
-        rows = zip(lows.tolist(), pasts.tolist(), tiles.values[meets].tolist(), tiles.active[meets].tolist())
+            meets &= active[first]
+        lows, pasts, first = np.maximum(lows[meets], 0), pasts[meets], first[meets]
+        rows = zip(lows.tolist(), pasts.tolist(), values[first].tolist(), active[first].tolist())
         for (x0, y0, z0), (x1, y1, z1), value, state in rows:
             self.values[x0:x1, y0:y1, z0:z1] = value
             if state:

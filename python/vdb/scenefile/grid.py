@@ -80,8 +80,8 @@ class Grid(Walkable):
         background is active. `origin` is the coordinate of `values[0, 0, 0]`. Outside the array voxels are the background,
         inactive.
 
-        Raises DtypeError for another dtype, RangeError for another shape, for coordinates outside 32 bits or for a wrong
-        background or limit, and RootLimitError if the grid needs more root blocks than `limit`.
+        Raises DtypeError for another dtype, and RootLimitError if the grid needs more root blocks than `limit`. Raises
+        RangeError for another shape, for coordinates outside 32 bits, or for a wrong background or limit.
         """
         values = np.asarray(values)
         form = kind_of_array(values)
@@ -95,7 +95,7 @@ class Grid(Walkable):
         return self._tree.kind
 
     @property
-    def background(self) -> "bool | int":
+    def background(self) -> Value:
         """The value of every voxel that nothing was written to."""
         return self._tree.background
 

@@ -2,19 +2,32 @@
 """Pictures of slices as PNG files."""
 from __future__ import annotations
 
+import io
+import re
 import struct
 import zlib
-from typing import Iterable, List, Optional
+from typing import List, Optional, TextIO
 
 import numpy as np
+
+from ..errors import RangeError
 
 SIDE = 14  # of a cell's square in a picture of answers, in pixels, with a line of one pixel between squares
 GAP = 24  # around slices and between them, in pixels
 PAPER = (255, 255, 255)
 INACTIVE = (228, 228, 224)
 PALE, DARK = (140, 180, 224), (20, 60, 120)
+#: The most bytes of the pixels of a picture, three per pixel, and of the answers of a script that are drawn.
+MAX_PIXELS, MAX_ANSWERS = 2**28, 2**26
 
 Rows = List[List[Optional[int]]]
+
+
+def check_size(width: int, height: int) -> None:
+    """Raises RangeError if a picture of this size has too many bytes."""
+    needed = 3 * width * height
+    if needed > MAX_PIXELS:
+        raise RangeError(f"a picture of {width:,} x {height:,} pixels needs {needed:,} bytes, more than {MAX_PIXELS:,}")
 
 
 def png(pixels: np.ndarray) -> bytes:
@@ -31,11 +44,17 @@ def png(pixels: np.ndarray) -> bytes:
     return b"\x89PNG\r\n\x1a\n" + chunk(b"IHDR", header) + chunk(b"IDAT", content) + chunk(b"IEND", b"")
 
 
-def slices_of(lines: Iterable[str]) -> "list[Rows]":
-    """Returns the slices among the answers of a script. In a row an inactive cell is None; booleans are 0 and 1."""
+def slices_of(answers: TextIO) -> "list[Rows]":
+    """Returns the slices among the answers of a script. In a row an inactive cell is None; booleans are 0 and 1.
+
+    Raises RangeError if the answers are too long.
+    """
+    text = answers.read(MAX_ANSWERS + 1)
+    if len(text) > MAX_ANSWERS:
+        raise RangeError(f"the answers have more than {MAX_ANSWERS:,} bytes")
     found: "list[Rows]" = []
     rows: Rows = []
-    for line in lines:
+    for line in io.StringIO(text):
         words = line.split()
         if words[:1] == ["row"] and len(words) > 2:
             rows.append([None if word.startswith("(") else number_of(word) for word in words[2:]])
@@ -46,8 +65,12 @@ def slices_of(lines: Iterable[str]) -> "list[Rows]":
 
 
 def number_of(word: str) -> int:
-    """Returns the number of a value. Raises ValueError if the word is none."""
-    return {"false": 0, "true": 1}[word] if word in ("false", "true") else int(word)
+    """Returns the number of a value. Raises RangeError if the word is none."""
+    if word in ("false", "true"):
+        return int(word == "true")
+    if not re.fullmatch(r"-?[0-9]{1,19}", word):
+        raise RangeError(f"a row of a slice has the cell {word[:40]!r}, which is no value")
+    return int(word)
 
 
 def shade(value: int, least: int, greatest: int) -> "tuple[int, ...]":
@@ -62,6 +85,7 @@ def picture_of(slices: "list[Rows]") -> np.ndarray:
     least, greatest = min(values, default=0), max(values, default=0)
     width = GAP + sum(max(map(len, rows)) * SIDE + GAP for rows in slices)
     height = 2 * GAP + max(len(rows) for rows in slices) * SIDE
+    check_size(width, height)
     pixels = np.full((height, width, 3), PAPER, np.uint8)
     left = GAP
     for rows in slices:
@@ -85,6 +109,18 @@ def colours_of(values: np.ndarray) -> np.ndarray:
     value = np.where(labels % 2 == 0, 0.62, 0.85)
     parts = [np.clip(np.abs((hue + shift) % 6 - 3) - 1, 0, 1) for shift in (0, 4, 2)]
     return np.stack([(255 * value * (0.25 + 0.75 * part)).astype(np.uint8) for part in parts], axis=-1)
+
+
+#: The colours of values from the least to the greatest one, at even steps, for grids of many values.
+SCALE = ((86, 72, 160), (62, 117, 178), (52, 160, 158), (122, 196, 104), (244, 226, 94))
+
+
+def scaled_colours(values: np.ndarray) -> np.ndarray:
+    """Returns a colour (N x 3, uint8) for each of some values, by its place between the least and the greatest one."""
+    part = values.astype(np.float64)
+    part = (part - part.min()) / max(part.max() - part.min(), 1)
+    steps = np.linspace(0, 1, len(SCALE))
+    return np.stack([np.interp(part, steps, colour) for colour in zip(*SCALE)], axis=-1).round().astype(np.uint8)
 
 
 def labels_of(values: np.ndarray, active: np.ndarray, background: "bool | int", scale: int) -> np.ndarray:

@@ -7,6 +7,7 @@ leaves. A fault is the first one in the order of docs/FORMAT.md: what looks wron
 from __future__ import annotations
 
 import struct
+from array import array
 from typing import Callable, NoReturn
 
 import numpy as np
@@ -152,12 +153,10 @@ class Walk:
         self.reader, self.kind, self.background = reader, kind, background
         self.unpack_value = struct.Struct(">" + kind.code).unpack_from
         self.roots: "list[tuple[int, int, int]]" = []
-        # per level, leaf extents first: the codes, values and states of tiles
-        self.noted: "list[tuple[list[int], list[int], list[bool]]]" = [([], [], []) for _ in range(3)]
+        # per level, leaf extents first: the codes, values and states of tiles. A list would take four times the memory of an array.
+        self.noted = [(array("q"), array(kind.code), array("B")) for _ in range(3)]
         # per leaf: its code, the place of its first voxel in the file, how many voxels it lists
-        self.leaf_codes: "list[int]" = []
-        self.leaf_places: "list[int]" = []
-        self.leaf_counts: "list[int]" = []
+        self.leaf_codes, self.leaf_places, self.leaf_counts = array("q"), array("q"), array("q")
 
     def root_block(self, place: int) -> None:
         """Reads the key and the body of a root block."""

@@ -62,8 +62,9 @@ class Scene(Grids[Grid]):
 def load(path: "str | os.PathLike[str]", progress: Optional[Progress] = None) -> Scene:
     """Reads a scene file of version 1 or 2.
 
-    `progress` is called with the number of bytes read so far and the size of the file. Raises the FormatError of the first
-    fault, in the order of docs/FORMAT.md, and FileError if the file can't be opened or read.
+    `progress` is called with the number of bytes read so far and the size of the file. It takes less than ten times the memory of
+    the file's bytes, of which it reads at most 268,435,457. Raises the FormatError of the first fault, in the order of docs/FORMAT.md,
+    and FileError if the file can't be opened or read.
     """
     with naming(path), open(path, "rb") as file:
         found = os.fstat(file.fileno())

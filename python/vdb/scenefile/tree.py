@@ -59,6 +59,15 @@ class Leaves:
         """Yields (first, last), slices of leaves that list about CHUNK voxels together."""
         return chunks(self.starts)
 
+    def expanded(self, listed: np.ndarray, leaf: np.ndarray) -> np.ndarray:
+        """Returns a number for each voxel of some leaves (n x 512), by one for each listed voxel of all leaves; 0 for other voxels."""
+        counts = self.starts[leaf + 1] - self.starts[leaf]
+        row = np.repeat(np.arange(len(leaf)), counts)
+        place = np.arange(len(row)) + np.repeat(self.starts[leaf] - np.cumsum(counts) + counts, counts)
+        made = np.zeros((len(leaf), 512), listed.dtype)
+        made[row, self.index[place]] = listed[place]
+        return made
+
 
 @dataclass(frozen=True)
 class Tree:

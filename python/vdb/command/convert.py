@@ -1,0 +1,104 @@
+# SPDX-License-Identifier: Apache-2.0
+"""Turns a file of another format into a grid of a scene file, or a grid into such a file.
+
+One of IN and OUT is a scene file (.vdbs). The ending of the other one names its format:
+{endings}. Arrays have the axes x, y, z.
+A scene file that exists keeps its other grids. A grid of the same name is replaced; its
+metadata and root limit stay. A box of a grid is written, whose origin and shape are printed
+on standard error."""
+from __future__ import annotations
+
+import argparse
+import os
+import sys
+
+from .. import formats
+from ..errors import MissingFileError
+from ..forms import DEFAULT_LIMIT, KINDS, NAME_FORM
+from ..formats import npy
+from ..formats.volume import as_kind
+from ..scenefile import Grid, Scene
+from .common import (
+    Problem, about, add_bounds, add_max_bytes, box_of, grid_of, limit_word, loaded, name_word, numbers_of, output, saved, stages, value_word,
+)  # fmt: skip
+
+__doc__ = __doc__.format(endings=", ".join(formats.FORMATS))
+EXAMPLE = "convert labels.npy scene.vdbs --grid organs --origin 0 0 -20\n         vdb-scene convert scene.vdbs organs.npy --bounds 0 0 0 63 63 63"
+SCENE = ".vdbs"
+DTYPES = ("bool", *(f"{sign}int{bits}" for bits in (8, 16, 32, 64) for sign in ("", "u")))
+
+
+def add_arguments(parser: argparse.ArgumentParser) -> None:
+    parser.add_argument("source", metavar="IN", help="the file to read")
+    parser.add_argument("out", metavar="OUT", help="the file to write; - for a .npy on standard output")
+    parser.add_argument("--grid", type=name_word, metavar="N", help="the name of the grid (default: the only grid of IN, or the name of the file IN)")
+    parser.add_argument("--active", metavar="MASK", help="the file for the states, booleans: read beside IN (default: the voxels other than the "
+                        "background are active), or written beside OUT")  # fmt: skip
+    add_max_bytes(parser)
+    into = parser.add_argument_group("into a scene file")
+    into.add_argument("--origin", nargs=3, type=int, metavar=("X", "Y", "Z"), help="the coordinate of the first voxel (default: that in IN, or 0 0 0)")
+    into.add_argument("--background", type=value_word, metavar="V", help="the background (default 0, or false)")
+    into.add_argument("--limit", type=limit_word, metavar="N", help="the root limit (default 4096, or that of the grid replaced)")
+    into.add_argument("--type", choices=[*KINDS], help="the type of the grid (default: the narrowest for the values of IN)")
+    out = parser.add_argument_group("out of a scene file")
+    add_bounds(out, "the box")
+    out.add_argument("--fill", type=value_word, metavar="V", help="write this value for inactive voxels in place of their own")
+    out.add_argument("--dtype", choices=DTYPES, help="write values of this type, which must hold all of them (default: bool, int32 or int64)")
+
+
+def run(arguments: argparse.Namespace) -> None:
+    into = arguments.out.endswith(SCENE)
+    if into == arguments.source.endswith(SCENE):
+        raise Problem(f"{arguments.out}: one of IN and OUT is a scene file ({SCENE}), and {'not both' if into else 'neither is'}")
+    (read_in if into else write_out)(arguments)
+
+
+def read_in(arguments: argparse.Namespace) -> None:
+    """Puts a file into a scene file as a grid."""
+    try:
+        scene = loaded(arguments.out)
+    except MissingFileError:
+        scene = Scene()
+    name = arguments.grid or name_of(arguments.source)
+    old = scene.get(name)
+    limit = arguments.limit or (old.limit if old else DEFAULT_LIMIT)
+    active = None
+    if arguments.active:
+        with about(arguments.active):
+            active = as_kind(formats.read(arguments.active, arguments.max_bytes).values, KINDS["bool"])
+    with about(arguments.source), stages("reading", arguments.source, os.path.getsize(arguments.source)):
+        made = formats.load(
+            arguments.source, Grid, active=active, origin=arguments.origin, background=arguments.background, limit=limit,
+            metadata=old.metadata if old else None, kind=arguments.type, max_bytes=arguments.max_bytes,
+        )  # fmt: skip
+    with about(arguments.out):
+        scene[name] = made
+    saved(scene, arguments.out)
+
+
+def name_of(path: str) -> str:
+    """Returns the name for the grid of a file, which is that of the file."""
+    name = os.path.basename(path).partition(".")[0]
+    if not NAME_FORM.match(os.fsencode(name)):
+        raise Problem(f"{path}: choose a name for the grid by --grid: the file's isn't a letter a to z and up to 15 of a to z, 0 to 9 and _")
+    return name
+
+
+def write_out(arguments: argparse.Namespace) -> None:
+    """Writes a box of a grid to a file, and its states to another one."""
+    outs = [it for it in (arguments.out, arguments.active) if it]
+    for path in outs:
+        if path != "-":
+            formats.format_of(path)
+    grid = grid_of(loaded(arguments.source), arguments.source, arguments.grid)
+    with about(arguments.source):
+        volumes = formats.volume_of(grid, box_of(arguments.bounds), arguments.fill, arguments.dtype, arguments.max_bytes)
+    for path, volume in zip(outs, volumes):
+        if path == "-":
+            with output(path) as file:
+                npy.write(file, path, volume)
+        else:
+            with stages("writing", path, volume.values.nbytes):
+                formats.write(path, volume)
+    shape = " ".join(map(str, volumes[0].values.shape))
+    print(f"origin {numbers_of([volumes[0].origin or (0, 0, 0)])}, shape {shape}", file=sys.stderr)
