@@ -19,29 +19,36 @@
  * vdb_scene_free end that and leave the handle empty. Never change a field. Never copy a handle by assignment, unless the old
  * one isn't used again: vdb_grid_copy makes a second grid, and vdb_view_share a second view.
  *
- * Codes. Each call except the three that free returns a code. VDB_OK is 0: done. After any other code nothing has changed,
- * neither a grid, view or scene nor what a pointer argument points to; vdb_grid_write_many and vdb_grid_write_box say what
- * else they may have done. A call whose comment names no code returns VDB_OK or VDB_EMPTY alone; every call returns
- * VDB_EMPTY if a handle that it needs is empty. vdb_message returns the text of a code.
+ * Codes. Each call on a handle returns a code, except the three that free. VDB_OK is 0: done. After any other code no cell,
+ * background, root limit or metadata has changed, no handle holds another grid, view or scene, and no pointer argument points
+ * to another value. Two calls are exceptions: vdb_grid_write_many and vdb_grid_write_box may have set some voxels, and say
+ * which. Tiles and leaves may change after VDB_MEMORY and VDB_ROOT_LIMIT: for example, a fill, clip or voxelise that lacks
+ * memory prunes. A call whose comment names no code returns VDB_OK or VDB_EMPTY alone; every call returns VDB_EMPTY if a handle that
+ * it needs is empty. vdb_message returns the text of a code.
  *
- * Values cross as int64_t: 0 or 1 for VDB_BOOL, -2,147,483,648 to 2,147,483,647 for VDB_I32, any for VDB_I64. A state
- * comes out as 1 (active) or 0 (inactive); every state but 0 goes in as active.
+ * Values cross as int64_t: 0 or 1 for VDB_BOOL, -2,147,483,648 to 2,147,483,647 for VDB_I32, any for VDB_I64. The library
+ * writes a state as 1 (active) or 0 (inactive), and reads every state but 0 as active.
  *
- * Coordinates are voxels. A box includes both of its corners, and its least corner comes first.
+ * Coordinates are voxels. A box includes both of its corners, and its least corner is first. A cube of N voxels is aligned and
+ * has N along each axis.
  *
- * Block order: by cubes of 4,096 voxels along each axis, within these by cubes of 128, within these by cubes of 8, within
- * these by voxels, each in order of x, then y, then z.
+ * Block order sorts the cubes of 4,096 voxels by x, then y, then z. It sorts the cubes of 128 voxels of each in the same order,
+ * within these the cubes of 8, and within these the voxels.
  *
- * Memory comes from malloc, and goes back with free when the handle is freed. If malloc refuses, the call returns
- * VDB_MEMORY and the program goes on.
+ * The library allocates by malloc, and frees when the handle is freed. If malloc fails, the call returns VDB_MEMORY and the
+ * program goes on.
+ *
+ * Long calls. A call can't be interrupted. To stop one, or to show its progress, make it in parts on a copy of the grid: a dilation or
+ * an erosion one iteration at a time, a fill, a write or a count box by box. Then free the grid, and assign the copy to its handle.
  *
  * Threads. One call at a time may use a handle, also for look-ups. Threads may use different handles at the same time, and
  * a handle may pass from one thread to another. To read one grid in several threads, give each a vdb_view of it. The library
  * keeps nothing outside its handles. Make no call in a signal handler.
  *
- * The caller owes what no code can tell. Each pointer points to an initialised object of its type, or to as many as the
- * length beside it says. It isn't null, not even beside a length of 0. No two arguments of a call overlap, so a call on two
- * grids needs two handles.
+ * The caller owes what no code can say. Each pointer points to an initialised object of its type, or to as many as its
+ * length says. It isn't null, even if the length is 0. No two arguments of a call overlap. A call on two handles of one type
+ * tests that these differ, and returns VDB_SAME_GRID if not. This header does that: a program that calls the library without
+ * it tests the handles itself.
  */
 #ifndef VDB_H
 #define VDB_H
@@ -53,6 +60,7 @@
 #define VDB_VERSION_MAJOR 1
 #define VDB_VERSION_MINOR 1
 #define VDB_VERSION_PATCH 0
+#define VDB_VERSION (1000000 * VDB_VERSION_MAJOR + 1000 * VDB_VERSION_MINOR + VDB_VERSION_PATCH)
 
 #ifdef __cplusplus
 extern "C" {
@@ -151,6 +159,7 @@ enum {
     VDB_NO_META = 13,
     VDB_TEXT = 14,
     VDB_BUFFER = 15,
+    VDB_SAME_GRID = 16,
     /* Faults of a scene file. */
     VDB_FILE_MAGIC = 20,
     VDB_FILE_VERSION = 21,
@@ -170,7 +179,7 @@ enum {
     VDB_FILE_TOO_LONG = 35
 };
 
-/* What compilers are told: no pointer of a call is null, and its code is looked at. */
+/* Let compilers warn of a null pointer and of a code that isn't used. */
 #ifdef __GNUC__
 #define VDB_NONNULL __attribute__((nonnull))
 #define VDB_CODE __attribute__((nonnull, warn_unused_result)) int32_t
@@ -179,44 +188,18 @@ enum {
 #define VDB_CODE int32_t
 #endif
 
+/* Returns the version of the library, as VDB_VERSION has that of this header. */
+int32_t vdb_version(void);
+
+/* Writes to *text where the text of a code begins: characters up to a 0, which stay there and are never freed. */
+VDB_NONNULL void vdb_message_at(int32_t code, const char **text);
+
 /* Returns the text of a code, which is never freed. */
 static inline const char *vdb_message(int32_t code)
 {
-    switch (code) {
-    case VDB_OK: return "done";
-    case VDB_EMPTY: return "the handle is empty";
-    case VDB_MEMORY: return "out of memory";
-    case VDB_ROOT_LIMIT: return "the grid would need more root blocks than its root limit";
-    case VDB_RANGE: return "an argument is out of range";
-    case VDB_SUM_RANGE: return "a sum is outside the type of the grid's values";
-    case VDB_KINDS: return "the two grids have values of different types";
-    case VDB_NO_SUM: return "booleans have no sum";
-    case VDB_NO_GRID: return "the scene has no such grid";
-    case VDB_NAME: return "a name is a letter a to z, then up to 15 of a to z, 0 to 9 and _";
-    case VDB_NAME_TAKEN: return "the scene has a grid of this name";
-    case VDB_GRID_LIMIT: return "a scene has at most 64 grids";
-    case VDB_META_LIMIT: return "a grid has at most 16 metadata pairs";
-    case VDB_NO_META: return "the grid has no such metadata pair";
-    case VDB_TEXT: return "a metadata text is 1 to 64 printable ASCII characters without spaces";
-    case VDB_BUFFER: return "the buffer is too small";
-    case VDB_FILE_MAGIC: return "magic: the file doesn't begin with VDBS";
-    case VDB_FILE_VERSION: return "version: the version is neither 1 nor 2";
-    case VDB_FILE_TRUNCATED: return "truncated: the file ends before a field or inside it";
-    case VDB_FILE_NAME: return "name: a name has another form or order, or the file has more than 64 grids";
-    case VDB_FILE_KIND: return "kind: the number of a grid's type is above 2";
-    case VDB_FILE_VALUE: return "value: the byte of a boolean is above 1";
-    case VDB_FILE_LIMIT: return "limit: a root limit is 0 or above 65,536";
-    case VDB_FILE_META: return "meta: a metadata pair has another form or order, or a grid has more than 16";
-    case VDB_FILE_KEY: return "key: the key of a root block is out of range or out of order";
-    case VDB_FILE_ROOT_LIMIT: return "root-limit: a grid has more root blocks than its root limit";
-    case VDB_FILE_TAG: return "tag: a body begins with a byte that is no tag";
-    case VDB_FILE_INDEX: return "index: the count or the number of an entry is out of range or out of order";
-    case VDB_FILE_BACKGROUND: return "background: the file lists an inactive cell of the background";
-    case VDB_FILE_CONSTANT_NODE: return "constant-node: all entries of a node have the same cell";
-    case VDB_FILE_TRAILING: return "trailing: a byte follows the last field";
-    case VDB_FILE_TOO_LONG: return "too-long: a file has at most 268,435,456 bytes";
-    default: return "unknown code";
-    }
+    const char *text = 0;
+    vdb_message_at(code, &text);
+    return text;
 }
 
 /* ---- A grid -------------------------------------------------------------------------------------------------------- */
@@ -228,7 +211,7 @@ VDB_CODE vdb_grid_new(vdb_grid *grid, int32_t kind, int64_t background, uint32_t
 /* Frees the handle's grid, if it has one, and leaves the handle empty. */
 VDB_NONNULL void vdb_grid_free(vdb_grid *grid);
 
-/* Copies a grid, which replaces the grid of the other handle. The accessors of the copy are empty. VDB_MEMORY. */
+/* Copies a grid, which replaces the grid of the other handle. The accessors of the copy are empty. VDB_SAME_GRID. VDB_MEMORY. */
 VDB_CODE vdb_grid_copy(vdb_grid *from, vdb_grid *to);
 
 /* Returns the type of the values, the background, and the root limit. */
@@ -239,7 +222,8 @@ VDB_CODE vdb_grid_limit(vdb_grid *grid, uint32_t *limit);
 /* Returns the value and the state of a voxel, from the root. */
 VDB_CODE vdb_grid_get(vdb_grid *grid, int32_t x, int32_t y, int32_t z, int64_t *value, int32_t *active);
 
-/* Returns the value and the state of a voxel through an accessor. VDB_RANGE: no such accessor. */
+/* Returns the value and the state of a voxel through an accessor or, with VDB_NO_ACCESSOR, from the root.
+ * VDB_RANGE: no such accessor. */
 VDB_CODE vdb_grid_probe(vdb_grid *grid, int32_t accessor, int32_t x, int32_t y, int32_t z, int64_t *value, int32_t *active);
 
 /* Sets the value and the state of a voxel, or only one of them, through an accessor or without one.
@@ -258,8 +242,8 @@ VDB_CODE vdb_grid_clip(vdb_grid *grid, const vdb_box *box);
 /* Makes the tree as small as its cells allow. No cell changes. */
 VDB_CODE vdb_grid_prune(vdb_grid *grid);
 
-/* Puts each active voxel of a box into a leaf. No cell changes. It visits every cube of 8 voxels in the box, so give it a small
- * box, such as that of vdb_grid_bounds. VDB_RANGE: corners out of order. VDB_MEMORY. */
+/* Puts each active voxel of a box into a leaf. No cell changes. It passes an inactive tile at once, so the box may be large. An
+ * active tile takes memory: a leaf for each cube of 8 voxels. VDB_RANGE: corners out of order. VDB_MEMORY. */
 VDB_CODE vdb_grid_voxelise(vdb_grid *grid, const vdb_box *box);
 
 /* Activates, in each of 1 to 16 iterations, every voxel that has an active face neighbour. No value changes.
@@ -271,6 +255,8 @@ VDB_CODE vdb_grid_dilate(vdb_grid *grid, uint32_t iterations);
 VDB_CODE vdb_grid_erode(vdb_grid *grid, uint32_t iterations);
 
 /* ---- Two grids: the first one changes, the other one stays ---------------------------------------------------------- */
+
+/* Each call returns VDB_SAME_GRID, whatever the handle holds, if both handles are the same. */
 
 /* Activates each voxel that is active in the other grid. No value changes, and types may differ. VDB_ROOT_LIMIT. VDB_MEMORY. */
 VDB_CODE vdb_grid_unite(vdb_grid *grid, vdb_grid *other);
@@ -321,11 +307,11 @@ VDB_CODE vdb_grid_next_active(vdb_grid *grid, const vdb_box *box, vdb_coord *at,
  * census. */
 VDB_CODE vdb_grid_leaf_count(vdb_grid *grid, uint64_t *count);
 
-/* Copies leaves in block order, as many as `origins` has elements or as are left: the first ones, or those whose least corner comes past
+/* Copies leaves in block order, as many as `origins` has elements or as are left: the first ones, or those whose least corner lies past
  * a coordinate, such as past the last origin of the call before. *copied is their number, and 0 if none is left. Tiles aren't leaves.
  *
- * Element k of `origins` becomes the least corner of leaf k. The voxel that is dx, dy and dz past it along the axes, each 0 to 7, has its
- * value at element 512 k + 64 dx + 8 dy + dz of `values`. Its state is bit 8 dy + dz of word 8 k + dx of `states`, where bit j counts 2^j.
+ * Element k of `origins` becomes the least corner of leaf k. A voxel of the leaf is dx, dy and dz past it, each 0 to 7. Its value is
+ * element 512 k + 64 dx + 8 dy + dz of `values`. Its state is bit 8 dy + dz of word 8 k + dx of `states`, where bit j counts 2^j.
  * No element past those of the copied leaves changes. An array of length 0 is left out. Its pointer isn't null.
  * VDB_RANGE: `origins` has no element, or `values` has neither 512 times as many nor 0, or `states` neither 8 times as many nor 0.
  *
@@ -340,8 +326,7 @@ VDB_CODE vdb_grid_next_leaves(vdb_grid *grid, int32_t x, int32_t y, int32_t z, v
 
 /* ---- Many voxels of a grid at once ---------------------------------------------------------------------------------- */
 
-/* Values and states are arrays with lengths of their own, in elements: int64_t values, and uint8_t states, which come out as 1 or 0
- * and go in as active unless they are 0. An array of length 0 is left out: that part isn't read, or the voxels keep it. Its pointer
+/* Values and states are arrays with lengths of their own, in elements: int64_t values, and uint8_t states. An array of length 0 is left out: that part isn't read, or the voxels keep it. Its pointer
  * isn't null. */
 
 /* Writes the value and the state of each voxel of `at` to the element of the same index, through an accessor or without one.
@@ -351,7 +336,7 @@ VDB_CODE vdb_grid_get_many(vdb_grid *grid, int32_t accessor, const vdb_coord *at
 
 /* Sets each voxel of `at` to the value and the state of the same index, one after another, through an accessor or without one.
  * VDB_RANGE: no such accessor, a value outside the type, the length of an array is neither `count` nor 0, or both are 0 and `count`
- * isn't; then nothing has changed. VDB_ROOT_LIMIT, VDB_MEMORY: the voxel at index *written failed, and those before it are set. After
+ * isn't. Nothing has changed then. VDB_ROOT_LIMIT, VDB_MEMORY: the voxel at index *written failed, and those before it are set. After
  * VDB_OK, *written is `count`. */
 VDB_CODE vdb_grid_write_many(vdb_grid *grid, int32_t accessor, const vdb_coord *at, size_t count, const int64_t *values,
                              size_t values_len, const uint8_t *states, size_t states_len, size_t *written);
@@ -363,8 +348,8 @@ VDB_CODE vdb_grid_read_box(vdb_grid *grid, const vdb_box *box, const vdb_strides
                            uint8_t *states, size_t states_len);
 
 /* Sets each voxel of a box to the value and the state of its element, by x, then y, then z, through an accessor or without one.
- * VDB_RANGE: no such accessor, corners out of order, rows that overlap by their strides, an array that is neither of length 0 nor long
- * enough, both of length 0, or a value outside the type; then nothing has changed. VDB_ROOT_LIMIT, VDB_MEMORY: the first *written voxels
+ * VDB_RANGE: no such accessor, corners out of order, or rows that overlap by their strides; an array that is neither of length 0 nor
+ * long enough, both of length 0, or a value outside the type. Nothing has changed then. VDB_ROOT_LIMIT, VDB_MEMORY: the first *written voxels
  * of the box in that order are set, and the one after them failed. After VDB_OK, *written is the number of voxels of the box. A box of
  * at least 8 voxels along each axis takes the least time: it is written leaf by leaf. */
 VDB_CODE vdb_grid_write_box(vdb_grid *grid, int32_t accessor, const vdb_box *box, const vdb_strides *strides, const int64_t *values,
@@ -377,7 +362,8 @@ VDB_CODE vdb_grid_write_box(vdb_grid *grid, int32_t accessor, const vdb_box *box
 /* Moves the grid out of its handle into a view, which replaces that of the other handle. No cell is copied. VDB_MEMORY. */
 VDB_CODE vdb_view_new(vdb_grid *grid, vdb_view *view);
 
-/* Makes another view of the same grid, which replaces that of the other handle: give it to another thread. VDB_MEMORY. */
+/* Makes another view of the same grid, which replaces that of the other handle: give it to another thread. VDB_SAME_GRID.
+ * VDB_MEMORY. */
 VDB_CODE vdb_view_share(vdb_view *from, vdb_view *to);
 
 /* Copies the grid of a view, which replaces the grid of the other handle. The accessors of the copy are empty. VDB_MEMORY. */
@@ -395,6 +381,22 @@ VDB_CODE vdb_view_get_many(vdb_view *view, const vdb_coord *at, size_t count, in
                            size_t states_len);
 VDB_CODE vdb_view_read_box(vdb_view *view, const vdb_box *box, const vdb_strides *strides, int64_t *values, size_t values_len,
                            uint8_t *states, size_t states_len);
+
+/* Return what the calls of the same names for a grid return, with the same codes. */
+VDB_CODE vdb_view_kind(vdb_view *view, int32_t *kind);
+VDB_CODE vdb_view_background(vdb_view *view, int64_t *value);
+VDB_CODE vdb_view_limit(vdb_view *view, uint32_t *limit);
+VDB_CODE vdb_view_count(vdb_view *view, vdb_count *count);
+VDB_CODE vdb_view_count_in(vdb_view *view, const vdb_box *box, vdb_count *count);
+VDB_CODE vdb_view_bounds(vdb_view *view, vdb_box *box, int32_t *found);
+VDB_CODE vdb_view_census(vdb_view *view, vdb_census *census);
+VDB_CODE vdb_view_first_active(vdb_view *view, const vdb_box *box, vdb_coord *at, int64_t *value, int32_t *found);
+VDB_CODE vdb_view_next_active(vdb_view *view, const vdb_box *box, vdb_coord *at, int64_t *value, int32_t *found);
+VDB_CODE vdb_view_leaf_count(vdb_view *view, uint64_t *count);
+VDB_CODE vdb_view_first_leaves(vdb_view *view, vdb_coord *origins, size_t count, int64_t *values, size_t values_len, uint64_t *states,
+                               size_t states_len, size_t *copied);
+VDB_CODE vdb_view_next_leaves(vdb_view *view, int32_t x, int32_t y, int32_t z, vdb_coord *origins, size_t count, int64_t *values,
+                              size_t values_len, uint64_t *states, size_t states_len, size_t *copied);
 
 /* ---- A scene -------------------------------------------------------------------------------------------------------- */
 
@@ -449,6 +451,34 @@ VDB_CODE vdb_scene_meta_set(vdb_scene *scene, const char *name, size_t len, cons
 
 /* Removes a metadata pair, if the grid has the key. VDB_NAME. VDB_NO_GRID. */
 VDB_CODE vdb_scene_meta_remove(vdb_scene *scene, const char *name, size_t len, const char *key, size_t key_len);
+
+/* ---- The test of two handles ----------------------------------------------------------------------------------------- */
+
+/* The library takes it that two handles differ. So each of these names stands for a test, and then the call. */
+#define VDB_OF_TWO(call, handle)                                                                                                \
+    static inline VDB_CODE call##_of_two(handle *first, handle *second)                                                         \
+    {                                                                                                                           \
+        return first == second ? VDB_SAME_GRID : call(first, second);                                                           \
+    }
+VDB_OF_TWO(vdb_grid_copy, vdb_grid)
+VDB_OF_TWO(vdb_grid_unite, vdb_grid)
+VDB_OF_TWO(vdb_grid_subtract, vdb_grid)
+VDB_OF_TWO(vdb_grid_intersect, vdb_grid)
+VDB_OF_TWO(vdb_grid_maximum, vdb_grid)
+VDB_OF_TWO(vdb_grid_minimum, vdb_grid)
+VDB_OF_TWO(vdb_grid_sum, vdb_grid)
+VDB_OF_TWO(vdb_grid_replace, vdb_grid)
+VDB_OF_TWO(vdb_view_share, vdb_view)
+#undef VDB_OF_TWO
+#define vdb_grid_copy vdb_grid_copy_of_two
+#define vdb_grid_unite vdb_grid_unite_of_two
+#define vdb_grid_subtract vdb_grid_subtract_of_two
+#define vdb_grid_intersect vdb_grid_intersect_of_two
+#define vdb_grid_maximum vdb_grid_maximum_of_two
+#define vdb_grid_minimum vdb_grid_minimum_of_two
+#define vdb_grid_sum vdb_grid_sum_of_two
+#define vdb_grid_replace vdb_grid_replace_of_two
+#define vdb_view_share vdb_view_share_of_two
 
 #ifdef __cplusplus
 }

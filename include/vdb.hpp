@@ -9,8 +9,8 @@
 //     std::cout << organ.count() << " active voxels\n";
 //
 // A call that fails throws: MemoryError if an allocation failed, std::system_error if a file can't be read or written,
-// otherwise Error with the code of vdb.h. Every grid and every scene is then as it was,
-// unless the call is set_many or write_box.
+// otherwise Error with the code of vdb.h. Every cell, background, limit and metadata pair is then as it was, unless the call is
+// write_many or write_box. Tiles and leaves may have changed.
 //
 // Owners move and don't copy; copy() makes a second grid. A moved-from grid or scene is empty, and its calls throw VDB_EMPTY.
 // A call that is const changes no cell, but it may change what an owner counts and caches. So no call, const or not, may run on
@@ -152,6 +152,14 @@ template <typename T> T *data_of(Span<T> span)
     return span.empty() ? &none : span.data();
 }
 
+// A count as one number. Throws std::overflow_error above 2^64 - 1.
+inline uint64_t whole(const vdb_count &count)
+{
+    if (count.high != 0)
+        throw std::overflow_error("more than 2^64 - 1 active voxels");
+    return count.low;
+}
+
 // What `it++` returns: the element before the step.
 template <typename T> class Before {
 public:
@@ -165,8 +173,8 @@ private:
 } // namespace detail
 
 class Accessor;
-class ActiveVoxels;
-class Leaves;
+template <typename Owner> class ActiveVoxelsOf;
+template <typename Owner> class LeavesOf;
 
 // A grid. The comments of vdb.h describe each call.
 class Grid {
@@ -230,10 +238,15 @@ public:
     void dilate(uint32_t iterations = 1) { check(vdb_grid_dilate(&grid_, iterations)); }
     void erode(uint32_t iterations = 1) { check(vdb_grid_erode(&grid_, iterations)); }
 
+    // The same, with a call of progress(done, iterations) after each iteration. They are made on a copy, so if progress throws, the grid
+    // stays as it was.
+    template <typename Progress> void dilate(uint32_t iterations, Progress &&progress) { iterate(vdb_grid_dilate, iterations, progress); }
+    template <typename Progress> void erode(uint32_t iterations, Progress &&progress) { iterate(vdb_grid_erode, iterations, progress); }
+
     // Reads or sets many voxels: values[i] and states[i] are those of at[i]. An array that is left out is neither read nor set.
     // If a write throws other than VDB_RANGE, the first *written voxels are set.
     void get_many(Span<const Coord> at, Span<int64_t> values, Span<uint8_t> states = {}) const { get_by(VDB_NO_ACCESSOR, at, values, states); }
-    void set_many(Span<const Coord> at, Span<const int64_t> values, Span<const uint8_t> states = {}, std::size_t *written = nullptr)
+    void write_many(Span<const Coord> at, Span<const int64_t> values, Span<const uint8_t> states = {}, std::size_t *written = nullptr)
     {
         set_by(VDB_NO_ACCESSOR, at, values, states, written);
     }
@@ -262,6 +275,7 @@ public:
         check(code);
     }
 
+    // With itself as the other grid, a grid is combined with a copy.
     void unite(const Grid &other) { combine(vdb_grid_unite, other); }
     void subtract(const Grid &other) { combine(vdb_grid_subtract, other); }
     void intersect(const Grid &other) { combine(vdb_grid_intersect, other); }
@@ -275,9 +289,7 @@ public:
     {
         vdb_count count = {0, 0};
         check(vdb_grid_count_in(&grid_, &box, &count));
-        if (count.high != 0)
-            throw std::overflow_error("more than 2^64 - 1 active voxels");
-        return count.low;
+        return detail::whole(count);
     }
 
     // The bounding box of the active voxels, if there are any.
@@ -305,20 +317,25 @@ public:
     }
 
     // The leaves of the tree in block order, for a range-based for. Tiles aren't among them.
-    Leaves leaves() const &;
-    Leaves leaves() const && = delete;
+    LeavesOf<Grid> leaves() const &;
+    LeavesOf<Grid> leaves() const && = delete;
 
     // The active voxels of a box in block order, for a range-based for. They may change during the loop: each step finds the
     // first active voxel after the last one.
-    ActiveVoxels active(const Box &box = everywhere) const &;
-    ActiveVoxels active(const Box &box = everywhere) const && = delete;
+    ActiveVoxelsOf<Grid> voxels(const Box &box = everywhere) const &;
+    ActiveVoxelsOf<Grid> voxels(const Box &box = everywhere) const && = delete;
 
 private:
     friend class Accessor;
-    friend class ActiveVoxels;
-    friend class Leaves;
+    friend class ActiveVoxelsOf<Grid>;
+    friend class LeavesOf<Grid>;
     friend class Scene;
     friend class View;
+
+    static constexpr auto first_active = vdb_grid_first_active;
+    static constexpr auto next_active = vdb_grid_next_active;
+    static constexpr auto first_leaves = vdb_grid_first_leaves;
+    static constexpr auto next_leaves = vdb_grid_next_leaves;
 
     Grid() = default;
 
@@ -346,6 +363,18 @@ private:
         check(code);
     }
 
+    template <typename Progress> void iterate(int32_t (*call)(vdb_grid *, uint32_t), uint32_t iterations, Progress &progress)
+    {
+        if (iterations < 1 || iterations > VDB_ITERATIONS_MOST)
+            throw Error(VDB_RANGE);
+        Grid made = copy();
+        for (uint32_t done = 1; done <= iterations; done++) {
+            check(call(&made.grid_, 1));
+            progress(done, iterations);
+        }
+        *this = std::move(made);
+    }
+
     void combine(int32_t (*call)(vdb_grid *, vdb_grid *), const Grid &other)
     {
         if (&other != this)
@@ -353,6 +382,8 @@ private:
         Grid twin = copy();
         check(call(&grid_, &twin.grid_));
     }
+
+    vdb_grid *shared() const { return &grid_; }
 
     mutable vdb_grid grid_ = VDB_GRID_INIT;
 };
@@ -371,7 +402,7 @@ public:
     void set_value(Coord at, int64_t value) { check(vdb_grid_set_value(grid_.handle(), index_, at.x, at.y, at.z, value)); }
     void set_active(Coord at, bool active) { check(vdb_grid_set_active(grid_.handle(), index_, at.x, at.y, at.z, active)); }
     void get_many(Span<const Coord> at, Span<int64_t> values, Span<uint8_t> states = {}) { grid_.get_by(index_, at, values, states); }
-    void set_many(Span<const Coord> at, Span<const int64_t> values, Span<const uint8_t> states = {}, std::size_t *written = nullptr)
+    void write_many(Span<const Coord> at, Span<const int64_t> values, Span<const uint8_t> states = {}, std::size_t *written = nullptr)
     {
         grid_.set_by(index_, at, values, states, written);
     }
@@ -383,8 +414,8 @@ private:
 
 inline Accessor Grid::accessor(int32_t index) & { return Accessor(*this, index); }
 
-// The active voxels of a box, in block order. The grid must outlive it.
-class ActiveVoxels {
+// The active voxels of a box of a grid or a view, in block order. The owner must outlive it.
+template <typename Owner> class ActiveVoxelsOf {
 public:
     class Iterator {
     public:
@@ -395,13 +426,13 @@ public:
         using reference = const Voxel &;
 
         Iterator() = default;
-        Iterator(const Grid &grid, const Box &box) : grid_(&grid), box_(box) { step(vdb_grid_first_active); }
+        Iterator(const Owner &owner, const Box &box) : owner_(&owner), box_(box) { step(Owner::first_active); }
 
         reference operator*() const { return voxel_; }
         pointer operator->() const { return &voxel_; }
         Iterator &operator++()
         {
-            step(vdb_grid_next_active);
+            step(Owner::next_active);
             return *this;
         }
         detail::Before<Voxel> operator++(int)
@@ -410,33 +441,35 @@ public:
             ++*this;
             return before;
         }
-        friend bool operator==(const Iterator &a, const Iterator &b) { return a.grid_ == b.grid_; }
-        friend bool operator!=(const Iterator &a, const Iterator &b) { return a.grid_ != b.grid_; }
+        friend bool operator==(const Iterator &a, const Iterator &b) { return a.owner_ == b.owner_; }
+        friend bool operator!=(const Iterator &a, const Iterator &b) { return a.owner_ != b.owner_; }
 
     private:
-        void step(int32_t (*call)(vdb_grid *, const vdb_box *, vdb_coord *, int64_t *, int32_t *))
+        template <typename Call> void step(Call call)
         {
             int32_t found = 0;
-            check(call(&grid_->grid_, &box_, &voxel_.at, &voxel_.value, &found));
+            check(call(owner_->shared(), &box_, &voxel_.at, &voxel_.value, &found));
             if (!found)
-                grid_ = nullptr;
+                owner_ = nullptr;
         }
 
-        const Grid *grid_ = nullptr;
+        const Owner *owner_ = nullptr;
         Box box_ = everywhere;
         Voxel voxel_ = {{0, 0, 0}, 0};
     };
 
-    ActiveVoxels(const Grid &grid, const Box &box) : grid_(&grid), box_(box) {}
-    Iterator begin() const { return Iterator(*grid_, box_); }
+    ActiveVoxelsOf(const Owner &owner, const Box &box) : owner_(&owner), box_(box) {}
+    Iterator begin() const { return Iterator(*owner_, box_); }
     Iterator end() const { return Iterator(); }
 
 private:
-    const Grid *grid_;
+    const Owner *owner_;
     Box box_;
 };
 
-inline ActiveVoxels Grid::active(const Box &box) const & { return ActiveVoxels(*this, box); }
+using ActiveVoxels = ActiveVoxelsOf<Grid>;
+
+inline ActiveVoxels Grid::voxels(const Box &box) const & { return ActiveVoxels(*this, box); }
 
 // A leaf: a cube of 8 x 8 x 8 voxels, as it was when the loop read it.
 struct Leaf {
@@ -451,8 +484,8 @@ struct Leaf {
     Cell at(int x, int y, int z) const { return {values.data()[64 * x + 8 * y + z], (states.data()[x] >> (8 * y + z) & 1) != 0}; }
 };
 
-// The leaves of a grid, in block order. The grid must outlive it.
-class Leaves {
+// The leaves of a grid or a view, in block order. The owner must outlive it.
+template <typename Owner> class LeavesOf {
 public:
     class Iterator {
     public:
@@ -463,13 +496,13 @@ public:
         using reference = const Leaf &;
 
         Iterator() = default;
-        explicit Iterator(const Grid &grid) : grid_(&grid)
+        explicit Iterator(const Owner &owner) : owner_(&owner)
         {
             std::size_t count = 0;
-            check(vdb_grid_first_leaves(&grid_->grid_, &leaf_.origin, 1, leaf_.values.data(), leaf_.values.size(), leaf_.states.data(),
-                                        leaf_.states.size(), &count));
+            check(Owner::first_leaves(owner.shared(), &leaf_.origin, 1, leaf_.values.data(), leaf_.values.size(), leaf_.states.data(),
+                                      leaf_.states.size(), &count));
             if (count == 0)
-                grid_ = nullptr;
+                owner_ = nullptr;
         }
 
         reference operator*() const { return leaf_; }
@@ -478,10 +511,10 @@ public:
         {
             std::size_t count = 0;
             const Coord last = leaf_.origin;
-            check(vdb_grid_next_leaves(&grid_->grid_, last.x, last.y, last.z, &leaf_.origin, 1, leaf_.values.data(), leaf_.values.size(),
-                                       leaf_.states.data(), leaf_.states.size(), &count));
+            check(Owner::next_leaves(owner_->shared(), last.x, last.y, last.z, &leaf_.origin, 1, leaf_.values.data(), leaf_.values.size(),
+                                     leaf_.states.data(), leaf_.states.size(), &count));
             if (count == 0)
-                grid_ = nullptr;
+                owner_ = nullptr;
             return *this;
         }
         detail::Before<Leaf> operator++(int)
@@ -490,21 +523,23 @@ public:
             ++*this;
             return before;
         }
-        friend bool operator==(const Iterator &a, const Iterator &b) { return a.grid_ == b.grid_; }
-        friend bool operator!=(const Iterator &a, const Iterator &b) { return a.grid_ != b.grid_; }
+        friend bool operator==(const Iterator &a, const Iterator &b) { return a.owner_ == b.owner_; }
+        friend bool operator!=(const Iterator &a, const Iterator &b) { return a.owner_ != b.owner_; }
 
     private:
-        const Grid *grid_ = nullptr;
+        const Owner *owner_ = nullptr;
         Leaf leaf_ = {};
     };
 
-    explicit Leaves(const Grid &grid) : grid_(&grid) {}
-    Iterator begin() const { return Iterator(*grid_); }
+    explicit LeavesOf(const Owner &owner) : owner_(&owner) {}
+    Iterator begin() const { return Iterator(*owner_); }
     Iterator end() const { return Iterator(); }
 
 private:
-    const Grid *grid_;
+    const Owner *owner_;
 };
+
+using Leaves = LeavesOf<Grid>;
 
 inline Leaves Grid::leaves() const & { return Leaves(*this); }
 
@@ -563,8 +598,67 @@ public:
         check(vdb_view_read_box(&view_, &box, &strides, detail::data_of(values), values.size(), detail::data_of(states), states.size()));
     }
 
+    // Reports and walks, as a Grid has them.
+    Kind kind() const
+    {
+        int32_t kind = 0;
+        check(vdb_view_kind(&view_, &kind));
+        return static_cast<Kind>(kind);
+    }
+    int64_t background() const
+    {
+        int64_t value = 0;
+        check(vdb_view_background(&view_, &value));
+        return value;
+    }
+    uint32_t limit() const
+    {
+        uint32_t limit = 0;
+        check(vdb_view_limit(&view_, &limit));
+        return limit;
+    }
+    uint64_t count(const Box &box = everywhere) const
+    {
+        vdb_count count = {0, 0};
+        check(vdb_view_count_in(&view_, &box, &count));
+        return detail::whole(count);
+    }
+    std::optional<Box> bounds() const
+    {
+        Box box = everywhere;
+        int32_t found = 0;
+        check(vdb_view_bounds(&view_, &box, &found));
+        return found ? std::optional<Box>(box) : std::nullopt;
+    }
+    Census census() const
+    {
+        Census census = {0, 0, 0, 0};
+        check(vdb_view_census(&view_, &census));
+        return census;
+    }
+    uint64_t leaf_count() const
+    {
+        uint64_t count = 0;
+        check(vdb_view_leaf_count(&view_, &count));
+        return count;
+    }
+    LeavesOf<View> leaves() const & { return LeavesOf<View>(*this); }
+    LeavesOf<View> leaves() const && = delete;
+    ActiveVoxelsOf<View> voxels(const Box &box = everywhere) const & { return ActiveVoxelsOf<View>(*this, box); }
+    ActiveVoxelsOf<View> voxels(const Box &box = everywhere) const && = delete;
+
 private:
+    friend class ActiveVoxelsOf<View>;
+    friend class LeavesOf<View>;
+
+    static constexpr auto first_active = vdb_view_first_active;
+    static constexpr auto next_active = vdb_view_next_active;
+    static constexpr auto first_leaves = vdb_view_first_leaves;
+    static constexpr auto next_leaves = vdb_view_next_leaves;
+
     View() = default;
+
+    vdb_view *shared() const { return &view_; }
 
     mutable vdb_view view_ = VDB_VIEW_INIT;
 };
@@ -642,7 +736,21 @@ public:
     // Moves a grid into the scene, which leaves `grid` empty.
     void put(std::string_view name, Grid &&grid) { check(vdb_scene_put(&scene_, detail::bytes_of(name), name.size(), &grid.grid_)); }
 
-    // Moves a grid out of the scene.
+    // The same with metadata pairs. If it throws, `grid` has the grid again, or the scene has it if memory doesn't suffice for that.
+    void put(std::string_view name, Grid &&grid, const std::map<std::string, std::string> &pairs)
+    {
+        put(name, std::move(grid));
+        try {
+            for (const auto &[key, text] : pairs)
+                set_metadata(name, key, text);
+        } catch (...) {
+            grid = take(name);
+            throw;
+        }
+    }
+
+    // Moves a grid out of the scene. No cell is copied; its metadata pairs are gone. To read or change a grid of a scene, ask for its
+    // metadata(), take it, and put it back with them.
     Grid take(std::string_view name)
     {
         Grid grid;
@@ -693,10 +801,10 @@ private:
 #if __cplusplus >= 202002L
 template <typename T> inline constexpr bool std::ranges::enable_view<vdb::Span<T>> = true;
 template <typename T> inline constexpr bool std::ranges::enable_borrowed_range<vdb::Span<T>> = true;
-template <> inline constexpr bool std::ranges::enable_view<vdb::ActiveVoxels> = true;
-template <> inline constexpr bool std::ranges::enable_borrowed_range<vdb::ActiveVoxels> = true;
-template <> inline constexpr bool std::ranges::enable_view<vdb::Leaves> = true;
-template <> inline constexpr bool std::ranges::enable_borrowed_range<vdb::Leaves> = true;
+template <typename Owner> inline constexpr bool std::ranges::enable_view<vdb::ActiveVoxelsOf<Owner>> = true;
+template <typename Owner> inline constexpr bool std::ranges::enable_borrowed_range<vdb::ActiveVoxelsOf<Owner>> = true;
+template <typename Owner> inline constexpr bool std::ranges::enable_view<vdb::LeavesOf<Owner>> = true;
+template <typename Owner> inline constexpr bool std::ranges::enable_borrowed_range<vdb::LeavesOf<Owner>> = true;
 #endif
 
 #endif

@@ -9,8 +9,6 @@
 #include <climits>
 #include <cstddef>
 #include <cstdint>
-#include <cstdio>
-#include <memory>
 #include <string>
 #include <system_error>
 #include <vector>
@@ -22,27 +20,32 @@
 namespace vdb {
 namespace detail {
 
-struct Close {
-    void operator()(std::FILE *file) const { std::fclose(file); }
-};
-
 [[noreturn]] inline void fail(int error, const std::string &path) { throw std::system_error(error, std::generic_category(), path); }
 
-// Returns the first bytes of a file, at most so many.
+// A descriptor, which is closed at its end.
+struct Descriptor {
+    int number;
+    ~Descriptor() { ::close(number); }
+};
+
+// Returns the first `most` bytes of a file, or all if it has fewer.
 inline std::vector<uint8_t> read(const std::string &path, std::size_t most)
 {
-    std::unique_ptr<std::FILE, Close> file(std::fopen(path.c_str(), "rb"));
-    if (!file)
+    const int number = ::open(path.c_str(), O_RDONLY | O_CLOEXEC);
+    if (number < 0)
         fail(errno, path);
+    const Descriptor file{number};
     std::vector<uint8_t> bytes;
-    std::size_t had = 0;
-    do {
-        had = bytes.size();
-        bytes.resize(had + std::min<std::size_t>(std::max<std::size_t>(had, 65536), most - had));
-        bytes.resize(had + std::fread(bytes.data() + had, 1, bytes.size() - had, file.get()));
-    } while (bytes.size() > had && bytes.size() < most);
-    if (std::ferror(file.get()))
-        fail(errno, path);
+    std::size_t done = 0;
+    for (ssize_t count = 1; count != 0 && done < most;) {
+        if (done == bytes.size())
+            bytes.resize(done + std::min<std::size_t>(std::max<std::size_t>(done, 65536), most - done));
+        count = ::read(file.number, bytes.data() + done, bytes.size() - done);
+        if (count < 0 && errno != EINTR)
+            fail(errno, path);
+        done += static_cast<std::size_t>(std::max<ssize_t>(count, 0));
+    }
+    bytes.resize(done);
     return bytes;
 }
 
@@ -53,6 +56,8 @@ inline std::string followed(const std::string &path)
     char next[PATH_MAX];
     for (int links = 0; links < 40; links++) {
         const ssize_t length = ::readlink(place.c_str(), next, sizeof next);
+        if (length < 0 && errno != EINVAL && errno != ENOENT)
+            fail(errno, path);
         if (length < 0)
             return place;
         const std::string folder = next[0] == '/' ? "" : place.substr(0, place.rfind('/') + 1);
@@ -102,6 +107,17 @@ inline int closed(int file, bool done)
     return ::close(file) != 0 && error == 0 ? errno : error;
 }
 
+// Puts the names in the folder of `place` on the disk, where its file system can.
+inline void synchronise(const std::string &place)
+{
+    const std::string folder = place.substr(0, place.rfind('/') + 1);
+    const int file = ::open(folder.empty() ? "." : folder.c_str(), O_RDONLY | O_DIRECTORY | O_CLOEXEC);
+    if (file < 0)
+        return;
+    ::fsync(file);
+    ::close(file);
+}
+
 // Writes a file beside `place`, which replaces it when its bytes are on the disk. Returns the error or 0.
 inline int write_beside(const std::string &place, const struct stat *old, const std::vector<uint8_t> &bytes)
 {
@@ -114,6 +130,8 @@ inline int write_beside(const std::string &place, const struct stat *old, const 
         error = errno;
     if (error != 0)
         ::unlink(beside.c_str());
+    else
+        synchronise(place);
     return error;
 }
 
@@ -124,15 +142,24 @@ inline int write_itself(const std::string &path, const std::vector<uint8_t> &byt
     return file < 0 ? errno : closed(file, write(file, bytes));
 }
 
+// Looks behind the links at `path`, and sets `exists` and `old`. Returns 0 if a file may be written there, or the error.
+inline int look_at(const std::string &path, bool &exists, struct stat &old)
+{
+    exists = ::stat(path.c_str(), &old) == 0;
+    if (!exists)
+        return errno == ENOENT ? 0 : errno;
+    return ::access(path.c_str(), W_OK) == 0 ? 0 : errno;
+}
+
 // Writes a new file, or replaces one that may be written, whose permissions stay. A link is followed.
 inline void replace(const std::string &path, const std::vector<uint8_t> &bytes)
 {
     struct stat old = {};
-    const bool exists = ::stat(path.c_str(), &old) == 0;
-    if (exists && ::access(path.c_str(), W_OK) != 0)
-        fail(errno, path);
+    bool exists = false;
+    int error = look_at(path, exists, old);
     const bool special = exists && !S_ISREG(old.st_mode);
-    const int error = special ? write_itself(path, bytes) : write_beside(followed(path), exists ? &old : nullptr, bytes);
+    if (error == 0)
+        error = special ? write_itself(path, bytes) : write_beside(followed(path), exists ? &old : nullptr, bytes);
     if (error != 0)
         fail(error, path);
 }

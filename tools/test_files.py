@@ -2,8 +2,9 @@
 # SPDX-License-Identifier: Apache-2.0
 """Tests of how programs save a file: a new one beside the old one takes its place when its bytes are on the disk.
 
-The programs are the examples in C++ and Python, which call vdb.hpp and the Python package, tools/vdb-run, and tools/openvdb/vdb2vdbs if it
-is built. They need what tools/test_libvdb.py needs, and the program vdb: the variable VDB, else crates/vdb/out/vdb.
+The programs are the examples in C++ and Python, which call vdb.hpp and the Python package, vdb.scenefile, vdb-scene, tools/vdb-run, and
+the converters that `make -C tools/openvdb` builds. They need what tools/test_libvdb.py needs, and the program vdb: the variable VDB, else
+crates/vdb/out/vdb.
 """
 from __future__ import annotations
 
@@ -23,23 +24,35 @@ from test_libvdb import CHECKS, TOOLS, TOP, WAIT, c_example, cpp_example, done, 
 
 VDB = os.environ.get("VDB") or TOP / "crates" / "vdb" / "out" / "vdb"
 CONVERTERS = TOOLS / "openvdb"
+RESAVE = "import sys\nfrom vdb import scenefile\nscenefile.load(sys.argv[1]).save(sys.argv[2])"
 
 
 @functools.lru_cache(None)
 def savers():
     """The command of each program, without the file that it saves."""
-    labels, script = work() / "labels.vdbs", work() / "nothing.txt"
+    labels, script, empty = work() / "labels.vdbs", work() / "nothing.txt", work() / "empty.vdbs"
     script.write_text("", encoding="ascii")
-    places = [f"{name}={for_python()[name]}" for name in ("PYTHONPATH", "VDB_LIBRARY")]
-    found = {
+    empty.write_bytes(encoding.save([]))
+    python = ["env", *(f"{name}={for_python()[name]}" for name in ("PYTHONPATH", "VDB_LIBRARY")), with_numpy()]
+    done([CONVERTERS / "vdbs2vdb", labels, work() / "labels.vdb"])
+    return {
         "C++": [cpp_example(), labels],
-        "Python": ["env", *places, with_numpy(), TOP / "examples" / "python" / "labels.py", labels],
+        "Python": [*python, TOP / "examples" / "python" / "labels.py", labels],
+        "vdb.scenefile": [*python, "-c", RESAVE, labels],
+        "vdb-scene": [*python, "-m", "vdb", "merge", labels, empty],
         "vdb-run": [TOOLS / "vdb-run", "--vdb", VDB, "--load", labels, script, "--save"],
+        "vdb2vdbs": [CONVERTERS / "vdb2vdbs", work() / "labels.vdb"],
+        "vdbs2vdb": [CONVERTERS / "vdbs2vdb", labels],
     }
-    if all((CONVERTERS / it).is_file() for it in ("vdb2vdbs", "vdbs2vdb")):
-        done([CONVERTERS / "vdbs2vdb", labels, work() / "labels.vdb"])
-        found["vdb2vdbs"] = [CONVERTERS / "vdb2vdbs", work() / "labels.vdb"]
-    return found
+
+
+def scene_of(name, data) -> bytes:
+    """The scene file of what a program saves. A .vdb file, which has an identifier of its own, is converted back."""
+    if name != "vdbs2vdb":
+        return data
+    (work() / "given.vdb").write_bytes(data)
+    done([CONVERTERS / "vdb2vdbs", work() / "given.vdb", work() / "back.vdbs"])
+    return (work() / "back.vdbs").read_bytes()
 
 
 @functools.lru_cache(None)
@@ -47,8 +60,9 @@ def saved(name) -> bytes:
     """What a program saves, which is a scene file."""
     place = work() / f"saved-{name}"
     done([*savers()[name], place])
-    encoding.load(place.read_bytes())
-    return place.read_bytes()
+    made = scene_of(name, place.read_bytes())
+    encoding.load(made)
+    return made
 
 
 class Saving(unittest.TestCase):
@@ -62,7 +76,7 @@ class Saving(unittest.TestCase):
 
     def check(self, name, folder, *names, file="scene"):
         """Checks that a file of the folder is what the program saves, and that the folder has these files alone."""
-        self.assertEqual((folder / file).read_bytes(), saved(name))
+        self.assertEqual(scene_of(name, (folder / file).read_bytes()), saved(name))
         self.assertEqual(sorted(it.name for it in folder.iterdir()), sorted(names))
 
     def test_a_new_file_has_the_permissions_of_the_mask(self):
@@ -105,7 +119,7 @@ class Saving(unittest.TestCase):
             reader.start()
             done([*words, folder / "scene"])
             reader.join(WAIT)
-            self.assertEqual((read, [it.name for it in folder.iterdir()]), ([saved(name)], ["scene"]))
+            self.assertEqual(([scene_of(name, it) for it in read], [it.name for it in folder.iterdir()]), ([saved(name)], ["scene"]))
             self.assertTrue((folder / "scene").is_fifo())
 
     def test_a_device_is_written_itself(self):
@@ -151,14 +165,15 @@ class Saving(unittest.TestCase):
             self.assertEqual([it.wait(WAIT) for it in running], [0] * 8)
             self.check(name, folder, "scene")
 
-    def test_the_bytes_are_on_the_disk_before_the_name(self):
+    def test_the_bytes_are_on_the_disk_before_the_name_and_others_cant_read_them(self):
         shim = work() / "order.so"
         done(["gcc", "-O1", "-shared", "-fPIC", "-o", shim, CHECKS / "order.c", "-ldl"])
         for name, words, folder in self.each():
             (folder / "scene").write_bytes(b"old")
+            (folder / "scene").chmod(0o600)
             log = work() / f"order-{name}"
-            done([*words, folder / "scene"], env={**os.environ, "LD_PRELOAD": str(shim), "ORDER": str(log)})
-            self.assertEqual(log.read_text(encoding="ascii").split()[:2], ["fsync", "rename"])
+            done([*words, folder / "scene"], env={**os.environ, "LD_PRELOAD": str(shim), "ORDER": str(log), "ORDER_BELOW": f"{folder}/"})
+            self.assertEqual(log.read_text(encoding="ascii").split(), ["fsync", "rename", "fsync"])
 
 
 class Example(unittest.TestCase):

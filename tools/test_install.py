@@ -1,6 +1,6 @@
 #!/usr/bin/env python3
 # SPDX-License-Identifier: Apache-2.0
-"""Tests of what `tools/install` installs and of the packages that `tools/debian-packages` makes.
+"""Tests of what `tools/install` installs, of the packages that `tools/debian-packages` makes, and of `tools/release`.
 
 They need what tools/test_libvdb.py needs, the program vdb (the variable VDB, else crates/vdb/out/vdb), an interpreter /usr/bin/python3 with
 NumPy, and Debian's cmake, make, pkg-config, man-db and dpkg.
@@ -8,10 +8,17 @@ NumPy, and Debian's cmake, make, pkg-config, man-db and dpkg.
 from __future__ import annotations
 
 import functools
+import hashlib
+import importlib.machinery
+import importlib.util
+import io
+import json
 import os
 import re
+import shutil
 import subprocess
 import sys
+import tarfile
 import unittest
 from pathlib import Path
 
@@ -132,10 +139,14 @@ class Installed(unittest.TestCase):
                 shown, asked = ran.stdout.split(), done([installed() / "usr/bin" / page.stem, "--help"]).split()
                 self.assertEqual([it for it in asked if it.startswith("--") and it not in shown], [])
                 self.assertRegex(ran.stdout, rf"NAME\n +{page.stem} - \w")
+        self.assertIn("--origin X Y Z", " ".join(done(["man", "-l", pages[0].with_name("vdb-scene.1")]).split()))
         self.assertIn("vdb-run(1) replaces", " ".join(done(["man", "-l", pages[0].with_name("vdb.1")]).split()))
 
     def test_the_completions(self):
-        for name, word, wanted in (("vdb", "--l", "--load"), ("vdb-run", "--sa", "--save"), ("vdb", "x", "")):
+        for name, word, wanted in (
+            ("vdb", "--l", "--load"), ("vdb-run", "--sa", "--save"), ("vdb", "x", ""), ("vdb-scene", "con", "convert"),
+            ("vdb-scene", "--or", "--origin"),
+        ):  # fmt: skip
             with self.subTest(name):
                 file = installed() / "usr/share/bash-completion/completions" / name
                 call = f"source {file}; _{name.replace('-', '_')} {name} {word}; echo ${{COMPREPLY[*]}}; complete -p {name}"
@@ -145,6 +156,7 @@ class Installed(unittest.TestCase):
         programs = installed() / "usr" / "bin"
         ran = subprocess.run([programs / "vdb"], input=SCRIPT, stdout=subprocess.PIPE, text=True, timeout=60)
         self.assertEqual((ran.returncode, ran.stdout), (0, "ok\nok\ncount 1000\n"))
+        self.assertEqual(done([programs / "vdb", "--version"]), f"vdb {VERSION}\n")
         for program in programs.iterdir():
             self.assertTrue(os.access(program, os.X_OK), program)
 
@@ -168,16 +180,93 @@ class Packages(unittest.TestCase):
         ran = subprocess.run([packages()[1] / "usr/bin/vdb"], input=SCRIPT, stdout=subprocess.PIPE, text=True, timeout=60)
         self.assertEqual((ran.returncode, ran.stdout), (0, "ok\nok\ncount 1000\n"))
 
-    def test_a_program_of_cpp_is_built_and_run_by_them_alone(self):
-        root = packages()[1]
-        made = work() / "by-packages"
-        done(["g++", "-std=c++17", f"-I{root / 'usr/include'}", EXAMPLES["cpp"], f"-L{root / LIBRARIES}", "-lvdb", "-o", made])
+    def test_a_grid_is_shown(self):
+        scene, page, root = work() / "shown.vdbs", work() / "shown.html", packages()[1]
+        subprocess.run([root / "usr/bin/vdb", "--save", scene], input=SCRIPT, stdout=subprocess.DEVNULL, text=True, timeout=60, check=True)
+        done([root / "usr/bin/vdb-scene", "view", scene, SCRIPT.split()[1], page])
+        self.assertTrue(page.read_text(encoding="utf-8").endswith("</html>\n"))
+
+    def test_the_commands_of_the_readme_without_the_kit(self):
+        """README's programs, with the packages' files in the places of what is built, and with Debian's own tools alone."""
+        root, folder = packages()[1], work() / "readme"
+        for name, place in (
+            ("out/include", "usr/include"), ("out/lib", LIBRARIES), ("crates/vdb/out", "usr/bin"), ("python", "usr/lib/python3/dist-packages"),
+        ):  # fmt: skip
+            (folder / name).parent.mkdir(parents=True, exist_ok=True)
+            (folder / name).symlink_to(root / place)
+        environment = {"PATH": "/usr/bin:/bin", "LD_LIBRARY_PATH": str(root / LIBRARIES), "VDB_LIBRARY": "libvdb.so.1"}
+        self.assertIsNone(shutil.which("rt", path=environment["PATH"]))
+        section = re.search(r"^## C, C\+\+ and Python\n(.*?)^## ", (TOP / "README.md").read_text(encoding="utf-8"), re.M | re.S)[1]
+        lines = [line[4:] for line in section.splitlines() if line.startswith("    ") and line.strip() != "tools/build-libvdb"]
+        ran = run(["bash", "-e", "-c", "\n".join(lines)], env=environment, cwd=folder)
+        self.assertEqual((ran.returncode, ran.stdout, ran.stderr), (0, "ok\n" * 4 + "done\n", ""))
+        asked = subprocess.run([root / "usr/bin/vdb", "--load", folder / "labels.vdbs"], input="count margin all\n", stdout=subprocess.PIPE, text=True)
+        # 10^3 grown by 2 to 10^3 + 6 * (2 * 100) + 12 * 10, without the cube and two layers of 36 in the vessel
+        self.assertEqual(asked.stdout, f"count {6 * 200 + 12 * 10 - 72}\n")
+
+
+@functools.lru_cache(None)
+def release():
+    """The folder of a release that is made of what is built."""
+    done([TOOLS / "release", work() / "release"])
+    return work() / "release"
+
+
+class Release(unittest.TestCase):
+    def archive(self):
+        return next(release().glob("vdb-*.tar.xz"))
+
+    def test_the_files_and_their_sums(self):
+        self.assertEqual(done(["sha256sum", "-c", "SHA256SUMS"], cwd=release()).split(), [f"{self.archive().name}:", "OK", "PROVENANCE.json:", "OK"])
+        names = {it.partition("/")[2] for it in done(["tar", "-tf", self.archive()]).splitlines()}
+        wheel = f"wheel/vdb-{VERSION}-py3-none-linux_x86_64.whl"
+        wanted = {"bin/vdb", "include/vdb.h", f"lib/libvdb.so.{VERSION}", "lib/libvdb.a", "lib/static/libvdb_c.a", wheel, "LICENSE", "PROVENANCE.json"}
+        self.assertEqual(wanted - names, set())
+
+    def test_the_program_answers_and_a_program_links_the_archives(self):
+        done(["tar", "-xf", self.archive(), "-C", work()])
+        root, made = work() / self.archive().name.removesuffix(".tar.xz"), work() / "by-archives"
+        ran = subprocess.run([root / "bin" / "vdb"], input=SCRIPT, stdout=subprocess.PIPE, text=True, timeout=60)
+        self.assertEqual((ran.returncode, ran.stdout), (0, "ok\nok\ncount 1000\n"))
+        done(["gcc", f"-I{root / 'include'}", EXAMPLES["c"], *(root / "lib" / "static" / it for it in ("libvdb_c.a", "liblibc_c.a")), "-o", made])
         Installed.is_right(self, made, root)
 
-    def test_python_imports_the_package(self):
-        root = packages()[1]
-        environment = {**os.environ, "PYTHONPATH": str(root / "usr/lib/python3/dist-packages"), "VDB_LIBRARY": str(root / LIBRARIES / "libvdb.so.1")}
-        self.assertEqual(done(["/usr/bin/python3", "-c", "import vdb; print(vdb.__file__)"], env=environment, cwd=work()).split("/usr/")[0], str(root))
+    def test_the_provenance(self):
+        about = json.loads((release() / "PROVENANCE.json").read_text(encoding="utf-8"))
+        self.assertEqual((about["version"], about["commit"]), (VERSION, done(["git", "rev-parse", "HEAD"], cwd=TOP).strip()))
+        self.assertTrue(all([about["kit"], about["linker"], about["python"], *about["compilers"].values()]))
+        self.assertEqual(about["ci"] is None, "-unchecked-" in self.archive().name)
+
+    def test_the_archive_is_what_is_built(self):
+        self.assertRegex(done([TOOLS / "release", "--verify", self.archive()]), r"^\d+ files are the same, byte for byte\n$")
+
+    def test_a_changed_archive_differs(self):
+        changed = work() / "changed.tar.xz"
+        with tarfile.open(self.archive()) as old, tarfile.open(changed, "w:xz") as new:
+            for entry in old:
+                data = old.extractfile(entry).read() if entry.isfile() else None
+                if entry.name.endswith("/include/vdb.h"):
+                    data = bytes(len(data))
+                new.addfile(entry, data and io.BytesIO(data))
+        ran = run([TOOLS / "release", "--verify", changed])
+        self.assertEqual((ran.returncode, ran.stdout, ran.stderr), (1, "include/vdb.h: differs\n", ""))
+
+    def test_only_what_ci_passed_has_the_name(self):
+        loader = importlib.machinery.SourceFileLoader("release", str(TOOLS / "release"))
+        module = importlib.util.module_from_spec(importlib.util.spec_from_loader("release", loader))
+        loader.exec_module(module)
+        module.RECORD = work() / "ci.txt"
+        sums = "".join(f"{hashlib.sha256(it.read_bytes()).hexdigest()}  {it}\n" for it in (module.PROGRAM, module.ARCHIVE))
+        good = f"commit a1\n{sums}5 passed, 0 failed, 0 skipped\n"
+        for record, commit, status, wanted in (
+            (None, "a1", "", None), (good, "a1", "", "5 passed, 0 failed, 0 skipped"), (good, "b2", "", None), (good, "a1", " M include/vdb.h", None),
+            (good.replace("0 failed", "1 failed"), "a1", "", None), (good.replace(sums, sums.swapcase()), "a1", "", None),
+        ):  # fmt: skip
+            with self.subTest(record=record, commit=commit, status=status):
+                module.output = lambda *words: status
+                if record:
+                    module.RECORD.write_text(record, encoding="utf-8")
+                self.assertEqual(module.passed(commit), wanted)
 
 
 class Sources(unittest.TestCase):
@@ -198,15 +287,15 @@ class Sources(unittest.TestCase):
         bare = [name for name in names if is_source(name) and SPDX not in (TOP / name).read_text(encoding="utf-8").split("\n\n")[0]]
         self.assertEqual(bare, [])
         self.assertGreater(len([name for name in names if is_source(name)]), 100)
-        self.assertIn(SPDX, (TOP / "LICENSE").read_text(encoding="utf-8"))
+        self.assertRegex((TOP / "LICENSE").read_text(encoding="utf-8"), rf"^{SPDX}\n\nCopyright 20\d\d The Suqtaveng authors\n")
 
 
 def is_source(name):
-    """Whether a file is code in C, C++, Python or a shell, which is told by its ending or its first line."""
+    """Whether a file is code in C, C++, Python, JavaScript, HTML or a shell, by its ending or its first line."""
     path = TOP / name
     if not path.is_file() or name.startswith("crates/"):
         return False
-    if path.suffix in (".c", ".h", ".cpp", ".hpp", ".py"):
+    if path.suffix in (".c", ".h", ".cpp", ".hpp", ".py", ".js", ".html"):
         return True
     return not path.suffix and path.read_bytes().startswith(b"#!")
 

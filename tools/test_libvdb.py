@@ -1,12 +1,13 @@
 #!/usr/bin/env python3
 # SPDX-License-Identifier: Apache-2.0
-"""Tests of the library that `tools/build-libvdb` builds: its symbols, headers and examples, and random calls beside a map.
+"""Tests of the library that `tools/build-libvdb` builds: its symbols, headers and examples, and random calls compared with a map.
 
 They need gcc, and the archive of the crate vdb_c: the variable VDB_ARCHIVE, else crates/vdb_c/out/libvdb_c.a. Tests for which a
 further tool is missing are skipped. FUZZ_CALLS is the number of random calls, 100,000 if it isn't set.
 """
 from __future__ import annotations
 
+import ctypes
 import functools
 import importlib.util
 import itertools
@@ -24,10 +25,19 @@ TOP = TOOLS.parent
 CHECKS = TOOLS / "libvdb_checks"
 ARCHIVE = Path(os.environ.get("VDB_ARCHIVE") or TOP / "crates" / "vdb_c" / "out" / "libvdb_c.a")
 FUZZ_CALLS = os.environ.get("FUZZ_CALLS", "100000")
+#: The calls that may allocate, each of whose allocations fails in turn, once for each shape of its arguments.
+ALLOCATING = {
+    *(f"grid_{it}" for it in ("new copy set set_value set_active fill clip voxelise dilate erode unite subtract intersect maximum minimum sum replace"
+                              " write_many write_box").split()),
+    *("view_new view_share view_copy scene_new scene_load scene_save scene_put scene_take scene_copy scene_meta_set").split(),
+}  # fmt: skip
+#: Those that allocate only if a box or another grid cuts a tile, which is seldom in random calls. The rows make each of these allocate.
+SELDOM = {"grid_clip", "grid_intersect", "grid_subtract", "grid_voxelise"}
 FUZZ_SECONDS = 120  # of the processor: some 30 at full speed, which the host of a machine may halve
 INTERPRETERS = [sys.executable, "/usr/bin/python3"]
 STRICT = ["-O1", "-g", "-Wall", "-Wextra", "-pedantic", "-Werror"]
 LANGUAGES = [("gcc", "c99"), ("clang", "c99"), ("g++", "c++17"), ("g++", "c++20"), ("clang++", "c++17"), ("clang++", "c++20")]
+SANITIZERS = [("-fsanitize=address,undefined", "-fno-sanitize-recover=all"), ("-fsanitize=thread",)]
 VALGRIND = ["valgrind", "--quiet", "--leak-check=full", "--show-leak-kinds=all", "--errors-for-leak-kinds=all", "--error-exitcode=99"]
 WAIT = 300
 
@@ -38,8 +48,9 @@ SYSTEM = {"malloc", "realloc", "free", "memcpy", "memmove", "memset", "memcmp", 
 #: the two layers of 10 by 20 voxels that lie in the vessel, 4,640 are left.
 REPORT = "4640 voxels from 18 18 18 to 41 41 41, centre 28.55 29.50 29.50\n"
 
-sys.path[:0] = [str(CHECKS), str(TOP / "fault_injection")]
+sys.path[:0] = [str(CHECKS), str(TOP / "tests")]
 import encoding  # noqa: E402
+from reached import of_cpp  # noqa: E402
 from header import Header  # noqa: E402
 
 
@@ -69,7 +80,7 @@ def work() -> Path:
 
 
 def labels():
-    """The scene of the examples: an organ of 20 voxels along each axis, and a vessel of 10, 10 and 20 beside it."""
+    """The scene of the examples: an organ of 20 voxels along each axis, and a vessel of 10, 10 and 20 next to it."""
     boxes = {b"organ": ((20, 40),) * 3, b"vessel": ((40, 50), (25, 35), (20, 40))}
     return [encoding.Grid(name, 0, 0, roots=[((0, 0, 0), body_of(box, (0, 0, 0), 4096))]) for name, box in boxes.items()]
 
@@ -101,18 +112,18 @@ def prefix() -> Path:
 
 
 @functools.lru_cache(None)
-def program(source, name, compiler="gcc", standard="c99", shared=False) -> Path:
+def program(source, name, compiler="gcc", standard="c99", shared=False, flags=()) -> Path:
     """Builds a program with the library, and returns its path."""
-    made = work() / f"{name}-{compiler}-{standard}{'-shared' if shared else ''}"
+    made = work() / f"{name}-{compiler}-{standard}{'-shared' if shared else ''}{''.join(flags)}"
     library = [f"-L{prefix() / 'lib'}", "-lvdb", f"-Wl,-rpath,{prefix() / 'lib'}"] if shared else [prefix() / "lib" / "libvdb.a"]
-    done([compiler, f"-std={standard}", *STRICT, f"-I{prefix() / 'include'}", source, *library, "-o", made])
+    done([compiler, f"-std={standard}", *STRICT, *flags, f"-I{prefix() / 'include'}", source, *library, "-o", made])
     return made
 
 
 @functools.lru_cache(None)
 def checks(standard="c++17", other="c++20", flags=()) -> Path:
     """Builds the checks of vdb.hpp by one standard, with calls that are built by another one, and returns their path."""
-    made = work() / f"checks-{standard}-{len(flags)}"
+    made = work() / f"checks-{standard}{''.join(flags)}"
     words = ["g++", *STRICT, *flags, f"-I{prefix() / 'include'}"]
     done([*words, f"-std={other}", "-c", CHECKS / "spans.cpp", "-o", f"{made}.o"])
     done([*words, f"-std={standard}", CHECKS / "checks.cpp", f"{made}.o", prefix() / "lib" / "libvdb.a", "-o", made])
@@ -191,16 +202,48 @@ class Headers(unittest.TestCase):
     def test_each_code_has_a_text_in_c_and_in_python(self):
         header = Header()
         names = re.findall(r"^    (VDB_\w+) = \d+", re.search(r"/\* The codes\. \*/\nenum \{(.*?)\};", header_text(), re.S)[1], re.M)
-        self.assertEqual({header.constants[name] for name in names}, {*header.texts})
-        self.assertEqual({**errors().TEXTS, 0: "done"}, header.texts)
+        codes = {header.constants[name] for name in names}
+        self.assertGreater(len(codes), 30)
+        library = header.load(prefix() / "lib" / "libvdb.so")
+        texts = {code: message(library, code) for code in range(-2, 100)}
+        self.assertEqual({code for code, text in texts.items() if text != "unknown code"}, codes)
+        self.assertEqual({**errors().TEXTS, 0: "done"}, {code: texts[code] for code in codes})
+        self.assertEqual([message(library, code) for code in (2**31 - 1, -(2**31))], ["unknown code"] * 2)
+
+    def test_the_library_has_the_version_of_its_header(self):
+        library = Header().load(prefix() / "lib" / "libvdb.so")
+        major, minor, patch = (TOP / "VERSION").read_text(encoding="ascii").split(".")
+        self.assertEqual(library.vdb_version(), 10**6 * int(major) + 10**3 * int(minor) + int(patch))
+        source = work() / "version.c"
+        source.write_text("#include <vdb.h>\nint main(void) { return vdb_version() != VDB_VERSION; }\n", encoding="utf-8")
+        done([program(source, "version")])
+
+    def test_calls_on_two_handles_find_that_these_are_one(self):
+        for compiler, standard in LANGUAGES:
+            if shutil.which(compiler):
+                with self.subTest(compiler=compiler, standard=standard):
+                    source = work() / f"same.{'c' if standard == 'c99' else 'cpp'}"
+                    shutil.copyfile(CHECKS / "same.c", source)
+                    done([program(source, "same", compiler=compiler, standard=standard)])
 
     def test_python_declares_the_calls_of_the_header(self):
         text = (TOP / "python" / "vdb" / "library.py").read_text(encoding="utf-8")
         declared = dict(re.findall(r'^    "(vdb_\w+)": \((.*?),?\),$', text, re.M))
-        self.assertEqual(declared.keys(), Header().calls.keys())
-        for name, arguments in Header().calls.items():
+        self.assertEqual(declared.keys(), Header().calls.keys() - NOT_IN_PYTHON)
+        for name in declared:
+            arguments = Header().calls[name]
             with self.subTest(name):
                 self.assertEqual(python_forms(declared[name]), [form_of(it) for it in arguments])
+
+    def test_a_call_has_one_name_in_c_cpp_and_python(self):
+        calls = {it.removeprefix("vdb_grid_") for it in Header().calls if it.startswith("vdb_grid_")}
+        hpp = re.search(r"^class Grid \{(.*?)^private:", (TOP / "include" / "vdb.hpp").read_text(encoding="utf-8"), re.M | re.S)[1]
+        package = "".join((TOP / "python" / "vdb" / it).read_text(encoding="utf-8") for it in ("grid.py", "reading.py"))
+        cpp, python = {*re.findall(r"^    (?:[\w:<>]+ )+\*?(\w+)\(", hpp, re.M)}, {*re.findall(r"^    def (\w+)\(", package, re.M)}
+        walks = {f"{turn}_{it}" for turn in ("first", "next") for it in ("active", "leaves")}  # which are the ranges voxels and leaves
+        self.assertEqual(calls - cpp, {"new", "free", "probe", "count_in", *walks})
+        self.assertEqual(calls - python, {"new", "free", "get", "probe", "set", "read_box", *walks})
+        self.assertLessEqual({"voxels", "leaves"}, cpp & python)
 
     @needs("pkg-config")
     def test_the_package_file_gives_the_flags(self):
@@ -208,6 +251,17 @@ class Headers(unittest.TestCase):
         flags = done(["pkg-config", "--cflags", "--libs", "libvdb"], env=environment).split()
         found = [it[:2] + str(Path(it[2:]).resolve()) if it.startswith(("-I", "-L")) else it for it in flags]
         self.assertEqual(found, [f"-I{prefix() / 'include'}", f"-L{prefix() / 'lib'}", "-lvdb"])
+
+
+#: Calls that the Python package has no use for: it knows the texts of the codes, and loads a library with all calls that it needs.
+NOT_IN_PYTHON = {"vdb_version", "vdb_message_at"}
+
+
+def message(library, code):
+    """The text of a code."""
+    text = ctypes.c_char_p()
+    library.vdb_message_at(code, ctypes.byref(text))
+    return text.value.decode("ascii")
 
 
 def header_text():
@@ -306,13 +360,25 @@ class Programs(unittest.TestCase):
         self.assertEqual((ran.returncode, ran.stdout, ran.stderr), (0, "", ""))
 
     def test_the_calls_of_vdb_hpp_under_sanitizers(self):
-        for standard, other in (("c++17", "c++20"), ("c++20", "c++17")):
-            with self.subTest(standard):
-                self.is_silent([checks(standard, other, ("-fsanitize=address,undefined", "-fno-sanitize-recover=all"))])
+        for (standard, other), flags in itertools.product((("c++17", "c++20"), ("c++20", "c++17")), SANITIZERS):
+            with self.subTest(standard, flags=flags):
+                self.is_silent([checks(standard, other, flags)])
+
+    def test_the_examples_under_sanitizers(self):
+        for example, flags in itertools.product((c_example, cpp_example), SANITIZERS):
+            with self.subTest(example.__name__, flags=flags):
+                self.check_example([example(flags=flags)], "sanitized.vdbs")
 
     @needs("valgrind")
     def test_the_calls_of_vdb_hpp_under_valgrind(self):
         self.is_silent([*VALGRIND, checks()])
+
+    def test_the_checks_reach_vdb_hpp(self):
+        flags = ("--coverage",)
+        self.is_silent([checks("c++17", "c++20", flags)])
+        text, suffices = of_cpp("vdb.hpp and vdb_files.hpp", work(), rf"{re.escape(str(prefix()))}/include/vdb(_files)?\.hpp")
+        print(text, flush=True)
+        self.assertTrue(suffices, text)
 
     @needs("valgrind")
     def test_no_race_between_views(self):
@@ -325,7 +391,7 @@ class Documents(unittest.TestCase):
     def block(self, title):
         """The indented lines of a section."""
         text = (TOP / "docs" / "LIBRARY.md").read_text(encoding="utf-8")
-        section = re.search(rf"^### {re.escape(title)}\n(.*?)^##", text, re.M | re.S)[1]
+        section = re.search(rf"^##+ {re.escape(title)}\n(.*?)^##", text, re.M | re.S)[1]
         return "\n".join(line[4:] for line in section.splitlines() if line.startswith("    "))
 
     def compiled(self, name, compiler, standard, text):
@@ -363,10 +429,13 @@ class RandomCalls(unittest.TestCase):
         ran = run([sys.executable, CHECKS / "fuzz.py", library, FUZZ_CALLS])
         print(ran.stdout, end="", flush=True)
         self.assertEqual((ran.returncode, ran.stderr), (0, ""))
-        seconds, calls, failures = map(int, re.match(r"(\d+) seconds\n(\d+) calls, (\d+) failed allocations\n\Z", ran.stdout).groups())
-        self.assertEqual(calls, int(FUZZ_CALLS))
-        self.assertLessEqual(seconds, FUZZ_SECONDS)
-        self.assertGreater(failures, calls // 1000)
+        found = re.match(r"(\d+) seconds\nallocating: (.*)\n(\d+) calls, (\d+) failed allocations\n\Z", ran.stdout)
+        self.assertEqual(int(found[3]), int(FUZZ_CALLS))
+        self.assertLessEqual(int(found[1]), FUZZ_SECONDS)
+        self.assertGreater(int(found[4]), int(FUZZ_CALLS) // 100)
+        shapes = {name.removeprefix("vdb_"): int(count) for name, count in (it.split(" ") for it in found[2].split(", "))}
+        self.assertEqual({*shapes} - ALLOCATING, set())
+        self.assertEqual(ALLOCATING - {*shapes} - SELDOM, set())
 
 
 class Command(unittest.TestCase):

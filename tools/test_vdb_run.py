@@ -277,7 +277,7 @@ class Saves(Runs):
         self.assertEqual((ran.status, ran.err.splitlines()[0]), (4, "vdb-run: /dev/full: save: write (No space left on device)"))
 
     def test_no_target(self) -> None:
-        """A folder or a missing folder is told before the script is played."""
+        """A folder or a missing folder is reported before the script is played."""
         for target, reason in ((".", "Is a directory"), ("none/t.vdbs", "No such file or directory")):
             ran = self.play("--save", target, script=b"grid a i32 0\n")
             self.assertEqual(ran, Ran(4, b"", f"vdb-run: {target}: save: write ({reason})\n"))
@@ -296,7 +296,7 @@ class Faults(Runs):
                 self.assertEqual(self.files(), ["fake"])
 
     def test_one_line_each(self) -> None:
-        """What can't be done is told in one line."""
+        """What can't be done is reported in one line."""
         (self.folder / "part").write_bytes(b"VDBS\0\2\0")
         (self.folder / "text").write_text("no program")
         table = [
@@ -324,6 +324,16 @@ class Faults(Runs):
         self.assertEqual(self.play(script=script), Ran(0, b"ok\n" * 10 + b"count 16777216\n", ""))
         ran = self.play("--memory", str(64 << 20), script=script)
         self.assertEqual((ran.status, ran.out.splitlines()[-2:]), (1, [b"error memory", b"count 16777216"]))
+
+    def test_memory_for_a_scene_file(self) -> None:
+        """Each root block with one voxel has 36 bytes, and reserves 308 KB: 64 MiB of address space don't hold 400."""
+        head = b"VDBS\0\2\0\1\1a\2" + bytes(8) + b"\0\0\x10\0\0" + (400).to_bytes(4, "big")
+        blocks = [at.to_bytes(4, "big") + bytes(8) + 3 * b"\3\0\1\0\0" + b"\2" + bytes(7) + b"\1" for at in range(400)]
+        self.assertEqual({len(it) for it in blocks}, {36})
+        (self.folder / "many").write_bytes(head + b"".join(blocks))
+        self.assertEqual(self.play("--load", "many", script=b"count a all\n"), Ran(0, b"count 400\n", ""))
+        ran = self.play("--memory", str(64 << 20), "--load", "many", script=b"count a all\n")
+        self.assertEqual(ran, Ran(3, b"", "vdb-run: many: load: memory\n"))
 
     def test_answers_not_written(self) -> None:
         for words in ((), ("--save", "t.vdbs")):
@@ -425,20 +435,21 @@ class Terminals(Runs):
         run, master = self.start("--save", "t.vdbs")
         text = self.talk(master, [b"grid a i32 4\n"])
         self.read(master, b"vdb> ")
+        time.sleep(0.5)  # a signal between the prompt and the wait for a key counts only when a key comes
         run.send_signal(signal.SIGINT)
         self.assertIn(b"Ctrl-C again leaves without saving", self.read(master, b"vdb> "))
         os.write(master, b"get a - 0 0 0\n")
         self.assertIn(b"value 4 off", self.read(master, b"vdb> "))
-        run.send_signal(signal.SIGINT)
-        self.read(master, b"vdb> ")
-        run.send_signal(signal.SIGINT)
-        text = self.read(master, b"\xff")
+        for until in (b"vdb> ", b"\xff"):
+            time.sleep(0.5)
+            run.send_signal(signal.SIGINT)
+            text = self.read(master, until)
         self.assertEqual(run.wait(WAIT), 130)
         self.assertIn(b"vdb-run: t.vdbs: not saved, status 130", text)
         self.assertEqual(self.files(), ["state"])
 
     def test_prompt_after_a_fault(self) -> None:
-        """A scene that can't be loaded is told before the first prompt."""
+        """A scene that can't be loaded is reported before the first prompt."""
         (self.folder / "bad").write_bytes(b"VDBT")
         run, master = self.start("--load", "bad")
         text = self.read(master, b"\xff")

@@ -10,6 +10,8 @@
 #include <unordered_set>
 #include <vector>
 
+#include <unistd.h>
+
 // Of spans.cpp, which is compiled by another standard.
 int64_t sum_of(vdb::Span<const int64_t> values);
 int64_t active_of(const vdb::Leaf &leaf);
@@ -35,6 +37,17 @@ template <class Call> static int32_t code_of(Call call)
         return error.code();
     }
     return VDB_OK;
+}
+
+// Returns the error of the system that a call throws, or 0 if it throws none.
+template <class Call> static int error_of(Call call)
+{
+    try {
+        call();
+    } catch (const std::system_error &error) {
+        return error.code().value();
+    }
+    return 0;
 }
 
 static vdb::Grid cube(int32_t from, int32_t to, int64_t value)
@@ -84,6 +97,20 @@ static void boxes()
     CHECK(grid.count() == 100);
     CHECK(code_of([&] { grid.fill({{0, 0, 0}, {0, 0, -1}}, 5); }) == VDB_RANGE && code_of([&] { grid.dilate(17); }) == VDB_RANGE);
     CHECK(code_of([&] { grid.fill(vdb::everywhere, 5); }) == VDB_ROOT_LIMIT && grid.count() == 100);
+}
+
+// Iterations with a report of each, of which an exception undoes all.
+static void progress()
+{
+    vdb::Grid grid = cube(0, 9, 5), whole = grid.copy();
+    uint32_t sum = 0;
+    grid.dilate(3, [&](uint32_t done, uint32_t all) { sum += 10 * done + all; });
+    whole.dilate(3);
+    CHECK(sum == 69 && grid.count() == whole.count() && grid.bounds()->max.x == 12);
+    CHECK(code_of([&] { grid.erode(5, [](uint32_t done, uint32_t) { vdb::check(done == 2 ? VDB_TEXT : VDB_OK); }); }) == VDB_TEXT);
+    CHECK(grid.count() == whole.count());
+    grid.erode(3, [](uint32_t, uint32_t) {});
+    CHECK(grid.count() == 1000 && code_of([&] { grid.dilate(17, [](uint32_t, uint32_t) {}); }) == VDB_RANGE);
 }
 
 static void pairs()
@@ -157,7 +184,7 @@ static void constants()
     CHECK(grid.kind() == vdb::Kind::i32 && grid.background() == 0 && grid.limit() == VDB_LIMIT_DEFAULT);
     CHECK(grid.get({7, 0, 0}) == (vdb::Cell{8, true}) && grid.count() == 513 && grid.census().roots == 8);
     CHECK(grid.bounds() == (vdb::Box{{-1, -1, -1}, {7, 6, 6}}) && grid.bounds() != vdb::everywhere);
-    CHECK(std::distance(grid.active().begin(), grid.active().end()) == 513);
+    CHECK(std::distance(grid.voxels().begin(), grid.voxels().end()) == 513);
     CHECK(uint64_t(std::distance(grid.leaves().begin(), grid.leaves().end())) == grid.leaf_count());
     std::vector<int64_t> values(2);
     grid.get_many(std::vector<vdb::Coord>{{7, 0, 0}, {8, 0, 0}}, values);
@@ -208,6 +235,17 @@ static void moves()
     vdb::Grid &alias = a;
     a = std::move(alias);
     CHECK(a.count() == 64);
+    vdb::Scene scene, filled;
+    filled.put("a", a.copy());
+    scene = std::move(filled);
+    vdb::Scene &same = scene;
+    scene = std::move(same);
+    CHECK(scene.copy("a").count() == 64 && code_of([&] { filled.names(); }) == VDB_EMPTY);
+    vdb::View view(std::move(a)), other(cube(0, 1, 5));
+    other = std::move(view);
+    vdb::View &again = other;
+    other = std::move(again);
+    CHECK(other.count() == 64 && code_of([&] { view.count(); }) == VDB_EMPTY);
     static_assert(!std::is_copy_constructible_v<vdb::Grid> && !std::is_copy_assignable_v<vdb::Grid>, "a grid moves");
     static_assert(!std::is_copy_constructible_v<vdb::Scene> && !std::is_copy_assignable_v<vdb::Scene>, "a scene moves");
 }
@@ -218,18 +256,18 @@ static void walks()
     for (int32_t z : {9, 0, -1, 7})
         grid.set({0, 0, z}, z + 100);
     std::vector<int64_t> values;
-    for (const vdb::Voxel &voxel : grid.active())
+    for (const vdb::Voxel &voxel : grid.voxels())
         values.push_back(voxel.value);
     CHECK((values == std::vector<int64_t>{99, 100, 107, 109}));
-    vdb::ActiveVoxels some = grid.active({{0, 0, 0}, {0, 0, 8}});
+    vdb::ActiveVoxels some = grid.voxels({{0, 0, 0}, {0, 0, 8}});
     CHECK(std::accumulate(some.begin(), some.end(), INT64_C(0), [](int64_t sum, const vdb::Voxel &it) { return sum + it.value; }) == 207);
-    vdb::ActiveVoxels all = grid.active();
+    vdb::ActiveVoxels all = grid.voxels();
     vdb::ActiveVoxels::Iterator it = all.begin();
     const vdb::Voxel first = *it++, second = *it;
     CHECK((first == vdb::Voxel{{0, 0, -1}, 99}) && second.at.z == 0 && it != all.end());
     it = std::find_if(all.begin(), all.end(), [](const vdb::Voxel &voxel) { return voxel.value == 107; });
     CHECK(it->at.z == 7 && (it++, it->at.z == 9) && ++it == all.end());
-    for (const vdb::Voxel &voxel : grid.active())
+    for (const vdb::Voxel &voxel : grid.voxels())
         grid.set_active(voxel.at, false);
     CHECK(grid.count() == 0);
 }
@@ -238,8 +276,15 @@ static void walks()
 #include <ranges>
 #include <span>
 
-static_assert(std::input_iterator<vdb::ActiveVoxels::Iterator> && std::input_iterator<vdb::Leaves::Iterator>);
-static_assert(std::ranges::view<vdb::ActiveVoxels> && std::ranges::view<vdb::Leaves> && std::ranges::input_range<const vdb::Leaves>);
+// Whether the walks over a grid or a view are ranges of C++20, for its algorithms and adaptors.
+template <class Owner> constexpr bool are_ranges()
+{
+    using Voxels = vdb::ActiveVoxelsOf<Owner>;
+    using Leaves = vdb::LeavesOf<Owner>;
+    return std::input_iterator<typename Voxels::Iterator> && std::input_iterator<typename Leaves::Iterator> && std::ranges::view<Voxels> &&
+           std::ranges::view<Leaves> && std::ranges::input_range<const Voxels> && std::ranges::input_range<const Leaves>;
+}
+static_assert(are_ranges<vdb::Grid>() && are_ranges<vdb::View>());
 static_assert(std::ranges::contiguous_range<vdb::Span<int64_t>> && std::ranges::borrowed_range<vdb::Span<int64_t>>);
 
 // What C++20 adds: adaptors, and std::span in place of vdb::Span.
@@ -247,9 +292,11 @@ static void ranges()
 {
     vdb::Grid grid = cube(0, 9, 5);
     grid.set({20, 0, 0}, 7);
-    auto sevens = grid.active() | std::views::filter([](const vdb::Voxel &it) { return it.value == 7; }) | std::views::transform(&vdb::Voxel::at);
+    auto sevens = grid.voxels() | std::views::filter([](const vdb::Voxel &it) { return it.value == 7; }) | std::views::transform(&vdb::Voxel::at);
     CHECK((*sevens.begin() == vdb::Coord{20, 0, 0}) && std::ranges::distance(sevens) == 1);
-    CHECK(std::ranges::distance(grid.active() | std::views::take(30)) == 30);
+    CHECK(std::ranges::distance(grid.voxels() | std::views::take(30)) == 30);
+    const vdb::View view(grid.copy());
+    CHECK(std::ranges::distance(view.voxels() | std::views::drop(1000)) == 1 && std::ranges::distance(view.leaves() | std::views::take(2)) == 2);
     CHECK(std::ranges::find(grid.leaves(), vdb::Coord{16, 0, 0}, &vdb::Leaf::origin)->at(4, 0, 0).value == 7);
     const std::array<vdb::Coord, 2> at = {{{1, 1, 1}, {20, 0, 0}}};
     std::array<int64_t, 2> values = {};
@@ -281,8 +328,61 @@ static void scenes()
     vdb::Scene again = vdb::Scene::from_bytes(scene.to_bytes());
     CHECK(again.to_bytes() == scene.to_bytes() && again.metadata("a").size() == 2);
     CHECK(again.take("b").count() == 64 && again.names().size() == 1);
+    const std::map<std::string, std::string> pairs = again.metadata("a");
+    vdb::Grid taken = again.take("a");
+    taken.set({9, 9, 9}, 4);
+    CHECK(code_of([&] { again.put("a", std::move(taken), {{"by", "lab"}, {"k", "a b"}}); }) == VDB_TEXT && taken.count() == 2 && !again.contains("a"));
+    again.put("a", std::move(taken), pairs);
+    CHECK(again.copy("a").count() == 2 && again.metadata("a") == pairs && code_of([&] { taken.count(); }) == VDB_EMPTY);
+    CHECK(code_of([&] { again.put("a", cube(0, 0, 1), pairs); }) == VDB_NAME_TAKEN && again.metadata("a") == pairs);
     CHECK(code_of([] { vdb::Scene::from_bytes({}); }) == VDB_FILE_TRUNCATED);
     CHECK(code_of([] { vdb::Scene::from_bytes({'V', 'D', 'B', 'S', 0, 3, 0, 0}); }) == VDB_FILE_VERSION);
+}
+
+// Errors that no call here meets, and what differs in one part alone.
+static void parts()
+{
+    try {
+        vdb::check(VDB_MEMORY);
+        CHECK(false);
+    } catch (const std::bad_alloc &error) {
+        CHECK(error.what() == std::string(vdb_message(VDB_MEMORY)));
+    }
+    try {
+        vdb::detail::whole({0, 1});
+        CHECK(false);
+    } catch (const std::overflow_error &) {
+    }
+    CHECK((vdb::Cell{1, true} != vdb::Cell{1, false}) && (vdb::Coord{1, 2, 3} != vdb::Coord{1, 0, 3}));
+    CHECK((vdb::Voxel{{0, 0, 0}, 1} != vdb::Voxel{{0, 0, 0}, 2}) && (vdb::Voxel{{0, 0, 0}, 1} != vdb::Voxel{{0, 0, 1}, 1}));
+    CHECK((vdb::Box{{0, 0, 0}, {1, 1, 1}} != vdb::Box{{0, 0, 0}, {1, 1, 2}}));
+    const vdb::View empty{vdb::Grid(vdb::Kind::i32)};
+    CHECK(!empty.bounds() && empty.voxels().begin() == empty.voxels().end() && empty.leaves().begin() == empty.leaves().end());
+}
+
+// Files behind links, special ones, and those that can't be written.
+static void places(const std::string &folder)
+{
+    const std::string file = folder + "/behind.vdbs", link = folder + "/link.vdbs", far = folder + "/far.vdbs", loop = folder + "/loop.vdbs";
+    for (const std::string &old : {file, link, far, loop})
+        ::unlink(old.c_str());
+    CHECK(::symlink("behind.vdbs", link.c_str()) == 0 && ::symlink(link.c_str(), far.c_str()) == 0 && ::symlink("loop.vdbs", loop.c_str()) == 0);
+    vdb::Scene scene;
+    scene.save_file(far);
+    scene.put("a", cube(0, 3, 5));
+    scene.save_file(far);
+    CHECK(vdb::Scene::load_file(file).copy("a").count() == 64);
+    CHECK(error_of([&] { scene.save_file(loop); }) == ELOOP && error_of([&] { scene.save_file(file + "/below"); }) == ENOTDIR);
+    CHECK(error_of([&] { scene.save_file(folder); }) == EISDIR && error_of([&] { scene.save_file("/dev/full"); }) == ENOSPC);
+    scene.save_file("/dev/null");
+    const std::string taken = folder + "/.vdb-" + std::to_string(::getpid()) + "-";
+    for (int number = 0; number < 32; number++)
+        std::fclose(std::fopen((taken + std::to_string(number) + ".tmp").c_str(), "wb"));
+    CHECK(::chdir(folder.c_str()) == 0);
+    scene.save_file("here.vdbs");
+    CHECK(vdb::Scene::load_file("here.vdbs").copy("a").count() == 64);
+    for (int number = 0; number < 32; number++)
+        ::unlink((taken + std::to_string(number) + ".tmp").c_str());
 }
 
 static void files(const std::string &folder)
@@ -322,16 +422,16 @@ static void arrays()
     const std::vector<int64_t> given = {1, 2, 3}, wide = {1, 2, INT64_C(1) << 31};
     const std::vector<uint8_t> on = {1, 0, 255};
     std::size_t written = 0;
-    grid.set_many(at, given, on, &written);
+    grid.write_many(at, given, on, &written);
     CHECK(written == 3 && grid.get({7, 7, 7}).value == 2 && !grid.get({7, 7, 7}).active && grid.count() == 2);
     std::vector<int64_t> values(3), few(2);
     std::vector<uint8_t> states(3, 7);
     grid.get_many(at, values, states);
     CHECK(values == given && states == std::vector<uint8_t>({1, 0, 1}));
-    grid.accessor(2).set_many(at, {}, std::vector<uint8_t>{0, 1, 0});
+    grid.accessor(2).write_many(at, {}, std::vector<uint8_t>{0, 1, 0});
     grid.accessor(2).get_many(at, {}, states);
     CHECK(states == std::vector<uint8_t>({0, 1, 0}) && grid.get({0, 0, 0}).value == 1);
-    CHECK(code_of([&] { grid.set_many(at, wide); }) == VDB_RANGE && grid.get({7, 7, 7}).value == 2);
+    CHECK(code_of([&] { grid.write_many(at, wide); }) == VDB_RANGE && grid.get({7, 7, 7}).value == 2);
     CHECK(code_of([&] { grid.get_many(at, few); }) == VDB_RANGE);
 
     const vdb::Box box = {{6, 7, 6}, {7, 8, 8}};
@@ -342,7 +442,7 @@ static void arrays()
                 inside.push_back({x, y, z});
     std::vector<int64_t> dense(12), same(12);
     std::iota(dense.begin(), dense.end(), 100);
-    grid.set_many(inside, dense);
+    grid.write_many(inside, dense);
     grid.read_box(box, same);
     CHECK(same == dense);
     std::vector<int64_t> spread(40, -1);
@@ -382,6 +482,21 @@ static void leaves()
     CHECK(first.origin.x == 0 && it->origin.x == 8 && first.at(0, 3, 7).active);
 }
 
+// What a view shows: voxels at 17 i, i, -5 i for i from 0 to 99, of which every second one is active.
+static void shown(const vdb::View &view)
+{
+    CHECK(view.kind() == vdb::Kind::i64 && view.background() == 3 && view.limit() == VDB_LIMIT_DEFAULT);
+    CHECK(view.count() == 50 && view.count({{0, 0, -5}, {34, 2, 0}}) == 1 && view.census().roots == 2);
+    CHECK(view.bounds()->min.z == -490 && view.bounds()->max.x == 1666);
+    int64_t sum = 0, states = 0;
+    for (const vdb::Voxel &voxel : view.voxels())
+        sum += voxel.value + voxel.at.y;
+    for (const vdb::Leaf &leaf : view.leaves())
+        states += active_of(leaf);
+    CHECK(sum == 2 * 2450 && states == 50 && view.leaf_count() == 99); // voxel 3 is the background
+    CHECK(code_of([&] { view.count({{0, 0, 0}, {0, 0, -1}}); }) == VDB_RANGE);
+}
+
 static void views()
 {
     vdb::Grid grid(vdb::Kind::i64, 3);
@@ -398,6 +513,7 @@ static void views()
                     const vdb::Cell cell = own.get({17 * at, at, -5 * at}), other = own.get({17 * at + 1, at, -5 * at});
                     count += cell.value != at || cell.active != (at % 2 == 0) || other.value != 3 || other.active;
                 }
+            shown(own);
         });
     for (std::thread &thread : threads)
         thread.join();
@@ -410,6 +526,7 @@ static void views()
     moved.read_box({{16, 1, -6}, {17, 2, -5}}, dense);
     CHECK(dense == std::vector<int64_t>({3, 3, 3, 3, 3, 1, 3, 3}));
     CHECK(code_of([&] { moved.read_box({{16, 1, -6}, {17, 2, -4}}, dense); }) == VDB_RANGE);
+    shown(moved);
     vdb::Grid copied = moved.copy();
     copied.set({17, 1, -5}, 8);
     CHECK(copied.get({17, 1, -5}).value == 8 && copied.count() == 51);
@@ -424,6 +541,7 @@ int main(int, char **argv)
     leaves();
     views();
     boxes();
+    progress();
     pairs();
     same();
     operands();
@@ -433,6 +551,8 @@ int main(int, char **argv)
     walks();
     ranges();
     scenes();
+    parts();
     files(argv[1]);
+    places(argv[1]);
     return failed;
 }

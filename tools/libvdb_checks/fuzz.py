@@ -1,10 +1,11 @@
 #!/usr/bin/env python3
 # SPDX-License-Identifier: Apache-2.0
-"""Drives random calls of libvdb beside a map: fuzz.py LIBRARY [CALLS [SEED]]
+"""Makes random calls of libvdb and compares them with a map: fuzz.py LIBRARY [CALLS [SEED]]
 
 LIBRARY is a libvdb.so with failing.c, as tools/test_libvdb.py builds it. Each call must return the code and the results that the
-map has (model.py). After a code other than 0 the cells are compared: they, and the results, must be as before. On a sample of
-the calls each allocation fails in turn. At last no memory may be held. The last line is 'N calls, M failed allocations'.
+map has (model.py). After a code other than 0 the cells are compared: they, and the results, must be as before. In two calls
+of each shape of arguments, and in one of a hundred others, each allocation fails in turn, up to 1,999. At last no memory may be
+held. The last lines name the calls that allocate, with the shapes of each, and say 'N calls, M failed allocations'.
 """
 from __future__ import annotations
 
@@ -12,6 +13,7 @@ import ctypes
 import random
 import sys
 import time
+from collections import Counter
 from ctypes import byref, c_int32, c_int64, c_long, c_size_t, c_uint8, c_uint32, c_uint64
 
 import model
@@ -20,7 +22,9 @@ from header import Header
 OK, EMPTY, MEMORY, ROOT_LIMIT, RANGE, KINDS, NO_SUM = 0, 1, 2, 3, 4, 6, 7
 NO_GRID, NAME, NAME_TAKEN, GRID_LIMIT, META_LIMIT, NO_META, TEXT, BUFFER = 8, 9, 10, 11, 12, 13, 14, 15
 FAULTS = range(20, 36)
-GRIDS, VIEWS, VERIFY_EVERY, FAIL_EVERY, FAILURES = 4, 2, 400, 100, 60
+GRIDS, VIEWS, VERIFY_EVERY, FAIL_EVERY = 4, 2, 400, 100
+#: The number of calls of a shape whose allocations fail, and the most allocations of such a call.
+TIMES, FAILURES = 2, 2000
 
 #: Voxels near 0 with a cell each, among them the borders of leaf extents; everything else is far away.
 VOXELS = model.Lattice(range(-10, 16))
@@ -42,7 +46,7 @@ class Step:
     """A call of the library.
 
     `outs` are the results, with the values that they must have after the code 0, in the order of `results`. `refusals` are the
-    codes of which one must be returned, if there are any; otherwise `commit` changes the map and returns the code. `prefix` makes
+    codes of errors of which one must be returned, if there are any; otherwise `commit` changes the map and returns the code. `prefix` makes
     in the map the writes before the one that failed, if the call writes in turn. A call that `goes_on` may return OK though an
     allocation failed.
     """
@@ -70,6 +74,8 @@ class Session:
         self.middle = [it for it, (a, b) in enumerate(lattice.intervals) if -128 <= a and b <= 128]
         self.aligned = [it for it, (a, b) in enumerate(lattice.intervals) if a % 4096 == 0 and (b + 1) % 4096 == 0]
         self.calls = self.failures = 0
+        self.shapes = Counter()
+        self.allocating = {}
 
     # -- arguments
 
@@ -163,6 +169,17 @@ class Session:
             [slot],
         )
 
+    def on_readable(self, call, arguments, wrong=False, outs=(), results=None, commit=None):
+        """A step that reads some grid or, at times, some view. `commit` gets the map's grid, the word of its calls and its handle."""
+        slot, shown = self.grid(), [it for it in range(VIEWS) if self.view_maps[it]]
+        word, handle, grid, grids = "grid", self.grids[slot], self.maps[slot], [slot]
+        if self.rarely(0.2):
+            number = self.chance.choice(shown) if shown and not self.rarely(0.05) else self.chance.randrange(VIEWS)
+            word, handle, grid, grids = "view", self.views[number], self.view_maps[number], []
+        refusals = [*([EMPTY] if grid is None else []), *([RANGE] if wrong else [])]
+        do = commit and (lambda: commit(grid, word, handle))
+        return Step(f"vdb_{word}_{call}", [handle, *arguments], outs, refusals, do, results and (lambda: results(grid)), grids)
+
     def new(self):
         slot, kind = self.chance.randrange(GRIDS), self.chance.choice([0, 1, 1, 1, 2])
         background = self.value(kind)
@@ -198,14 +215,14 @@ class Session:
 
     def facts(self):
         name, out = self.chance.choice([("kind", c_int32(77)), ("background", c_int64(77)), ("limit", c_uint32(77))])
-        return self.on_grid(f"vdb_grid_{name}", [byref(out)], outs=[out], results=lambda grid: [getattr(grid, name)])
+        return self.on_readable(name, [byref(out)], outs=[out], results=lambda grid: [getattr(grid, name)])
 
     def get(self):
         at = tuple(self.chance.randrange(len(self.lattice)) for _ in range(3)) if self.rarely(0.4) else self.place()
         value, on = c_int64(77), c_int32(77)
         results = lambda grid: [grid.get(at)[0], int(grid.get(at)[1])]  # noqa: E731
         if self.rarely(0.5):
-            return self.on_grid("vdb_grid_get", [*self.voxel(at), byref(value), byref(on)], outs=[value, on], results=results)
+            return self.on_readable("get", [*self.voxel(at), byref(value), byref(on)], outs=[value, on], results=results)
         accessor = self.accessor()
         arguments = [accessor, *self.voxel(at), byref(value), byref(on)]
         return self.on_grid("vdb_grid_probe", arguments, not -1 <= accessor < 8, outs=[value, on], results=results)
@@ -259,7 +276,7 @@ class Session:
     # -- many voxels at once
 
     def arrays(self, slot, count):
-        """Arrays of values and states with so many elements, or rarely with one more or one less, or with none; and their lengths."""
+        """Arrays of values and states with `count` elements, or rarely with one more or one less, or with none; and their lengths."""
         lengths = [0 if self.rarely(0.15) else max(0, count + (self.chance.choice([-1, 1]) if self.rarely() else 0)) for _ in range(2)]
         kind = self.maps[slot].kind if self.maps[slot] else 1
         values = (c_int64 * max(1, lengths[0]))(*(self.value(kind) for _ in range(lengths[0])))
@@ -353,17 +370,16 @@ class Session:
         """The number of leaves, which must be at least that of the smallest tree."""
         count, census = c_uint64(77), self.type("vdb_census")
 
-        def commit(grid):
-            self.library.vdb_grid_census(self.grids[slot], byref(census))
+        def commit(_grid, word, handle):
+            getattr(self.library, f"vdb_{word}_census")(handle, byref(census))
             need(count.value >= census.leaf, f"{count.value} leaves, and {census.leaf} in the smallest tree")
             return OK
 
-        slot = self.grid()
-        return self.on_grid("vdb_grid_leaf_count", [byref(count)], False, [slot], commit, [count], lambda grid: [count.value])
+        return self.on_readable("leaf_count", [byref(count)], False, [count], lambda grid: [count.value], commit)
 
     def leaves(self):
         """Some leaves from the first on, or past a voxel. They must be all leaves there, and have the cells of the map."""
-        slot, is_first, most = self.grid(), self.rarely(0.5), self.chance.choice([0, 1, 1, 2, 3, 5])
+        is_first, most = self.rarely(0.5), self.chance.choice([0, 1, 1, 2, 3, 5])
         after = self.voxel(self.place())
         lengths = [0 if self.rarely(0.2) else most * side + (1 if self.rarely() else 0) for side in (512, 8)]
         origins, copied = (self.header.types["vdb_coord"] * max(1, most))(), c_size_t(77)
@@ -371,7 +387,7 @@ class Session:
         arguments = [origins, most, values, lengths[0], states, lengths[1], byref(copied)]
         wrong = most == 0 or lengths[0] not in (0, most * 512) or lengths[1] not in (0, most * 8)
 
-        def commit(grid):
+        def commit(grid, word, handle):
             last = None if is_first else order_of(after)
             for number in range(copied.value):
                 at = text_of(origins[number])
@@ -385,13 +401,13 @@ class Session:
                     need(not lengths[1] or (states[8 * number + x] >> (8 * y + z) & 1) == cell[1], f"the state {x} {y} {z} of the leaf at {at}")
             if is_first and copied.value < most:
                 count = c_uint64()
-                self.library.vdb_grid_leaf_count(self.grids[slot], byref(count))
+                getattr(self.library, f"vdb_{word}_leaf_count")(handle, byref(count))
                 need(copied.value == count.value, f"{copied.value} leaves of {count.value}")
             return OK
 
         outs = [origins, values, states, copied]
         name, given = ("first", arguments) if is_first else ("next", [*after, *arguments])
-        return self.on_grid(f"vdb_grid_{name}_leaves", given, wrong, [slot], commit, outs, lambda grid: [text_of(it) for it in outs])
+        return self.on_readable(f"{name}_leaves", given, wrong, outs, lambda grid: [text_of(it) for it in outs], commit)
 
     # -- views
 
@@ -468,10 +484,10 @@ class Session:
         out = self.type("vdb_count", 77, 77)
         if self.rarely(0.5):
             everywhere = (0,) * 3, (len(self.lattice) - 1,) * 3
-            return self.on_grid("vdb_grid_count", [byref(out)], outs=[out], results=lambda grid: [count_of(grid, everywhere)])
+            return self.on_readable("count", [byref(out)], outs=[out], results=lambda grid: [count_of(grid, everywhere)])
         box = self.box()
         argument, wrong = self.box_argument(box)
-        return self.on_grid("vdb_grid_count_in", [argument, byref(out)], wrong, outs=[out], results=lambda grid: [count_of(grid, box)])
+        return self.on_readable("count_in", [argument, byref(out)], wrong, [out], lambda grid: [count_of(grid, box)])
 
     def bounds(self):
         out, found = self.type("vdb_box", (77, 77, 77), (77, 77, 77)), c_int32(77)
@@ -480,12 +496,12 @@ class Session:
             box = grid.bounds()
             return [box or ((77,) * 3, (77,) * 3), int(box is not None)]
 
-        return self.on_grid("vdb_grid_bounds", [byref(out), byref(found)], outs=[out, found], results=results)
+        return self.on_readable("bounds", [byref(out), byref(found)], outs=[out, found], results=results)
 
     def census(self):
         out = self.type("vdb_census", 77, 77, 77, 77)
         results = lambda grid: [(self.lattice.roots(grid.spans), out.upper, out.lower, out.leaf)]  # noqa: E731
-        return self.on_grid("vdb_grid_census", [byref(out)], outs=[out], results=results)
+        return self.on_readable("census", [byref(out)], outs=[out], results=results)
 
     def active(self):
         """One step of a walk over a box of voxels, from its start or from some voxel."""
@@ -504,9 +520,9 @@ class Session:
             left = [it for it in listed if after is None or model.block_key(it[0]) > model.block_key(after)]
             return [*left[0], 1] if left else [tuple(after or (77, 77, 77)), 77, 0]
 
-        name = "vdb_grid_first_active" if after is None else "vdb_grid_next_active"
+        name = "first_active" if after is None else "next_active"
         outs = [at, value, found]
-        return self.on_grid(name, [argument, *map(byref, outs)], wrong, outs=outs, results=results)
+        return self.on_readable(name, [argument, *map(byref, outs)], wrong, outs, results)
 
     # -- the scene
 
@@ -570,7 +586,7 @@ class Session:
         return self.on_scene("vdb_scene_name", [index, out, room, byref(used)], refusals, [out, used], None, results)
 
     def named(self, name):
-        """The refusals of a call on a grid by its name."""
+        """The codes of errors of a call on a grid by its name."""
         return [NAME] if name in WRONG_NAMES else [NO_GRID] if name not in (self.scene_map or {}) else []
 
     def scene_put(self):
@@ -642,16 +658,26 @@ class Session:
         while self.calls < calls:
             step = self.chance.choices(makers, weights)[0](self)
             self.calls += 1
+            shape = self.shape_of(step)
+            self.shapes[shape] += 1
+            before = self.failures
             try:
-                self.take(step, self.calls % FAIL_EVERY == 0)
+                self.take(step, self.shapes[shape] <= TIMES or self.calls % FAIL_EVERY == 0)
             except Wrong as wrong:
                 raise Wrong(f"call {self.calls}, {step.name}: {wrong}") from None
+            if self.failures > before:
+                self.allocating.setdefault(step.name, set()).add(shape)
         for slot in range(GRIDS):
             self.library.vdb_grid_free(self.grids[slot])
         for handle in self.views:
             self.library.vdb_view_free(handle)
         self.library.vdb_scene_free(self.scene)
         need(self.held.value == 0, f"{self.held.value} blocks are held at the end")
+
+    def shape_of(self, step):
+        """What a call is like: the types of its grids, which of its numbers are 0, and whether it must fail."""
+        kinds = [self.maps[slot] and self.maps[slot].kind for slot in step.grids]
+        return step.name, *kinds, *(it != 0 for it in step.arguments if isinstance(it, int)), bool(step.refusals)
 
     def take(self, step, fails):
         """Makes a call and compares it with the map. If it `fails`, each allocation of the call fails before."""
@@ -758,12 +784,15 @@ def main(words):
     calls, seed = (int(words[it]) if len(words) > it else otherwise for it, otherwise in ((1, 100_000), (2, 0)))
     header, began = Header(), time.process_time()
     library = header.load(words[0])
-    failures = 0
+    failures, allocating = 0, {}
     for lattice, part in ((VOXELS, calls // 2), (BORDERS, calls - calls // 2)):
         session = Session(library, header, lattice, random.Random(f"{seed} {len(lattice)}"))
         session.run(part)
         failures += session.failures
+        for name, shapes in session.allocating.items():
+            allocating.setdefault(name, set()).update(shapes)
     print(f"{time.process_time() - began:.0f} seconds")
+    print("allocating:", ", ".join(f"{name} {len(shapes)}" for name, shapes in sorted(allocating.items())))
     print(f"{calls} calls, {failures} failed allocations")
 
 

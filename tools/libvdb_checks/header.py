@@ -1,5 +1,5 @@
 # SPDX-License-Identifier: Apache-2.0
-"""What include/vdb.h declares: structs, constants, calls and the texts of the codes, for ctypes."""
+"""What include/vdb.h declares: structs, constants and calls, for ctypes."""
 from __future__ import annotations
 
 import ctypes
@@ -20,9 +20,8 @@ SIMPLE = {
 STRUCT = re.compile(r"typedef struct (\w+) \{(.*?)\} \1;", re.S)
 FIELD = re.compile(r"(\w+) ([*\w, ]+);")
 CONSTANT = re.compile(r"\b(VDB_\w+) = (-?\d+)\b")
-CALL = re.compile(r"^(VDB_CODE|VDB_NONNULL void) (vdb_\w+)\(([^)]*)\);", re.M)
-ARGUMENT = re.compile(r"(?:const )?(\w+) (\*?)\w+\Z")
-TEXT = re.compile(r'case (VDB_\w+): return "([^"]*)";')
+CALL = re.compile(r"^(VDB_CODE|VDB_NONNULL void|int32_t) (vdb_\w+)\(([^)]*)\);", re.M)
+ARGUMENT = re.compile(r"(?:const )?(\w+) (\**)\w+\Z")
 
 
 def without_comments(text: str) -> str:
@@ -30,7 +29,7 @@ def without_comments(text: str) -> str:
 
 
 class Header:
-    """The declarations of the header. `structs` and `calls` are by name: a class, and the types of the arguments."""
+    """The declarations of the header. `types` and `calls` are by name: a class, and the types of the arguments. `voids` return nothing."""
 
     def __init__(self, path: Path = HEADER) -> None:
         text = without_comments(path.read_text(encoding="utf-8"))
@@ -38,8 +37,9 @@ class Header:
         for name, fields in STRUCT.findall(text):
             self.types[name] = type(name, (ctypes.Structure,), {"_fields_": list(self.fields(fields))})
         self.constants = {name: int(value) for name, value in CONSTANT.findall(text)}
-        self.calls = {name: [self.argument(it) for it in arguments.split(",")] for _, name, arguments in CALL.findall(text)}
-        self.texts = {self.constants[name]: words for name, words in TEXT.findall(text)}
+        found = CALL.findall(text)
+        self.calls = {name: [self.argument(it) for it in arguments.split(",") if it != "void"] for _, name, arguments in found}
+        self.voids = {name for kind, name, _ in found if kind.endswith("void")}
 
     def fields(self, text):
         for kind, names in FIELD.findall(text):
@@ -47,10 +47,11 @@ class Header:
                 yield name.strip(" *"), ctypes.c_void_p if "*" in name else self.types[kind]
 
     def argument(self, text):
-        kind, star = ARGUMENT.match(" ".join(text.split())).groups()
-        if star and kind == "char":
-            return ctypes.c_char_p
-        return ctypes.POINTER(self.types[kind]) if star else self.types[kind]
+        kind, stars = ARGUMENT.match(" ".join(text.split())).groups()
+        made = self.types[kind]
+        if stars and kind == "char":
+            made, stars = ctypes.c_char_p, stars[1:]
+        return ctypes.POINTER(made) if stars else made
 
     def load(self, path):
         """Loads a library and declares its calls. Raises OSError or AttributeError if it, or a call, is missing."""
@@ -58,5 +59,5 @@ class Header:
         for name, arguments in self.calls.items():
             function = getattr(library, name)
             function.argtypes = arguments
-            function.restype = None if name.endswith("_free") else ctypes.c_int32
+            function.restype = None if name in self.voids else ctypes.c_int32
         return library

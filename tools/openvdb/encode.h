@@ -141,7 +141,7 @@ public:
     }
 
 private:
-    /// Writes the root blocks of a tree, at most so many. Returns how many.
+    /// Writes the root blocks of a tree, at most `most`. Returns how many.
     template <class Tree>
     uint32_t write_blocks(const Tree& tree, uint32_t most) {
         uint32_t blocks = 0;
@@ -172,7 +172,7 @@ private:
     void patch(uint64_t offset, uint32_t number) {
         std::string digits;
         scene::append_number(digits, number);
-        file.patch(offset, digits);
+        file.write_at(offset, digits);
     }
 
     void flush() {

@@ -3,7 +3,6 @@
 
 #include <algorithm>
 #include <array>
-#include <sstream>
 
 using openvdb::GridBase;
 using openvdb::MetaMap;
@@ -73,13 +72,6 @@ void report_class(const GridBase& grid, const std::string& name, const Notices& 
     const auto entry = grid[GridBase::META_GRID_CLASS];
     if (!entry || entry->str() == GridBase::gridClassToString(openvdb::GRID_UNKNOWN)) return;
     notices.report("grid " + in_quotes(name) + ": its class " + in_quotes(entry->str()) + " is left out: a scene's grid has none");
-}
-
-void report_transform(const GridBase& grid, const std::string& name, const Notices& notices) {
-    if (grid.transform().isIdentity()) return;
-    std::ostringstream text;
-    text << grid.transform().mapType() << ", voxel size " << grid.transform().voxelSize();
-    notices.report("grid " + in_quotes(name) + ": its transform (" + text.str() + ") is left out: a scene's grid has none");
 }
 
 void store_metadata(MetaMap& metadata, const scene::Header& header) {

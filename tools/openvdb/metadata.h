@@ -13,10 +13,9 @@ scene::Pairs pairs_of(const openvdb::GridBase& grid, const std::string& name, co
 /// The root limit that a grid's metadata holds, if it does.
 std::optional<uint32_t> limit_of(const openvdb::MetaMap& metadata);
 
-/// Report what a scene doesn't hold of the metadata of the file as a whole, of a grid's class and of its transform.
+/// Report what a scene doesn't hold of the metadata of the file as a whole, and of a grid's class.
 void report_file_metadata(const openvdb::MetaMap& metadata, const Notices& notices);
 void report_class(const openvdb::GridBase& grid, const std::string& name, const Notices& notices);
-void report_transform(const openvdb::GridBase& grid, const std::string& name, const Notices& notices);
 
 /// Stores a header's pairs, and its limit unless that is the usual one.
 void store_metadata(openvdb::MetaMap& metadata, const scene::Header& header);

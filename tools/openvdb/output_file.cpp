@@ -1,6 +1,7 @@
 // SPDX-License-Identifier: Apache-2.0
 #include "output_file.h"
 
+#include <algorithm>
 #include <cerrno>
 #include <csignal>
 #include <cstdio>
@@ -34,53 +35,58 @@ void watch_signals(const std::string& path) {
 
 OutputFile::OutputFile(const std::string& path) : given(path), target(path) {
     struct stat old {};
-    const bool exists = stat(path.c_str(), &old) == 0;
-    if (exists && access(path.c_str(), W_OK) != 0) fail(std::strerror(errno));
-    if (exists && !S_ISREG(old.st_mode)) {
-        special = open(path.c_str(), O_WRONLY | O_CLOEXEC);
+    bool exists = false;
+    if (const int error = look_at(path, exists, old)) fail(std::strerror(error));
+    try {
+        open(exists ? &old : nullptr);
+    } catch (...) {
+        close_all();
+        throw;
+    }
+    watch_signals(temporary);
+}
+
+/// Opens the temporary file, with the permissions of an old one, and the target if it is no regular file.
+void OutputFile::open(const struct stat* old) {
+    if (old != nullptr && !S_ISREG(old->st_mode)) {
+        special = ::open(given.c_str(), O_WRONLY | O_CLOEXEC);
         if (special < 0) fail(std::strerror(errno));
         descriptor = open_beside((std::filesystem::temp_directory_path() / "").string(), 0600, temporary);
     } else {
-        target = followed(path);
-        descriptor = open_beside(target, exists ? 0600 : 0666, temporary);
+        target = followed(given);
+        descriptor = open_beside(target, old != nullptr ? 0600 : 0666, temporary);
     }
-    if (descriptor < 0) fail(std::strerror(errno));
-    watch_signals(temporary);
-    if (exists && special < 0 && !resemble(descriptor, old)) {
-        const int error = errno;
-        unlink(temporary.c_str());
-        fail(std::strerror(error));
-    }
+    if (descriptor < 0 || (old != nullptr && special < 0 && !resemble(descriptor, *old))) fail(std::strerror(errno));
 }
 
 OutputFile::~OutputFile() {
-    if (special >= 0) close(special);
-    if (descriptor >= 0) {
-        close(descriptor);
-        unlink(temporary.c_str());
-    }
+    close_all();
     removed_by_signal[0] = '\0';
 }
 
-void OutputFile::write(std::string_view bytes) {
-    while (!bytes.empty()) {
-        const ssize_t count = ::write(descriptor, bytes.data(), bytes.size());
-        if (count < 0 && errno == EINTR) continue;
-        if (count < 0) fail(std::strerror(errno));
-        bytes.remove_prefix(size_t(count));
-        written += uint64_t(count);
-    }
+void OutputFile::close_all() {
+    if (special >= 0) close(special);
+    if (descriptor < 0) return;
+    close(descriptor);
+    unlink(temporary.c_str());
 }
 
-void OutputFile::patch(uint64_t offset, std::string_view bytes) {
-    const ssize_t count = pwrite(descriptor, bytes.data(), bytes.size(), off_t(offset));
-    if (count != ssize_t(bytes.size())) fail(count < 0 ? std::strerror(errno) : "it can't be written");
+void OutputFile::write_at(uint64_t offset, std::string_view bytes) {
+    while (!bytes.empty()) {
+        const ssize_t count = pwrite(descriptor, bytes.data(), bytes.size(), off_t(offset));
+        if (count < 0 && errno == EINTR) continue;
+        if (count <= 0) fail(std::strerror(count < 0 ? errno : EIO));
+        bytes.remove_prefix(size_t(count));
+        offset += uint64_t(count);
+        written = std::max(written, offset);
+    }
 }
 
 void OutputFile::commit() {
     if (special >= 0) return copy();
     if (fsync(descriptor) != 0) fail(std::strerror(errno));
     if (std::rename(temporary.c_str(), target.c_str()) != 0) fail(std::strerror(errno));
+    synchronise(target);
     close(descriptor);
     descriptor = -1;
 }
@@ -88,6 +94,7 @@ void OutputFile::commit() {
 /// Writes the temporary file's bytes to what is no regular file.
 void OutputFile::copy() {
     std::ifstream stream(temporary, std::ios::binary);
+    if (!stream) fail(std::strerror(errno));
     std::vector<uint8_t> part;
     do {
         part.resize(1 << 20);

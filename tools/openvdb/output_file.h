@@ -19,16 +19,13 @@ public:
     OutputFile& operator=(const OutputFile&) = delete;
 
     /// Appends bytes.
-    void write(std::string_view bytes);
+    void write(std::string_view bytes) { write_at(size(), bytes); }
 
-    /// Replaces bytes that were written.
-    void patch(uint64_t offset, std::string_view bytes);
+    /// Writes bytes from an offset on, over those that are there.
+    void write_at(uint64_t offset, std::string_view bytes);
 
-    /// How many bytes were appended.
+    /// How many bytes it has.
     uint64_t size() const { return written; }
-
-    /// The temporary file's path, for a library that opens it by itself.
-    const std::string& path() const { return temporary; }
 
     /// Makes the file durable and gives it the target's name.
     void commit();
@@ -37,6 +34,8 @@ public:
     [[noreturn]] void fail(const std::string& what) const { throw FileError(given, what); }
 
 private:
+    void open(const struct stat* old);
+    void close_all();
     void copy();
 
     std::string given, target, temporary;

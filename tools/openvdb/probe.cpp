@@ -3,7 +3,8 @@
 //
 //     probe make OUT.vdb   makes grids by lines of standard input, which `Maker` lists
 //     probe get IN.vdb     answers each line `NAME X Y Z` as `get` of vdb does
-//     probe info IN.vdb    prints a line for each grid: name, type, background, active voxels; and one for each text of its metadata
+//     probe info IN.vdb    prints a line for each grid: name, type, background, active voxels; the place of voxel 1 2 3;
+//                          and a line for each text of its metadata
 
 #include <openvdb/io/Stream.h>
 #include <openvdb/openvdb.h>
@@ -69,7 +70,8 @@ public:
         lines["roots"] = [this](auto& words) { roots(words); };                   // COUNT VALUE: active tiles of the root
         lines["meta"] = [this](auto& words) { meta(words); };                     // TYPE KEY VALUE
         lines["class"] = [this](auto& words) { grid().setGridClass(GridBase::stringToGridClass(word(words))); };
-        lines["scale"] = [this](auto& words) { scale(words); };                   // SIZE of a voxel
+        lines["affine"] = [this](auto& words) { affine(words); };                 // 12 numbers: the images of x, y, z and 0 0 0
+        lines["frustum"] = [this](auto&) { frustum(); };                          // a transform that isn't linear
         lines["write"] = [this](auto& words) { write(words); };                   // zip, blosc, none, or stream for no offsets
         lines["file"] = [this](auto& words) { file_meta(words); };                // KEY TEXT
     }
@@ -164,10 +166,16 @@ private:
         else grid().insertMeta(key, openvdb::FloatMetadata(std::stof(text)));
     }
 
-    void scale(std::istream& words) {
-        double size = 1;
-        words >> size;
-        grid().setTransform(openvdb::math::Transform::createLinearTransform(size));
+    void affine(std::istream& words) {
+        openvdb::math::Mat4d matrix = openvdb::math::Mat4d::identity();
+        for (int row = 0; row < 4; ++row)
+            for (int column = 0; column < 3; ++column) matrix(row, column) = std::stod(word(words));
+        grid().setTransform(openvdb::math::Transform::createLinearTransform(matrix));
+    }
+
+    void frustum() {
+        const openvdb::BBoxd box(openvdb::Vec3d(0, 0, 0), openvdb::Vec3d(9, 9, 9));
+        grid().setTransform(openvdb::math::Transform::createFrustumTransform(box, 0.5, 10));
     }
 
     void file_meta(std::istream& words) {
@@ -218,6 +226,7 @@ void inform(const openvdb::GridPtrVec& grids) {
         std::string background = "-";
         grid->apply<Types>([&](const auto& typed) { background = shown(typed.background()); });
         std::cout << "grid " << grid->getName() << " " << grid->type() << " " << background << " " << grid->activeVoxelCount() << "\n";
+        std::cout << "voxel " << grid->transform().indexToWorld(openvdb::Vec3d(1, 2, 3)) << "\n";
         for (auto entry = grid->beginMeta(); entry != grid->endMeta(); ++entry)
             std::cout << "meta " << entry->first << " " << entry->second->typeName() << " " << entry->second->str() << "\n";
     }

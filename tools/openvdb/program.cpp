@@ -3,6 +3,7 @@
 
 #include <algorithm>
 #include <cstdio>
+#include <fcntl.h>
 #include <iostream>
 #include <new>
 #include <unistd.h>
@@ -88,6 +89,12 @@ private:
     bool options = true;
 };
 
+/// Opens the standard streams that are closed, so that no file becomes one of them. To write standard output then fails.
+void open_streams() {
+    for (int number : {STDIN_FILENO, STDOUT_FILENO, STDERR_FILENO})
+        if (fcntl(number, F_GETFD) < 0) open("/dev/null", number == STDOUT_FILENO ? O_RDONLY : O_WRONLY);
+}
+
 /// The first line of a text.
 std::string first_line(const std::string& text) { return text.substr(0, text.find('\n')); }
 
@@ -119,6 +126,7 @@ std::string in_quotes(std::string_view text) {
 int run(const Program& program, int count, char** words) {
     const std::string name = program.name;
     std::string input;
+    open_streams();
     try {
         Words reader(program, count, words);
         if (reader.asks_help()) {

@@ -47,7 +47,7 @@ private:
     bool strict;
 };
 
-/// A program: its name, the options that it has beside `--grid`, `--strict` and `--help`, and what it does.
+/// A program: its name, the options that it has besides `--grid`, `--strict` and `--help`, and what it does.
 struct Program {
     const char* name;
     const char* help;

@@ -111,7 +111,7 @@ struct Head {
 };
 Head read_head(FieldReader& reader);
 
-/// Reads what comes before the root blocks of a grid. `before` is the name of the grid before, or empty.
+/// Reads what precedes the root blocks of a grid. `before` is the name of the grid before, or empty.
 Header read_header(FieldReader& reader, uint16_t version, const std::string& before);
 
 /// Reads a value of a body or a background.
@@ -138,10 +138,10 @@ void append_number(std::string& bytes, Integer number) {
 /// Appends a text with its length in one byte before it.
 void append_text(std::string& bytes, std::string_view text);
 
-/// Appends what comes before the number of root blocks.
+/// Appends what precedes the number of root blocks.
 void append_header(std::string& bytes, const Header& header);
 
-/// How many bytes of a header come after its limit: those of its pairs.
+/// How many bytes of a header follow its limit: those of its pairs.
 size_t bytes_of_pairs(const Pairs& pairs);
 
 }  // namespace scene

@@ -1,6 +1,7 @@
 // SPDX-License-Identifier: Apache-2.0
 // Converts a file of OpenVDB to a scene file.
 
+#include "affine.h"
 #include "encode.h"
 #include "metadata.h"
 #include "names.h"
@@ -101,11 +102,11 @@ void write_tree(const Grid& grid, scene::Header header, const std::string& name,
 void write_grid(const GridBase& grid, const Chosen& chosen, const CommandLine& line, SceneWriter& writer, const Notices& notices) {
     const std::string name = shown(*chosen.descriptor);
     report_class(grid, name, notices);
-    report_transform(grid, name, notices);
     scene::Header header;
     header.name = chosen.name;
     header.limit = line.limit.value_or(limit_of(grid).value_or(scene::usual_limit));
     header.pairs = pairs_of(grid, name, notices);
+    keep_transform(grid, name, header.pairs, notices);
     using Types = openvdb::TypeList<openvdb::BoolGrid, openvdb::Int32Grid, openvdb::Int64Grid, openvdb::MaskGrid>;
     grid.apply<Types>([&](const auto& typed) { write_tree(typed, header, name, !line.limit, writer, notices); });
 }

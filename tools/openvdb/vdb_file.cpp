@@ -7,6 +7,7 @@
 #include <cerrno>
 #include <cstring>
 #include <filesystem>
+#include <streambuf>
 
 using openvdb::GridBase;
 using openvdb::io::GridDescriptor;
@@ -18,6 +19,39 @@ struct VdbWriter : openvdb::io::Archive {
     void write_all(std::ostream& stream, const openvdb::GridCPtrVec& grids) const {
         Archive::write(stream, grids, /*seekable=*/true);
     }
+};
+
+/// Writes what OpenVDB writes into an output file. It keeps its position itself: to OpenVDB a seek that failed is a position.
+class OutputBuffer : public std::streambuf {
+public:
+    explicit OutputBuffer(OutputFile& file) : file(file), buffer(1 << 16) { setp(buffer.data(), buffer.data() + buffer.size()); }
+
+protected:
+    int sync() override {
+        file.write_at(position, {pbase(), size_t(pptr() - pbase())});
+        position += uint64_t(pptr() - pbase());
+        setp(buffer.data(), buffer.data() + buffer.size());
+        return 0;
+    }
+
+    int_type overflow(int_type byte) override {
+        sync();
+        return traits_type::eq_int_type(byte, traits_type::eof()) ? 0 : sputc(traits_type::to_char_type(byte));
+    }
+
+    pos_type seekoff(off_type offset, std::ios_base::seekdir from, std::ios_base::openmode) override {
+        sync();
+        const uint64_t begin = from == std::ios_base::cur ? position : from == std::ios_base::end ? file.size() : 0;
+        position = begin + uint64_t(offset);
+        return pos_type(off_type(position));
+    }
+
+    pos_type seekpos(pos_type place, std::ios_base::openmode mode) override { return seekoff(place, std::ios_base::beg, mode); }
+
+private:
+    OutputFile& file;
+    std::vector<char> buffer;
+    uint64_t position = 0;
 };
 
 uint32_t compression_flags(const std::string& compression) {
@@ -125,16 +159,12 @@ GridBase::Ptr VdbReader::read(const GridDescriptor& descriptor) {
     }
 }
 
-void write_vdb(const OutputFile& file, const openvdb::GridCPtrVec& grids, const std::string& compression) {
+void write_vdb(OutputFile& file, const openvdb::GridCPtrVec& grids, const std::string& compression) {
     VdbWriter writer;
     writer.setCompression(compression_flags(compression));
-    std::ofstream stream;
+    OutputBuffer buffer(file);
+    std::ostream stream(&buffer);
     stream.exceptions(std::ios::failbit | std::ios::badbit);
-    try {
-        stream.open(file.path(), std::ios::binary | std::ios::trunc);
-        writer.write_all(stream, grids);
-        stream.close();
-    } catch (const std::ios_base::failure&) {
-        file.fail(std::strerror(errno));
-    }
+    writer.write_all(stream, grids);
+    stream.flush();
 }

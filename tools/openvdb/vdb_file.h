@@ -45,4 +45,4 @@ private:
 };
 
 /// Writes grids to a file, by `zip`, `blosc` or no compression.
-void write_vdb(const OutputFile& file, const openvdb::GridCPtrVec& grids, const std::string& compression);
+void write_vdb(OutputFile& file, const openvdb::GridCPtrVec& grids, const std::string& compression);

@@ -1,6 +1,7 @@
 // SPDX-License-Identifier: Apache-2.0
 // Converts a scene file to a file of OpenVDB.
 
+#include "affine.h"
 #include "decode.h"
 #include "metadata.h"
 #include "output_file.h"
@@ -35,6 +36,7 @@ openvdb::GridBase::Ptr read_typed(scene::FieldReader& reader, const scene::Heade
     Decoder<Tree>(reader, grid->tree()).read_blocks(header.limit);
     grid->setName(header.name);
     store_metadata(*grid, header);
+    set_transform(*grid, header.pairs);
     notices.progress(header.name, grid->activeVoxelCount(), grid->tree().leafCount());
     return grid;
 }

@@ -1,5 +1,5 @@
 # SPDX-License-Identifier: Apache-2.0
-"""Bad scene files: vdbs2vdb reports the fault and the byte that encoding.py finds; a good one comes back as its canonical bytes."""
+"""Bad scene files: vdbs2vdb reports the fault and the byte that encoding.py finds; a good one is returned as its canonical bytes."""
 import random
 
 import encoding

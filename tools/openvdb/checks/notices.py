@@ -4,6 +4,7 @@
 FLOAT = "Tree_float_5_4_3"
 
 # lines of the probe, each with what vdb2vdbs reports and with the script that makes the same scene
+HALF = "0.5 0 0  0 0.5 0  0 0 0.5  0 0 0"
 TOLD = [
     (
         "a grid of another type",
@@ -51,12 +52,16 @@ TOLD = [
         ["grid a i32 0", *(f"meta a k{number:02} x" for number in range(16))],
     ),
     (
-        "a transform",
-        ["grid i32 a 0", "scale 0.5"],
-        [
-            'grid "a": its transform (UniformScaleMap, voxel size [0.5, 0.5, 0.5]) is left out: a scene\'s grid has none',
-        ],
+        "a transform that isn't linear",
+        ["grid i32 a 0", "frustum"],
+        ['grid "a": its transform (NonlinearFrustumMap) is left out: it isn\'t linear'],
         ["grid a i32 0"],
+    ),
+    (
+        "a transform without room",
+        ["grid i32 a 0", *(f"meta string k{number:02} x" for number in range(14)), f"affine {HALF}"],
+        ['grid "a": its transform (UniformScaleMap) is left out: a scene\'s grid has at most 16 pairs'],
+        ["grid a i32 0", *(f"meta a k{number:02} x" for number in range(14))],
     ),
     (
         "a class",

@@ -85,8 +85,48 @@ def check_texts(place):
     place.check("meta vdb_root_limit int32 65536" in found and f"meta creator string {'~' * 64}" in found, f"metadata: {found}")
 
 
+AFFINES = [
+    # what `affine` of the probe says, by the images of x, y, z and 0 0 0; the pairs; the place of voxel 1 2 3, by hand
+    ("0.5 0 0  0 0.5 0  0 0 0.5  0 0 0", ("0.5,0,0,0", "0,0.5,0,0", "0,0,0.5,0"), "[0.5, 1, 1.5]"),
+    ("0 2 0  -0.25 0 0  0 0.125 4  10 -3 7", ("0,-0.25,0,10", "2,0,0.125,-3", "0,0,4,7"), "[9.5, -0.625, 19]"),
+    ("1 0 0  0 1 0  0 0 1  -9 3 4090", ("1,0,0,-9", "0,1,0,3", "0,0,1,4090"), "[-8, 5, 4093]"),
+]
+
+
+def check_affines(place):
+    """Transforms become pairs and pairs transforms; the transform wins, and pairs of another form stay as they are."""
+    keys = ["affine_x", "affine_y", "affine_z"]
+    for numbers, rows, image in AFFINES:
+        text = place.saved(["grid a i32 0", *(f"meta a {key} {row}" for key, row in zip(keys, rows))], "affine.vdbs")
+        place.is_converted("vdbs2vdb", "affine.vdbs", "affine.vdb", "--strict")
+        place.check(f"voxel {image}" in place.probed("info", "affine.vdb"), f"the transform of {rows}: not {image}")
+        for also in ((), (f"meta string {key} {row}" for key, row in zip(keys, ("7,0,0,0", "0,7,0,0", "0,0,7,0")))):
+            place.probed("make", "made.vdb", ["grid i32 a 0", *also, f"affine {numbers}", "write zip"])
+            place.is_converted("vdb2vdbs", "made.vdb", "back.vdbs", "--strict")
+            place.equal(place.read("back.vdbs"), text, f"the pairs of the transform {numbers}")
+    place.probed("make", "made.vdb", ["grid i32 a 0", *(f"meta string {key} {row}" for key, row in zip(keys, AFFINES[0][1])), "write zip"])
+    place.is_converted("vdb2vdbs", "made.vdb", "back.vdbs", "--strict")
+    place.equal(place.read("back.vdbs"), place.saved(["grid a i32 0"], "wanted.vdbs"), "pairs beside an identity")
+    other = [
+        ("1.50,0,0,0", "0,1e0,0,-0", "0,0,1,0"), ("1,0,0,0", "0,1,0,0", "0,0,1,0"), ("0,0,0,0", "0,0,0,0", "0,0,0,0"), ("1,2,3", "~", "1,2,3,4,5"),
+        ("1,0,0,inf", "0,1,0,0", "0,0,1,0"), ("0.33333333333333331,0,0,1e300", "0,3.0000000000000004,0,0", "0,0,-1e9,0"),
+        ("0.33333333333333331,0,0,1e10", "0,3.0000000000000004,0,-1e10", "0,0,-0.1,7"),
+    ]  # fmt: skip
+    for rows in other:
+        text = place.saved(["grid a i32 0", *(f"meta a {key} {row}" for key, row in zip(keys, rows))], "affine.vdbs")
+        place.is_converted("vdbs2vdb", "affine.vdbs", "affine.vdb", "--strict")
+        place.is_converted("vdb2vdbs", "affine.vdb", "back.vdbs", "--strict")
+        place.check(place.read("back.vdbs") == text and text.count(b"affine_") == 3, f"the pairs {rows}")
+    numbers = "0.33333333333333331 0 0  0 -0.14285714285714285 0  0 0.1 1e-3  -1234567.8901234567 0.7 1e5"
+    place.probed("make", "made.vdb", ["grid i32 a 0", f"affine {numbers}", "write zip"])
+    place.is_converted("vdb2vdbs", "made.vdb", "back.vdbs", "--strict")
+    place.is_converted("vdbs2vdb", "back.vdbs", "made.vdb", "--strict")
+    place.check("voxel [-1.23457e+06, 0.714286, 100000]" in place.probed("info", "made.vdb"), f"the transform {numbers}")
+
+
 def check(place, seed, scenes):
     for number in range(seed, seed + scenes):
         check_scene(place, number)
     check_chosen(place)
     check_texts(place)
+    check_affines(place)

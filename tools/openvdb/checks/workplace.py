@@ -13,7 +13,9 @@ CONVERTERS = ["vdb2vdbs", "vdbs2vdb"]
 class Workplace:
     """A temporary folder with copies of the converters, and the tally of checks."""
 
-    def __init__(self, here):
+    def __init__(self, here, ending=""):
+        """`ending` is that of the converters to copy: `.cov` for those that count what runs."""
+        self.counts = ending == ".cov"
         self.vdb = os.path.abspath(os.environ.get("VDB", here.parents[1] / "crates" / "vdb" / "out" / "vdb"))
         if not os.access(self.vdb, os.X_OK):
             sys.exit(f"test: no program {self.vdb}: build it by 'rt run < stdin' in crates/vdb, or name one in VDB")
@@ -22,8 +24,9 @@ class Workplace:
         self.folder = Path(self.holder.name)
         self.programs = self.folder / "programs"
         self.programs.mkdir()
-        for name in [*CONVERTERS, "sanitized"]:
-            shutil.copy(here / name, self.programs)
+        for name in CONVERTERS:
+            shutil.copy(here / f"{name}{ending}", self.programs / name)
+        shutil.copy(here / "sanitized", self.programs)
         self.passed = self.failed = 0
 
     def __enter__(self):
