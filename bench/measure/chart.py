@@ -10,11 +10,11 @@ NAMES, WIDTH, ROW, HEADING, MARGIN = 290, 860, 16, 34, 14
 
 # the chart brings its own white ground, so that it reads alike on a light and on a dark page
 GROUND, TEXT, FAINT, LINE = "#ffffff", "#24292f", "#57606a", "#d0d7de"
-COLOURS = {"vdb": "#0969da", "OpenVDB": "#bc4c00", "tie": "#8c959f"}
-MEANINGS = {"vdb": "vdb is ahead", "OpenVDB": "OpenVDB is ahead", "tie": "tie"}
+COLOURS = {"vdb": "#0969da", "peer": "#bc4c00", "tie": "#8c959f"}
+MEANINGS = {"vdb": "vdb is ahead", "peer": "OpenVDB, or NumPy, is ahead", "tie": "tie"}
 
 # tables of times, whose rows are drawn
-DRAWN = ("Scripts", "Library", "Time by size")
+DRAWN = ("Scripts", "Library", "C library", "Time by size", "Scene files", "Python package, arrays")
 
 
 def rows_of(parts):
@@ -22,7 +22,7 @@ def rows_of(parts):
     found = []
     for part in parts.values():
         for table in part["tables"]:
-            rows = [(row, by, ahead) for row, by, ahead in compared(table) if by]
+            rows = [(row, by, ahead) for row, by, ahead in compared(table) if by and row["unit"] != "MB"]
             if rows and table["title"] in DRAWN:
                 found.append((table["title"], rows))
     return found
@@ -82,7 +82,7 @@ def draw(parts):
     for ahead, meaning in MEANINGS.items():
         legend += [f'<rect x="{x}" y="34" width="11" height="11" fill="{COLOURS[ahead]}"/>', text(x + 16, 44, meaning)]
         x += 36 + 7 * len(meaning)
-    head = text(MARGIN, 22, "Time of vdb divided by the time of OpenVDB on one thread (below 1: vdb is faster)", font_weight="600", font_size="14")
+    head = text(MARGIN, 22, "Time of vdb divided by that of OpenVDB on one thread, or of NumPy (below 1: vdb is faster)", font_weight="600", font_size="14")
     return "\n".join(
         [
             f'<svg xmlns="http://www.w3.org/2000/svg" width="{WIDTH}" height="{height}" viewBox="0 0 {WIDTH} {height}"'

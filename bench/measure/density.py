@@ -7,6 +7,9 @@ Measured is a run that loads the last scene and carries out nothing, less a run 
 import os
 import random
 
+import re
+import subprocess
+
 from . import programs
 from .parts import in_turn, room, row, table, tell, write
 from .places import OPENVDB, Failed, vdb
@@ -71,9 +74,32 @@ def measure(runs, quick):
                 series = in_turn({key: measured(key) for key in commands}, runs)
                 series["own"] = [own_figure(f"{OPENVDB}/openvdb", scenes["one"], folder) / count]
                 name = f"{kind}, 1/{2**power}" if power else f"{kind}, 1"
-                rows.append(row(name, "bytes a voxel", series, **{"Active voxels": f"{count:,}"}))
+                rows.append(row(name, "bytes per voxel", series, **{"Active voxels": f"{count:,}"}))
     note = (
         "Bytes of memory by the active voxel: the peak of a process that has loaded the grid, less that of one with no grid. The fraction is of a"
         " cube of 256 voxels along each axis, above 1/32 of 128. `memUsage` is what OpenVDB says of the grid itself."
     )
-    return [table("Memory against density", note, rows, {"vdb": "vdb", "one": "OpenVDB", "own": "OpenVDB's `memUsage`"})]
+    return [table("Memory against density", note, rows, {"vdb": "vdb", "one": "OpenVDB", "own": "OpenVDB's `memUsage`"}), one_voxel(runs)]
+
+
+def one_voxel(runs):
+    """Returns the table of grids that hold one voxel, through the C library."""
+    program, rows = programs.peer("calls"), {}
+
+    def sizes(library):
+        ran = subprocess.run([program, library, "one-voxel"], stdin=subprocess.DEVNULL, capture_output=True, text=True)
+        found = re.findall(r"(?m)^(\w+): (\d+) resident, (\d+) allocated$", ran.stdout)
+        if ran.returncode or not found:
+            raise Failed(f"{program} {library} one-voxel ended with status {ran.returncode}: {ran.stderr.strip()[:300]}")
+        return found
+
+    for key, series in in_turn({"vdb": lambda _: sizes("vdb"), "one": lambda _: sizes("openvdb")}, runs).items():
+        for each in series:
+            for kind, *both in each:
+                for what, size in zip(("resident", "allocated"), both):
+                    rows.setdefault(f"{kind}, {what}", {}).setdefault(key, []).append(int(size) / 1e3)
+    note = (
+        "KB of 1,000 bytes per grid: the mean of 400 grids, each with one random voxel, through the C library and through OpenVDB's trees. Resident memory is"
+        " what the system gave; the allocated one counts places that are reserved and not written."
+    )
+    return table("Memory of a grid of one voxel", note, [row(name, "KB per grid", series) for name, series in rows.items()], {"vdb": "vdb", "one": "OpenVDB"})

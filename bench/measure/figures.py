@@ -16,11 +16,11 @@ def ratio(ours, theirs):
 
 
 def verdict(ours, theirs):
-    """Returns `tie` if the spreads of two series overlap or the medians nearly agree, else `vdb` or `OpenVDB`: the one with less."""
+    """Returns `tie` if the spreads of two series overlap or the medians nearly agree, else `vdb` or `peer`: the one with less."""
     by = ratio(ours, theirs)
     if by is None or abs(by - 1) < NEAR or (min(ours) <= max(theirs) and min(theirs) <= max(ours)):
         return "tie"
-    return "vdb" if by < 1 else "OpenVDB"
+    return "vdb" if by < 1 else "peer"
 
 
 def geometric_mean(numbers):

@@ -3,7 +3,7 @@
 import os
 
 from . import programs
-from .parts import in_turn, room, row, table, tell
+from .parts import in_turn, net, room, row, starts_of, table, tell, write
 from .places import vdb
 from .play import play_well
 from .scripts import write_scripts
@@ -23,19 +23,33 @@ def commands_of():
     return {"vdb": [vdb()], **{key: [peer, "--compression", key] for key in HEADINGS if key != "vdb"}}
 
 
-def measure_scene(name, script, commands, folder, runs):
-    """Returns the rows of a scene: its size, a run that loads it, and one that saves it too."""
+def made(script, commands, folder):
+    """Plays a script on each program, and returns the file that each saves, by series."""
     files = {key: f"{folder}/{key}" for key in commands}
     for key, command in commands.items():
         play_well([*command, "--save", files[key]], script)
-    sizes = {key: [os.path.getsize(file) / 1e6] for key, file in files.items()}
-    load = {key: lambda _, key=key: play_well([*commands[key], "--load", files[key]]).seconds for key in commands}
-    both = {key: lambda _, key=key: play_well([*commands[key], "--load", files[key], "--save", f"{files[key]}.copy"]).seconds for key in commands}
-    return [
-        row(f"{name}: size", "MB", sizes),
-        row(f"{name}: load", "s", in_turn(load, runs)),
-        row(f"{name}: load and save", "s", in_turn(both, runs)),
-    ]
+    return files
+
+
+def loading(commands, files):
+    """Returns for each series the run that loads its file."""
+    return {key: lambda _, key=key: play_well([*commands[key], "--load", files[key]]) for key in commands}
+
+
+def copying(commands, files):
+    """Returns for each series the run that loads its file and saves it under another name."""
+    return {key: lambda _, key=key: play_well([*commands[key], "--load", files[key], "--save", f"{files[key]}.copy"]) for key in commands}
+
+
+def measure_scene(name, script, commands, folder, starts, runs):
+    """Returns the rows of a scene: its size, a run that loads it, and one that saves it too. `starts` has the seconds of both with no grid."""
+    files = made(script, commands, folder)
+    rows = [row(f"{name}: size", "MB", {key: [os.path.getsize(file) / 1e6] for key, file in files.items()})]
+    for what, players, start in zip(("load", "load and save"), (loading(commands, files), copying(commands, files)), starts):
+        found = in_turn(players, runs)
+        series, raw = net({**found, "one": found["none"]}, {**start, "one": start["none"]})
+        rows.append(row(f"{name}: {what}", "s", {key: series[key] for key in commands}, **{"Raw": raw}))
+    return rows
 
 
 def measure(runs, quick):
@@ -44,10 +58,15 @@ def measure(runs, quick):
     with room() as folder:
         for kind in kinds:
             write_scripts(f"{folder}/{kind}", "7", kind, *SCENES)
+        empty = made(write(f"{folder}/nothing", []), commands, folder)
+        starts = [starts_of(players, runs) for players in (loading(commands, empty), copying(commands, empty))]
         scenes = [(script, kind) for script in SCENES for kind in (kinds if script != "booleans" else kinds[:1])]
         for number, (script, kind) in enumerate(scenes, 1):
             name = f"{SCENES[script]}, {kind if script != 'booleans' else 'bool'}"
             tell(f"files, {name}", number, len(scenes))
-            rows += measure_scene(name, f"{folder}/{kind}/{script}.script", commands, folder, runs)
-    note = "A MB is 1,000,000 bytes. The files lie in memory, so no disk is measured. ZIP and Blosc leave out inactive values, as OpenVDB's default does."
+            rows += measure_scene(name, f"{folder}/{kind}/{script}.script", commands, folder, starts, runs)
+    note = (
+        "A MB is 1,000,000 bytes. Times are without the start of the program, which is measured with a file of no grid; `Raw` has the medians of vdb and of"
+        " OpenVDB uncompressed with it. The files lie in memory, so no disk is measured. ZIP and Blosc leave out inactive values, as OpenVDB's default does."
+    )
     return [table("Scene files", note, rows, HEADINGS, "none")]

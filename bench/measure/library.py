@@ -4,7 +4,7 @@ import re
 import subprocess
 
 from . import programs
-from .parts import in_turn, row, table, tell
+from .parts import KEEP, KEEPING, in_turn, row, table, tell
 from .places import Failed
 from .play import LIMIT
 
@@ -30,11 +30,21 @@ CALLS = {
     "difference": "Tree::topologyDifference",
     "sum": "a copy, tools::compSum",
     "maximum": "a copy, tools::compMax",
-    "replacement": "a copy, tools::compReplace",
+    "replacement": "tools::compReplace",
     "C, sets": "ValueAccessor::setValue",
     "C, gets from the root": "Tree::probeValue",
     "C, gets": "ValueAccessor::probeValue",
     "C, a box": "tools::copyToDense",
+    "C, an array": "tools::copyFromDense",
+    "C, leaves": "Tree::cbeginLeaf",
+}
+
+# rows whose two sides do not do the same, and why: each pattern is the beginning of a row's name
+UNLIKE = {
+    "census": "OpenVDB has no census, so a copy is pruned and its nodes are counted",
+    "sum": "OpenVDB's call empties the second tree, so it gets a copy",
+    "maximum": "OpenVDB's call empties the second tree, so it gets a copy",
+    "C, leaves": "the C library copies leaves, and OpenVDB lends its own",
 }
 
 
@@ -61,7 +71,8 @@ def measure_benchmark(name, commands, runs):
     for title, (_, unit) in found["vdb"][0][0].items():
         series = {key: [each[0][title][0] for each in series] for key, series in found.items() if title in series[0][0]}
         call = next((f"`{text}`" for start, text in CALLS.items() if title.startswith(start)), "")
-        rows.append(row(title, f"ns a {unit}", series, **{"OpenVDB's call": call}))
+        unlike = next((why for start, why in UNLIKE.items() if title.startswith(start)), None)
+        rows.append(row(title, f"ns per {unit}", series, unlike, **{"OpenVDB's call": call}))
     all_same = len(set.union(*sums.values())) == 1
     return rows, [] if all_same else [f"{name}: the results differ: {'; '.join(f'{key} {sorted(it)}' for key, it in sums.items())}"]
 
@@ -86,10 +97,15 @@ def measure(runs, quick):
         return rows, failed
 
     loops = built["loops"]
-    rows, failed = rows_of(BENCHMARKS, lambda name: {"vdb": [built[name]], "one": [loops, name, "1"], "all": [loops, name, "all"]})
+    def commands(name):
+        one = [loops, name, "1"]
+        return {"vdb": [built[name]], "one": one, "all": [loops, name, "all"], "keeps": [*KEEP, *one]}
+
+    rows, failed = rows_of(BENCHMARKS, commands)
     c_rows, c_failed = rows_of(["calls"], lambda name: {"vdb": [built[name], "vdb"], "one": [built[name], "openvdb"]})
     if not rows and not c_rows:
         raise Failed("; ".join(dict.fromkeys(failed + c_failed)))
     note = "One call, or one voxel or leaf of it, in nanoseconds. vdb uses one thread. Trees have 4,096 full leaves of `i32` unless the row says otherwise."
     c_note = "The same through vdb.h, over 4,096 full leaves of `i64`. Both libraries use one thread."
-    return [{**table("Library", note, rows), "failed": failed}, {**table("C library", c_note, c_rows, {"vdb": "vdb", "one": "OpenVDB"}), "failed": c_failed}]
+    tables = table("Library", note, rows, KEEPING), table("C library", c_note, c_rows, {"vdb": "vdb", "one": "OpenVDB"})
+    return [{**each, "failed": lost} for each, lost in zip(tables, (failed, c_failed))]

@@ -70,7 +70,7 @@ def describe():
         "Processors": str(len(os.sched_getaffinity(0))),
         "Memory": f"{int(memory) * 1024 / 1e9:.1f} GB" if memory.isdigit() else memory,
         "System": f"{field('/etc/os-release', 'PRETTY_NAME=.(.*).$')}, Linux {platform.release()}",
-        "C++ compiler": first_line(["g++", "--version"]) + ", -O3",
+        "C++ compiler": first_line(["g++", "--version"]) + ", -O3, x86-64-v2",
         "Compiler of vdb": f"{clang()}, -O3, x86-64-v2",
         "Kit": first_line(["rt", "version"]),
         "OpenVDB": openvdb(),

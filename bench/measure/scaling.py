@@ -6,7 +6,7 @@ make their grid several times, one after another, so that each does enough to be
 """
 from . import programs
 from .figures import median
-from .parts import THREADS, in_turn, room, row, table, tell, write
+from .parts import STARTS, THREADS, in_turn, room, row, table, tell, write
 from .places import vdb
 from .play import play_well
 
@@ -37,7 +37,7 @@ def measure(runs, quick):
     powers = range(4, 7 if quick else 9)
     with room() as folder:
         nothing = write(f"{folder}/nothing", ["grid a i32 0", "count a all", "drop a"])
-        empty = in_turn({key: lambda _, command=command: play_well(command, nothing) for key, command in commands.items()}, max(runs, 5))
+        empty = in_turn({key: lambda _, command=command: play_well(command, nothing) for key, command in commands.items()}, max(runs, STARTS))
         seconds = {key: median([run.seconds for run in series]) for key, series in empty.items()}
         least = {key: min(run.peak for run in series) for key, series in empty.items()}
         for number, power in enumerate(powers, 1):
@@ -48,8 +48,8 @@ def measure(runs, quick):
             more = {"Active voxels": f"{count:,}"}
             name = f"10^{power} voxels"
             series = {key: [max(0, run.seconds - seconds[key]) * 1e9 / filled for run in it] for key, it in found.items()}
-            times.append(row(name, "ns a voxel", series, **more))
+            times.append(row(name, "ns per voxel", series, **more))
             series = {key: [max(0, run.peak - least[key]) / count for run in it] for key, it in found.items()}
-            peaks.append(row(name, "bytes a voxel", series, **more))
+            peaks.append(row(name, "bytes per voxel", series, **more))
     note = f"Grids in which a box of {SIDE} voxels along each axis is filled in each leaf, and a count. The run of a script with an empty grid is subtracted."
     return [table("Time by size", note, times), table("Memory by size", f"Peak memory of the same runs. {note}", peaks, THREADS)]

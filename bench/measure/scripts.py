@@ -5,7 +5,7 @@ import os
 import subprocess
 
 from . import programs
-from .parts import in_turn, python, room, row, table, tell
+from .parts import KEEP, KEEPING, in_turn, net, python, room, row, starts_of, table, tell, write
 from .places import OPENVDB, Failed, vdb
 from .play import play_well
 
@@ -48,43 +48,55 @@ class Player:
         return play_well(command, script, self.answers)
 
 
-def measure_script(name, folder, scripts, runs):
-    """Plays a script on all programs in turn, and returns its row."""
-    program, peer = vdb(), f"{OPENVDB}/openvdb"
-    commands = {"vdb": [program], "one": [peer, "--threads", "1"], "all": [peer, "--threads", "all"]}
+def commands_of():
+    """Returns the command of each series."""
+    peer = programs.peer("openvdb")
+    one = [peer, "--threads", "1"]
+    return {"vdb": [vdb()], "one": one, "all": [peer, "--threads", "all"], "keeps": [*KEEP, *one]}
+
+
+def measure_script(name, commands, folder, scripts, starts, runs):
+    """Plays a script on all programs in turn, and returns its row. `starts` has the seconds of their starts."""
     players = {key: Player(command, f"{folder}/{key}", scripts) for key, command in commands.items()}
     same = True
 
     def play_last(number):
         nonlocal same
-        run = players["all"](number)
-        same = same and all(filecmp.cmp(players["vdb"].answers, players[key].answers, shallow=False) for key in ("one", "all"))
+        run = players["keeps"](number)
+        same = same and all(filecmp.cmp(players["vdb"].answers, players[key].answers, shallow=False) for key in commands if key != "vdb")
         return run
 
-    found = in_turn({**players, "all": play_last}, runs)
+    found = in_turn({**players, "keeps": play_last}, runs)
     same = same and {run.status for run in found["vdb"]} == {run.status for run in found["one"]}
     peaks = [max(run.peak for run in found[key]) / 1e6 for key in ("vdb", "one")]
+    series, raw = net(found, starts)
     memory = {"Peak MB, vdb": f"{peaks[0]:.0f}", "Peak MB, OpenVDB": f"{peaks[1]:.0f}", "Answers": "same" if same else "DIFFER"}
-    return row(name, "s", {key: [run.seconds for run in series] for key, series in found.items()}, **memory)
+    return row(name, "s", series, **{"Raw": raw}, **memory)
 
 
 def measure(runs, quick):
-    vdb()
-    programs.peer("openvdb")
-    rows, failed = [], []
+    commands, rows, failed = commands_of(), [], []
     kinds, seeds = (("i32",), SEEDS[:1]) if quick else (("i32", "i64"), SEEDS)
     with room() as folder:
         sets = {(kind, seed): f"{folder}/{kind}-{seed}" for kind in kinds for seed in seeds}
         for (kind, seed), place in sets.items():
             names = write_scripts(place, seed, kind)
+        nothing = write(f"{folder}/nothing", [])
+        starts = starts_of({key: lambda _, command=command: play_well(command, nothing) for key, command in commands.items()}, runs)
         for kind in kinds:
             for number, name in enumerate(names, 1):
                 title = f"{name.removesuffix('.script')} {kind}"
                 tell(f"script {title}", number, len(names))
                 try:
-                    rows.append(measure_script(title, f"{folder}/run", [f"{sets[kind, seed]}/{name}" for seed in seeds], runs))
+                    scripts = [f"{sets[kind, seed]}/{name}" for seed in seeds]
+                    rows.append(measure_script(title, commands, f"{folder}/run", scripts, starts, runs))
                 except Failed as failure:
                     failed.append(f"{title}: {failure}")
-    note = "A whole run of each program, in seconds. The runs take the scripts of two seeds in turn. The program over OpenVDB carries out the same commands."
+    note = (
+        "A run of each program, in seconds, without its start: the median of runs of an empty script"
+        f" ({starts['vdb'] * 1e3:.1f} ms for vdb, {starts['one'] * 1e3:.1f} ms for OpenVDB on one thread). `Raw` has the medians of vdb and of OpenVDB on one"
+        " thread with it. The runs take the scripts of two seeds in turn. The program over OpenVDB carries out the same commands. In the last series it"
+        " keeps up to 511 MiB of freed memory, as vdb does."
+    )
     failed += [f"{it['name']}: the answers differ" for it in rows if it["more"]["Answers"] != "same"]
-    return [{**table("Scripts", note, rows), "failed": failed}]
+    return [{**table("Scripts", note, rows, KEEPING), "failed": failed}]

@@ -29,11 +29,11 @@ def line(cells):
     return f"| {' | '.join(cells)} |"
 
 
-def compared(table):
-    """Yields each row with its ratio and verdict, None and an empty text if it has no peer."""
+def compared(table, also_unlike=False):
+    """Yields each row with its ratio and verdict, None and an empty text if it has no peer that does the same, unless `also_unlike` is set."""
     for row in table["rows"]:
         ours, theirs = row["series"].get("vdb"), row["series"].get(table["base"])
-        if ours and theirs and ratio(ours, theirs):
+        if ours and theirs and ratio(ours, theirs) and (also_unlike or not row.get("unlike")):
             yield row, ratio(ours, theirs), verdict(ours, theirs)
         else:
             yield row, None, ""
@@ -46,11 +46,17 @@ def summary(table):
         return "No row has a peer."
     ahead = [it for _, it in found]
     mean = geometric_mean([by for by, _ in found])
-    counts = {name: ahead.count(name) for name in ("vdb", "OpenVDB", "tie")}
     return (
-        f"Of {len(found)} rows with a peer vdb is ahead in {counts['vdb']}, OpenVDB in {counts['OpenVDB']}, and {counts['tie']} are ties."
+        f"Of {len(found)} rows with a peer vdb is ahead in {ahead.count('vdb')}, {table['peer']} in {ahead.count('peer')}, and {ahead.count('tie')} are ties."
         f" The geometric mean of the ratios is {mean:.2f}."
     )
+
+
+def unlike(table):
+    """Yields why some rows are no comparison of like with like, and are in no count and no mean."""
+    whys = {row.get("unlike"): [it["name"] for it in table["rows"] if it.get("unlike") == row.get("unlike")] for row in table["rows"] if row.get("unlike")}
+    for why, names in whys.items():
+        yield f"- Marked `unlike` and left out of the counts and the mean: {', '.join(names)}. Reason: {why}."
 
 
 def markdown(table):
@@ -65,13 +71,16 @@ def markdown(table):
     yield line(heads)
     yield line("---" for _ in heads)
     with_unit = "Unit" in heads
-    for row, by, ahead in compared(table):
+    for row, by, ahead in compared(table, also_unlike=True):
+        ahead = "unlike" if row.get("unlike") else table["peer"] if ahead == "peer" else ahead
         series = [cell(row["series"].get(key)) for key in table["headings"]]
         unit = [row["unit"]] if with_unit else []
         yield line([row["name"], *unit, *series, f"{by:.2f}" if by else "-", ahead or "-", *(row["more"].get(name, "") for name in names)])
     yield ""
     yield summary(table)
     yield ""
+    notes = [*unlike(table)]
+    yield from [*notes, ""] if notes else []
 
 
 def measured(part, head):

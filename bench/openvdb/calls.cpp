@@ -1,16 +1,21 @@
 // SPDX-License-Identifier: Apache-2.0
 // Calls of the C library, or OpenVDB's, over the same voxels in the same order.
+#include "from_headers.h"
 #include "threads.h"
 #include "vdb.h"
 
 #include <openvdb/openvdb.h>
 #include <openvdb/tools/Dense.h>
 
+#include <malloc.h>
+#include <unistd.h>
+
 #include <chrono>
 #include <cstdint>
 #include <cstdio>
 #include <cstdlib>
 #include <cstring>
+#include <random>
 #include <vector>
 
 using Sum = long long;
@@ -229,13 +234,78 @@ void run() {
     std::printf("sums %lld %lld %lld %lld %lld %lld\n", probed, rooted, walked, many, boxed, leaves);
 }
 
+// How many grids of one voxel are made.
+constexpr int GRIDS = 400;
+
+// The bytes of this process that are resident, and those that it has allocated.
+struct Memory {
+    long long resident, allocated;
+
+    static Memory now() {
+        long long pages = 0, resident = 0;
+        std::FILE* file = std::fopen("/proc/self/statm", "r");
+        if (!file || std::fscanf(file, "%lld %lld", &pages, &resident) != 2) std::exit(1);
+        std::fclose(file);
+        const struct mallinfo2 info = mallinfo2();
+        return {resident * sysconf(_SC_PAGESIZE), (long long)(info.uordblks + info.hblkhd)};
+    }
+};
+
+// Makes grids with one random voxel each by `make`, which keeps them, and prints the memory of one.
+template <typename Make>
+void one_voxel(const char* kind, Make make) {
+    std::mt19937 draws(1);
+    const auto draw = [&] { return std::int32_t(draws()); };
+    const Memory before = Memory::now();
+    for (int number = 0; number < GRIDS; ++number) {
+        const std::int32_t x = draw(), y = draw(), z = draw();
+        make(number, x, y, z);
+    }
+    const Memory after = Memory::now();
+    std::printf("%s: %lld resident, %lld allocated\n", kind, (after.resident - before.resident) / GRIDS, (after.allocated - before.allocated) / GRIDS);
+}
+
+void one_voxel_of_ours(const char* name, std::int32_t kind) {
+    static std::vector<vdb_grid> grids;
+    grids.assign(GRIDS, VDB_GRID_INIT);
+    one_voxel(name, [&](int number, std::int32_t x, std::int32_t y, std::int32_t z) {
+        vdb_grid* grid = &grids[std::size_t(number)];
+        const bool made = !vdb_grid_new(grid, kind, 0, VDB_LIMIT_DEFAULT) && !vdb_grid_set(grid, 0, x, y, z, 1, 1);
+        if (!made) std::exit(1);
+    });
+    for (vdb_grid& grid : grids) vdb_grid_free(&grid);
+}
+
+template <typename Tree>
+void one_voxel_of_theirs(const char* name) {
+    std::vector<std::unique_ptr<Tree>> trees(GRIDS);
+    one_voxel(name, [&](int number, std::int32_t x, std::int32_t y, std::int32_t z) {
+        auto& tree = trees[std::size_t(number)];
+        tree = std::make_unique<Tree>(typename Tree::ValueType(0));
+        tree->setValue(openvdb::Coord(x, y, z), typename Tree::ValueType(1));
+    });
+}
+
+void one_voxel_of(bool ours) {
+    if (ours) {
+        one_voxel_of_ours("bool", VDB_BOOL);
+        one_voxel_of_ours("i32", VDB_I32);
+        one_voxel_of_ours("i64", VDB_I64);
+    } else {
+        one_voxel_of_theirs<openvdb::BoolTree>("bool");
+        one_voxel_of_theirs<openvdb::Int32Tree>("i32");
+        one_voxel_of_theirs<openvdb::Int64Tree>("i64");
+    }
+}
+
 int main(int count, char** words) {
-    const bool ours = count == 2 && !std::strcmp(words[1], "vdb"), theirs = count == 2 && !std::strcmp(words[1], "openvdb");
-    if (!ours && !theirs) {
-        std::fprintf(stderr, "usage: calls vdb|openvdb\n");
+    const bool ours = count > 1 && !std::strcmp(words[1], "vdb"), theirs = count > 1 && !std::strcmp(words[1], "openvdb");
+    const bool small = count == 3 && !std::strcmp(words[2], "one-voxel");
+    if ((!ours && !theirs) || (count != 2 && !small)) {
+        std::fprintf(stderr, "usage: calls vdb|openvdb [one-voxel]\n");
         return 2;
     }
     tbb::global_control limit(tbb::global_control::max_allowed_parallelism, 1);
     openvdb::initialize();
-    ours ? run<Library>() : run<OpenVDB>();
+    small ? one_voxel_of(ours) : ours ? run<Library>() : run<OpenVDB>();
 }

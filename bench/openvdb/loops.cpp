@@ -1,5 +1,6 @@
 // SPDX-License-Identifier: Apache-2.0
 // Loops over OpenVDB's library beside the benchmarks of ../library over the crates: the same rows, over the same voxels in the same order.
+#include "from_headers.h"
 #include "threads.h"
 
 #include <openvdb/openvdb.h>
@@ -170,7 +171,7 @@ void pairs() {
     report("difference, same leaves", "leaf", all, [&] { repeat([&] { tree.topologyDifference(same); }); });
     composite("sum, same leaves", tree, same, [](Tree& a, Tree& b) { tools::compSum(a, b); });
     composite("maximum, same leaves", tree, same, [](Tree& a, Tree& b) { tools::compMax(a, b); });
-    composite("replacement, same leaves", tree, same, [](Tree& a, Tree& b) { tools::compReplace(a, b); });
+    report("replacement, same leaves", "leaf", all, [&] { repeat([&] { tools::compReplace(tree, same); }); });
     report("union, half of the leaves the same", "leaf", LEAVES, [&] { tree.topologyUnion(half); });
     report("union with an empty tree", "leaf", all, [&] { repeat([&] { tree.topologyUnion(nothing); }); });
     composite("sum with an empty tree", tree, nothing, [](Tree& a, Tree& b) { tools::compSum(a, b); });

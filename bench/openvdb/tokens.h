@@ -2,6 +2,8 @@
 // The tokens of a line of a script, and what they name.
 #pragma once
 
+#include "from_headers.h"
+
 #include <openvdb/openvdb.h>
 
 #include <charconv>

@@ -1,0 +1,50 @@
+# SPDX-License-Identifier: Apache-2.0
+"""The Python package beside NumPy's own files, the C library and OpenVDB's package, in an interpreter that has NumPy."""
+import json
+import subprocess
+import sys
+
+from .parts import room, row, table
+from .places import BENCH, Failed
+
+# the sides of the arrays in voxels
+SIDE, QUICK_SIDE = 512, 128
+
+# seconds after which the measurement is ended
+LIMIT = 3600
+
+
+def with_numpy():
+    """Returns an interpreter that has NumPy."""
+    for python in (sys.executable, "/usr/bin/python3"):
+        if not subprocess.run([python, "-c", "import numpy"], capture_output=True).returncode:
+            return python
+    raise Failed("no interpreter has NumPy: install python3-numpy")
+
+
+def measure(runs, quick):
+    side = QUICK_SIDE if quick else SIDE
+    with room() as folder:
+        words = [with_numpy(), f"{BENCH}/measure/package.py", str(runs), str(side), folder]
+        ran = subprocess.run(words, stdin=subprocess.DEVNULL, capture_output=True, text=True, timeout=LIMIT)
+    if ran.returncode:
+        raise Failed(f"measure/package.py failed: {(ran.stderr.strip() or 'no reason').splitlines()[-1]}")
+    found = json.loads(ran.stdout)
+    note = (
+        f"Cubes of {side} `int32` labels along each axis become a grid and a scene file by `from_array` and `save`, and an array again by `load` and"
+        f" `to_array`, beside `numpy.save`, `numpy.load` and a copy. The files lie in memory. {found['versions']}."
+    )
+
+    def of(key, title, note, ours, theirs, unit="s", **more):
+        rows = [row(it["name"], unit, it["series"], **it["more"]) for it in found[key]]
+        made = table(f"Python package, {title}", note, rows, {"vdb": ours, "one": theirs, **more}, peer=theirs)
+        return {**made, "failed": [] if rows else ["OpenVDB's package for Python is missing: install python3-openvdb"]}
+
+    return [
+        of("files", "arrays", note, "vdb.scenefile", "NumPy"),
+        of("engine", "arrays and the engine", "The same by the engine.", "vdb", "NumPy"),
+        of("blocks", "dense blocks", "`from_array`, and the calls of `vdb_grid_write_box` alone.", "from_array", "C", "ns per voxel"),
+        of("labels", "labels", "Calls on the grids of these labels, and walks over their leaves.", "vdb", "leaves()", raw="leaves as arrays"),
+        of("booleans", "booleans", "The same spheres as booleans. Its copies of arrays use all threads.", "vdb", "pyopenvdb"),
+        of("scene", "a scene", "`vdb.scenefile.load` beside a run of `vdb --load`.", "vdb.scenefile", "vdb --load"),
+    ]
