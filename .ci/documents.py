@@ -1,32 +1,28 @@
 #!/usr/bin/env python3
 # SPDX-License-Identifier: Apache-2.0
-"""Checks the documents: documents.py
+"""Checks the documents: documents.py [--write]
 
 It reports and exits with status 1 if
 
 - a relative link of a Markdown file names no file or no heading,
-- a sentence outside tables and code has more than 40 words,
+- a sentence outside tables and code has more than 30 words, or all documents together more than 30,000,
 - the example in docs/LIBRARY.md differs from `run` of `first` in library_examples, which CI compiles,
 - README.md has more than 120 lines,
-- the table of definitions in docs/PROOFS.md gives a wrong number of lines or a wrong sum.
+- `vdb --version` or README.md has another version than VERSION,
+- the tables of docs/PROOFS.md differ from those of definitions.py; --write renews them,
+- a number in a document differs from its source: of commands, crates, edits, checks, definitions, limits, minutes of CI.
 """
 import os
 import re
 import subprocess
 import sys
 
-TOP = os.path.dirname(os.path.dirname(os.path.abspath(__file__)))
-WORDS, README_LINES = 40, 120
-ROW = re.compile(r"^\| \[[^\]]*\]\(\.\./([^)]*)\) \|.*\| ([\d,]+) \| ([\d,]+) \|$", re.M)
-SUMS = re.compile(r"^\| All \| \| ([\d,]+) \| ([\d,]+) \|$", re.M)
+from definitions import TOP, tables, text
+
+WORDS, ALL_WORDS, README_LINES = 30, 30_000, 120
 LINK = re.compile(r"\]\(([^)\s]+)\)")
 ITEM = re.compile(r"^\s*(?:[-*]|\d+\.)\s")
 END = re.compile(r"(?<=[.!?])[\"')*_`]*\s+")
-
-
-def text(name):
-    with open(f"{TOP}/{name}", encoding="utf-8") as file:
-        return file.read()
 
 
 def documents():
@@ -80,8 +76,55 @@ def long_sentences(name):
             part.append(ITEM.sub("", line))
 
 
-def number(digits):
-    return int(digits.replace(",", ""))
+# for each limit a word of its row in README's table, and where it is defined
+LIMITS = [
+    ("script", "vdb_script/src/source.rt", r"SCRIPT_LIMIT: usize = ([\d_]+)"),
+    ("scene file", "vdb_file/specs/Spelling.antt", r"file_limit = (\d+)"),
+    ("line", "vdb_script/src/line_text.rt", r"LINE_LIMIT: usize = (\d+)"),
+    ("grids", "vdb_scene/specs/Refusals.antt", r"nat_le (\d+) \(length s\)"),
+    ("grids", "vdb_scene/specs/Metas.antt", r"nat_lt \(length pairs\) (\d+)"),
+    ("list", "vdb_scene/specs/Arguments.antt", r"is_limit n = .*\(pos (\d+)\)"),
+    ("slice", "vdb_scene/specs/Step.antt", r"too_wide (\d+)"),
+    ("voxelise", "vdb_scene/specs/Step.antt", r"too_large (\d+)"),
+    ("iterations", "vdb_scene/specs/Arguments.antt", r"is_turn_count n = .*\(pos (\d+)\)"),
+    ("cubes", "vdb_scene/specs/Arguments.antt", r"is_root_limit \(Some n\) = .*\(pos (\d+)\)"),
+    ("cubes", "vdb_scene/specs/Arguments.antt", r"root_limit_of None = (\d+)"),
+]
+
+
+def wrong_limits():
+    """Yields the limits that the table in README.md lacks."""
+    for row, file, pattern in LIMITS:
+        limit = int(re.search(pattern, text(f"crates/{file}"))[1])
+        digits = f"{limit >> 20} MiB" if limit >= 2**24 else f"{limit:,}"
+        if not re.search(rf"\| [^|\n]*{row}[^|\n]*\|[^|\n]*(?<![\d,]){digits}(?!,?\d)", text("README.md")):
+            yield f"README.md: no limit {digits} in a row of {row}"
+
+
+def counts(sums):
+    """What documents count: a pattern of each count, or of its least and its greatest number, and the number."""
+    commands = re.search(r"pub enum Command \{(.*?)\n\}", text("crates/vdb_scene/src/command.rt"), re.S)[1]
+    edits = [it for _, _, names in os.walk(f"{TOP}/edits") for it in names if it.endswith(".edit")]
+    run = re.search(r"^([\d.]+) minutes.*\n(\d+) passed", text(".ci/times"), re.M) if os.path.exists(f"{TOP}/.ci/times") else None
+    return [
+        (r"(twenty-\w+|\d\d) commands", len(re.findall(r"^    [A-Z]", commands, re.M))),
+        (r"(\d+) crates", len(re.findall(r"^\w", text("crates.txt"), re.M))),
+        (r"(\d+) must-fail edits", len(edits)),
+        (r"(\d+) wrong\s+engines", len(re.findall(r"^\w", text("edits/wrong-bodies.txt"), re.M))),
+        (r"([\d,]+) lines of definitions", sums[1]),
+        (r"definitions, in files of ([\d,]+)", sums[0]),
+        *([(r"processors\b.{0,40}\btakes (\d+) to\s+(\d+) minutes", round(float(run[1]))), (r"([\d,]+) checks", int(run[2]))] if run else []),
+    ]
+
+
+def wrong_counts(name, expected):
+    """Yields the counts of a document that are wrong."""
+    tens = ["twenty", *(f"twenty-{it}" for it in "one two three four five six seven eight nine".split())]
+    for pattern, count in expected if name != "CHANGELOG.md" else ():
+        for found in re.finditer(pattern, text(name)):
+            numbers = [tens.index(it) + 20 if it in tens else int(it.replace(",", "")) for it in found.groups()]
+            if not numbers[0] <= count <= numbers[-1]:
+                yield f"{name}: '{found[0]}', where {count:,} are counted"
 
 
 def stale_numbers():
@@ -92,20 +135,35 @@ def stale_numbers():
         yield "docs/LIBRARY.md: another example than `first` of library_examples"
     if readme.count("\n") > README_LINES:
         yield f"README.md: {readme.count(chr(10))} lines"
-    proofs, sums = text("docs/PROOFS.md"), [0, 0]
-    for name, lines, reached in ROW.findall(proofs):
-        has = text(name).count("\n")
-        if number(lines) != has:
-            yield f"docs/PROOFS.md: {name} has {has} lines"
-        sums = [sums[0] + number(lines), sums[1] + number(reached)]
-    if [number(it) for it in SUMS.search(proofs).groups()] != sums:
-        yield f"docs/PROOFS.md: the sums are {sums[0]:,} and {sums[1]:,}"
+    command_line, version = "crates/vdb_shell/src/command_line.rt", text("VERSION").strip()
+    if re.findall(r'\.version\("(.*)"\)', text(command_line)) != [version]:
+        yield f"{command_line}: another version than {version}"
+    if f"Version {version}." not in readme:
+        yield f"README.md: not version {version}"
+
+
+def renewed(document, made):
+    """The document with its tables as they are made."""
+    for table in made:
+        document = re.sub(rf"(?m)^{re.escape(table.split(chr(10))[0])}(?:\n\|.*)*", lambda _, it=table: it, document)
+    return document
 
 
 def main():
-    found = [*stale_numbers()]
-    for name in documents():
-        found += [*broken_links(name), *long_sentences(name)]
+    made, sums = tables()
+    proofs, names = renewed(text("docs/PROOFS.md"), made), documents()
+    if sys.argv[1:] == ["--write"]:
+        with open(f"{TOP}/docs/PROOFS.md", "w", encoding="utf-8") as file:
+            file.write(proofs)
+    found = [*stale_numbers(), *wrong_limits()]
+    if proofs != text("docs/PROOFS.md"):
+        found.append("docs/PROOFS.md: the tables are out of date; .ci/documents.py --write renews them")
+    words = sum(len(text(name).split()) for name in names)
+    if words > ALL_WORDS:
+        found.append(f"the documents have {words:,} words")
+    expected = counts(sums)
+    for name in names:
+        found += [*broken_links(name), *long_sentences(name), *wrong_counts(name, expected)]
     print("\n".join(found), end="\n" * bool(found))
     sys.exit(bool(found))
 

@@ -68,7 +68,7 @@ class Lanes:
         return min(self.tasks[key][2], PROOF if is_proof(key) else OTHER) * (1 + 0.6 * (jobs - 1))
 
     def jobs_for(self, key, ready):
-        """The number of jobs with which a task may start now, or 0, if so many of its sort are ready."""
+        """The number of jobs with which a task may start now, or 0. `ready` has the tasks of its sort that may start, from this one on."""
         if not self.tasks[key][1]:
             return 1
         counted = [it for it in self.running if self.tasks[it][1]]
@@ -76,12 +76,13 @@ class Lanes:
         free = self.memory - sum(self.memory_of(it, self.running[it]) for it in counted)
         if is_proof(key):
             most = 2 if self.processors >= 4 else 1
-            is_alone = most == 1 or len(proofs) + ready == 1
+            others = sum(self.tasks[it][1] for it in ready[1:])
+            is_alone = most == 1 or not proofs and 10 * others < self.tasks[key][1]
             jobs = 0 if len(proofs) == most else self.processors if is_alone else 3 * self.processors // 4
         else:
             idle = self.processors - sum(self.running[it] for it in counted)
             has_place = len(counted) - len(proofs) < self.processors + 1 - 2 * len(proofs)
-            jobs = max(1, idle // ready) if has_place else 0
+            jobs = max(1, idle // len(ready)) if has_place else 0
             next_proof = max((self.memory_of(it, self.processors) for it in self.left if is_proof(it)), default=0)
             free -= max(0, next_proof - sum(self.memory_of(it, self.running[it]) for it in proofs))
         while jobs > (not counted) and self.memory_of(key, jobs) > free:
@@ -108,7 +109,7 @@ class Lanes:
             for kind in (True, False):
                 alike = [key for key in ready if is_proof(key) is kind]
                 for number, key in enumerate(alike):
-                    jobs = self.jobs_for(key, len(alike) - number)
+                    jobs = self.jobs_for(key, alike[number:])
                     if jobs:
                         self.left.remove(key)
                         self.running[key] = jobs

@@ -23,9 +23,17 @@ from typing import List, NamedTuple
 TOP = os.path.dirname(os.path.dirname(os.path.abspath(__file__)))
 # the only variables that reach the suites, since others change what they test, such as VDB and FUZZ_CALLS
 VARIABLES = ("PATH", "HOME", "USER", "LANG", "TERM", "TMPDIR", "VDB_KEPT")
+# what a release is made of
+BUILT = ("crates/vdb/out/vdb", "crates/vdb_c/out/libvdb_c.a")
 CLOSING = re.compile(r"^(\d+) passed, (\d+) failed(?:, (\d+) skipped)?$", re.M)
 UNITTEST = re.compile(r"^Ran (\d+) tests? in .*\n\n(?:OK|FAILED)(?: \((.*)\))?$", re.M)
 SKIPPED = re.compile(r"^(\w+) \([^)]*\)(?:\n[^\n]*)?? \.\.\. skipped ", re.M)
+
+
+# the programs whose calls on files fail in turn, and those whose saves are killed, each in a process of its own
+SAVERS = ("vdb", "vdb_run", "child", "cpp", "library", "scenefile", "vdb_scene", "vdbs2vdb", "vdb2vdbs")
+KILLED = ("vdb_run", "child", "cpp", "library", "scenefile", "vdbs2vdb", "vdb2vdbs")
+IO_FAULTS = [*(f"calls.py {it}" for it in SAVERS), *(f"crashes.py {it}" for it in KILLED), "streams.py"]
 
 
 class Suite(NamedTuple):
@@ -48,7 +56,7 @@ class Result(NamedTuple):
 
 
 def stages(options):
-    """The suites of CI. Those of a stage run side by side, the stages one after the other."""
+    """The suites of CI. Those of a stage run side by side, one more than there are processors, the stages one after the other."""
     python = with_numpy()
 
     def unittest(*words):
@@ -59,20 +67,28 @@ def stages(options):
         [Suite("proofs", [python, ".ci/proofs.py", *(it for it in options if it == "--anew")], 25)],
         [Suite("libvdb", ["tools/build-libvdb"], 1)],
         [
-            Suite("library tests", ["tests/library/run"], 150),
-            Suite("fault injection", ["fault_injection/run"], 10_000),
-            Suite("rows", ["tests/rows.py"], 240),
-            Suite("limits", ["tests/limits.py"], 20),
-            Suite("tests of tests/rows.py", unittest("discover", "-s", "tests"), 10),
-            Suite("tests of tools/vdb-run", unittest("tools/test_vdb_run.py"), 21),
-            Suite("tests of libvdb", unittest("tools/test_libvdb.py"), 24),
-            Suite("tests of tools/install", unittest("tools/test_install.py"), 19),
-            Suite("tests of saving", unittest("tools/test_files.py"), 12),
-            Suite("tests of the Python packages", unittest("discover", "-s", "python/tests", "-t", "python"), 77),
+            Suite("edits", ["RT_JOBS=2", "nice", "-n", "10", "edits/run", "--ci"], 22),
+            Suite("library tests", ["tests/library/run"], 220),
             Suite("tests of tools/openvdb", ["tools/openvdb/test"], 1),
+            Suite("fault injection", ["fault_injection/run"], 5_000),
+            Suite("planted faults", ["fault_injection/planted.py", "some"], 10),
+            Suite("fuzzing", [python, "fuzz/run"], 2_000),
+            Suite("planted bugs", [python, "tests/bugs", "--ci"], 10),
+            Suite("rows", ["tests/rows.py"], 240),
+            Suite("public calls", ["tests/called.py"], 200),
+            Suite("limits", ["tests/limits.py"], 20),
+            Suite("tests of rows and of the model", unittest("discover", "-s", "tests"), 12),
+            Suite("tests of tools/vdb-run", unittest("tools/test_vdb_run.py"), 23),
+            Suite("tests of libvdb", unittest("tools/test_libvdb.py"), 28),
+            Suite("tests of limits through C", unittest("tools/test_limits.py"), 11),
+            Suite("tests of tools/install", unittest("tools/test_install.py"), 25),
+            Suite("tests of the Python packages", ["tests/reached.py", "python"], 203),
         ],
-        [Suite("edits", ["edits/run", "--ci"], 22)],
-        [Suite("documents", [python, ".ci/documents.py"], 1)],
+        [
+            Suite("I/O faults", ["fault_injection/run", *IO_FAULTS], 3_000),
+            Suite("tests of saving", unittest("tools/test_files.py"), 12),
+            Suite("documents", [python, ".ci/documents.py"], 1),
+        ],
     ]
 
 
@@ -145,17 +161,23 @@ def counted(suite, text, status):
     return passed, failed + len(why), skipped, why
 
 
-def close(results, begun):
-    """Prints the last lines, and returns the status."""
-    print(f"\n{'suite':<30} {'passed':>7} {'failed':>7} {'skipped':>7} {'minutes':>8} {'processor seconds':>18}")
+def close(results, begun, is_whole):
+    """Prints the last lines, and returns the status. Those of a whole run stay in out/ci.txt, below the commit and the sums of what it built."""
+    lines = [f"{'suite':<30} {'passed':>7} {'failed':>7} {'skipped':>7} {'minutes':>8} {'processor seconds':>18}"]
     for it in results:
-        print(f"{it.suite.name:<30} {it.passed:7} {it.failed:7} {it.skipped:7} {it.seconds / 60:8.1f} {it.processor_seconds:18,.0f}")
-    for line in [line for it in results for line in it.kept]:
-        print(line)
+        lines.append(f"{it.suite.name:<30} {it.passed:7} {it.failed:7} {it.skipped:7} {it.seconds / 60:8.1f} {it.processor_seconds:18,.0f}")
+    lines += [line for it in results for line in it.kept]
     both = [resource.getrusage(it) for it in (resource.RUSAGE_CHILDREN, resource.RUSAGE_SELF)]
-    print(f"{(time.time() - begun) / 60:.1f} minutes, {sum(it.ru_utime + it.ru_stime for it in both):,.0f} processor seconds")
+    lines.append(f"{(time.time() - begun) / 60:.1f} minutes, {sum(it.ru_utime + it.ru_stime for it in both):,.0f} processor seconds")
     failed = sum(it.failed for it in results)
-    print(f"{sum(it.passed for it in results)} passed, {failed} failed, {sum(it.skipped for it in results)} skipped")
+    lines.append(f"{sum(it.passed for it in results)} passed, {failed} failed, {sum(it.skipped for it in results)} skipped")
+    if is_whole:
+        head = subprocess.run(["git", "rev-parse", "HEAD"], cwd=TOP, capture_output=True, text=True).stdout.strip()
+        sums = subprocess.run(["sha256sum", *BUILT], cwd=TOP, capture_output=True, text=True).stdout.splitlines()
+        os.makedirs(f"{TOP}/out", exist_ok=True)
+        with open(f"{TOP}/out/ci.txt", "w", encoding="utf-8") as record:
+            record.write("\n".join([f"commit {head}", *sums, *lines, ""]))
+    print("\n".join(["", *lines]))
     return int(failed > 0)
 
 
@@ -170,12 +192,12 @@ def main():
     for stage in stages(options):
         if "--proofs" in options and stage[0].name != "proofs":
             continue
-        with concurrent.futures.ThreadPoolExecutor(len(stage)) as pool:
+        with concurrent.futures.ThreadPoolExecutor(len(os.sched_getaffinity(0)) + 1) as pool:
             ended = [pool.submit(run, suite, len(stage) == 1) for suite in stage]
         results += [it.result() for it in ended]
         if any(it.failed for it in results):
             break
-    return close(results, begun)
+    return close(results, begun, "--proofs" not in options)
 
 
 if __name__ == "__main__":

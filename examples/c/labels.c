@@ -1,5 +1,5 @@
 /* SPDX-License-Identifier: Apache-2.0 */
-/* Makes a margin of two voxels around an organ, without a vessel: labels INPUT OUTPUT
+/* Makes a margin, the voxels up to two from an organ without the organ and a vessel: labels INPUT OUTPUT
  *
  * INPUT is a scene file with the grids `organ` and `vessel`. OUTPUT is a new file: the same with a third grid `margin`. */
 #include <stdio.h>
@@ -40,7 +40,7 @@ static int32_t save(vdb_scene *scene, const char *path)
     uint8_t *bytes = calloc(VDB_FILE_MOST, 1);
     int32_t code = bytes ? vdb_scene_save(scene, bytes, VDB_FILE_MOST, &length) : VDB_MEMORY;
     if (!code) {
-        FILE *file = fopen(path, "wbx"); /* x: no file that is there is overwritten */
+        FILE *file = fopen(path, "wbx"); /* x: an existing file isn't overwritten */
         if (!file || fwrite(bytes, 1, length, file) != length || fclose(file) != 0)
             fail(path);
     }

@@ -1,5 +1,5 @@
 // SPDX-License-Identifier: Apache-2.0
-// Makes a margin of two voxels around an organ, without a vessel: labels INPUT OUTPUT
+// Makes a margin, the voxels up to two from an organ without the organ and a vessel: labels INPUT OUTPUT
 //
 // INPUT is a scene file with the grids `organ` and `vessel`, OUTPUT the same with a third grid `margin`.
 #include <cstdio>
@@ -14,7 +14,7 @@ static void report(const vdb::Grid &grid)
     const vdb::Box box = grid.bounds().value();
     const double count = static_cast<double>(grid.count());
     double x = 0, y = 0, z = 0;
-    for (const vdb::Voxel &voxel : grid.active(box)) {
+    for (const vdb::Voxel &voxel : grid.voxels(box)) {
         x += voxel.at.x;
         y += voxel.at.y;
         z += voxel.at.z;

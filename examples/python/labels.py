@@ -1,6 +1,6 @@
 #!/usr/bin/env python3
 # SPDX-License-Identifier: Apache-2.0
-"""Makes a margin of two voxels around an organ, without a vessel: labels.py INPUT OUTPUT
+"""Makes a margin, the voxels up to two from an organ without the organ and a vessel: labels.py INPUT OUTPUT
 
 INPUT is a scene file with the grids `organ` and `vessel`, OUTPUT the same with a third grid `margin`. Needs python/ of the repository
 on PYTHONPATH.
