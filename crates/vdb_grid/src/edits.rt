@@ -1,16 +1,16 @@
 //! Calls that change a grid beyond a voxel: each changes the tree, and then, unless every path stays, traces the path of
 //! each accessor again.
 
-ghost use Rattle.std.specs.Prelude.{◌≡◌, ◌+◌, ◌≤◌, Err, false, IfErr, IsOk, IsTrue, OnErr, OnOk, true};
+ghost use Rattle.std.specs.Prelude.{◌≡◌, ◌≢◌, ◌+◌, ◌*◌, ◌≤◌, Err, false, IfErr, IsOk, IsTrue, OnErr, OnOk, true};
 ghost use Rattle.vdb_coord.specs.Blocks.{key, vdb};
 ghost use Rattle.vdb_coord.specs.declared.Coord.{Coord};
 ghost use Rattle.vdb_coord.specs.declared.Level.{Level};
 ghost use Rattle.vdb_node.specs.declared.Entry.TheVariants.{Tile};
 ghost use Rattle.vdb_tree.specs.Changes.{AddsNodes};
-ghost use Rattle.vdb_tree.specs.Field.{clip as clipped, combine, dilate as dilation, erode as erosion, fill as filled, intersect as intersected, replace as replaced, subtract as subtracted, turns as turned, unite as united};
-ghost use Rattle.vdb_tree.specs.Layout.{entry_over, field_of};
+ghost use Rattle.vdb_tree.specs.Field.{clip as clipped, combine, dilate as dilation, erode as erosion, fill as filled, intersect as intersected, replace as replaced, subtract as subtracted, iterations as iterated, unite as united};
+ghost use Rattle.vdb_tree.specs.Layout.{entry_over, field_of, root_at};
 ghost use Rattle.vdb_tree.specs.Leaves.{HasLeaves, IsLeafAround, with_leaf};
-ghost use Rattle.vdb_tree.specs.Nodes.{IsActiveIn, MakesNoKey, MakesOnly};
+ghost use Rattle.vdb_tree.specs.Nodes.{IsActiveIn, KeepsElsewhere, MakesNoKey, MakesOnly};
 ghost use Rattle.vdb_tree.specs.Outcome.{IsOutcome};
 ghost use Rattle.vdb_tree.specs.Paths.{in_leaf};
 ghost use Rattle.vdb_tree.specs.Smallest.{IsLeast};
@@ -103,9 +103,12 @@ impl<V: Stored<512> + Stored<64> + Stored<8>, const K: usize> Grid<V, K> {
         ensures made { OnOk result (IsTrue (in_leaf vdb self.new.tree p)) }
         ensures leaves { (q : Coord) → IsTrue (in_leaf vdb self.old.tree q) → IsTrue (in_leaf vdb self.new.tree q) }
         ensures there { IsTrue (in_leaf vdb self.old.tree p) → IsOk result }
+        ensures elsewhere { KeepsElsewhere vdb self.old.tree self.new.tree p }
+        ensures table { (k : Coord) → k ≢ key vdb p → root_at self.new.tree.root k ≡ root_at self.old.tree.root k }
         ensures capacity { HasCapacity self.old.tree (key vdb p) → IfErr result (λ refusal. refusal ≡ Memory) }
         ensures full { (HasCapacity self.old.tree (key vdb p) → ⊥) → (result ≡ Err RootLimit) × (self.new.tree ≡ self.old.tree) }
         ensures last { self.new.coords ≡ self.old.coords }
+        ensures steps { steps.new ≤ steps.old + (4 + 3 * K) }
     {
         let outcome = self.tree.touch_leaf(p, steps);
         retrace(&self.tree, &self.coords, &mut self.paths, steps);
@@ -239,31 +242,31 @@ impl<V: Stored<512> + Stored<64> + Stored<8>, const K: usize> Grid<V, K> {
 
     /// Activates, in each of 1 to 16 iterations, every voxel that has an active face neighbour, as
     /// `vdb_morph::dilate` does. It fails with `RootLimit` or `Memory`, and then every cell stays.
-    pub fn dilate(&mut self, turns: u32, steps: &mut Steps) -> Result<(), TreeRefusal>
-        requires some { 1 ≤ turns }
-        requires few { turns ≤ 16 }
+    pub fn dilate(&mut self, iterations: u32, steps: &mut Steps) -> Result<(), TreeRefusal>
+        requires some { 1 ≤ iterations }
+        requires few { iterations ≤ 16 }
         ensures outcome { IsGrowth V.eq vdb self.old.tree.limit (field_of vdb self.old.tree)
-            (turned turns dilation (field_of vdb self.old.tree)) (field_of vdb self.new.tree) result }
+            (iterated iterations dilation (field_of vdb self.old.tree)) (field_of vdb self.new.tree) result }
         ensures limit { self.new.tree.limit ≡ self.old.tree.limit }
         ensures last { self.new.coords ≡ self.old.coords }
     {
-        let outcome = vdb_morph::dilate(&mut self.tree, turns, steps);
+        let outcome = vdb_morph::dilate(&mut self.tree, iterations, steps);
         retrace(&self.tree, &self.coords, &mut self.paths, steps);
         outcome
     }
 
     /// Deactivates, in each of 1 to 16 iterations, every voxel that has an inactive face neighbour, as
     /// `vdb_morph::erode` does. It fails with `Memory`, and then every cell stays.
-    pub fn erode(&mut self, turns: u32, steps: &mut Steps) -> Result<(), TreeRefusal>
-        requires some { 1 ≤ turns }
-        requires few { turns ≤ 16 }
+    pub fn erode(&mut self, iterations: u32, steps: &mut Steps) -> Result<(), TreeRefusal>
+        requires some { 1 ≤ iterations }
+        requires few { iterations ≤ 16 }
         ensures outcome { IsOutcome V.eq vdb self.old.tree.limit (field_of vdb self.old.tree)
-            (turned turns erosion (field_of vdb self.old.tree)) (field_of vdb self.new.tree) result }
+            (iterated iterations erosion (field_of vdb self.old.tree)) (field_of vdb self.new.tree) result }
         ensures limit { self.new.tree.limit ≡ self.old.tree.limit }
         ensures last { self.new.coords ≡ self.old.coords }
         ensures memory { IfErr result (λ refusal. refusal ≡ Memory) }
     {
-        let outcome = vdb_morph::erode(&mut self.tree, turns, steps);
+        let outcome = vdb_morph::erode(&mut self.tree, iterations, steps);
         retrace(&self.tree, &self.coords, &mut self.paths, steps);
         outcome
     }

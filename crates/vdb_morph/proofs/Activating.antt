@@ -18,7 +18,7 @@ use Rattle.vdb_tree.proofs.Fields.{same_cells}
 use Rattle.vdb_tree.proofs.Levels.{like_coords}
 use Rattle.vdb_value.specs.declared.Cell.{Cell}
 use Rattle.vdb_morph.specs.internal.Behind.{opposite}
-use Rattle.vdb_morph.specs.internal.Turning.{spread, with_active}
+use Rattle.vdb_morph.specs.internal.Iterating.{spread, with_active}
 use Rattle.vdb_morph.proofs.Crossings.{back, forth}
 
 -- ---- one test after another

@@ -19,7 +19,7 @@ use Rattle.vdb_tree.specs.Layout.{bits_of}
 use Rattle.vdb_morph.specs.internal.Behind.{state_beside}
 use Rattle.vdb_node.specs.Beside.{bit_after, bit_before}
 use Rattle.vdb_morph.specs.internal.Beside.{bit_beside, is_on_beside}
-use Rattle.vdb_morph.specs.internal.Turning.{is_around}
+use Rattle.vdb_morph.specs.internal.Iterating.{is_around}
 
 -- ---- one component
 

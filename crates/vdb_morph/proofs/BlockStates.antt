@@ -21,7 +21,7 @@ use Rattle.vdb_tree.proofs.Fields.{cell_inside, same_cells}
 use Rattle.vdb_tree.proofs.Levels.{bool_cases, coord_cases, like_coords, unlike_coords}
 use Rattle.vdb_tree.proofs.Uniform.{cell_exact}
 use Rattle.vdb_morph.specs.internal.BlockStates.{HasStates, of_mask}
-use Rattle.vdb_morph.specs.internal.Turning.{is_around, taken, topology}
+use Rattle.vdb_morph.specs.internal.Iterating.{is_around, taken, topology}
 
 -- a coordinate in p's leaf extent has p's block number
 pub around_number : (bits : Bits) (p q : Coord) → IsTrue (is_around bits p q) → block_number bits Leaf q ≡ block_number bits Leaf p

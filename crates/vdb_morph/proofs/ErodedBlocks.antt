@@ -19,7 +19,7 @@ use Rattle.vdb_tree.specs.Field.{Field, erode}
 use Rattle.vdb_tree.proofs.Levels.{bool_cases}
 use Rattle.vdb_morph.specs.internal.Behind.{state_beside}
 use Rattle.vdb_morph.specs.internal.BlockStates.{HasStates, HasStatesBehind, state_behind}
-use Rattle.vdb_morph.specs.internal.Turning.{is_around}
+use Rattle.vdb_morph.specs.internal.Iterating.{is_around}
 use Rattle.vdb_morph.proofs.BlockStates.{around_number, number_around}
 use Rattle.vdb_morph.proofs.Crossings.{crosses}
 

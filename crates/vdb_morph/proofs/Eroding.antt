@@ -27,7 +27,7 @@ use Rattle.vdb_tree.proofs.Levels.{bool_cases}
 use Rattle.vdb_tree.proofs.PartStarts.{gone_before}
 use Rattle.vdb_value.specs.declared.Cell.{Cell}
 use Rattle.vdb_morph.specs.internal.Eroding.{Erodes, IsEither, IsEroded}
-use Rattle.vdb_morph.specs.internal.Turning.{is_around, taken, topology}
+use Rattle.vdb_morph.specs.internal.Iterating.{is_around, taken, topology}
 
 -- ---- boxes
 
@@ -212,9 +212,9 @@ module _ {V : Type 0} (bits : Bits) (t : Layout V) where
     -- past the last part
     pub underway_all : Passes bits t old new (λ q. false) → new.at ≡ None → (background : Bool) (cells : Coord → Cell Bool) → IsUnderway (field background cells) old.at → field background cells ≡ topology (erode (field_of bits t))
     underway_all passes none background cells had =
-        let turned : Coord → Cell Bool = λ q. as_cell_of (λ (x : V). false) ((erode (field_of bits t)).cell q) in
+        let iterated : Coord → Cell Bool = λ q. as_cell_of (λ (x : V). false) ((erode (field_of bits t)).cell q) in
         ap (λ (b : Bool). field b cells) had.background
-        ∙ same_cells false cells turned (λ q i. sym (cell_inside background cells q i) ∙ (done q i ∙ cell_inside false turned q i))
+        ∙ same_cells false cells iterated (λ q i. sym (cell_inside background cells q i) ∙ (done q i ∙ cell_inside false iterated q i))
       where
         done : (q : Coord) → IsTrue (is_inside everywhere q) → IsEroded (field_of bits t) (field background cells) q
         done q i = elim (bool_cases (is_left bits old.at q)) [

@@ -13,6 +13,6 @@ pub mod Settling
 pub mod Activating
 pub mod Spreads
 pub mod Neighbours
-pub mod TurnLaws
+pub mod IterationLaws
 pub mod Spreading
 pub mod TreeSizes

@@ -17,7 +17,7 @@ use Rattle.vdb_tree.specs.Outcome.{ChangesIfOk}
 use Rattle.vdb_tree.specs.declared.refusal.TreeRefusal.{TreeRefusal}
 use Rattle.vdb_tree.proofs.Fields.{cell_inside, same_cells}
 use Rattle.vdb_tree.proofs.Levels.{coord_cases, like_coords, unlike_coords}
-use Rattle.vdb_morph.specs.internal.Turning.{is_marked, topology, with_active}
+use Rattle.vdb_morph.specs.internal.Iterating.{is_marked, topology, with_active}
 
 -- a field's states, joined to an empty field
 pub united_new : {V : Type 0} (f : Field V) → unite (new false) f ≡ topology f

@@ -13,7 +13,7 @@ use Rattle.vdb_value.specs.declared.Cell.{Cell}
 use Rattle.vdb_tree.specs.Field.{Field, field, fill, new, off, unite}
 use Rattle.vdb_tree.proofs.Fields.{cell_inside, same_cells}
 use Rattle.vdb_morph.specs.internal.Behind.{is_behind, is_behind_any}
-use Rattle.vdb_morph.specs.internal.Turning.{spread, with_active}
+use Rattle.vdb_morph.specs.internal.Iterating.{spread, with_active}
 use Rattle.vdb_morph.proofs.Layers.{apart}
 use Rattle.vdb_morph.proofs.Marks.{kept_cell}
 

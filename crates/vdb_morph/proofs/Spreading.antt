@@ -26,9 +26,9 @@ use Rattle.vdb_tree.proofs.Fields.{same_cells}
 use Rattle.vdb_tree.proofs.Levels.{bool_cases, like_coords}
 use Rattle.vdb_tree.proofs.Rooted.{not_from, or_cases, or_first, or_second, was_false}
 use Rattle.vdb_walk.proofs.Surrounds.{min_inside}
-use Rattle.vdb_morph.specs.internal.Turning.{is_around, is_marked, spread, topology}
+use Rattle.vdb_morph.specs.internal.Iterating.{is_around, is_marked, spread, topology}
 use Rattle.vdb_morph.proofs.Neighbours.{InRange, any_near, either_near, none_near, some_near}
-use Rattle.vdb_morph.proofs.TurnLaws.{cut_again, dilated_on, on, topology_on, topology_value}
+use Rattle.vdb_morph.proofs.IterationLaws.{cut_again, dilated_on, on, topology_on, topology_value}
 
 -- ---- what spreads
 

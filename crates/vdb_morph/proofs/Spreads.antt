@@ -23,7 +23,7 @@ use Rattle.vdb_tree.proofs.Levels.{coord_cases, like_coords, unlike_coords}
 use Rattle.vdb_value.specs.declared.Cell.{Cell}
 use Rattle.vdb_morph.specs.internal.Behind.{opposite, state_beside}
 use Rattle.vdb_morph.specs.internal.Spreading.{is_over}
-use Rattle.vdb_morph.specs.internal.Turning.{is_around, is_marked, spread, with_active}
+use Rattle.vdb_morph.specs.internal.Iterating.{is_around, is_marked, spread, with_active}
 use Rattle.vdb_morph.proofs.Activating.{active_nowhere, active_same, active_twice, spread_is, spread_twice}
 use Rattle.vdb_morph.proofs.Crossings.{back, crosses, forth, toward_apart}
 

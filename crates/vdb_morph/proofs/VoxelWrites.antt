@@ -14,7 +14,7 @@ use Rattle.vdb_tree.specs.Field.{Field, field, write, written}
 use Rattle.vdb_tree.specs.declared.Write.{Write}
 use Rattle.vdb_tree.proofs.Fields.{cell_inside, same_cells}
 use Rattle.vdb_tree.proofs.Levels.{bool_cases, coord_cases, like_coords, unlike_coords}
-use Rattle.vdb_morph.specs.internal.Turning.{is_around, taken}
+use Rattle.vdb_morph.specs.internal.Iterating.{is_around, taken}
 use Rattle.vdb_morph.proofs.BlockStates.{around_number, number_around, same_test, stands_taken}
 
 -- the first coordinate of an entry lies in the block, at this entry

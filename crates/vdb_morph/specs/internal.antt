@@ -1,5 +1,5 @@
 -- Definitions for private functions and proofs alone: no public contract needs them.
-pub mod Turning
+pub mod Iterating
 pub mod Behind
 pub mod Beside
 pub mod BlockStates

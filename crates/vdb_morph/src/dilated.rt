@@ -10,7 +10,7 @@ ghost use Rattle.vdb_tree.specs.Field.{dilate};
 ghost use Rattle.vdb_tree.specs.Layout.{bits_of, field_of};
 ghost use Rattle.vdb_tree.specs.Parts.{IsWalk};
 ghost use Rattle.vdb_morph.specs.internal.Behind.{is_behind_any};
-ghost use Rattle.vdb_morph.specs.internal.Turning.{is_around, spread, topology, with_active};
+ghost use Rattle.vdb_morph.specs.internal.Iterating.{is_around, spread, topology, with_active};
 
 use crate::faces::behind;
 use crate::spread_block::spread_block;

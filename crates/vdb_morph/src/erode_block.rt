@@ -10,7 +10,7 @@ ghost use Rattle.vdb_tree.specs.Field.{erode, written};
 ghost use Rattle.vdb_tree.specs.Layout.{bits_of, field_of};
 ghost use Rattle.vdb_value.specs.declared.Cell.{Cell};
 ghost use Rattle.vdb_morph.specs.internal.BlockStates.{HasStates, HasStatesBehind, state_behind};
-ghost use Rattle.vdb_morph.specs.internal.Turning.{is_around, taken, topology};
+ghost use Rattle.vdb_morph.specs.internal.Iterating.{is_around, taken, topology};
 
 use crate::faces::block_behind;
 use crate::states::put_states;

@@ -7,7 +7,7 @@ ghost use Rattle.vdb_tree.specs.Field.{erode};
 ghost use Rattle.vdb_tree.specs.Layout.{bits_of, field_of};
 ghost use Rattle.vdb_tree.specs.Parts.{IsPartOfLeaf, OnLeaf, OnTile};
 ghost use Rattle.vdb_morph.specs.internal.Eroding.{Erodes, IsEither, IsEroded, IsSettled};
-ghost use Rattle.vdb_morph.specs.internal.Turning.{topology};
+ghost use Rattle.vdb_morph.specs.internal.Iterating.{topology};
 
 use crate::erode_block::erode_block;
 use crate::faces::{behind, opposite};

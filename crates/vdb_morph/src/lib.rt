@@ -11,16 +11,16 @@
 //! - `words`: the states behind the faces of a leaf's voxels, a word at a time.
 //! - `spread_block`, `erode_block`: one iteration in a leaf extent, by the words of the states if a leaf has 3 bits.
 //! - `dilated`, `eroded`: one iteration over a whole tree.
-//! - `turns`: the calls on a tree.
+//! - `iterations`: the calls on a tree.
 #![tactic(auto)]
 
 mod dilated;
 mod erode_block;
 mod eroded;
 mod faces;
+mod iterations;
 mod spread_block;
 mod states;
-mod turns;
 mod words;
 
-pub use turns::{dilate, erode};
+pub use iterations::{dilate, erode};

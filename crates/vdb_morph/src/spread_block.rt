@@ -5,7 +5,7 @@ ghost use Rattle.vdb_coord.specs.Faces.{toward};
 ghost use Rattle.vdb_coord.specs.Space.{coord_eq};
 ghost use Rattle.vdb_tree.specs.Layout.{bits_of, field_of};
 ghost use Rattle.vdb_morph.specs.internal.Spreading.{is_over};
-ghost use Rattle.vdb_morph.specs.internal.Turning.{is_marked, spread, with_active};
+ghost use Rattle.vdb_morph.specs.internal.Iterating.{is_marked, spread, with_active};
 
 use crate::faces::{block_behind, opposite};
 use crate::states::mark;

@@ -7,7 +7,7 @@ ghost use Rattle.vdb_coord.specs.declared.Coord.{Coord};
 ghost use Rattle.vdb_coord.specs.declared.Level.TheVariants.{Leaf as leaf_level};
 ghost use Rattle.vdb_tree.specs.Layout.{bits_of, field_of};
 ghost use Rattle.vdb_morph.specs.internal.BlockStates.{of_mask};
-ghost use Rattle.vdb_morph.specs.internal.Turning.{is_around, is_marked, taken, topology, with_active};
+ghost use Rattle.vdb_morph.specs.internal.Iterating.{is_around, is_marked, taken, topology, with_active};
 
 use vdb_coord::Coord;
 use vdb_mask::Mask;

@@ -11,7 +11,7 @@ ghost use Rattle.vdb_mask.specs.Mask.{has_bit, is_on};
 ghost use Rattle.vdb_tree.specs.Layout.{bits_of};
 ghost use Rattle.vdb_morph.specs.internal.Behind.{state_beside};
 ghost use Rattle.vdb_morph.specs.internal.Beside.{bit_beside, is_on_beside};
-ghost use Rattle.vdb_morph.specs.internal.Turning.{is_around};
+ghost use Rattle.vdb_morph.specs.internal.Iterating.{is_around};
 
 use vdb_coord::Face;
 use vdb_mask::Mask;

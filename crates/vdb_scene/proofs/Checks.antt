@@ -155,8 +155,8 @@ census_of_none = refl
 dilate_of_none : refusal [] (commands.Dilate a (Near (pos 17))) ≡ Some refusals.NoGrid
 dilate_of_none = refl
 
-dilate_by_no_turn : refusal with_a (commands.Dilate a (Near (pos 0))) ≡ Some refusals.ValueRange
-dilate_by_no_turn = refl
+dilate_by_no_iteration : refusal with_a (commands.Dilate a (Near (pos 0))) ≡ Some refusals.ValueRange
+dilate_by_no_iteration = refl
 
 dilate_by_seventeen : refusal with_a (commands.Dilate a (Near (pos 17))) ≡ Some refusals.ValueRange
 dilate_by_seventeen = refl

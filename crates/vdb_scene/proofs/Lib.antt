@@ -2,7 +2,7 @@
 mod Checks
 mod MetaChecks
 pub mod Copying
-pub mod AsTurned
+pub mod AsIterated
 pub mod Entries
 pub mod Filling
 pub mod Borrowed
@@ -14,7 +14,7 @@ pub mod PairSteps
 pub mod Reports
 pub mod Steps
 pub mod Trees
-pub mod Turning
+pub mod Iterating
 pub mod TwoGrids
 pub mod TwoNames
 pub mod Writing

@@ -12,7 +12,7 @@ use Rattle.vdb_value.specs.declared.Cell.{Cell}
 use Rattle.vdb_value.specs.declared.Kind.{Kind}
 use Rattle.vdb_value.specs.declared.Kind.TheVariants as kinds
 use Rattle.vdb_tree.specs.ConstantBlocks.{roots}
-use Rattle.vdb_tree.specs.Field.{Field, clip, combine, dilate, erode, field, fill, new, off, replace, ruled, turns, with_states, write, written}
+use Rattle.vdb_tree.specs.Field.{Field, clip, combine, dilate, erode, field, fill, new, off, replace, ruled, iterations, with_states, write, written}
 use Rattle.vdb_tree.specs.declared.Write.{Write}
 use Rattle.vdb_tree.specs.declared.Write.TheVariants as writes
 use Rattle.vdb_tree.specs.declared.pairs.StateRule.{StateRule}
@@ -20,7 +20,7 @@ use Rattle.vdb_tree.specs.declared.pairs.StateRule.TheVariants.{Unite, Subtract,
 use Rattle.vdb_tree.proofs.Blocks.{never}
 use Rattle.vdb_tree.proofs.Rooted.{roots_at_most}
 use Rattle.vdb_tree.proofs.Uniform.{uniform_from}
-use Rattle.vdb_morph.proofs.TurnLaws.{eroded_roots}
+use Rattle.vdb_morph.proofs.IterationLaws.{eroded_roots}
 use Rattle.vdb_region.proofs.Clearing.{clip_within}
 use Rattle.vdb_scene.specs.Scalars.{has_form, has_value, kind_eq, kind_of, scalar, scalar_eq, scalar_greater, scalar_lesser, scalar_sum}
 use Rattle.vdb_scene.specs.Step.{passes}
@@ -186,14 +186,14 @@ module _ (f : Field Scalar) (is : IsField f) where
     pub replace_is : IsField (replace f g)
     replace_is = field_is f.background _ is.background (λ p. either (g.cell p).on kind (g.cell p) (f.cell p) (other_values p) (is.values p))
 
-pub dilated_is : (n : ℕ) (f : Field Scalar) → IsField f → IsField (turns n dilate f)
+pub dilated_is : (n : ℕ) (f : Field Scalar) → IsField f → IsField (iterations n dilate f)
 dilated_is zero f is = is
 dilated_is (suc n) f is = dilated_is n (dilate f) (field_is f.background _ is.background is.values)
 
-pub eroded_is : (n : ℕ) (f : Field Scalar) → IsField f → IsField (turns n erode f)
+pub eroded_is : (n : ℕ) (f : Field Scalar) → IsField f → IsField (iterations n erode f)
 eroded_is zero f is = is
 eroded_is (suc n) f is = eroded_is n (erode f) (field_is f.background _ is.background is.values)
 
 -- erosion adds no root block with a cell other than the background
-pub erosion_roots : (n : ℕ) → 1 ≤ n → (f : Field Scalar) → roots scalar_eq vdb (turns n erode f) ≤ roots scalar_eq vdb f
+pub erosion_roots : (n : ℕ) → 1 ≤ n → (f : Field Scalar) → roots scalar_eq vdb (iterations n erode f) ≤ roots scalar_eq vdb f
 erosion_roots n some f = eroded_roots scalar_eq scalar_exact scalar_itself vdb n some f

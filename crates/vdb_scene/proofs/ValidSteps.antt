@@ -11,10 +11,10 @@ use Rattle.std.proofs.lemmas.Map.{keys-set_value, length-set_value}
 use Rattle.vdb_coord.specs.Blocks.{vdb}
 use Rattle.vdb_value.specs.declared.Kind.{Kind}
 use Rattle.vdb_tree.specs.ConstantBlocks.{roots}
-use Rattle.vdb_tree.specs.Field.{Field, as_write_of, clip, combine, dilate, erode, fill, replace, turns, write}
+use Rattle.vdb_tree.specs.Field.{Field, as_write_of, clip, combine, dilate, erode, fill, replace, iterations, write}
 use Rattle.vdb_tree.specs.declared.Write.{Write}
 use Rattle.vdb_tree.specs.declared.Write.TheVariants as writes
-use Rattle.vdb_scene.specs.Arguments.{are_coords, box_between, coord_of, count_of, is_coord, is_root_limit, is_turn_count, root_limit_of}
+use Rattle.vdb_scene.specs.Arguments.{are_coords, box_between, coord_of, count_of, is_coord, is_root_limit, is_iteration_count, root_limit_of}
 use Rattle.vdb_scene.specs.Metas.{Pairs, has_pair, is_text, may_set, with_pair, without_pair}
 use Rattle.vdb_scene.specs.Names.{is_name}
 use Rattle.vdb_scene.specs.Refusals.{first_of_all, name_taken, no_grid, refused_if, same_grid, too_many_grids}
@@ -182,10 +182,10 @@ limit_read (Some (Near (negsuc n))) h = absurd cc
 limit_read (Some Far) h = absurd cc
 
 -- a number of iterations is at least 1
-some_turns : (n : Num) → is_turn_count n ≡ true → 1 ≤ count_of n
-some_turns (Near (pos n)) h = grind (arith, ints)
-some_turns (Near (negsuc n)) h = absurd cc
-some_turns Far h = absurd cc
+some_iterations : (n : Num) → is_iteration_count n ≡ true → 1 ≤ count_of n
+some_iterations (Near (pos n)) h = grind (arith, ints)
+some_iterations (Near (negsuc n)) h = absurd cc
+some_iterations Far h = absurd cc
 
 -- ---- commands
 
@@ -279,11 +279,11 @@ module _ (s : Scene) (is : IsScene s) where
   after_is (commands.Dilate name n) valid h =
       let tests = none_of (tried s (commands.Dilate name n)) h in
       let here = unmet _ _ tests.0 in
-      changed_is s is name here (turns (count_of n) dilate) (dilated_is (count_of n) (field_at s name) (field_held s is name here)) (ltb-false _ _ (unmet _ _ tests.1.1.0))
+      changed_is s is name here (iterations (count_of n) dilate) (dilated_is (count_of n) (field_at s name) (field_held s is name here)) (ltb-false _ _ (unmet _ _ tests.1.1.0))
   after_is (commands.Erode name n) valid h =
       let tests = none_of (tried s (commands.Erode name n)) h in
       let here = unmet _ _ tests.0 in
-      shrunk_is s is name here (turns (count_of n) erode) (eroded_is (count_of n) (field_at s name) (field_held s is name here)) (erosion_roots (count_of n) (some_turns n (fits _ (unmet _ _ tests.1.0))) (field_at s name))
+      shrunk_is s is name here (iterations (count_of n) erode) (eroded_is (count_of n) (field_at s name) (field_held s is name here)) (erosion_roots (count_of n) (some_iterations n (fits _ (unmet _ _ tests.1.0))) (field_at s name))
   after_is (commands.Meta name key text) valid h =
       let tests = none_of (tried s (commands.Meta name key text)) h in
       let here = unmet _ _ tests.0 in

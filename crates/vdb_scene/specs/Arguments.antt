@@ -70,5 +70,5 @@ root_limit_of None = 4096
 root_limit_of (Some n) = count_of n
 
 -- whether a line names a number of iterations, 1 to 16
-abbrev pub is_turn_count : Num → Bool
-is_turn_count n = is_from (pos 1) (pos 16) n
+abbrev pub is_iteration_count : Num → Bool
+is_iteration_count n = is_from (pos 1) (pos 16) n

@@ -7,11 +7,11 @@ use Rattle.vdb_coord.specs.declared.Coord.{Coord}
 use Rattle.vdb_value.specs.declared.Cell.{Cell}
 use Rattle.vdb_tree.specs.declared.Write.{Write}
 use Rattle.vdb_tree.specs.declared.Write.TheVariants as writes
-use Rattle.vdb_tree.specs.Field.{Field, as_write_of, clip, dilate, erode, fill, turns, write, written}
+use Rattle.vdb_tree.specs.Field.{Field, as_write_of, clip, dilate, erode, fill, iterations, write, written}
 use Rattle.vdb_tree.specs.ConstantBlocks.{cell_eq, count, is_constant}
 use Rattle.vdb_walk.specs.Reports.{IsActiveBounds, active, census}
 use Rattle.vdb_scene.specs.Metas.{Pairs, has_pair, with_pair, without_pair}
-use Rattle.vdb_scene.specs.Arguments.{are_coords, box_between, count_of, flat, is_limit, is_coord, is_root_limit, is_turn_count, coord_of, region, root_limit_of}
+use Rattle.vdb_scene.specs.Arguments.{are_coords, box_between, count_of, flat, is_limit, is_coord, is_root_limit, is_iteration_count, coord_of, region, root_limit_of}
 use Rattle.vdb_scene.specs.Refusals.{first_of_all, meta_limit, too_many_grids, name_taken, no_accessor, no_box, no_grid, other_form, out_of_range, root_limit, same_grid, too_large, too_wide, tried_region}
 use Rattle.vdb_scene.specs.Replies.{Bounds, Census, Count, Done, Pairs as PairsReply, Refused, Reply, Slice, Value, listing, rows}
 use Rattle.vdb_scene.specs.Scalars.{has_form, has_value, scalar, scalar_eq}
@@ -221,15 +221,15 @@ meaning s (commands.Sum name other) = meaning_of_two (Values composites.Sum) s n
 meaning s (commands.Replace name other) = meaning_of_two (Values composites.Replace) s name other
 -- in each iteration every voxel with an active face neighbour becomes active
 meaning s (commands.Dilate name n) = record {
-  tried = no_grid s name ∷ out_of_range (is_turn_count n) ∷ root_limit s name (turns (count_of n) dilate) ∷ [];
-  after = changed s name (turns (count_of n) dilate);
+  tried = no_grid s name ∷ out_of_range (is_iteration_count n) ∷ root_limit s name (iterations (count_of n) dilate) ∷ [];
+  after = changed s name (iterations (count_of n) dilate);
   IsReply = only Done;
   takes_memory = true;
 }
 -- in each iteration every voxel with an inactive face neighbour becomes inactive
 meaning s (commands.Erode name n) = record {
-  tried = no_grid s name ∷ out_of_range (is_turn_count n) ∷ [];
-  after = changed s name (turns (count_of n) erode);
+  tried = no_grid s name ∷ out_of_range (is_iteration_count n) ∷ [];
+  after = changed s name (iterations (count_of n) erode);
   IsReply = only Done;
   takes_memory = true;
 }
@@ -266,7 +266,7 @@ refusal s c = first_of_all (tried s c)
 -- The error of a command before an allocation may fail, if any. A dilation meets the root limit as it grows, and an allocation may
 -- fail before it does; every other error of any command comes first.
 abbrev pub first_refusal : Scene → Command → Option Refusal
-first_refusal s (commands.Dilate name n) = first_of_all (no_grid s name ∷ out_of_range (is_turn_count n) ∷ [])
+first_refusal s (commands.Dilate name n) = first_of_all (no_grid s name ∷ out_of_range (is_iteration_count n) ∷ [])
 first_refusal s c = refusal s c
 
 -- the scene after a command that succeeds

@@ -3,7 +3,7 @@ ghost use Rattle.std.specs.Prelude.{◌≡◌, ◌+◌, ◌*◌, ◌<◌, ◌≤
 ghost use Rattle.std.specs.Option.{unwrap_or};
 ghost use Rattle.vdb_coord.specs.Blocks.{vdb};
 ghost use Rattle.vdb_coord.specs.Space.{everywhere};
-ghost use Rattle.vdb_tree.specs.Field.{clip as clipped, dilate as dilation, erode as erosion, fill as filled, new, turns as turned, write};
+ghost use Rattle.vdb_tree.specs.Field.{clip as clipped, dilate as dilation, erode as erosion, fill as filled, new, iterations as iterated, write};
 ghost use Rattle.vdb_tree.specs.Outcome.{IsOutcome};
 ghost use Rattle.vdb_tree.specs.ConstantBlocks.{count as active_count};
 ghost use Rattle.vdb_tree.specs.declared.refusal.TreeRefusal.TheVariants.{Memory};
@@ -184,39 +184,39 @@ impl AnyGrid {
         }
     }
 
-    /// Activates, in each of `turns` iterations, every voxel that has an active face neighbour, and keeps the values. The number
+    /// Activates, in each iteration, every voxel that has an active face neighbour, and keeps the values. The number
     /// of iterations is 1 to 16.
     ///
     /// Fails with `RootLimit` if more root blocks than the limit would have a cell other than the inactive background, and with
     /// `Memory` if an allocation fails. `Memory` may also hide a `RootLimit`. Both leave every cell unchanged.
-    pub fn dilate(&mut self, turns: u32, steps: &mut Steps) -> Result<(), TreeRefusal>
-        requires some { 1 ≤ turns }
-        requires few { turns ≤ 16 }
-        ensures outcome { IsGrowth scalar_eq vdb (grid_root_limit self.old) (grid_field self.old) (turned turns dilation (grid_field self.old)) (grid_field self.new) result }
+    pub fn dilate(&mut self, iterations: u32, steps: &mut Steps) -> Result<(), TreeRefusal>
+        requires some { 1 ≤ iterations }
+        requires few { iterations ≤ 16 }
+        ensures outcome { IsGrowth scalar_eq vdb (grid_root_limit self.old) (grid_field self.old) (iterated iterations dilation (grid_field self.old)) (grid_field self.new) result }
         ensures limit { grid_root_limit self.new ≡ grid_root_limit self.old }
         ensures last { grid_coords self.new ≡ grid_coords self.old }
     {
         match self {
-            AnyGrid::Bool(grid) => grid_tree::dilate(grid, turns, steps),
-            AnyGrid::I32(grid) => grid_tree::dilate(grid, turns, steps),
-            AnyGrid::I64(grid) => grid_tree::dilate(grid, turns, steps),
+            AnyGrid::Bool(grid) => grid_tree::dilate(grid, iterations, steps),
+            AnyGrid::I32(grid) => grid_tree::dilate(grid, iterations, steps),
+            AnyGrid::I64(grid) => grid_tree::dilate(grid, iterations, steps),
         }
     }
 
-    /// Deactivates, in each of `turns` iterations, every voxel that has an inactive face neighbour, and keeps the values. The
+    /// Deactivates, in each iteration, every voxel that has an inactive face neighbour, and keeps the values. The
     /// number of iterations is 1 to 16. Fails with `Memory` if an allocation fails, and leaves every cell unchanged.
-    pub fn erode(&mut self, turns: u32, steps: &mut Steps) -> Result<(), TreeRefusal>
-        requires some { 1 ≤ turns }
-        requires few { turns ≤ 16 }
-        ensures outcome { IsOutcome scalar_eq vdb (grid_root_limit self.old) (grid_field self.old) (turned turns erosion (grid_field self.old)) (grid_field self.new) result }
+    pub fn erode(&mut self, iterations: u32, steps: &mut Steps) -> Result<(), TreeRefusal>
+        requires some { 1 ≤ iterations }
+        requires few { iterations ≤ 16 }
+        ensures outcome { IsOutcome scalar_eq vdb (grid_root_limit self.old) (grid_field self.old) (iterated iterations erosion (grid_field self.old)) (grid_field self.new) result }
         ensures limit { grid_root_limit self.new ≡ grid_root_limit self.old }
         ensures last { grid_coords self.new ≡ grid_coords self.old }
         ensures memory { IfErr result (λ refusal. refusal ≡ Memory) }
     {
         match self {
-            AnyGrid::Bool(grid) => grid_tree::erode(grid, turns, steps),
-            AnyGrid::I32(grid) => grid_tree::erode(grid, turns, steps),
-            AnyGrid::I64(grid) => grid_tree::erode(grid, turns, steps),
+            AnyGrid::Bool(grid) => grid_tree::erode(grid, iterations, steps),
+            AnyGrid::I32(grid) => grid_tree::erode(grid, iterations, steps),
+            AnyGrid::I64(grid) => grid_tree::erode(grid, iterations, steps),
         }
     }
 

@@ -396,8 +396,8 @@ impl Scene {
             Command::Replace { name, other } => {
                 self.combine(Operation::Values(Composite::Replace), name, other, steps)
             }
-            Command::Dilate { name, turns } => self.dilate(name, *turns, steps),
-            Command::Erode { name, turns } => self.erode(name, *turns, steps),
+            Command::Dilate { name, iterations } => self.dilate(name, *iterations, steps),
+            Command::Erode { name, iterations } => self.erode(name, *iterations, steps),
             Command::Meta { name, key, text } => self.put_meta(name, *key, *text),
             Command::Unmeta { name, key } => self.take_meta(name, key),
             Command::Metas { name } => self.pairs(name),

@@ -177,15 +177,15 @@ pub enum Command {
         name: Name,
         other: Name,
     },
-    /// Activates, in each of `turns` iterations, every voxel that has an active face neighbour. No value changes.
+    /// Activates, in each iteration, every voxel that has an active face neighbour. No value changes.
     Dilate {
         name: Name,
-        turns: Num,
+        iterations: Num,
     },
-    /// Deactivates, in each of `turns` iterations, every voxel that has an inactive face neighbour. No value changes.
+    /// Deactivates, in each iteration, every voxel that has an inactive face neighbour. No value changes.
     Erode {
         name: Name,
-        turns: Num,
+        iterations: Num,
     },
     /// Sets the text of a key of a grid's metadata. An existing text is replaced.
     Meta {

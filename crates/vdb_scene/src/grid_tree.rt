@@ -4,7 +4,7 @@ ghost use Rattle.std.specs.Prelude.{◌≡◌, ◌≢◌, ◌&&◌, ◌+◌, ◌
 ghost use Rattle.std.specs.Option.{unwrap_or};
 ghost use Rattle.vdb_coord.specs.Blocks.{key, vdb};
 ghost use Rattle.vdb_coord.specs.Space.{everywhere};
-ghost use Rattle.vdb_tree.specs.Field.{as_cell_of, as_field_of, as_write_of, clip as clipped, dilate as dilation, erode as erosion, fill as filled, turns as turned, write, written};
+ghost use Rattle.vdb_tree.specs.Field.{as_cell_of, as_field_of, as_write_of, clip as clipped, dilate as dilation, erode as erosion, fill as filled, iterations as iterated, write, written};
 ghost use Rattle.vdb_tree.specs.Layout.{field_of};
 ghost use Rattle.vdb_tree.specs.Leaves.{IsVoxelWritten};
 ghost use Rattle.vdb_tree.specs.Outcome.{IsOutcome};
@@ -152,34 +152,34 @@ pub fn clip<V: GridValue>(
 /// Activates, in each of 1 to 16 iterations, every voxel that has an active face neighbour.
 pub fn dilate<V: GridValue>(
     grid: &mut Grid<V, ACCESSORS>,
-    turns: u32,
+    iterations: u32,
     steps: &mut Steps,
 ) -> Result<(), TreeRefusal>
-    requires some { 1 ≤ turns }
-    requires few { turns ≤ 16 }
+    requires some { 1 ≤ iterations }
+    requires few { iterations ≤ 16 }
     ensures outcome { IsGrowth scalar_eq vdb grid.old.tree.limit (as_field_of V.as_scalar (field_of vdb grid.old.tree))
-        (turned turns dilation (as_field_of V.as_scalar (field_of vdb grid.old.tree))) (as_field_of V.as_scalar (field_of vdb grid.new.tree)) result }
+        (iterated iterations dilation (as_field_of V.as_scalar (field_of vdb grid.old.tree))) (as_field_of V.as_scalar (field_of vdb grid.new.tree)) result }
     ensures limit { grid.new.tree.limit ≡ grid.old.tree.limit }
     ensures last { grid.new.coords ≡ grid.old.coords }
 {
-    grid.dilate(turns, steps)
+    grid.dilate(iterations, steps)
 }
 
 /// Deactivates, in each of 1 to 16 iterations, every voxel that has an inactive face neighbour.
 pub fn erode<V: GridValue>(
     grid: &mut Grid<V, ACCESSORS>,
-    turns: u32,
+    iterations: u32,
     steps: &mut Steps,
 ) -> Result<(), TreeRefusal>
-    requires some { 1 ≤ turns }
-    requires few { turns ≤ 16 }
+    requires some { 1 ≤ iterations }
+    requires few { iterations ≤ 16 }
     ensures outcome { IsOutcome scalar_eq vdb grid.old.tree.limit (as_field_of V.as_scalar (field_of vdb grid.old.tree))
-        (turned turns erosion (as_field_of V.as_scalar (field_of vdb grid.old.tree))) (as_field_of V.as_scalar (field_of vdb grid.new.tree)) result }
+        (iterated iterations erosion (as_field_of V.as_scalar (field_of vdb grid.old.tree))) (as_field_of V.as_scalar (field_of vdb grid.new.tree)) result }
     ensures limit { grid.new.tree.limit ≡ grid.old.tree.limit }
     ensures last { grid.new.coords ≡ grid.old.coords }
     ensures memory { IfErr result (λ refusal. refusal ≡ Memory) }
 {
-    grid.erode(turns, steps)
+    grid.erode(iterations, steps)
 }
 
 /// Returns the number of active voxels of the box, or of all coordinates.

@@ -205,8 +205,8 @@ dilate_read = refl
 erode_read : parse (codes "erode a -3") ≡ Ok (Some (commands.Erode (codes "a") (Near (negsuc 2))))
 erode_read = refl
 
-erode_without_turns : parse (codes "erode a") ≡ Err refusals.Syntax
-erode_without_turns = refl
+erode_without_iterations : parse (codes "erode a") ≡ Err refusals.Syntax
+erode_without_iterations = refl
 
 dilate_by_a_grid : parse (codes "dilate a b") ≡ Err refusals.Syntax
 dilate_by_a_grid = refl

@@ -10,7 +10,7 @@ use Rattle.vdb_scene.specs.declared.command.Num.{Num}
 use Rattle.vdb_scene.specs.declared.command.Point.{Point}
 use Rattle.vdb_scene.specs.declared.answer.Refusal.TheVariants as refusals
 use Rattle.vdb_script.specs.Lines.{tokens}
-use Rattle.vdb_script.specs.Grammar.{Form, ◌>>=◌, give, one, point, corners, grid_with, grid, drop, copy, get, voxel_value, two_grids, state, fill, clip, prune, voxelise, all_of, count_box, count_all, count, bounds, census, or_else, list, slice, turns, meta, unmeta, metas, whole, command_forms, command_of, word_of, is_comment, meaning, parse, name_of, text_of, kind_named, state_of, literal_of, accessor_of, number_of}
+use Rattle.vdb_script.specs.Grammar.{Form, ◌>>=◌, give, one, point, corners, grid_with, grid, drop, copy, get, voxel_value, two_grids, state, fill, clip, prune, voxelise, all_of, count_box, count_all, count, bounds, census, or_else, list, slice, iterations, meta, unmeta, metas, whole, command_forms, command_of, word_of, is_comment, meaning, parse, name_of, text_of, kind_named, state_of, literal_of, accessor_of, number_of}
 
 -- if a form matches, it takes this number of tokens
 pub record Takes {A : Type 0} (n : ℕ) (form : Form A) : Type 0 where
@@ -112,9 +112,9 @@ grid_unlimited_takes = then_takes 1 2 _ _ (one_takes name_of) (λ name. then_tak
 pub two_grids_takes : (make : List ℕ → List ℕ → Command) → Takes 2 (two_grids make)
 two_grids_takes make = then_takes 1 1 _ _ (one_takes name_of) (λ name. then_takes 1 0 _ _ (one_takes name_of) (λ other. give_takes _))
 
--- NAME TURNS
-pub turns_takes : (make : List ℕ → Num → Command) → Takes 2 (turns make)
-turns_takes make = then_takes 1 1 _ _ (one_takes name_of) (λ name. then_takes 1 0 _ _ (one_takes number_of) (λ n. give_takes _))
+-- NAME ITERATIONS
+pub iterations_takes : (make : List ℕ → Num → Command) → Takes 2 (iterations make)
+iterations_takes make = then_takes 1 1 _ _ (one_takes name_of) (λ name. then_takes 1 0 _ _ (one_takes number_of) (λ n. give_takes _))
 
 -- meta NAME KEY TEXT
 pub meta_takes : Takes 3 meta
@@ -255,7 +255,7 @@ grid_takes_few = record { none = λ tokens many. no_grid tokens (omega (arith, m
 
 -- each command's form takes at most nine tokens
 commands_take_few : AllByRecursion TakesFew command_forms
-commands_take_few = (few 5 (omega arith) get_takes, (few 6 (omega arith) (voxel_value_takes commands.Set), (few 6 (omega arith) (voxel_value_takes commands.Unset), (few 6 (omega arith) (voxel_value_takes commands.Only), (few 6 (omega arith) state_takes, (few 9 (omega arith) fill_takes, (few 7 (omega arith) clip_takes, (few 7 (omega arith) voxelise_takes, (count_takes_few, (few 8 (omega arith) list_takes, (few 6 (omega arith) slice_takes, (grid_takes_few, (few 1 (omega arith) drop_takes, (few 2 (omega arith) copy_takes, (few 1 (omega arith) prune_takes, (few 1 (omega arith) bounds_takes, (few 1 (omega arith) census_takes, (few 3 (omega arith) meta_takes, (few 2 (omega arith) unmeta_takes, (few 1 (omega arith) metas_takes, (few 2 (omega arith) (two_grids_takes commands.Union), (few 2 (omega arith) (two_grids_takes commands.Difference), (few 2 (omega arith) (two_grids_takes commands.Intersect), (few 2 (omega arith) (two_grids_takes commands.Max), (few 2 (omega arith) (two_grids_takes commands.Min), (few 2 (omega arith) (two_grids_takes commands.Sum), (few 2 (omega arith) (two_grids_takes commands.Replace), (few 2 (omega arith) (turns_takes commands.Dilate), (few 2 (omega arith) (turns_takes commands.Erode), tt)))))))))))))))))))))))))))))
+commands_take_few = (few 5 (omega arith) get_takes, (few 6 (omega arith) (voxel_value_takes commands.Set), (few 6 (omega arith) (voxel_value_takes commands.Unset), (few 6 (omega arith) (voxel_value_takes commands.Only), (few 6 (omega arith) state_takes, (few 9 (omega arith) fill_takes, (few 7 (omega arith) clip_takes, (few 7 (omega arith) voxelise_takes, (count_takes_few, (few 8 (omega arith) list_takes, (few 6 (omega arith) slice_takes, (grid_takes_few, (few 1 (omega arith) drop_takes, (few 2 (omega arith) copy_takes, (few 1 (omega arith) prune_takes, (few 1 (omega arith) bounds_takes, (few 1 (omega arith) census_takes, (few 3 (omega arith) meta_takes, (few 2 (omega arith) unmeta_takes, (few 1 (omega arith) metas_takes, (few 2 (omega arith) (two_grids_takes commands.Union), (few 2 (omega arith) (two_grids_takes commands.Difference), (few 2 (omega arith) (two_grids_takes commands.Intersect), (few 2 (omega arith) (two_grids_takes commands.Max), (few 2 (omega arith) (two_grids_takes commands.Min), (few 2 (omega arith) (two_grids_takes commands.Sum), (few 2 (omega arith) (two_grids_takes commands.Replace), (few 2 (omega arith) (iterations_takes commands.Dilate), (few 2 (omega arith) (iterations_takes commands.Erode), tt)))))))))))))))))))))))))))))
 
 too_many_for : (commands : List (List ℕ × Form Command)) (word : List ℕ) (tokens : List (List ℕ)) → AllByRecursion TakesFew commands → 9 < length tokens
     → Err refusals.Syntax ≡ whole (option_and_then (λ form. form tokens) (word_of commands word))

@@ -13,7 +13,7 @@ use Rattle.vdb_scene.specs.declared.command.Num.{Num}
 use Rattle.vdb_scene.specs.declared.command.Point.{Point}
 use Rattle.vdb_scene.specs.declared.answer.Refusal.{Refusal}
 use Rattle.vdb_script.specs.Lines.{tokens}
-use Rattle.vdb_script.specs.Grammar.{Form, ◌>>=◌, give, one, grid_with, grid, drop, copy, get, voxel_value, two_grids, state, fill, clip, prune, voxelise, count_box, count_all, count, bounds, census, or_else, list, slice, turns, meta, unmeta, metas, whole, command_forms, command_of, word_of, is_comment, meaning, parse, name_of, text_of, kind_named, state_of, literal_of, accessor_of, number_of, all_of, point, corners}
+use Rattle.vdb_script.specs.Grammar.{Form, ◌>>=◌, give, one, grid_with, grid, drop, copy, get, voxel_value, two_grids, state, fill, clip, prune, voxelise, count_box, count_all, count, bounds, census, or_else, list, slice, iterations, meta, unmeta, metas, whole, command_forms, command_of, word_of, is_comment, meaning, parse, name_of, text_of, kind_named, state_of, literal_of, accessor_of, number_of, all_of, point, corners}
 
 -- ---- forms
 
@@ -148,8 +148,8 @@ census_valid = then_any (one name_of) (λ name. give_gives (commands.Census name
 two_grids_valid : (make : List ℕ → List ℕ → Command) → ((name other : List ℕ) → HasValidTexts (make name other)) → Valid (two_grids make)
 two_grids_valid make valid = then_any (one name_of) (λ name. then_any (one name_of) (λ other. give_gives (make name other) (valid name other)))
 
-turns_valid : (make : List ℕ → Num → Command) → ((name : List ℕ) (n : Num) → HasValidTexts (make name n)) → Valid (turns make)
-turns_valid make valid = then_any (one name_of) (λ name. then_any (one number_of) (λ n. give_gives (make name n) (valid name n)))
+iterations_valid : (make : List ℕ → Num → Command) → ((name : List ℕ) (n : Num) → HasValidTexts (make name n)) → Valid (iterations make)
+iterations_valid make valid = then_any (one name_of) (λ name. then_any (one number_of) (λ n. give_gives (make name n) (valid name n)))
 
 meta_valid : Valid meta
 meta_valid = then_any (one name_of) (λ name. then_gives (one name_of) name_gives (λ key h. then_gives (one text_of) text_gives (λ text k. give_gives (commands.Meta name key text) (h, k))))
@@ -167,7 +167,7 @@ AreValid forms = AllByRecursion (λ command. Valid command.1) forms
 
 -- all commands
 commands_valid : AreValid command_forms
-commands_valid = (get_valid, (voxel_value_valid commands.Set (λ name k p v. tt), (voxel_value_valid commands.Unset (λ name k p v. tt), (voxel_value_valid commands.Only (λ name k p v. tt), (state_valid, (fill_valid, (clip_valid, (voxelise_valid, (count_valid, (list_valid, (slice_valid, (grid_valid, (drop_valid, (copy_valid, (prune_valid, (bounds_valid, (census_valid, (meta_valid, (unmeta_valid, (metas_valid, (two_grids_valid commands.Union (λ name other. tt), (two_grids_valid commands.Difference (λ name other. tt), (two_grids_valid commands.Intersect (λ name other. tt), (two_grids_valid commands.Max (λ name other. tt), (two_grids_valid commands.Min (λ name other. tt), (two_grids_valid commands.Sum (λ name other. tt), (two_grids_valid commands.Replace (λ name other. tt), (turns_valid commands.Dilate (λ name n. tt), (turns_valid commands.Erode (λ name n. tt), tt)))))))))))))))))))))))))))))
+commands_valid = (get_valid, (voxel_value_valid commands.Set (λ name k p v. tt), (voxel_value_valid commands.Unset (λ name k p v. tt), (voxel_value_valid commands.Only (λ name k p v. tt), (state_valid, (fill_valid, (clip_valid, (voxelise_valid, (count_valid, (list_valid, (slice_valid, (grid_valid, (drop_valid, (copy_valid, (prune_valid, (bounds_valid, (census_valid, (meta_valid, (unmeta_valid, (metas_valid, (two_grids_valid commands.Union (λ name other. tt), (two_grids_valid commands.Difference (λ name other. tt), (two_grids_valid commands.Intersect (λ name other. tt), (two_grids_valid commands.Max (λ name other. tt), (two_grids_valid commands.Min (λ name other. tt), (two_grids_valid commands.Sum (λ name other. tt), (two_grids_valid commands.Replace (λ name other. tt), (iterations_valid commands.Dilate (λ name n. tt), (iterations_valid commands.Erode (λ name n. tt), tt)))))))))))))))))))))))))))))
 
 -- the command of a line, if it has one
 abbrev pub command_in : Result (Option Command) Refusal → Option Command

@@ -264,9 +264,9 @@ two_grids make = do
   other ← one name_of
   give (make name other)
 
--- NAME TURNS, after the word of a command that dilates or erodes a grid
-abbrev pub turns : (List ℕ → Num → Command) → Form Command
-turns make = do
+-- NAME ITERATIONS, after the word of a command that dilates or erodes a grid
+abbrev pub iterations : (List ℕ → Num → Command) → Form Command
+iterations make = do
   name ← one name_of
   n ← one number_of
   give (make name n)
@@ -296,7 +296,7 @@ metas = do
 
 -- the commands on two grids and those of dilation and erosion: the word of each, and the form of the tokens after it
 abbrev pub operation_forms : List (List ℕ × Form Command)
-operation_forms = (codes "union", two_grids commands.Union) ∷ (codes "difference", two_grids commands.Difference) ∷ (codes "intersect", two_grids commands.Intersect) ∷ (codes "max", two_grids commands.Max) ∷ (codes "min", two_grids commands.Min) ∷ (codes "sum", two_grids commands.Sum) ∷ (codes "replace", two_grids commands.Replace) ∷ (codes "dilate", turns commands.Dilate) ∷ (codes "erode", turns commands.Erode) ∷ []
+operation_forms = (codes "union", two_grids commands.Union) ∷ (codes "difference", two_grids commands.Difference) ∷ (codes "intersect", two_grids commands.Intersect) ∷ (codes "max", two_grids commands.Max) ∷ (codes "min", two_grids commands.Min) ∷ (codes "sum", two_grids commands.Sum) ∷ (codes "replace", two_grids commands.Replace) ∷ (codes "dilate", iterations commands.Dilate) ∷ (codes "erode", iterations commands.Erode) ∷ []
 
 -- the commands on a whole grid, and then those on two grids and of dilation and erosion
 abbrev pub grid_forms : List (List ℕ × Form Command)

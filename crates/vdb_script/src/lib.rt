@@ -1,6 +1,7 @@
 //! The script language: lines, commands, and answers as text.
 #![tactic(auto)]
 
+mod iterations;
 mod laws;
 mod line_text;
 mod lines;
@@ -15,7 +16,6 @@ mod reports;
 mod slices;
 mod source;
 mod tokens;
-mod turns;
 mod two_grids;
 
 pub use laws::run_laws;

@@ -7,10 +7,10 @@ ghost use Rattle.vdb_scene.specs.declared.command.Num.{Num};
 ghost use Rattle.vdb_scene.specs.declared.command.Point.{Point};
 ghost use Rattle.vdb_script.specs.Grammar.{name_of, kind_named, state_of, literal_of, accessor_of, point, corners, grid, drop, copy, get, voxel_value, set, unset, only, state, fill, clip, prune, voxelise, all_of, count, bounds, census, list, slice, whole, box_forms, grid_forms, operation_forms, command_among, command_of, is_comment, parse};
 
+use crate::iterations::{dilate_command, erode_command};
 use crate::metas::{meta_command, metas_command, unmeta_command};
 use crate::numbers::number_of;
 use crate::tokens::{ARGUMENT_LIMIT, Tokens, first_token};
-use crate::turns::{dilate_command, erode_command};
 use crate::two_grids::{
     difference_command, intersect_command, max_command, min_command, replace_command, sum_command,
     union_command,

@@ -7,7 +7,7 @@ use Rattle.vdb_value.specs.declared.Cell.{Cell}
 use Rattle.vdb_value.specs.declared.Kind.TheVariants.{I32}
 use Rattle.vdb_value.specs.Values.{sum_in}
 use Rattle.vdb_tree.specs.declared.Write.TheVariants.{On, Off}
-use Rattle.vdb_tree.specs.Field.{Field, new, write, fill, clip, unite, combine, sum, replace, dilate, erode, turns}
+use Rattle.vdb_tree.specs.Field.{Field, new, write, fill, clip, unite, combine, sum, replace, dilate, erode, iterations}
 use Rattle.vdb_tree.specs.ConstantBlocks.{count, is_background}
 
 abbrev box : ℕ → ℕ → Box
@@ -46,11 +46,11 @@ united : at 1 1 1 (unite (new (pos 9)) (write (coord (pos 1) (pos 1) (pos 1)) (O
 united = refl
 
 -- a cell at the corner lacks three neighbours
-corner : at 1 1 1 (turns 2 erode (fill (box 0 3) (record { value = pos 1; on = true }) (new (pos 0)))) ≡ record { value = pos 1; on = false }
+corner : at 1 1 1 (iterations 2 erode (fill (box 0 3) (record { value = pos 1; on = true }) (new (pos 0)))) ≡ record { value = pos 1; on = false }
 corner = refl
 
 -- two iterations from one cell reach 25 cells
-reached : count (turns 2 dilate (write (coord (pos 4) (pos 4) (pos 4)) (On (pos 1)) (new (pos 0)))) (box 2 6) ≡ 25
+reached : count (iterations 2 dilate (write (coord (pos 4) (pos 4) (pos 4)) (On (pos 1)) (new (pos 0)))) (box 2 6) ≡ 25
 unfolding coordinates
 reached = refl
 

@@ -94,9 +94,9 @@ module _ {V : Type 0} where
   erode f = field f.background (λ p. record { value = (f.cell p).value; on = (f.cell p).on && list_all (λ q. (f.cell q).on) (neighbours p) })
 
   -- n iterations, each computed from the cells before it
-  abbrev pub turns : ℕ → (Field V → Field V) → Field V → Field V
-  turns zero turn f = f
-  turns (suc n) turn f = turns n turn (turn f)
+  abbrev pub iterations : ℕ → (Field V → Field V) → Field V → Field V
+  iterations zero iteration f = f
+  iterations (suc n) iteration f = iterations n iteration (iteration f)
 
 -- ---- values mapped to another type: a tree has one type of values among grids of any
 

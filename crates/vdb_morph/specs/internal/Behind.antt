@@ -5,7 +5,7 @@ use Rattle.vdb_coord.specs.Blocks.{offset}
 use Rattle.vdb_coord.specs.declared.Bits.{Bits}
 use Rattle.vdb_coord.specs.declared.Level.TheVariants.{Leaf}
 use Rattle.vdb_mask.specs.Mask.{is_on}
-use Rattle.vdb_morph.specs.internal.Turning.{is_around}
+use Rattle.vdb_morph.specs.internal.Iterating.{is_around}
 use Rattle.vdb_coord.specs.Faces.{toward}
 use Rattle.vdb_coord.specs.Space.{Box, coord, is_inside}
 use Rattle.vdb_coord.specs.declared.Coord.{Coord}

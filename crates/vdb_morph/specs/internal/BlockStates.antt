@@ -9,7 +9,7 @@ use Rattle.vdb_coord.specs.declared.Level.TheVariants.{Leaf}
 use Rattle.vdb_coord.specs.declared.face.Face.{Face}
 use Rattle.vdb_mask.specs.Mask.{is_on}
 use Rattle.vdb_tree.specs.Field.{Field, field}
-use Rattle.vdb_morph.specs.internal.Turning.{is_around}
+use Rattle.vdb_morph.specs.internal.Iterating.{is_around}
 
 -- each leaf extent has the states of the mask, and each value is false
 abbrev pub of_mask : Bits → List Bool → Field Bool

@@ -5,7 +5,7 @@ use Rattle.vdb_coord.specs.Space.{everywhere, is_inside}
 use Rattle.vdb_coord.specs.declared.Coord.{Coord}
 use Rattle.vdb_coord.specs.declared.face.Face.{Face}
 use Rattle.vdb_tree.specs.Field.{Field, erode}
-use Rattle.vdb_morph.specs.internal.Turning.{topology}
+use Rattle.vdb_morph.specs.internal.Iterating.{topology}
 
 module _ {V : Type 0} (f : Field V) where
   -- q has the state from after the iteration

@@ -4,7 +4,7 @@ use Rattle.vdb_coord.specs.Faces.{toward}
 use Rattle.vdb_coord.specs.declared.Bits.{Bits}
 use Rattle.vdb_coord.specs.declared.Coord.{Coord}
 use Rattle.vdb_coord.specs.declared.face.Face.{Face}
-use Rattle.vdb_morph.specs.internal.Turning.{is_around, is_marked}
+use Rattle.vdb_morph.specs.internal.Iterating.{is_around, is_marked}
 
 -- whether q lies outside p's leaf extent, and its neighbour behind the face lies in it, at an entry that is on in the mask
 abbrev pub is_over : Bits → Coord → List Bool → Face → Coord → Bool

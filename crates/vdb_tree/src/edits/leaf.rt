@@ -1,6 +1,6 @@
 //! Leaves made, exchanged and written as a whole.
 
-ghost use Rattle.std.specs.Prelude.{◌≡◌, ◌+◌, ◌≤◌, Err, false, IfErr, IsErr, IsOk, IsTrue, OnOk};
+ghost use Rattle.std.specs.Prelude.{◌≡◌, ◌≢◌, ◌+◌, ◌≤◌, Err, false, IfErr, IsErr, IsOk, IsTrue, OnOk};
 ghost use Rattle.vdb_coord.specs.Blocks.{block_around, key};
 ghost use Rattle.vdb_coord.specs.declared.Coord.{Coord};
 ghost use Rattle.vdb_coord.specs.declared.Level.TheVariants.{Leaf as leaf_level};
@@ -8,7 +8,8 @@ ghost use Rattle.vdb_node.specs.declared.Entry.TheVariants.{Child, Tile};
 ghost use Rattle.vdb_tree.specs.Table.{HasCapacity};
 ghost use Rattle.vdb_tree.specs.Changes.{Keeps, SameDescent};
 ghost use Rattle.vdb_tree.specs.Field.{fill};
-ghost use Rattle.vdb_tree.specs.Layout.{bits_of, field_of, lower_entry, upper_entry};
+ghost use Rattle.vdb_tree.specs.Layout.{bits_of, field_of, lower_entry, root_at, upper_entry};
+ghost use Rattle.vdb_tree.specs.Nodes.{KeepsElsewhere};
 ghost use Rattle.vdb_tree.specs.Leaves.{IsLeafAround, with_leaf};
 ghost use Rattle.vdb_tree.specs.Outcome.{IsOutcome};
 ghost use Rattle.vdb_tree.specs.Paths.{in_leaf, IsWhole, TreePath};
@@ -97,8 +98,11 @@ impl<
         ensures made { OnOk result (IsTrue (in_leaf (bits_of U L F) self.new p)) }
         ensures leaves { (q : Coord) → IsTrue (in_leaf (bits_of U L F) self.old q) → IsTrue (in_leaf (bits_of U L F) self.new q) }
         ensures there { IsTrue (in_leaf (bits_of U L F) self.old p) → IsOk result }
+        ensures elsewhere { KeepsElsewhere (bits_of U L F) self.old self.new p }
+        ensures table { (k : Coord) → k ≢ key (bits_of U L F) p → root_at self.new.root k ≡ root_at self.old.root k }
         ensures capacity { HasCapacity self.old (key (bits_of U L F) p) → IfErr result (λ refusal. refusal ≡ Memory) }
         ensures full { (HasCapacity self.old (key (bits_of U L F) p) → ⊥) → (result ≡ Err RootLimit) × (self.new ≡ self.old) }
+        ensures steps { steps.new ≤ steps.old + 4 }
     {
         if !self.has_capacity(p) {
             return Err(TreeRefusal::RootLimit);

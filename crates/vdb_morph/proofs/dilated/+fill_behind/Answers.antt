@@ -4,7 +4,7 @@ use Rattle.vdb_coord.specs.declared.face.Face.{Face}
 use Rattle.vdb_tree.specs.Field.{Field, fill}
 use Rattle.vdb_tree.specs.Layout.{bits_of, cell_at, field_of}
 use Rattle.vdb_morph.specs.internal.Behind.{is_behind_any}
-use Rattle.vdb_morph.specs.internal.Turning.{with_active}
+use Rattle.vdb_morph.specs.internal.Iterating.{with_active}
 use Rattle.vdb_morph.proofs.Marks.{changed_if_ok}
 use Rattle.vdb_morph.proofs.SpreadBoxes.{active, behind_next, behind_skip}
 use Rattle.vdb_morph.proofs.dilated.+fill_behind.Goals as goal

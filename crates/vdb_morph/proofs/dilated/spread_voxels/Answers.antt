@@ -7,7 +7,7 @@ use Rattle.vdb_coord.proofs.Positions.{offset_below}
 use Rattle.vdb_mask.specs.Mask.{is_on}
 use Rattle.vdb_tree.specs.Layout.{bits_of, field_of}
 use Rattle.vdb_walk.proofs.Cuts.{same_boxes}
-use Rattle.vdb_morph.specs.internal.Turning.{is_marked}
+use Rattle.vdb_morph.specs.internal.Iterating.{is_marked}
 use Rattle.vdb_morph.proofs.Spreading.{marked_block, spread_alike}
 use Rattle.vdb_morph.proofs.dilated.spread_voxels.Goals as goal
 

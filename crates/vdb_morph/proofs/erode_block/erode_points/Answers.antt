@@ -5,7 +5,7 @@ use Rattle.vdb_coord.specs.declared.Bits.{Bits}
 use Rattle.vdb_coord.specs.declared.Level.TheVariants.{Leaf}
 use Rattle.vdb_tree.specs.Field.{erode, write}
 use Rattle.vdb_tree.specs.Layout.{bits_of, cell_at, field_of}
-use Rattle.vdb_morph.specs.internal.Turning.{topology}
+use Rattle.vdb_morph.specs.internal.Iterating.{topology}
 use Rattle.vdb_morph.proofs.VoxelWrites.{entry_at, voxel_more, voxels_first, voxels_last}
 use Rattle.vdb_morph.proofs.erode_block.erode_points.Goals as goal
 

@@ -1,7 +1,7 @@
 use Rattle.std.proofs.Common.{◌≡◌}
 use Rattle.vdb_tree.specs.Field.{erode}
 use Rattle.vdb_tree.specs.Layout.{bits_of, field_of}
-use Rattle.vdb_morph.specs.internal.Turning.{taken, topology}
+use Rattle.vdb_morph.specs.internal.Iterating.{taken, topology}
 use Rattle.vdb_morph.proofs.VoxelWrites.{is_reached}
 use Rattle.vdb_morph.proofs.erode_block.erode_points.Given as goal
 

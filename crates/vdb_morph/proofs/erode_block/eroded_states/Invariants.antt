@@ -6,7 +6,7 @@ use Rattle.vdb_coord.specs.declared.Coord.{Coord}
 use Rattle.vdb_coord.specs.declared.Level.TheVariants.{Leaf}
 use Rattle.vdb_mask.specs.Mask.{is_on}
 use Rattle.vdb_tree.specs.Layout.{bits_of, field_of}
-use Rattle.vdb_morph.specs.internal.Turning.{is_around}
+use Rattle.vdb_morph.specs.internal.Iterating.{is_around}
 use Rattle.vdb_morph.proofs.ErodedBlocks.{stays_by}
 use Rattle.vdb_morph.proofs.erode_block.eroded_states.Given as goal
 

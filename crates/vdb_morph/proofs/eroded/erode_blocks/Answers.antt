@@ -7,7 +7,7 @@ use Rattle.vdb_coord.specs.declared.Level.TheVariants.{Leaf}
 use Rattle.vdb_tree.specs.Field.{Field}
 use Rattle.vdb_tree.specs.Layout.{bits_of, cell_at, field_of}
 use Rattle.vdb_tree.specs.Parts.{left_count}
-use Rattle.vdb_morph.specs.internal.Turning.{is_around}
+use Rattle.vdb_morph.specs.internal.Iterating.{is_around}
 use Rattle.vdb_morph.proofs.Eroding.{IsDoneTo, done_more, done_none, erodes_none, erodes_taken, erodes_then, nearer_left, taken_eroded}
 use Rattle.vdb_morph.proofs.eroded.erode_blocks.Goals as goal
 

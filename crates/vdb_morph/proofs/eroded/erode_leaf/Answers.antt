@@ -1,6 +1,6 @@
 use Rattle.vdb_tree.specs.Field.{Field}
 use Rattle.vdb_tree.specs.Layout.{bits_of, cell_at, field_of}
-use Rattle.vdb_morph.specs.internal.Turning.{is_around}
+use Rattle.vdb_morph.specs.internal.Iterating.{is_around}
 use Rattle.vdb_morph.proofs.Eroding.{bounds_within, erodes_taken, is_around_part, taken_eroded}
 use Rattle.vdb_morph.proofs.eroded.erode_leaf.Goals as goal
 

@@ -11,7 +11,7 @@ use Rattle.vdb_coord.specs.declared.face.Face.{Face}
 use Rattle.vdb_mask.specs.Mask.{is_on}
 use Rattle.vdb_tree.specs.Layout.{bits_of, cell_at, field_of}
 use Rattle.vdb_morph.specs.internal.Behind.{opposite, state_beside}
-use Rattle.vdb_morph.specs.internal.Turning.{with_active}
+use Rattle.vdb_morph.specs.internal.Iterating.{with_active}
 use Rattle.vdb_morph.proofs.Activating.{active_nowhere}
 use Rattle.vdb_morph.proofs.Spreads.{over_beyond, over_is, over_off}
 use Rattle.vdb_morph.proofs.spread_block.spread_over.Goals as goal

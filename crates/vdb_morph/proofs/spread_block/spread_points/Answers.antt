@@ -11,7 +11,7 @@ use Rattle.vdb_node.specs.Nodes.{entry_count}
 use Rattle.vdb_node.proofs.Sizes.{up_le}
 use Rattle.vdb_tree.specs.Layout.{bits_of, cell_at, field_of}
 use Rattle.vdb_coord.proofs.Positions.{entries_is}
-use Rattle.vdb_morph.specs.internal.Turning.{spread}
+use Rattle.vdb_morph.specs.internal.Iterating.{spread}
 use Rattle.vdb_morph.proofs.Spreads.{is_before, points_begin, points_end, points_off, points_on}
 use Rattle.vdb_morph.proofs.spread_block.spread_points.Goals as goal
 use Rattle.vdb_morph.proofs.spread_block.spread_points.Goals.{then-test+in_ok-spread_voxel, else-test}

@@ -1,6 +1,6 @@
 use Rattle.std.proofs.Common.{◌≡◌}
 use Rattle.vdb_tree.specs.Layout.{bits_of, field_of}
-use Rattle.vdb_morph.specs.internal.Turning.{spread}
+use Rattle.vdb_morph.specs.internal.Iterating.{spread}
 use Rattle.vdb_morph.proofs.Spreads.{is_before}
 use Rattle.vdb_morph.proofs.spread_block.spread_points.Given as goal
 

@@ -5,7 +5,7 @@ use Rattle.vdb_coord.specs.Space.{coord_eq, everywhere, is_inside}
 use Rattle.vdb_tree.specs.Field.{write}
 use Rattle.vdb_tree.specs.Layout.{bits_of, cell_at, field_of}
 use Rattle.vdb_tree.specs.declared.Write.TheVariants.{State}
-use Rattle.vdb_morph.specs.internal.Turning.{with_active}
+use Rattle.vdb_morph.specs.internal.Iterating.{with_active}
 use Rattle.vdb_morph.proofs.Activating.{active_nowhere, none_there, write_is}
 use Rattle.vdb_morph.proofs.Layers.{no_neighbour, some_neighbour}
 use Rattle.vdb_morph.proofs.Marks.{changed_if_ok}

@@ -6,7 +6,7 @@ use Rattle.vdb_coord.specs.Space.{coord_eq}
 use Rattle.vdb_coord.specs.declared.face.Face.TheVariants.{MinusX}
 use Rattle.vdb_coord.proofs.Meeting.{fits_everywhere}
 use Rattle.vdb_tree.specs.Layout.{bits_of, cell_at, field_of}
-use Rattle.vdb_morph.specs.internal.Turning.{with_active}
+use Rattle.vdb_morph.specs.internal.Iterating.{with_active}
 use Rattle.vdb_morph.proofs.Activating.{active_further, active_nowhere, spread_voxel_is}
 use Rattle.vdb_morph.proofs.spread_block.spread_voxel.Goals as goal
 

@@ -10,7 +10,7 @@ use Rattle.vdb_coord.proofs.Meeting.{fits_everywhere}
 use Rattle.vdb_mask.specs.Mask.{is_on}
 use Rattle.vdb_tree.specs.Layout.{bits_of, cell_at, field_of}
 use Rattle.vdb_morph.specs.internal.Spreading.{is_over}
-use Rattle.vdb_morph.specs.internal.Turning.{is_around, with_active}
+use Rattle.vdb_morph.specs.internal.Iterating.{is_around, with_active}
 use Rattle.vdb_morph.proofs.Activating.{active_further, active_nowhere}
 use Rattle.vdb_morph.proofs.Spreads.{words_spread}
 use Rattle.vdb_morph.proofs.spread_block.spread_words.Goals as goal

@@ -3,7 +3,7 @@ use Rattle.std.specs.List.{list_any}
 use Rattle.vdb_coord.specs.Faces.{faces}
 use Rattle.vdb_tree.specs.Layout.{bits_of, field_of}
 use Rattle.vdb_morph.specs.internal.Spreading.{is_over}
-use Rattle.vdb_morph.specs.internal.Turning.{with_active}
+use Rattle.vdb_morph.specs.internal.Iterating.{with_active}
 use Rattle.vdb_morph.proofs.spread_block.spread_words.Given as goal
 
 abbrev pub invariant-loop-face : goal.invariant-loop-face

@@ -2,11 +2,11 @@ use Rattle.vdb_coord.specs.Blocks.{vdb}
 use Rattle.vdb_tree.specs.Field.{erode}
 use Rattle.vdb_tree.specs.Layout.{cell_at, field_of}
 use Rattle.vdb_scene.specs.Scalars.{scalar_eq}
-use Rattle.vdb_scene.proofs.AsTurned.{as_outcome_of_turns, erode_made}
+use Rattle.vdb_scene.proofs.AsIterated.{as_outcome_of_iterations, erode_made}
 use Rattle.vdb_scene.proofs.grid_tree.erode.Goals as goal
 
 pub returns-clause-outcome : goal.returns-clause-outcome
 returns-clause-outcome g c =
     let make = g.V.GridValue.as_scalar in
     let tree = c.args.grid.now.tree in
-    as_outcome_of_turns make erode erode (erode_made make) g.V.PartialEq.eq scalar_eq g.met.V.GridValue.same_eq vdb tree.limit c.args.turns tree.background (cell_at vdb tree) (field_of vdb c.erode.new.self.tree) c.erode.result c.erode.ensures.outcome
+    as_outcome_of_iterations make erode erode (erode_made make) g.V.PartialEq.eq scalar_eq g.met.V.GridValue.same_eq vdb tree.limit c.args.iterations tree.background (cell_at vdb tree) (field_of vdb c.erode.new.self.tree) c.erode.result c.erode.ensures.outcome

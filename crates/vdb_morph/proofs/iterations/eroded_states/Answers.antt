@@ -1,9 +1,9 @@
 use Rattle.std.proofs.Common.{◌≡◌, ◌∙◌, ap, arith, ℕ, Bool}
-use Rattle.vdb_tree.specs.Field.{erode, turns}
+use Rattle.vdb_tree.specs.Field.{erode, iterations}
 use Rattle.vdb_tree.specs.Layout.{Layout, bits_of, field_of}
-use Rattle.vdb_morph.specs.internal.Turning.{topology}
-use Rattle.vdb_morph.proofs.TurnLaws.{eroded_more, of_ok}
-use Rattle.vdb_morph.proofs.turns.eroded_states.Goals as goal
+use Rattle.vdb_morph.specs.internal.Iterating.{topology}
+use Rattle.vdb_morph.proofs.IterationLaws.{eroded_more, of_ok}
+use Rattle.vdb_morph.proofs.iterations.eroded_states.Goals as goal
 
 pub loop-init : goal.loop-init
 loop-init g c =
@@ -19,5 +19,5 @@ loop-preserved g c =
 pub returns : goal.returns
 returns g c = λ some.
     let bits = bits_of g.row.U g.row.L g.row.F in
-    let all : c.loop.counter ≡ c.args.turns = omega arith in
-    c.loop.invariant ∙ ap (λ (n : ℕ). topology (turns n erode (field_of bits c.args.tree.now))) all
+    let all : c.loop.counter ≡ c.args.iterations = omega arith in
+    c.loop.invariant ∙ ap (λ (n : ℕ). topology (iterations n erode (field_of bits c.args.tree.now))) all

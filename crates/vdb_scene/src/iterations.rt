@@ -3,24 +3,24 @@
 ghost use Rattle.std.specs.Prelude.{◌≡◌, ◌≤◌, if◌then◌else◌, IfSome, None, Some};
 ghost use Rattle.vdb_scene.specs.Doing.{CarriesOut, LeavesTrees, answer_of};
 ghost use Rattle.vdb_scene.specs.Grids.{scene_of};
-ghost use Rattle.vdb_scene.specs.Arguments.{count_of, is_turn_count};
+ghost use Rattle.vdb_scene.specs.Arguments.{count_of, is_iteration_count};
 ghost use Rattle.vdb_scene.specs.declared.command.Command.TheVariants as commands;
 
 use crate::{Answer, Name, Num, Refusal, Scene};
 use vdb_pool::Steps;
 
 /// The maximum number of iterations of one command.
-const TURN_LIMIT: i64 = 16;
+const ITERATION_LIMIT: i64 = 16;
 
-/// Returns the number of iterations that a line names: `None` outside 1 to `TURN_LIMIT`.
-fn turns_of(turns: Num) -> Option<u32>
-    ensures turns { result ≡ (if is_turn_count turns then Some (count_of turns) else None) }
+/// Returns the number of iterations that a line names: `None` outside 1 to `ITERATION_LIMIT`.
+fn iterations_of(iterations: Num) -> Option<u32>
+    ensures iterations { result ≡ (if is_iteration_count iterations then Some (count_of iterations) else None) }
     ensures some { IfSome result (λ count. 1 ≤ count) }
     ensures few { IfSome result (λ count. count ≤ 16) }
 {
-    match turns {
+    match iterations {
         Num::Near(value) => {
-            if 1 <= value && value <= TURN_LIMIT {
+            if 1 <= value && value <= ITERATION_LIMIT {
                 Some(value as u32)
             } else {
                 None
@@ -35,16 +35,16 @@ impl Scene {
     pub(crate) fn dilate(
         &mut self,
         name: &Name,
-        turns: Num,
+        iterations: Num,
         steps: &mut Steps,
     ) -> Result<Answer<'static>, Refusal>
-        ensures step { CarriesOut (scene_of self.old) (commands.Dilate name.now turns) result (scene_of self.new) }
-        ensures trees { LeavesTrees (commands.Dilate name.now turns) (answer_of result) self.old self.new }
+        ensures step { CarriesOut (scene_of self.old) (commands.Dilate name.now iterations) result (scene_of self.new) }
+        ensures trees { LeavesTrees (commands.Dilate name.now iterations) (answer_of result) self.old self.new }
     {
         let Some(entry) = self.grids.get_mut(name) else {
             return Err(Refusal::NoGrid);
         };
-        let Some(count) = turns_of(turns) else {
+        let Some(count) = iterations_of(iterations) else {
             return Err(Refusal::ValueRange);
         };
         entry.grid.dilate(count, steps)?;
@@ -55,16 +55,16 @@ impl Scene {
     pub(crate) fn erode(
         &mut self,
         name: &Name,
-        turns: Num,
+        iterations: Num,
         steps: &mut Steps,
     ) -> Result<Answer<'static>, Refusal>
-        ensures step { CarriesOut (scene_of self.old) (commands.Erode name.now turns) result (scene_of self.new) }
-        ensures trees { LeavesTrees (commands.Erode name.now turns) (answer_of result) self.old self.new }
+        ensures step { CarriesOut (scene_of self.old) (commands.Erode name.now iterations) result (scene_of self.new) }
+        ensures trees { LeavesTrees (commands.Erode name.now iterations) (answer_of result) self.old self.new }
     {
         let Some(entry) = self.grids.get_mut(name) else {
             return Err(Refusal::NoGrid);
         };
-        let Some(count) = turns_of(turns) else {
+        let Some(count) = iterations_of(iterations) else {
             return Err(Refusal::ValueRange);
         };
         entry.grid.erode(count, steps)?;

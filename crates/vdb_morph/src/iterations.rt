@@ -1,12 +1,12 @@
 //! Dilation and erosion of a tree by some iterations.
 
 ghost use Rattle.std.specs.Prelude.{◌≡◌, ◌≤◌, IfErr, IfSome};
-ghost use Rattle.vdb_tree.specs.Field.{dilate as dilation, erode as erosion, turns as turned};
+ghost use Rattle.vdb_tree.specs.Field.{dilate as dilation, erode as erosion, iterations as iterated};
 ghost use Rattle.vdb_tree.specs.Layout.{bits_of, field_of};
 ghost use Rattle.vdb_tree.specs.Outcome.{IsOutcome};
 ghost use Rattle.vdb_tree.specs.declared.refusal.TreeRefusal.TheVariants.{Memory};
 ghost use Rattle.vdb_morph.specs.Growth.{IsGrowth};
-ghost use Rattle.vdb_morph.specs.internal.Turning.{topology};
+ghost use Rattle.vdb_morph.specs.internal.Iterating.{topology};
 
 use crate::dilated::dilated;
 use crate::eroded::eroded;
@@ -15,7 +15,7 @@ use vdb_pool::Steps;
 use vdb_topology::{intersect, unite};
 use vdb_tree::{TreeOf, TreeRefusal};
 
-/// Activates, in each of `turns` iterations, every voxel that has an active face neighbour, and keeps the values (OpenVDB's
+/// Activates, in each iteration, every voxel that has an active face neighbour, and keeps the values (OpenVDB's
 /// `tools::dilateActiveValues` with `NN_FACE`). An iteration reads the states from before it. The number of iterations is 1 to
 /// 16.
 ///
@@ -31,23 +31,23 @@ pub fn dilate<
     const WF: usize,
 >(
     tree: &mut TreeOf<V, U, L, F, WU, WL, WF>,
-    turns: u32,
+    iterations: u32,
     steps: &mut Steps,
 ) -> Result<(), TreeRefusal>
-    requires some { 1 ≤ turns }
-    requires few { turns ≤ 16 }
+    requires some { 1 ≤ iterations }
+    requires few { iterations ≤ 16 }
     ensures outcome { IsGrowth V.eq (bits_of U L F) tree.old.limit (field_of (bits_of U L F) tree.old)
-        (turned turns dilation (field_of (bits_of U L F) tree.old)) (field_of (bits_of U L F) tree.new) result }
+        (iterated iterations dilation (field_of (bits_of U L F) tree.old)) (field_of (bits_of U L F) tree.new) result }
     ensures limit { tree.new.limit ≡ tree.old.limit }
 {
     let _ = tree.mask_words(); // no nodes are too great
-    match dilated_states(tree, turns, steps) {
+    match dilated_states(tree, iterations, steps) {
         Some(states) => unite(tree, &states, steps),
         None => Err(TreeRefusal::Memory),
     }
 }
 
-/// Deactivates, in each of `turns` iterations, every voxel that has an inactive face neighbour, and keeps the values (OpenVDB's
+/// Deactivates, in each iteration, every voxel that has an inactive face neighbour, and keeps the values (OpenVDB's
 /// `tools::erodeActiveValues` with `NN_FACE`). An iteration reads the states from before it. The number of iterations is 1 to 16.
 ///
 /// Fails with `Memory` if an allocation fails, and leaves every cell unchanged.
@@ -61,18 +61,18 @@ pub fn erode<
     const WF: usize,
 >(
     tree: &mut TreeOf<V, U, L, F, WU, WL, WF>,
-    turns: u32,
+    iterations: u32,
     steps: &mut Steps,
 ) -> Result<(), TreeRefusal>
-    requires some { 1 ≤ turns }
-    requires few { turns ≤ 16 }
+    requires some { 1 ≤ iterations }
+    requires few { iterations ≤ 16 }
     ensures outcome { IsOutcome V.eq (bits_of U L F) tree.old.limit (field_of (bits_of U L F) tree.old)
-        (turned turns erosion (field_of (bits_of U L F) tree.old)) (field_of (bits_of U L F) tree.new) result }
+        (iterated iterations erosion (field_of (bits_of U L F) tree.old)) (field_of (bits_of U L F) tree.new) result }
     ensures limit { tree.new.limit ≡ tree.old.limit }
     ensures memory { IfErr result (λ refusal. refusal ≡ Memory) }
 {
     let _ = (tree.limit(), tree.mask_words()); // the tree keeps to the limit, and no nodes are too great
-    match eroded_states(tree, turns, steps) {
+    match eroded_states(tree, iterations, steps) {
         Some(states) => intersect(tree, &states, steps),
         None => Err(TreeRefusal::Memory),
     }
@@ -89,13 +89,13 @@ fn dilated_states<
     const WF: usize,
 >(
     tree: &TreeOf<V, U, L, F, WU, WL, WF>,
-    turns: u32,
+    iterations: u32,
     steps: &mut Steps,
 ) -> Option<TreeOf<bool, U, L, F, WU, WL, WF>>
-    ensures { 1 ≤ turns → IfSome result (λ states. field_of (bits_of U L F) states ≡ topology (turned turns dilation (field_of (bits_of U L F) tree.now))) }
+    ensures { 1 ≤ iterations → IfSome result (λ states. field_of (bits_of U L F) states ≡ topology (iterated iterations dilation (field_of (bits_of U L F) tree.now))) }
 {
     let mut states = dilated(tree, steps).ok()?;
-    for _ in 1..turns {
+    for _ in 1..iterations {
         states = dilated(&states, steps).ok()?;
     }
     Some(states)
@@ -112,13 +112,13 @@ fn eroded_states<
     const WF: usize,
 >(
     tree: &TreeOf<V, U, L, F, WU, WL, WF>,
-    turns: u32,
+    iterations: u32,
     steps: &mut Steps,
 ) -> Option<TreeOf<bool, U, L, F, WU, WL, WF>>
-    ensures { 1 ≤ turns → IfSome result (λ states. field_of (bits_of U L F) states ≡ topology (turned turns erosion (field_of (bits_of U L F) tree.now))) }
+    ensures { 1 ≤ iterations → IfSome result (λ states. field_of (bits_of U L F) states ≡ topology (iterated iterations erosion (field_of (bits_of U L F) tree.now))) }
 {
     let mut states = eroded(tree, steps).ok()?;
-    for _ in 1..turns {
+    for _ in 1..iterations {
         states = eroded(&states, steps).ok()?;
     }
     Some(states)

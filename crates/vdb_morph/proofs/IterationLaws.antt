@@ -9,7 +9,7 @@ use Rattle.vdb_coord.specs.declared.Coord.{Coord}
 use Rattle.vdb_coord.proofs.Boxes.{and_true, both, same_truth}
 use Rattle.vdb_value.specs.declared.Cell.{Cell}
 use Rattle.vdb_tree.specs.ConstantBlocks.{roots}
-use Rattle.vdb_tree.specs.Field.{Field, dilate, erode, field, intersect, turns, unite}
+use Rattle.vdb_tree.specs.Field.{Field, dilate, erode, field, intersect, iterations, unite}
 use Rattle.vdb_tree.specs.declared.pairs.StateRule.TheVariants.{Intersect}
 use Rattle.vdb_tree.proofs.Fields.{same_cells}
 use Rattle.vdb_tree.proofs.Rooted.{or_cases, or_first, or_second}
@@ -18,7 +18,7 @@ use Rattle.vdb_tree.specs.Outcome.{IsOutcome}
 use Rattle.vdb_tree.specs.declared.refusal.TreeRefusal.{TreeRefusal}
 use Rattle.vdb_tree.specs.declared.refusal.TreeRefusal.TheVariants.{Memory, RootLimit}
 use Rattle.vdb_morph.specs.Growth.{IsGrowth}
-use Rattle.vdb_morph.specs.internal.Turning.{topology}
+use Rattle.vdb_morph.specs.internal.Iterating.{topology}
 use Rattle.vdb_morph.proofs.Neighbours.{InRange, all_near, any_near}
 
 -- a fact for each accepted call holds for its result
@@ -63,64 +63,64 @@ module _ {V : Type 0} (f : Field V) where
 -- ---- n iterations
 
 -- the last of them
-turns_last : {V : Type 0} (n : ℕ) (turn : Field V → Field V) (f : Field V) → turns (suc n) turn f ≡ turn (turns n turn f)
-turns_last zero turn f = refl
-turns_last (suc n) turn f = turns_last n turn (turn f)
+iterations_last : {V : Type 0} (n : ℕ) (iteration : Field V → Field V) (f : Field V) → iterations (suc n) iteration f ≡ iteration (iterations n iteration f)
+iterations_last zero iteration f = refl
+iterations_last (suc n) iteration f = iterations_last n iteration (iteration f)
 
 one_more : (n : ℕ) → suc n ≡ n + 1
 one_more n = omega arith
 
 module _ {V : Type 0} (f : Field V) (n : ℕ) (old : Field Bool) where
   -- one more iteration of the states
-  pub dilated_more : old ≡ topology (turns n dilate f) → (new : Field Bool) → new ≡ topology (dilate old) → new ≡ topology (turns (n + 1) dilate f)
+  pub dilated_more : old ≡ topology (iterations n dilate f) → (new : Field Bool) → new ≡ topology (dilate old) → new ≡ topology (iterations (n + 1) dilate f)
   dilated_more h new e =
-      e ∙ ap (λ (g : Field Bool). topology (dilate g)) h ∙ topology_dilate (turns n dilate f) ∙ ap (λ (g : Field V). topology g) (sym (turns_last n dilate f))
-      ∙ ap (λ (m : ℕ). topology (turns m dilate f)) (one_more n)
+      e ∙ ap (λ (g : Field Bool). topology (dilate g)) h ∙ topology_dilate (iterations n dilate f) ∙ ap (λ (g : Field V). topology g) (sym (iterations_last n dilate f))
+      ∙ ap (λ (m : ℕ). topology (iterations m dilate f)) (one_more n)
 
-  pub eroded_more : old ≡ topology (turns n erode f) → (new : Field Bool) → new ≡ topology (erode old) → new ≡ topology (turns (n + 1) erode f)
+  pub eroded_more : old ≡ topology (iterations n erode f) → (new : Field Bool) → new ≡ topology (erode old) → new ≡ topology (iterations (n + 1) erode f)
   eroded_more h new e =
-      e ∙ ap (λ (g : Field Bool). topology (erode g)) h ∙ topology_erode (turns n erode f) ∙ ap (λ (g : Field V). topology g) (sym (turns_last n erode f))
-      ∙ ap (λ (m : ℕ). topology (turns m erode f)) (one_more n)
+      e ∙ ap (λ (g : Field Bool). topology (erode g)) h ∙ topology_erode (iterations n erode f) ∙ ap (λ (g : Field V). topology g) (sym (iterations_last n erode f))
+      ∙ ap (λ (m : ℕ). topology (iterations m erode f)) (one_more n)
 
 -- an iteration keeps the background and the values, and what lies outside the range is fixed
 record KeepsValues {V : Type 0} (old new : Field V) : Type 0 where
   pub background : new.background ≡ old.background
   pub value : (p : Coord) → InRange p → (new.cell p).value ≡ (old.cell p).value
 
-record IsTurn {V : Type 0} (turn : Field V → Field V) : Type 0 where
-  pub keeps : (f : Field V) → KeepsValues f (turn f)
-  pub cut : (f : Field V) → turn f ≡ field (turn f).background (turn f).cell
+record IsIteration {V : Type 0} (iteration : Field V → Field V) : Type 0 where
+  pub keeps : (f : Field V) → KeepsValues f (iteration f)
+  pub cut : (f : Field V) → iteration f ≡ field (iteration f).background (iteration f).cell
 
 -- a field that has been cut to the range
 pub cut_again : {V : Type 0} (background : V) (cell : Coord → Cell V) → field background cell ≡ field background (field background cell).cell
 cut_again background cell = same_cells background _ _ (λ p inside. rw inside refl)
 
 module _ {V : Type 0} where
-  dilate_turns : IsTurn (dilate {V = V})
-  dilate_turns = record { keeps = λ f. record { background = refl; value = λ p inside. rw inside refl }; cut = λ f. cut_again _ _ }
+  dilate_iterations : IsIteration (dilate {V = V})
+  dilate_iterations = record { keeps = λ f. record { background = refl; value = λ p inside. rw inside refl }; cut = λ f. cut_again _ _ }
 
-  erode_turns : IsTurn (erode {V = V})
-  erode_turns = record { keeps = λ f. record { background = refl; value = λ p inside. rw inside refl }; cut = λ f. cut_again _ _ }
+  erode_iterations : IsIteration (erode {V = V})
+  erode_iterations = record { keeps = λ f. record { background = refl; value = λ p inside. rw inside refl }; cut = λ f. cut_again _ _ }
 
-  module _ (turn : Field V → Field V) (is : IsTurn turn) where
-    turns_keep : (n : ℕ) (f : Field V) → KeepsValues f (turns n turn f)
-    turns_keep zero f = record { background = refl; value = λ p inside. refl }
-    turns_keep (suc n) f =
+  module _ (iteration : Field V → Field V) (is : IsIteration iteration) where
+    iterations_keep : (n : ℕ) (f : Field V) → KeepsValues f (iterations n iteration f)
+    iterations_keep zero f = record { background = refl; value = λ p inside. refl }
+    iterations_keep (suc n) f =
         let first = is.keeps f in
-        let rest = turns_keep n (turn f) in
+        let rest = iterations_keep n (iteration f) in
         record { background = rest.background ∙ first.background; value = λ p inside. rest.value p inside ∙ first.value p inside }
 
-    turns_cut : (n : ℕ) (f : Field V) → turns (suc n) turn f ≡ field (turns (suc n) turn f).background (turns (suc n) turn f).cell
-    turns_cut zero f = is.cut f
-    turns_cut (suc n) f = turns_cut n (turn f)
+    iterations_cut : (n : ℕ) (f : Field V) → iterations (suc n) iteration f ≡ field (iterations (suc n) iteration f).background (iterations (suc n) iteration f).cell
+    iterations_cut zero f = is.cut f
+    iterations_cut (suc n) f = iterations_cut n (iteration f)
 
   -- an active voxel stays active in each iteration of dilation
-  grown : (n : ℕ) (f : Field V) (p : Coord) → InRange p → on f p ≡ true → on (turns n dilate f) p ≡ true
+  grown : (n : ℕ) (f : Field V) (p : Coord) → InRange p → on f p ≡ true → on (iterations n dilate f) p ≡ true
   grown zero f p inside h = h
   grown (suc n) f p inside h = grown n (dilate f) p inside (dilated_on f p inside ∙ or_first (on f p) (list_any (on f) (neighbours p)) h)
 
   -- a voxel that is active after iterations of erosion was active before
-  shrunk : (n : ℕ) (f : Field V) (p : Coord) → InRange p → on (turns n erode f) p ≡ true → on f p ≡ true
+  shrunk : (n : ℕ) (f : Field V) (p : Coord) → InRange p → on (iterations n erode f) p ≡ true → on f p ≡ true
   shrunk zero f p inside h = h
   shrunk (suc n) f p inside h = (both (on f p) (list_all (on f) (neighbours p)) (sym (eroded_on f p inside) ∙ shrunk n (erode f) p inside h)).0
 
@@ -146,19 +146,19 @@ module _ {V : Type 0} where
         ∙ same_truth (on old p && on new p) (on new p) (λ e. (both (on old p) (on new p) e).1) (λ k. and_true (on old p) (on new p) (h p inside k) k))
 
   -- the states of some iterations of dilation, united with the field
-  pub unite_turns : (n : ℕ) → 1 ≤ n → (f : Field V) → unite f (topology (turns n dilate f)) ≡ turns n dilate f
-  unite_turns zero some f = absurd (omega arith)
-  unite_turns (suc n) some f = united f (turns (suc n) dilate f) (turns_keep dilate dilate_turns (suc n) f) (turns_cut dilate dilate_turns n f) (grown (suc n) f)
+  pub unite_iterations : (n : ℕ) → 1 ≤ n → (f : Field V) → unite f (topology (iterations n dilate f)) ≡ iterations n dilate f
+  unite_iterations zero some f = absurd (omega arith)
+  unite_iterations (suc n) some f = united f (iterations (suc n) dilate f) (iterations_keep dilate dilate_iterations (suc n) f) (iterations_cut dilate dilate_iterations n f) (grown (suc n) f)
 
   -- the states of some iterations of erosion, intersected with the field
-  pub intersect_turns : (n : ℕ) → 1 ≤ n → (f : Field V) → intersect f (topology (turns n erode f)) ≡ turns n erode f
-  intersect_turns zero some f = absurd (omega arith)
-  intersect_turns (suc n) some f = intersected f (turns (suc n) erode f) (turns_keep erode erode_turns (suc n) f) (turns_cut erode erode_turns n f) (shrunk (suc n) f)
+  pub intersect_iterations : (n : ℕ) → 1 ≤ n → (f : Field V) → intersect f (topology (iterations n erode f)) ≡ iterations n erode f
+  intersect_iterations zero some f = absurd (omega arith)
+  intersect_iterations (suc n) some f = intersected f (iterations (suc n) erode f) (iterations_keep erode erode_iterations (suc n) f) (iterations_cut erode erode_iterations n f) (shrunk (suc n) f)
 
   -- erosion adds no root block with a cell other than the background
-  pub eroded_roots : (eq : V → V → Bool) → ((x y : V) → eq x y ≡ true → x ≡ y) → ((x : V) → eq x x ≡ true) → (bits : Bits) (n : ℕ) → 1 ≤ n → (f : Field V) → roots eq bits (turns n erode f) ≤ roots eq bits f
+  pub eroded_roots : (eq : V → V → Bool) → ((x y : V) → eq x y ≡ true → x ≡ y) → ((x : V) → eq x x ≡ true) → (bits : Bits) (n : ℕ) → 1 ≤ n → (f : Field V) → roots eq bits (iterations n erode f) ≤ roots eq bits f
   eroded_roots eq exact itself bits n some f =
-      subst (λ (g : Field V). roots eq bits g ≤ roots eq bits f) (intersect_turns n some f) (ruled_within eq exact itself bits Intersect (no_unite_intersect Intersect refl) f (topology (turns n erode f)))
+      subst (λ (g : Field V). roots eq bits g ≤ roots eq bits f) (intersect_iterations n some f) (ruled_within eq exact itself bits Intersect (no_unite_intersect Intersect refl) f (topology (iterations n erode f)))
 
 -- ---- outcomes of iterations
 
@@ -169,18 +169,18 @@ module _ {V : Type 0} (eq : V → V → Bool) (bits : Bits) (limit n : ℕ) (som
   growth changed (Err Memory) o = (o.0, tt)
 
   -- a union with the states of some iterations of dilation
-  pub dilated_outcome : states ≡ topology (turns n dilate f) → (result : Result (Unit {0}) TreeRefusal) → IsOutcome eq bits limit f (unite f states) new result
-      → IsGrowth eq bits limit f (turns n dilate f) new result
+  pub dilated_outcome : states ≡ topology (iterations n dilate f) → (result : Result (Unit {0}) TreeRefusal) → IsOutcome eq bits limit f (unite f states) new result
+      → IsGrowth eq bits limit f (iterations n dilate f) new result
   dilated_outcome h result o =
-      growth (turns n dilate f) result
-      (subst (λ (g : Field V). IsOutcome eq bits limit f g new result) (ap (λ (g : Field Bool). unite f g) h ∙ unite_turns n some f) o)
+      growth (iterations n dilate f) result
+      (subst (λ (g : Field V). IsOutcome eq bits limit f g new result) (ap (λ (g : Field Bool). unite f g) h ∙ unite_iterations n some f) o)
 
   -- an intersection with the states of some iterations of erosion
-  pub eroded_outcome : states ≡ topology (turns n erode f) → (result : Result (Unit {0}) TreeRefusal) → IsOutcome eq bits limit f (intersect f states) new result
-      → IsOutcome eq bits limit f (turns n erode f) new result
-  eroded_outcome h result o = subst (λ (g : Field V). IsOutcome eq bits limit f g new result) (ap (λ (g : Field Bool). intersect f g) h ∙ intersect_turns n some f) o
+  pub eroded_outcome : states ≡ topology (iterations n erode f) → (result : Result (Unit {0}) TreeRefusal) → IsOutcome eq bits limit f (intersect f states) new result
+      → IsOutcome eq bits limit f (iterations n erode f) new result
+  eroded_outcome h result o = subst (λ (g : Field V). IsOutcome eq bits limit f g new result) (ap (λ (g : Field Bool). intersect f g) h ∙ intersect_iterations n some f) o
 
 -- erosion respects a limit that the field respects
 pub eroded_few : {V : Type 0} (eq : V → V → Bool) (bits : Bits) (limit n : ℕ) → 1 ≤ n → (f : Field V) → ((x y : V) → eq x y ≡ true → x ≡ y) → ((x : V) → eq x x ≡ true) → (few : ℕ) → roots eq bits f ≤ few → few ≡ limit
-    → roots eq bits (turns n erode f) ≤ limit
+    → roots eq bits (iterations n erode f) ≤ limit
 eroded_few eq bits limit n some f exact itself few h e = let k = eroded_roots eq exact itself bits n some f in omega (arith, h, k, e)

@@ -3,14 +3,14 @@ use Rattle.std.proofs.Common.{◌≡◌, refl, sym, ap, ◌∙◌, ℕ, Bool, tr
 use Rattle.std.proofs.lemmas.Bool.{le-ltb, lt-ltb}
 use Rattle.std.specs.Map.{lookup, set_value}
 use Rattle.vdb_coord.specs.Blocks.{vdb}
-use Rattle.vdb_tree.specs.Field.{Field, dilate, erode, turns}
+use Rattle.vdb_tree.specs.Field.{Field, dilate, erode, iterations}
 use Rattle.vdb_tree.specs.Outcome.{IsOutcome}
 use Rattle.vdb_tree.specs.declared.refusal.TreeRefusal.{TreeRefusal}
 use Rattle.vdb_tree.specs.declared.refusal.TreeRefusal.TheVariants.{Memory, RootLimit}
 use Rattle.vdb_morph.specs.Growth.{IsGrowth}
 use Rattle.vdb_scene.specs.Doing.{CarriesOut}
 use Rattle.vdb_scene.specs.Grids.{grid_field, grid_root_limit, grid_of, scene_over}
-use Rattle.vdb_scene.specs.Arguments.{count_of, is_turn_count}
+use Rattle.vdb_scene.specs.Arguments.{count_of, is_iteration_count}
 use Rattle.vdb_scene.specs.Refusals.{beyond_limit, first_of_all, of_tree, refused_if}
 use Rattle.vdb_scene.specs.Replies as replies
 use Rattle.vdb_scene.specs.Scalars.{scalar_eq}
@@ -35,7 +35,7 @@ module _ (grids : List (List ℕ × GridEntry)) (name : List ℕ) (n : Num) (nex
   pub erode_missing : lookup (is_named name) grids ≡ None → CarriesOut (scene_over grids) (commands.Erode name n) (Err refusals.NoGrid) next
   erode_missing none = (rw (missing grids name none) refl, same)
 
-  module _ (entry : GridEntry) (there : lookup (is_named name) grids ≡ Some entry) (other : is_turn_count n ≡ false) where
+  module _ (entry : GridEntry) (there : lookup (is_named name) grids ≡ Some entry) (other : is_iteration_count n ≡ false) where
     pub dilate_out_of_range : CarriesOut (scene_over grids) (commands.Dilate name n) (Err refusals.ValueRange) next
     dilate_out_of_range = (rw (found grids name entry there, other) refl, same)
 
@@ -51,7 +51,7 @@ within_limit : (b : Bool) → b ≡ false → first_of_all (refused_if b refusal
 within_limit b h = rw h refl
 
 module _ (grids after : List (List ℕ × GridEntry)) (name : List ℕ) (n : Num) (was : GridEntry) (grid : AnyGrid) (there : lookup (is_named name) grids ≡ Some was)
-    (back : after ≡ set_value (is_named name) grids (record was { grid = grid })) (limit : grid_root_limit grid ≡ grid_root_limit was.grid) (fits : is_turn_count n ≡ true) (k : ℕ) (is : count_of n ≡ k) where
+    (back : after ≡ set_value (is_named name) grids (record was { grid = grid })) (limit : grid_root_limit grid ≡ grid_root_limit was.grid) (fits : is_iteration_count n ≡ true) (k : ℕ) (is : count_of n ≡ k) where
   abbrev scene : Scene
   scene = scene_over grids
 
@@ -60,30 +60,30 @@ module _ (grids after : List (List ℕ × GridEntry)) (name : List ℕ) (n : Num
   same_scene h = unchanged grids name after was there grid back h limit
 
   -- its field was changed by this number of iterations
-  turned : (turn : Field Scalar → Field Scalar) → grid_field grid ≡ turns k turn (grid_field was.grid) → scene_over after ≡ changed scene name (turns (count_of n) turn)
-  turned turn h = changed_field grids name after was there grid back (turns k turn) h limit ∙ ap (λ m. changed scene name (turns m turn)) (sym is)
+  iterated : (iteration : Field Scalar → Field Scalar) → grid_field grid ≡ iterations k iteration (grid_field was.grid) → scene_over after ≡ changed scene name (iterations (count_of n) iteration)
+  iterated iteration h = changed_field grids name after was there grid back (iterations k iteration) h limit ∙ ap (λ m. changed scene name (iterations m iteration)) (sym is)
 
   abbrev pub dilated : Field Scalar
-  dilated = turns k dilate (grid_field was.grid)
+  dilated = iterations k dilate (grid_field was.grid)
 
   -- the root limit is the only error of a dilation
   limit_left : refusal scene (commands.Dilate name n) ≡ first_of_all (beyond_limit (grid_root_limit was.grid) dilated ∷ [])
   limit_left = rw (found grids name was there, fits) (
-      ap (λ (g : Grid). first_of_all (beyond_limit g.limit (turns (count_of n) dilate g.field) ∷ [])) (grid_found scene name (grid_of was) (found grids name was there))
-      ∙ ap (λ m. first_of_all (beyond_limit (grid_root_limit was.grid) (turns m dilate (grid_field was.grid)) ∷ [])) is)
+      ap (λ (g : Grid). first_of_all (beyond_limit g.limit (iterations (count_of n) dilate g.field) ∷ [])) (grid_found scene name (grid_of was) (found grids name was there))
+      ∙ ap (λ m. first_of_all (beyond_limit (grid_root_limit was.grid) (iterations m dilate (grid_field was.grid)) ∷ [])) is)
 
   pub dilate_done : (u : Unit {0}) → IsGrowth scalar_eq vdb (grid_root_limit was.grid) (grid_field was.grid) dilated (grid_field grid) (Ok u) → CarriesOut scene (commands.Dilate name n) (Ok Done) (scene_over after)
-  dilate_done u h = (limit_left ∙ within_limit _ (le-ltb _ _ h.1), (replies.Done, refl, refl), turned dilate h.0)
+  dilate_done u h = (limit_left ∙ within_limit _ (le-ltb _ _ h.1), (replies.Done, refl, refl), iterated dilate h.0)
 
   pub dilate_refused : (e : TreeRefusal) → IsGrowth scalar_eq vdb (grid_root_limit was.grid) (grid_field was.grid) dilated (grid_field grid) (Err e) → CarriesOut scene (commands.Dilate name n) (Err (of_tree e)) (scene_over after)
   dilate_refused RootLimit h = (limit_left ∙ over_limit _ (lt-ltb _ _ h.1), same_scene h.0)
   dilate_refused Memory h = (rw (found grids name was there, fits) refl, refl, same_scene h.0)
 
   abbrev pub eroded : Field Scalar
-  eroded = turns k erode (grid_field was.grid)
+  eroded = iterations k erode (grid_field was.grid)
 
   pub erode_done : (u : Unit {0}) → IsOutcome scalar_eq vdb (grid_root_limit was.grid) (grid_field was.grid) eroded (grid_field grid) (Ok u) → CarriesOut scene (commands.Erode name n) (Ok Done) (scene_over after)
-  erode_done u h = (rw (found grids name was there, fits) refl, (replies.Done, refl, refl), turned erode h.0)
+  erode_done u h = (rw (found grids name was there, fits) refl, (replies.Done, refl, refl), iterated erode h.0)
 
   pub erode_refused : (e : TreeRefusal) → e ≡ Memory → IsOutcome scalar_eq vdb (grid_root_limit was.grid) (grid_field was.grid) eroded (grid_field grid) (Err e) → CarriesOut scene (commands.Erode name n) (Err (of_tree e)) (scene_over after)
   erode_refused RootLimit is h = cc
