@@ -32,7 +32,7 @@ def fault(lines):
         before = {name: grid.copy() for name, grid in scene.grids.items()}
         try:
             answer = scene.answer(line) if is_alike(scene, line.decode("latin-1").split()) else None
-            if scene.leaves() > 300 or error_of(answer) in ("sum-range", "root-limit"):
+            if scene.nodes()[-1] > 300 or error_of(answer) in ("sum-range", "root-limit"):
                 raise TooLarge
             kept += [(line, answer)] if answer else []
         except TooLarge:

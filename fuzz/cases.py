@@ -1,5 +1,6 @@
 # SPDX-License-Identifier: Apache-2.0
 """The cases of the fuzzer. Each function plays one case by all drivers and returns the first difference as a text, or an empty one."""
+import operator
 import random
 import re
 import sys
@@ -14,21 +15,21 @@ from drivers import same
 from language import Scene, error_of
 from program import Workplace
 
-MOST_LEAVES = 3000  # of a scene after a line; a line that makes more is left out, since it takes time and memory
-MOST_PARTS = 60  # leaf and upper extents of a scene whose file the model writes
+MOST_NODES = (200, 2000, 3000)  # upper, lower and leaf nodes of a scene after a line; one that makes more is left out, as too slow and large
+MOST_PARTS = 100  # nodes and root blocks of a scene whose file the model writes
 MEMORY = [b"error memory\n"]
 DOUBTFUL = re.compile(rb"meta \S+ (end|more|error) ")  # makes lines of `metas` that look like the last one, or like an error
 
 
-def vetted(lines, most=MOST_LEAVES, scene=None):
-    """Returns the lines that the model can answer, and whose scene has no more leaves, each with its answer, and the last scene. The first
+def vetted(lines, most=MOST_NODES, scene=None):
+    """Returns the lines that the model can answer, and whose scene has no more nodes, each with its answer, and the last scene. The first
     scene has no grids unless it is given."""
     scene, kept = scene or Scene(), []
     for line in lines:
         before = {name: grid.copy() for name, grid in scene.grids.items()}
         try:
             answer = scene.answer(line)
-            if scene.leaves() > most:
+            if any(map(operator.gt, scene.nodes(), most)):
                 raise TooLarge
             kept.append((line, answer))
         except TooLarge:
@@ -110,7 +111,7 @@ class Cases:
         if row.stderr:
             same_fault = encoding.verdict(row.load) == row.stderr.decode().split()[-1]
             return self.file(row.load, chance) if same_fault else "encoding.py has another fault"
-        kept, scene = vetted(lines_of(row), sys.maxsize, row.load and Scene.loaded(row.load))
+        kept, scene = vetted(lines_of(row), [sys.maxsize] * 3, row.load and Scene.loaded(row.load))
         if [line for _, answer in kept for line in answer] != [answer.text for answer in row.answers]:
             return "the model has other answers"
         return self.file(row.load, chance) if row.load else self.vetted_script(kept, scene, chance)

@@ -8,7 +8,7 @@ import sys
 from itertools import islice
 from pathlib import Path
 
-from cells import HIGH, LOW, Cells
+from cells import EXTENTS, HIGH, LOW, Cells
 
 TOP = Path(__file__).resolve().parents[1]
 sys.path[:0] = [str(TOP / name) for name in ("tests", "fault_injection", "python", "tools/libvdb_checks")]
@@ -286,13 +286,13 @@ class Scene:
         pairs = sorted(self.grid(name).pairs.items())
         return [*(f"{key} {text}" for key, text in pairs), f"end {len(pairs)}"]
 
-    def leaves(self):
-        """Returns how many leaf extents have cells that differ."""
-        return sum(grid.cells.uneven(8) for grid in self.grids.values())
+    def nodes(self):
+        """Returns how many upper, lower and leaf extents have cells that differ: each needs a node."""
+        return [sum(grid.cells.uneven(side) for grid in self.grids.values()) for side in EXTENTS]
 
     def parts(self):
-        """Returns how many leaf and upper extents there are to save, which says how long `saved` takes."""
-        return self.leaves() + sum(grid.cells.roots((grid.background, False)) for grid in self.grids.values())
+        """Returns how many nodes and root blocks there are to save, which says how long `saved` takes."""
+        return sum(self.nodes()) + sum(grid.cells.roots((grid.background, False)) for grid in self.grids.values())
 
     def saved(self):
         """Returns the bytes of the scene's file."""
