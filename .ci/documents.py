@@ -86,7 +86,7 @@ LIMITS = [
     ("list", "vdb_scene/specs/Arguments.antt", r"is_limit n = .*\(pos (\d+)\)"),
     ("slice", "vdb_scene/specs/Step.antt", r"too_wide (\d+)"),
     ("voxelise", "vdb_scene/specs/Step.antt", r"too_large (\d+)"),
-    ("iterations", "vdb_scene/specs/Arguments.antt", r"is_turn_count n = .*\(pos (\d+)\)"),
+    ("iterations", "vdb_scene/specs/Arguments.antt", r"is_iteration_count n = .*\(pos (\d+)\)"),
     ("cubes", "vdb_scene/specs/Arguments.antt", r"is_root_limit \(Some n\) = .*\(pos (\d+)\)"),
     ("cubes", "vdb_scene/specs/Arguments.antt", r"root_limit_of None = (\d+)"),
 ]

@@ -21,6 +21,9 @@ KINDS = ("bool", "i32", "i64")
 LIMITS = {1: (4095, 4095, 4095), 2: (8191, 4095, 4095), 4096: (65535, 65535, 65535), 65536: (65535, 262143, 262143)}
 #: how far the last voxel of an extent lies from the first: a voxel, a leaf, a lower and an upper extent
 LENGTHS = (0, 7, 127, 4095)
+SCRIPT_LIMIT = 16_777_216
+#: the file of a scene without grids
+NO_GRID = bytes.fromhex("5644425300020000")
 TEXT = "".join(map(chr, range(0x21, 0x61))).replace("`", "") + "~"
 
 
@@ -297,6 +300,16 @@ def longest_list(it):
     it.play("a list of 4,096 voxels", script)
 
 
+def longest_script(it):
+    """A script has at most 16 MiB: of blank lines, of one line, and of lines that are too long by a byte. The line of a further byte is lost."""
+    for line, answered, lost in ((b"\n", 0, 0), (b"#", 1, 1), (b"x" * 257 + b"\n", SCRIPT_LIMIT // 258, 0)):
+        script = (line * (SCRIPT_LIMIT // len(line))).ljust(SCRIPT_LIMIT, b"#")
+        answers = ["error line-too-long"] * answered
+        it.check(it.run(script) == (answers, int(answered > 0), NO_GRID), f"a script of lines of {len(line)} bytes")
+        ended = (answers[lost:] + ["vdb: script: too-long"], 4, None)
+        it.check(it.run(script + b"#") == ended, f"a script of lines of {len(line)} bytes, too long by a byte")
+
+
 def equal_nodes(it):
     """A file whose node of any level has equal cells is rejected. With another last cell it is loaded and saved."""
     voxel = bytes.fromhex("564442530002000101610100000000000010000000000001000000000000000000000000" "030001000003000100000300010053")
@@ -320,7 +333,7 @@ def two_sessions(it):
                 it.check(it.run(b"", last) == ([], 0, last), f"{row.place}: a saved scene is saved as another file")
 
 
-PARTS = [boxes, many_grids, full_tables, last_place, one_by_one, two_grids, iterations, metadata, longest_list, equal_nodes, two_sessions]
+PARTS = [boxes, many_grids, full_tables, last_place, one_by_one, two_grids, iterations, metadata, longest_list, longest_script, equal_nodes, two_sessions]
 
 
 def main():
