@@ -433,6 +433,10 @@ VDB_CODE vdb_scene_put(vdb_scene *scene, const char *name, size_t len, vdb_grid 
  * VDB_MEMORY. */
 VDB_CODE vdb_scene_take(vdb_scene *scene, const char *name, size_t len, vdb_grid *grid);
 
+/* Exchanges a grid of the scene with that of the handle, which may have another type. The metadata stay in the scene. It takes
+ * no memory, so a second call that exchanges them back can't fail. VDB_NAME. VDB_NO_GRID. */
+VDB_CODE vdb_scene_swap(vdb_scene *scene, const char *name, size_t len, vdb_grid *grid);
+
 /* Copies a grid of the scene, and replaces the grid of the handle by it. VDB_NAME. VDB_NO_GRID. VDB_MEMORY. */
 VDB_CODE vdb_scene_copy(vdb_scene *scene, const char *name, size_t len, vdb_grid *grid);
 

@@ -23,6 +23,7 @@
 
 #include <array>
 #include <cstddef>
+#include <exception>
 #include <functional>
 #include <iterator>
 #include <map>
@@ -749,8 +750,22 @@ public:
         }
     }
 
-    // Moves a grid out of the scene. No cell is copied; its metadata pairs are gone. To read or change a grid of a scene, ask for its
-    // metadata(), take it, and put it back with them.
+    // Calls `use` with a grid of the scene, which it may change, and returns what `use` returns. No cell is copied, and the metadata pairs
+    // stay. `use` must not move the grid away, nor use the scene, in which an empty grid has the name meanwhile.
+    template <typename Use> decltype(auto) edit(std::string_view name, Use &&use)
+    {
+        Lent lent(scene_, name);
+        return std::forward<Use>(use)(lent.grid);
+    }
+
+    // The same for `use` that only reads the grid.
+    template <typename Use> decltype(auto) read(std::string_view name, Use &&use) const
+    {
+        const Lent lent(scene_, name);
+        return std::forward<Use>(use)(lent.grid);
+    }
+
+    // Moves a grid out of the scene. No cell is copied; its metadata pairs are gone.
     Grid take(std::string_view name)
     {
         Grid grid;
@@ -793,6 +808,25 @@ public:
     }
 
 private:
+    // A grid of a scene, out of its place until this object ends. To put it back takes no memory.
+    struct Lent {
+        Lent(vdb_scene &scene, std::string_view name) : scene_(scene), name_(name) { check(swap()); }
+        Lent(const Lent &) = delete;
+        Lent &operator=(const Lent &) = delete;
+        ~Lent()
+        {
+            if (swap() != VDB_OK)
+                std::terminate(); // the grid was moved away, or the scene changed
+        }
+        int32_t swap() { return vdb_scene_swap(&scene_, detail::bytes_of(name_), name_.size(), &grid.grid_); }
+
+        Grid grid = Grid(Kind::boolean, 0, 1);
+
+    private:
+        vdb_scene &scene_;
+        const std::string_view name_;
+    };
+
     mutable vdb_scene scene_ = VDB_SCENE_INIT;
 };
 

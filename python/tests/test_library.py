@@ -2,8 +2,11 @@
 """Grids and scenes of the engine, against brute force and against scenefile."""
 import copy
 import os
+import pickle
 import signal
 import tempfile
+import threading
+import time
 import unittest
 from pathlib import Path
 from unittest import mock
@@ -290,6 +293,26 @@ class Calls(unittest.TestCase):
 
 
 class Scenes(unittest.TestCase):
+    def test_ctrl_c_ends_a_load_a_save_and_a_comparison_at_once(self):
+        grid = vdb.Grid.from_array(np.random.default_rng(1).integers(1, 2**40, (96, 96, 96)))
+        scene = vdb.Scene({"a": grid, "b": grid.copy()})
+        data, whole = scene.to_bytes(), grid.copy()
+        for call in (scene.to_bytes, lambda: vdb.loads(data), lambda: scene["a"] == scene["b"], lambda: pickle.dumps(grid)):
+            ended = []
+            with self.assertRaises(KeyboardInterrupt):
+                threading.Timer(0.005, os.kill, [os.getpid(), signal.SIGINT]).start()
+                call()
+                ended.append("before the signal")
+                time.sleep(60)
+            self.assertEqual(ended, [])
+            self.assertEqual(grid, whole)
+
+    def test_a_grid_under_two_names_is_saved_under_both(self):
+        grid = vdb.Grid("i32")
+        grid[1, 2, 3] = 5
+        scene = vdb.loads(vdb.Scene({"a": grid, "b": grid}).to_bytes())
+        self.assertEqual((scene["a"], scene["b"]), (grid, grid))
+
     def test_the_files_are_those_of_scenefile(self):
         for seed in range(20):
             with self.subTest(seed=seed):

@@ -1,18 +1,22 @@
 # SPDX-License-Identifier: Apache-2.0
-"""Scenes of the library: their bytes, and grids moved into them and out of them."""
+"""Scenes of the library: their bytes, and grids lent to them and moved out of them."""
 from __future__ import annotations
 
+from concurrent.futures import ThreadPoolExecutor
+from contextlib import ExitStack, contextmanager
 from ctypes import byref, c_uint64, create_string_buffer
-from typing import Mapping, Sequence
+from typing import Callable, Iterator, Mapping, Sequence, Tuple, TypeVar
 
 import numpy as np
 
-from .arrays import box_of
-from .errors import SceneTooLongError
-from .forms import COORDINATE_SPAN, MAX_FILE, MAX_NAME, MAX_TEXT
+from .arrays import box_of, new_grid
+from .errors import SceneTooLongError, TooLongFault
+from .forms import COORDINATE_SPAN, KINDS, MAX_FILE, MAX_NAME, MAX_TEXT
 from .library import BUFFER, Held, SceneHandle
 
 NAME = b"a"
+Lender = Tuple[Held, Mapping[str, str]]  # a grid and its metadata
+Result = TypeVar("Result")
 EVERYWHERE = ((-COORDINATE_SPAN,) * 3, (COORDINATE_SPAN - 1,) * 3)
 
 
@@ -35,12 +39,12 @@ class Encoded:
 
     def encoding(self) -> np.ndarray:
         """Returns the bytes of the scene file (uint8). Raises SceneTooLongError if a file can't have as many."""
-        length = self.length()
-        if length > MAX_FILE:
-            raise SceneTooLongError(length, MAX_FILE)
-        made = np.empty(length, np.uint8)
-        self.scene.call("save", made.ctypes.data_as(BUFFER), length, byref(c_uint64()))
-        return made
+        made, written = np.empty(MAX_FILE, np.uint8), c_uint64()  # memory that isn't written is only reserved
+        try:
+            self.scene.call("save", made.ctypes.data_as(BUFFER), MAX_FILE, byref(written))
+        except TooLongFault:
+            raise SceneTooLongError(self.length(), MAX_FILE) from None
+        return made[: written.value]
 
     def names(self) -> "list[bytes]":
         count, used, buffer = c_uint64(), c_uint64(), create_string_buffer(MAX_NAME)
@@ -50,14 +54,6 @@ class Encoded:
             self.scene.call("name", index, buffer, len(buffer), byref(used))
             names.append(buffer.raw[: used.value])
         return names
-
-    def put(self, name: bytes, grid: Held, pairs: "Mapping[str, str]") -> None:
-        """Puts a copy of a grid, with metadata, into the scene."""
-        copy = Held()
-        grid.call_with("copy", copy)
-        self.scene.call_with("put", copy, name, len(name))
-        for key, text in pairs.items():
-            self.scene.call("meta_set", name, len(name), key.encode(), len(key), text.encode(), len(text))
 
     def take(self, name: bytes) -> Held:
         """Moves a grid out of the scene."""
@@ -78,21 +74,65 @@ class Encoded:
         return pairs
 
 
+def apart(call: "Callable[[], Result]") -> "Result":
+    """Makes a call in a thread of its own. So Ctrl-C comes through at once, and stops the call nowhere: it goes on, and its result is lost."""
+    pool = ThreadPoolExecutor(1)
+    try:
+        return pool.submit(call).result()
+    finally:
+        pool.shutdown(wait=False)
+
+
+@contextmanager
+def lent(grids: "Mapping[bytes, Lender]") -> "Iterator[Encoded]":
+    """Yields a scene of grids, by their names. No cell is copied, unless a grid has two names. Meanwhile the handles have other grids, so
+    nobody else may use them, and Ctrl-C must not come between: `apart` sees to that."""
+    made, handles = Encoded(), {}
+    for name, (grid, pairs) in grids.items():
+        handles[name] = copied(grid) if grid in handles.values() else grid
+        made.scene.call_with("put", new_grid(KINDS["bool"], False, 1), name, len(name))
+        for key, text in pairs.items():
+            made.scene.call("meta_set", name, len(name), key.encode(), len(key), text.encode(), len(text))
+    with ExitStack() as back:
+        for grid in sorted(handles.values(), key=id):
+            back.enter_context(grid.lock)
+        for name, grid in handles.items():
+            made.scene.call_with("swap", grid, name, len(name))
+            back.callback(made.scene.call_with, "swap", grid, name, len(name))
+        yield made
+
+
+def encoding_of(grids: "Mapping[bytes, Lender]") -> np.ndarray:
+    """Returns the bytes of the scene file of grids by their names (uint8). Raises SceneTooLongError if a file can't have as many."""
+    def made() -> np.ndarray:
+        with lent(grids) as scene:
+            return scene.encoding()
+
+    return apart(made)
+
+
+def copied(grid: Held) -> Held:
+    """Returns a copy of a grid."""
+    copy = Held()
+    grid.call_with("copy", copy)
+    return copy
+
+
 def same_cells(first: Held, second: Held, head: int, box: "Sequence[Sequence[int]]" = EVERYWHERE) -> bool:
     """Returns whether two grids of one type and background have the same cells. The first `head` bytes of a grid's file aren't compared.
 
     A grid has one encoding. Where it is too long for a file, the halves of the box are compared.
     """
-    scenes = []
-    for grid in (first, second):
-        scenes.append(Encoded())
-        scenes[-1].put(NAME, grid, {})
-    one, two = scenes
-    if one.length() != two.length():
-        return False
-    if one.length() <= MAX_FILE:
-        return np.array_equal(one.encoding()[head:], two.encoding()[head:])
-    del one, two, scenes
+    def same_files() -> "bool | None":
+        locks = [grid.lock for grid in sorted((first, second), key=id)]
+        with locks[0], locks[1], lent({NAME: (first, {})}) as one, lent({NAME: (second, {})}) as two:
+            if one.length() != two.length():
+                return False
+            return np.array_equal(one.encoding()[head:], two.encoding()[head:]) if one.length() <= MAX_FILE else None
+
+    same = apart(same_files)
+    if same is not None:
+        return same
     low, high = box
     axis = max(range(3), key=lambda axis: high[axis] - low[axis])
     middle = (low[axis] + high[axis]) // 2
@@ -102,7 +142,6 @@ def same_cells(first: Held, second: Held, head: int, box: "Sequence[Sequence[int
 
 def clipped(grid: Held, box: "Sequence[Sequence[int]]") -> Held:
     """Returns a copy of the part of a grid in a box."""
-    copy = Held()
-    grid.call_with("copy", copy)
+    copy = copied(grid)
     copy.call("clip", box_of(*box))
     return copy

@@ -10,7 +10,7 @@ import numpy as np
 from .arrays import box_of, coordinates_of, from_dense, new_grid, read_box, read_voxels, write_box, write_voxels
 from .blocks import Cubes, Part
 from .edits import is_one_of, mapped, write_cubes, write_leaves
-from .encoded import EVERYWHERE, NAME, Encoded, same_cells
+from .encoded import EVERYWHERE, NAME, Encoded, copied, encoding_of, same_cells
 from .errors import DtypeError, RangeError
 from .forms import (
     DEFAULT_LIMIT, KIND_NUMBERS, Array, Bounds, Coordinate, Leaf, Metadata, Value, check_bools, check_bounds, check_box, check_coordinate,
@@ -77,9 +77,7 @@ class Grid(Walkable):
 
     def copy(self) -> "Grid":
         """Returns a second grid with the same cells, limit and metadata."""
-        held = Held()
-        self._held.call_with("copy", held)
-        return Grid._of(held, self._metadata)
+        return Grid._of(copied(self._held), self._metadata)
 
     __copy__ = copy
 
@@ -88,9 +86,7 @@ class Grid(Walkable):
 
     def __reduce__(self) -> tuple:
         """Pickles the grid as a scene file. Raises SceneTooLongError above 268,435,456 bytes."""
-        scene = Encoded()
-        scene.put(NAME, self._held, self._metadata)
-        return _unpickled, (scene.encoding().tobytes(),)
+        return _unpickled, (encoding_of({NAME: (self._held, self._metadata)}).tobytes(),)
 
     def __eq__(self, other: object) -> bool:
         """Returns whether the other grid has the same type, background and cells. Limits and metadata may differ."""

@@ -124,6 +124,7 @@ ARGUMENTS = {
     "vdb_scene_name": (SCENE, c_size_t, BYTES, c_size_t, U64),
     "vdb_scene_put": (*NAMED, GRID),
     "vdb_scene_take": (*NAMED, GRID),
+    "vdb_scene_swap": (*NAMED, GRID),
     "vdb_scene_copy": (*NAMED, GRID),
     "vdb_scene_meta_count": (*NAMED, U64),
     "vdb_scene_meta_key": (*NAMED, c_size_t, BYTES, c_size_t, U64),

@@ -6,7 +6,7 @@ import os
 
 import numpy as np
 
-from .encoded import Encoded
+from .encoded import Encoded, apart, encoding_of
 from .files import naming, replacing
 from .forms import MAX_FILE
 from .grid import Grid
@@ -20,8 +20,8 @@ class Scene(Grids[Grid]):
     _form = Grid
 
     def to_bytes(self) -> bytes:
-        """Returns the encoding of the scene: version 2, the bytes that `vdb --save` writes. Needs memory for a copy of each grid.
-        Raises SceneTooLongError if it has more than 268,435,456 bytes."""
+        """Returns the encoding of the scene: version 2, the bytes that `vdb --save` writes. Copies no cell. Raises SceneTooLongError if it
+        has more than 268,435,456 bytes."""
         return self._encoding().tobytes()
 
     def save(self, path: "str | os.PathLike[str]") -> None:
@@ -36,10 +36,7 @@ class Scene(Grids[Grid]):
 
     def _encoding(self) -> np.ndarray:
         """Returns the bytes of the encoding (uint8)."""
-        scene = Encoded()
-        for name, grid in self.items():
-            scene.put(name.encode(), grid._held, grid.metadata)
-        return scene.encoding()
+        return encoding_of({name.encode(): (grid._held, grid.metadata) for name, grid in self.items()})
 
 
 def load(path: "str | os.PathLike[str]") -> Scene:
@@ -53,7 +50,7 @@ def load(path: "str | os.PathLike[str]") -> Scene:
 
 def loads(data: bytes) -> Scene:
     """Reads a scene from the bytes of a file. Raises FormatError with the first fault."""
-    scene, encoded = Scene(), Encoded(data)
+    scene, encoded = Scene(), apart(lambda: Encoded(data))
     for name in encoded.names():
         pairs = encoded.metadata(name)
         scene[name.decode()] = Grid._of(encoded.take(name), pairs)

@@ -327,7 +327,14 @@ static void scenes()
     CHECK(scene.copy("b").count() == 64);
     vdb::Scene again = vdb::Scene::from_bytes(scene.to_bytes());
     CHECK(again.to_bytes() == scene.to_bytes() && again.metadata("a").size() == 2);
-    CHECK(again.take("b").count() == 64 && again.names().size() == 1);
+    const vdb::Scene &only_read = again;
+    CHECK(only_read.read("b", [](const vdb::Grid &found) { return found.count(); }) == 64);
+    again.set_metadata("b", "k", "v");
+    again.edit("b", [](vdb::Grid &found) { found.set({9, 9, 9}, 4); });
+    CHECK(again.copy("b").count() == 65 && again.metadata("b").at("k") == "v" && again.names().size() == 2);
+    CHECK(code_of([&] { again.edit("b", [](vdb::Grid &) -> void { throw vdb::Error(VDB_RANGE); }); }) == VDB_RANGE && again.copy("b").count() == 65);
+    CHECK(code_of([&] { again.edit("c", [](vdb::Grid &) {}); }) == VDB_NO_GRID && code_of([&] { only_read.read("C", [](const vdb::Grid &) {}); }) == VDB_NAME);
+    CHECK(again.take("b").count() == 65 && again.names().size() == 1);
     const std::map<std::string, std::string> pairs = again.metadata("a");
     vdb::Grid taken = again.take("a");
     taken.set({9, 9, 9}, 4);

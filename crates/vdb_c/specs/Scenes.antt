@@ -8,7 +8,7 @@ use Rattle.vdb_file.specs.Scenes.{BeginsWithFile, EndsEarly}
 use Rattle.vdb_file.specs.Spelling.{IsFileOf, file_limit, spelling}
 use Rattle.vdb_file.specs.declared.fault.LoadFault.{LoadFault}
 use Rattle.vdb_file.specs.declared.fault.LoadFault.TheVariants as faults
-use Rattle.vdb_scene.specs.Doing.{AddsGrid, Does, KeepsGrids, LeavesTrees, RemovesGrid, result_of}
+use Rattle.vdb_scene.specs.Doing.{AddsGrid, Does, KeepsGrids, LeavesTrees, PutsGrid, RemovesGrid, result_of}
 use Rattle.vdb_scene.specs.Grids.{grid_alone, scene_of}
 use Rattle.vdb_scene.specs.Metas.{is_text}
 use Rattle.vdb_scene.specs.Names.{is_name}
@@ -168,3 +168,11 @@ unfoldable pub MovesOut : List ℕ → Scene → Scene → Option AnyGrid → Op
 MovesOut name s t old taken code =
     OnName name (option_map (λ e. e.grid) (lookup (abstract_scene.is_named name) s.grids.entries)) code ((t ≡ s) × (taken ≡ old))
     (λ g. ((code ≡ done) × (taken ≡ Some g) × RemovesGrid s name t) ⊎ ((code ≡ memory) × (t ≡ s) × (taken ≡ old)))
+
+-- The grid of a name and that of a handle changed places, or the handle has none, or the scene has none of the name. Nothing else changes,
+-- the metadata included.
+unfoldable pub IsSwapped : List ℕ → Scene → Scene → Option AnyGrid → Option AnyGrid → ℤ → Type 0
+IsSwapped name s t None new code = (code ≡ empty) × (t ≡ s) × (new ≡ None)
+IsSwapped name s t (Some g) new code =
+    OnName name (lookup (abstract_scene.is_named name) s.grids.entries) code ((t ≡ s) × (new ≡ Some g))
+    (λ e. (code ≡ done) × PutsGrid s name (record e { grid = g }) t × (new ≡ Some e.grid))

@@ -3,7 +3,7 @@ ghost use Rattle.std.specs.Prelude.{◌≡◌, length};
 ghost use Rattle.vdb_scene.specs.Grids.{scene_of};
 ghost use Rattle.vdb_c.specs.Calls.{OnHeld};
 ghost use Rattle.vdb_c.specs.Codes.{done};
-ghost use Rattle.vdb_c.specs.Scenes.{IsMovedIn, MovesOut, Tells};
+ghost use Rattle.vdb_c.specs.Scenes.{IsMovedIn, IsSwapped, MovesOut, Tells};
 
 use crate::codes::{DONE, EMPTY, MEMORY, NO_GRID, NO_NAME, scene_code};
 use crate::handles::{GridHandle, SceneHandle};
@@ -98,6 +98,46 @@ fn move_out(alloc: Global, scene: &mut Scene, name: &[u8], to: &mut GridHandle) 
     *room = grid;
     to.grid.put(alloc, room);
     DONE
+}
+
+/// Exchanges the grid of a name with that of a handle. The metadata stay in the scene, the accessors with their grids.
+#[unsafe(no_mangle)]
+pub extern "C" fn vdb_scene_swap(
+    alloc: Global,
+    handle: &mut SceneHandle,
+    name: &[u8],
+    grid: &mut GridHandle,
+) -> i32
+    ensures { OnHeld handle.old.scene.held handle.new.scene.held result (grid.new.grid.held ≡ grid.old.grid.held) (λ s t. IsSwapped name.now s t grid.old.grid.held grid.new.grid.held result) }
+{
+    let Some(mut scene) = handle.scene.take(alloc) else {
+        return EMPTY;
+    };
+    let code = swap(alloc, &mut scene, name, grid);
+    handle.scene.put(alloc, scene);
+    code
+}
+
+/// Exchanges the grid of a name in a scene with that of a handle.
+#[tactic(auto, unfolding(crate::specs::Scenes::IsSwapped))]
+fn swap(alloc: Global, scene: &mut Scene, name: &[u8], handle: &mut GridHandle) -> i32
+    ensures { IsSwapped name.now scene.old scene.new handle.old.grid.held handle.new.grid.held result }
+{
+    let Some(mut grid) = handle.grid.take(alloc) else {
+        return EMPTY;
+    };
+    let code = match Name::new(name) {
+        Some(name) => {
+            if scene.swap(&name, &mut grid) {
+                DONE
+            } else {
+                NO_GRID
+            }
+        }
+        None => NO_NAME,
+    };
+    handle.grid.put(alloc, grid);
+    code
 }
 
 /// Returns a grid that takes the place of another for a while.

@@ -1,5 +1,5 @@
 -- The results of calls that carry out a command.
-use Rattle.std.specs.Prelude.{◌≡◌, ℕ, List, Option, Some, None, Result, Ok, Err, IsTrue}
+use Rattle.std.specs.Prelude.{◌≡◌, ℕ, Bool, true, false, List, Option, Some, None, Result, Ok, Err, IsTrue}
 use Rattle.std.specs.Ordering.{nat_cmp}
 use Rattle.std.specs.Cmp.Lexicographic.{slice_cmp}
 use Rattle.std.specs.Map.{lookup, remove_entry, set_value}
@@ -19,6 +19,7 @@ use Rattle.vdb_scene.specs.declared.command.Command.{Command}
 use Rattle.vdb_scene.specs.declared.command.Command.TheVariants as commands
 use Rattle.vdb_scene.specs.declared.command.Num.{Num}
 use Rattle.vdb_scene.specs.declared.command.Point.{Point}
+use Rattle.vdb_scene.specs.declared.any_grid.AnyGrid.{AnyGrid}
 use Rattle.vdb_scene.specs.declared.answer.Answer.{Answer}
 use Rattle.vdb_scene.specs.declared.answer.Answer.TheVariants.{Done, Refused}
 use Rattle.vdb_scene.specs.declared.answer.Refusal.{Refusal}
@@ -60,6 +61,11 @@ AddsGrid old name e new = new.grids.entries ≡ insert_entry (slice_cmp nat_cmp)
 -- a name is gone, and each other name stands for the same grid as before
 abbrev pub RemovesGrid : Scene → List ℕ → Scene → Type 0
 RemovesGrid old name new = new.grids.entries ≡ remove_entry (is_named name) old.grids.entries
+
+-- the grid of a name, if there is one, and another grid change places; the pairs of the name stay
+abbrev pub SwapsGrid : Option GridEntry → Scene → List ℕ → Scene → AnyGrid → AnyGrid → Bool → Type 0
+SwapsGrid None old name new was is found = (found ≡ false) × (new ≡ old) × (is ≡ was)
+SwapsGrid (Some e) old name new was is found = (found ≡ true) × PutsGrid old name (record e { grid = was }) new × (is ≡ e.grid)
 
 -- an existing name stands for another grid, whose accessors keep their coordinates
 abbrev pub PutsTree : Scene → List ℕ → GridEntry → GridEntry → Scene → Type 0

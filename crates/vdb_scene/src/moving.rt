@@ -2,12 +2,13 @@
 ghost use Rattle.std.specs.Map.{lookup};
 ghost use Rattle.std.specs.Option.{option_map};
 ghost use Rattle.std.specs.Prelude.{◌≡◌, [], IfErr, OnErr, OnOk, length};
-ghost use Rattle.vdb_scene.specs.Doing.{AddsGrid, KeepsGrids, RemovesGrid};
+ghost use Rattle.vdb_scene.specs.Doing.{AddsGrid, KeepsGrids, RemovesGrid, SwapsGrid};
 ghost use Rattle.vdb_scene.specs.Grids.{grid_alone, scene_of};
 ghost use Rattle.vdb_scene.specs.Scene.{is_named, without_grid};
 ghost use Rattle.vdb_scene.specs.Step.{Inserts, refusal_alone};
 
 use crate::{AnyGrid, GridEntry, Metas, Name, Refusal, Scene};
+use std::mem;
 
 impl Scene {
     /// Returns the number of grids, at most `GRID_LIMIT`.
@@ -54,6 +55,19 @@ impl Scene {
                 Some(grid)
             }
             None => None,
+        }
+    }
+    /// Exchanges the grid of a name with another grid, which may have another type, background and limit. The metadata stay with the
+    /// name, and the accessors with their grids. Returns whether a grid has the name; if not, nothing changes. Allocates nothing.
+    pub fn swap(&mut self, name: &Name, grid: &mut AnyGrid) -> bool
+        ensures { SwapsGrid (lookup (is_named name.now) self.old.grids.entries) self.old name.now self.new grid.old grid.new result }
+    {
+        match self.grids.get_mut(name) {
+            Some(entry) => {
+                mem::swap(&mut entry.grid, grid);
+                true
+            }
+            None => false,
         }
     }
 }
