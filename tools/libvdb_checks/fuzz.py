@@ -613,6 +613,17 @@ class Session:
         call = "vdb_scene_take" if moves else "vdb_scene_copy"
         return self.on_scene(call, [name, len(name), self.grids[slot]], self.named(name), (), commit, None, [slot])
 
+    def scene_swap(self):
+        slot, name = self.grid(), self.name()
+        refusals = [*self.named(name), *([EMPTY] if self.maps[slot] is None else [])]
+
+        def commit():
+            grid, pairs = self.scene_map[name]
+            self.scene_map[name], self.maps[slot] = (self.maps[slot], pairs), grid
+            return OK
+
+        return self.on_scene("vdb_scene_swap", [name, len(name), self.grids[slot]], refusals, (), commit, None, [slot])
+
     def scene_meta(self):
         name, key = self.name(), self.name()
         if self.scene_map and not self.rarely(0.2):
@@ -649,7 +660,7 @@ class Session:
     KINDS_OF_STEP = [
         (set, 30), (get, 25), (fill, 8), (clip, 3), (nodes, 3), (iterate, 2), (combine, 5), (new, 3), (free, 0.5), (copy, 2), (facts, 2),
         (count, 2), (bounds, 2), (census, 1), (active, 5), (many, 6), (dense, 6), (leaf_count, 1), (leaves, 3), (view, 3), (scene_new, 0.5), (scene_load, 0.3), (scene_save, 0.5),
-        (scene_names, 1), (scene_put, 0.8), (scene_take, 0.8), (scene_meta, 2),
+        (scene_names, 1), (scene_put, 0.8), (scene_take, 0.8), (scene_swap, 0.8), (scene_meta, 2),
     ]  # fmt: skip
 
     def run(self, calls):
