@@ -7,7 +7,7 @@ use Rattle.vdb_coord.specs.declared.Coord.{Coord}
 use Rattle.vdb_coord.proofs.Boxes.{both}
 use Rattle.vdb_coord.proofs.Walk.{inside_from, inside_parts}
 use Rattle.vdb_c.specs.Elements.{IsLaid}
-use Rattle.vdb_c.specs.declared.elements.Strides.{Strides}
+use Rattle.vdb_c.specs.declared.boxes.elements.Strides.{Strides}
 use Rattle.vdb_c.proofs.Laid.{laid_same}
 use Rattle.vdb_tree.specs.Field.{Field, as_cell_of, as_field_of}
 use Rattle.vdb_tree.proofs.Fields.{cell_inside}

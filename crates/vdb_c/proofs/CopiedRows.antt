@@ -18,7 +18,7 @@ use Rattle.vdb_c.specs.BoxVoxels.{IsNextVoxel}
 use Rattle.vdb_c.specs.BoxWrites.{along_z, dense, is_first, rank}
 use Rattle.vdb_c.specs.Elements.{IsLaid, are_apart, place}
 use Rattle.vdb_c.specs.Leaves.{HasRun}
-use Rattle.vdb_c.specs.declared.elements.Strides.{Strides}
+use Rattle.vdb_c.specs.declared.boxes.elements.Strides.{Strides}
 use Rattle.vdb_c.proofs.Laid.{either_way, false_true, laid_none, laid_over, laid_within}
 use Rattle.vdb_c.proofs.LeafRows.{run_put}
 use Rattle.vdb_c.proofs.Places.{place_at_most, same_place}

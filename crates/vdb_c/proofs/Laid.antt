@@ -7,7 +7,7 @@ use Rattle.vdb_coord.specs.declared.Coord.{Coord}
 use Rattle.vdb_coord.proofs.Members.{coord_equiv, coord_exact}
 use Rattle.vdb_c.specs.Elements.{IsLaid, are_apart, place}
 use Rattle.vdb_c.specs.BoxVoxels.{IsNextVoxel, IsUpTo}
-use Rattle.vdb_c.specs.declared.elements.Strides.{Strides}
+use Rattle.vdb_c.specs.declared.boxes.elements.Strides.{Strides}
 use Rattle.vdb_c.proofs.NextVoxels.{or_first, or_second, or_ways, with_voxel}
 use Rattle.vdb_c.proofs.Places.{same_place}
 

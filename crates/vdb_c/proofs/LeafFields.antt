@@ -30,7 +30,7 @@ use Rattle.vdb_c.specs.BoxVoxels.{IsNextVoxel, IsUpTo}
 use Rattle.vdb_c.specs.BoxWrites.{with_writes, written_any}
 use Rattle.vdb_c.specs.Elements.{are_apart, place}
 use Rattle.vdb_c.specs.LeafWrites.{AreLaid, AreWritten, IsBeside, IsReady, IsWritten}
-use Rattle.vdb_c.specs.declared.elements.Strides.{Strides}
+use Rattle.vdb_c.specs.declared.boxes.elements.Strides.{Strides}
 use Rattle.vdb_c.proofs.Laid.{either_way, false_true}
 use Rattle.vdb_c.proofs.NextVoxels.{all_passed, earlier, no_next, none, not_yet, or_first, or_second, or_ways, up_to_min, up_to_next, with_inside, with_voxel}
 use Rattle.vdb_c.proofs.Places.{max_inside}

@@ -18,7 +18,7 @@ use Rattle.vdb_tree.specs.declared.queries.parts.Skip.TheVariants.{Absent, Backg
 use Rattle.vdb_tree.proofs.PartWalks.{absent_skipped}
 use Rattle.vdb_value.specs.declared.Cell.{Cell}
 use Rattle.vdb_c.specs.Elements.{IsLaid, are_apart}
-use Rattle.vdb_c.specs.declared.elements.Strides.{Strides}
+use Rattle.vdb_c.specs.declared.boxes.elements.Strides.{Strides}
 use Rattle.vdb_c.proofs.Laid.{either_way, false_true, laid_over, laid_same, laid_within}
 
 left_at_start : (b : Box) (q : Coord) → IsTrue (is_inside b q) → is_left vdb (Some b.min) q ≡ true

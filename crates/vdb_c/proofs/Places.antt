@@ -12,7 +12,7 @@ use Rattle.vdb_coord.specs.declared.Coord.{Coord}
 use Rattle.vdb_coord.proofs.Boxes.{both, three}
 use Rattle.vdb_c.proofs.NextVoxels.{next_along_z}
 use Rattle.vdb_c.specs.Elements.{are_apart, place}
-use Rattle.vdb_c.specs.declared.elements.Strides.{Strides}
+use Rattle.vdb_c.specs.declared.boxes.elements.Strides.{Strides}
 
 -- ---- along an axis
 

@@ -14,7 +14,7 @@ use Rattle.vdb_coord.proofs.Walk.{inside_from, inside_parts, up_to_x}
 use Rattle.vdb_c.specs.BoxVoxels.{IsNextVoxel}
 use Rattle.vdb_c.specs.BoxWrites.{dense, is_first, rank}
 use Rattle.vdb_c.specs.Elements.{are_apart, place}
-use Rattle.vdb_c.specs.declared.elements.Strides.{Strides}
+use Rattle.vdb_c.specs.declared.boxes.elements.Strides.{Strides}
 use Rattle.vdb_c.proofs.Laid.{either_way}
 use Rattle.vdb_c.proofs.NextVoxels.{next_along_x, next_along_y, next_along_z, no_next}
 use Rattle.vdb_c.proofs.Places.{at_most, extent_is, place_at_most, positive, reached, same_place, strides}

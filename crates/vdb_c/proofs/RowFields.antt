@@ -18,7 +18,7 @@ use Rattle.vdb_c.specs.BoxWrites.{along_z, dense, is_first, rank, with_writes}
 use Rattle.vdb_c.specs.Codes.{done, tree_code}
 use Rattle.vdb_c.specs.Elements.{are_apart, place}
 use Rattle.vdb_c.specs.Many.{IsRefusedIn, WritesFirstIn, after_writes, write_any}
-use Rattle.vdb_c.specs.declared.elements.Strides.{Strides}
+use Rattle.vdb_c.specs.declared.boxes.elements.Strides.{Strides}
 use Rattle.vdb_c.proofs.BoxFields.{writes_next}
 use Rattle.vdb_c.proofs.Places.{not_past_z, place_along_z, place_at_most, reached}
 use Rattle.vdb_c.proofs.NextVoxels.{nearer}

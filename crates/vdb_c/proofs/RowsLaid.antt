@@ -7,7 +7,7 @@ use Rattle.vdb_coord.specs.Space.{Box, coord, is_inside}
 use Rattle.vdb_coord.specs.declared.Coord.{Coord}
 use Rattle.vdb_c.specs.Elements.{IsLaid, are_apart, place}
 use Rattle.vdb_c.specs.BoxVoxels.{IsNextVoxel, IsUpTo}
-use Rattle.vdb_c.specs.declared.elements.Strides.{Strides}
+use Rattle.vdb_c.specs.declared.boxes.elements.Strides.{Strides}
 use Rattle.vdb_c.proofs.Laid.{laid_none, laid_part, laid_voxel}
 use Rattle.vdb_c.proofs.NextVoxels.{Moves, below, moved_z, none, one_more, one_more_fits, up_to_min, up_to_next, with_voxel}
 

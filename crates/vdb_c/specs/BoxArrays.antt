@@ -4,7 +4,7 @@ use Rattle.std.specs.Option.{option_and_then}
 use Rattle.vdb_coord.specs.Space.{Box}
 use Rattle.vdb_c.specs.Elements.{are_apart, has_places}
 use Rattle.vdb_c.specs.Values.{corners_box}
-use Rattle.vdb_c.specs.declared.elements.Strides.{Strides}
+use Rattle.vdb_c.specs.declared.boxes.elements.Strides.{Strides}
 use Rattle.vdb_c.specs.declared.values.Corners.{Corners}
 
 -- the box of two corners, if they are in order and both arrays have an element of its own for each voxel

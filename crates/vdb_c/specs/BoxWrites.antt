@@ -13,7 +13,7 @@ use Rattle.vdb_c.specs.BoxArrays.{box_beside}
 use Rattle.vdb_c.specs.Codes.{done, out_of_range}
 use Rattle.vdb_c.specs.Elements.{place}
 use Rattle.vdb_c.specs.Many.{IsRefusedIn, change_at}
-use Rattle.vdb_c.specs.declared.elements.Strides.{Strides}
+use Rattle.vdb_c.specs.declared.boxes.elements.Strides.{Strides}
 use Rattle.vdb_c.specs.declared.values.Corners.{Corners}
 
 -- the box of two corners, if they are in order, an array isn't empty, and both have an element of its own for each voxel or are empty

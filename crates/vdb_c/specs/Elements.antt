@@ -3,7 +3,7 @@ use Rattle.std.specs.Prelude.{◌≡◌, ◌≢◌, ◌+◌, ◌*◌, ◌<◌, �
 use Rattle.std.specs.Int.{int_gap}
 use Rattle.vdb_coord.specs.Space.{Box, extent}
 use Rattle.vdb_coord.specs.declared.Coord.{Coord}
-use Rattle.vdb_c.specs.declared.elements.Strides.{Strides}
+use Rattle.vdb_c.specs.declared.boxes.elements.Strides.{Strides}
 
 module _ (b : Box) (s : Strides) where
   -- the element of a voxel: along each axis as many strides past that of the least corner as it is voxels past it

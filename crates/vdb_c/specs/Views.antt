@@ -4,7 +4,7 @@ use Rattle.std.specs.Option.{option_and_then, option_map}
 use Rattle.std.specs.Arc.{arc_value}
 use Rattle.vdb_scene.specs.declared.any_grid.AnyGrid.{AnyGrid}
 use Rattle.vdb_c.specs.Codes.{done, empty, memory, out_of_range}
-use Rattle.vdb_c.specs.declared.view.View.{View}
+use Rattle.vdb_c.specs.declared.handles.view.View.{View}
 
 abbrev boxed : {A : Type 0} → Box AnyGrid A → AnyGrid
 boxed b = b.value

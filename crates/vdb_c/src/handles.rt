@@ -1,7 +1,13 @@
 //! The handles that C passes: a grid or a scene, and the count of the nodes that its calls visited.
 
-use crate::held_grid::HeldGrid;
-use crate::held_scene::HeldScene;
+pub(crate) mod held_grid;
+pub(crate) mod held_scene;
+pub(crate) mod held_view;
+pub(crate) mod kept;
+pub(crate) mod view;
+
+use crate::handles::held_grid::HeldGrid;
+use crate::handles::held_scene::HeldScene;
 use vdb_pool::Steps;
 
 /// A handle of a grid. Zeroed memory is an empty one.

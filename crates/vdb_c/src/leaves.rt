@@ -6,9 +6,11 @@ ghost use Rattle.vdb_c.specs.Calls.{OnHeld, Reads};
 ghost use Rattle.vdb_c.specs.Leaves.{AreNextLeaves, CopiesLeaves, HasRows, IsNextLeafOf, IsValueOf, IsWordOf, has_rows as has_a_row, is_room as is_room_for, leaf_count};
 ghost use Rattle.vdb_c.specs.Many.{number_at, voxel_at};
 
+pub(crate) mod rows;
+
 use crate::codes::{DONE, EMPTY, OUT_OF_RANGE};
 use crate::handles::GridHandle;
-use crate::leaf_rows::{copy_leaves, has_rows};
+use crate::leaves::rows::{copy_leaves, has_rows};
 use crate::values::Corner;
 use vdb_coord::Coord;
 use vdb_pool::Steps;

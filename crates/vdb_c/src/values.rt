@@ -4,6 +4,9 @@ ghost use Rattle.vdb_coord.specs.declared.Coord.{Coord};
 ghost use Rattle.vdb_scene.specs.Scalars.{is_of};
 ghost use Rattle.vdb_c.specs.Values.{accessor_of, byte_is_on, corner_coord, corners_box, is_on as number_is_on, kind_number as number_of_kind, kind_of_number, state_number as number_of_state, value_number as number_of_value, value_of};
 
+pub(crate) mod cells;
+pub(crate) mod numbers;
+
 use vdb_coord::{Bounds, Coord};
 use vdb_scene::Scalar;
 use vdb_value::Kind;

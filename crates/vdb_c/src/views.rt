@@ -9,14 +9,17 @@ ghost use Rattle.vdb_c.specs.Many.{IsReadAt, accessor_beside, byte_at, number_at
 ghost use Rattle.vdb_c.specs.Values.{state_number as number_of_state, value_number as number_of_value};
 ghost use Rattle.vdb_c.specs.Views.{IsShared, IsShown, OnShown, OnShownIf, shown};
 
-use crate::box_arrays::{bounds_beside, read};
+pub(crate) mod reports;
+pub(crate) mod walks;
+
+use crate::boxes::arrays::{bounds_beside, read};
+use crate::boxes::elements::Strides;
 use crate::codes::{DONE, EMPTY, MEMORY, OUT_OF_RANGE};
-use crate::elements::Strides;
 use crate::handles::GridHandle;
-use crate::held_view::ViewHandle;
-use crate::many::{accessor_of_many, read_cells};
+use crate::handles::held_view::ViewHandle;
+use crate::handles::view::View;
 use crate::values::{Corner, Corners, state_number, value_number};
-use crate::view::View;
+use crate::voxels::many::{accessor_of_many, read_cells};
 use std::alloc::Global;
 use std::sync::Arc;
 use vdb_coord::Coord;

@@ -11,11 +11,17 @@ ghost use Rattle.vdb_scene.specs.Scalars.{scalar_eq};
 ghost use Rattle.vdb_c.specs.Calls.{IsWriteFor, OnHeld, OnValid, Probes, Reads, ReadsBy, Writes, grid_kind, write_of};
 ghost use Rattle.vdb_c.specs.Values.{accessor_of, is_on as number_is_on, state_number as number_of_state, value_number as number_of_value, value_of};
 
-use crate::cells::{go_to, near_cell};
+pub(crate) mod arrays;
+pub(crate) mod element_writes;
+pub(crate) mod found;
+pub(crate) mod many;
+pub(crate) mod near_writes;
+
 use crate::codes::{DONE, EMPTY, OUT_OF_RANGE, tree_code};
 use crate::handles::GridHandle;
-use crate::near_writes::set_near;
+use crate::values::cells::{go_to, near_cell};
 use crate::values::{accessor, is_on, state_number, value, value_number};
+use crate::voxels::near_writes::set_near;
 use vdb_coord::Coord;
 use vdb_pool::Steps;
 use vdb_scene::{AnyGrid, Scalar};

@@ -1,0 +1,82 @@
+use Rattle.std.proofs.Common.{◌∙◌, ◌+◌, ◌<◌, ◌^◌, ap, arith, rules, SFits, w32}
+use Rattle.std.proofs.lemmas.Int.{to_z-of_z}
+use Rattle.vdb_coord.proofs.Boxes.{both}
+use Rattle.vdb_coord.proofs.Walk.{min_inside}
+use Rattle.vdb_c.specs.Elements.{place}
+use Rattle.vdb_c.proofs.LeafFields.{laid_at_first, laid_last, laid_on}
+use Rattle.vdb_c.proofs.Places.{next_along}
+use Rattle.vdb_c.proofs.RowsLaid.{further, further_fits, moved, same_next}
+use Rattle.vdb_c.proofs.boxes.leaf_writes.lay.Goals as goal
+
+pub place-index-requires-clause-inside : goal.place-index-requires-clause-inside
+place-index-requires-clause-inside g c = c.requires.within c.min-p.result (rw c.min-p.ensures.corner (min_inside c.args.part (both _ _ c.min-p.ensures.bounds).0))
+
+pub rows-init : goal.rows-init
+rows-init g c =
+    laid_at_first _ _ c.args.bounds c.args.strides.now c.args.part c.max-max.result c.min-p.result c.place-index.result c.args.leaf.now c.max-max.ensures.corner
+    (rw c.min-p.ensures.corner (min_inside c.args.part (both _ _ c.min-p.ensures.bounds).0)) c.min-p.ensures.corner c.place-index.ensures
+
+pub overflow_add-p : goal.overflow_add-p
+overflow_add-p g c =
+    let p = c.row.p in
+    let m = c.max-max.result in
+    let x : SFits w32 c.row.p.x = search rules in
+    let y : SFits w32 c.row.p.y = search rules in
+    let z : SFits w32 c.row.p.z = search rules in
+    let end : SFits w32 c.max-max.result.z = search rules in
+    let h = c.row.invariant.0 in
+    rw (to_z-of_z w32 p.z z) (further_fits c.args.part p m h.inside x y z end c.max-max.ensures.corner c.row-test.true)
+
+pub overflow_add-index : goal.overflow_add-index
+overflow_add-index g c =
+    let p = c.row.p in
+    let m = c.max-max.result in
+    let x : SFits w32 c.row.p.x = search rules in
+    let y : SFits w32 c.row.p.y = search rules in
+    let z : SFits w32 c.row.p.z = search rules in
+    let end : SFits w32 c.max-max.result.z = search rules in
+    let h = c.row.invariant.0 in
+    let reach : place c.args.bounds c.args.strides.now c.args.bounds.max < 2 ^ 64 = omega (arith, c.requires.reach) in
+    let all = next_along c.args.bounds c.args.strides.now c.args.part c.requires.within p h.inside (further c.args.part p m h.inside x y z end c.max-max.ensures.corner c.row-test.true) reach c.row.index h.at in
+    omega (arith, all.0)
+
+pub row-smaller : goal.row-smaller
+row-smaller g c =
+    let p = c.row.p in
+    let m = c.max-max.result in
+    let x : SFits w32 c.row.p.x = search rules in
+    let y : SFits w32 c.row.p.y = search rules in
+    let z : SFits w32 c.row.p.z = search rules in
+    let end : SFits w32 c.max-max.result.z = search rules in
+    let h = c.row.invariant.0 in
+    (moved c.args.part p m h.inside x y z end c.max-max.ensures.corner c.row-test.true).1
+
+pub row-preserved : goal.row-preserved
+row-preserved g c =
+    let p = c.row.p in
+    let m = c.max-max.result in
+    let x : SFits w32 c.row.p.x = search rules in
+    let y : SFits w32 c.row.p.y = search rules in
+    let z : SFits w32 c.row.p.z = search rules in
+    let end : SFits w32 c.max-max.result.z = search rules in
+    let h = c.row.invariant.0 in
+    let reach : place c.args.bounds c.args.strides.now c.args.bounds.max < 2 ^ 64 = omega (arith, c.requires.reach) in
+    let next = moved c.args.part p m h.inside x y z end c.max-max.ensures.corner c.row-test.true in
+    let along = next_along c.args.bounds c.args.strides.now c.args.part c.requires.within p h.inside (further c.args.part p m h.inside x y z end c.max-max.ensures.corner c.row-test.true) reach c.row.index h.at in (
+      laid_on _ _ c.args.bounds c.args.strides.now c.args.part c.requires.block m p c.row.index c.args.leaf.now c.row.leaf c.lay_voxel.new.leaf h c.lay_voxel.ensures.voxel c.lay_voxel.ensures.others
+          _ (c.row.index + c.args.strides.now.z) next.0 (along.1 ∙ ap (place c.args.bounds c.args.strides.now) (same_next c.args.part p m h.inside x y z end c.max-max.ensures.corner c.row-test.true)),
+      omega (arith, next.1, c.row.invariant.1),
+    )
+
+pub place-index-requires-in-Some-clause-inside : goal.place-index-requires-in-Some-clause-inside
+place-index-requires-in-Some-clause-inside g c = c.requires.within c.in-Some.next c.in-Some.ensures.next.0
+
+pub rows-preserved : goal.rows-preserved
+rows-preserved g c =
+    laid_on _ _ c.args.bounds c.args.strides.now c.args.part c.requires.block c.max-max.result c.row.p c.row.index c.args.leaf.now c.row.leaf c.lay_voxel-in-rows.new.leaf c.row.invariant.0 c.lay_voxel-in-rows.ensures.voxel c.lay_voxel-in-rows.ensures.others
+    c.in-Some.next c.place-index-in-Some.result c.in-Some.ensures.next c.place-index-in-Some.ensures
+
+pub returns-in-None : goal.returns-in-None
+returns-in-None g c =
+    laid_last _ _ c.args.bounds c.args.strides.now c.args.part c.requires.block c.max-max.result c.row.p c.row.index c.args.leaf.now c.row.leaf c.lay_voxel-in-rows.new.leaf c.row.invariant.0 c.lay_voxel-in-rows.ensures.voxel c.lay_voxel-in-rows.ensures.others
+    c.in-None.ensures.next

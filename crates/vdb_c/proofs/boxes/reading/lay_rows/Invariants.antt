@@ -1,0 +1,20 @@
+use Rattle.std.proofs.Common.{◌≡◌, IsTrue, length}
+use Rattle.vdb_coord.specs.Blocks.{offset, vdb}
+use Rattle.vdb_coord.specs.Space.{is_inside}
+use Rattle.vdb_coord.specs.Walk.{coordinates_after}
+use Rattle.vdb_coord.specs.declared.Level.TheVariants.{Leaf as leaf_level}
+use Rattle.vdb_node.specs.Leaf.{cell_in}
+use Rattle.vdb_value.specs.declared.Cell.{Cell}
+use Rattle.vdb_c.specs.BoxWrites.{is_first, rank}
+use Rattle.vdb_c.specs.Elements.{IsLaid}
+use Rattle.vdb_c.proofs.boxes.reading.lay_rows.Given as goal
+
+abbrev pub invariant-rows : goal.invariant-rows
+invariant-rows g l = record {
+  inside : IsTrue (is_inside l.part l.p);
+  size : length l.out ≡ length l.fn.out;
+  laid : (d : Cell g.row.V.Denot) → IsLaid l.bounds l.strides (is_first l.part (rank l.part l.p)) (λ q. g.V.Number.number_of (cell_in d l.leaf (offset vdb leaf_level q)).value) l.fn.out l.out;
+}
+
+abbrev pub decreases-rows : goal.decreases-rows
+decreases-rows g l = coordinates_after l.p

@@ -1,0 +1,13 @@
+use Rattle.std.proofs.Common.{◌≡◌}
+use Rattle.vdb_coord.specs.Blocks.{vdb}
+use Rattle.vdb_tree.specs.Field.{as_field_of}
+use Rattle.vdb_tree.specs.Layout.{field_of}
+use Rattle.vdb_c.specs.Many.{after_writes, change_at, voxel_at}
+use Rattle.vdb_c.proofs.voxels.many.write_voxels.Given as goal
+
+abbrev pub invariant-loop-k : goal.invariant-loop-k
+invariant-loop-k g l = record {
+  limit : l.grid.tree.limit ≡ l.fn.grid.tree.limit;
+  field : as_field_of g.V.GridValue.as_scalar (field_of vdb l.grid.tree)
+      ≡ after_writes (voxel_at l.at) (change_at g.V.Voxel.KIND l.values l.states) l.k (as_field_of g.V.GridValue.as_scalar (field_of vdb l.fn.grid.tree));
+}

@@ -1,0 +1,14 @@
+//! Calls on the voxels of a box.
+//!
+//! - `regions`: calls that change the voxels of a box, or all voxels.
+//! - `elements`, `voxels`: the elements of a box's voxels in an array, and these voxels in order.
+//! - `reading`, `arrays`: a box read into arrays.
+//! - `leaf_writes`, `writes`: a box written from arrays.
+
+pub(crate) mod arrays;
+pub(crate) mod elements;
+pub(crate) mod leaf_writes;
+pub(crate) mod reading;
+pub(crate) mod regions;
+pub(crate) mod voxels;
+pub(crate) mod writes;
