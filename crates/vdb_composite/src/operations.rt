@@ -1,8 +1,9 @@
 //! The greater or the lesser of two trees' values, and the second's active cells in place of the first's.
 
 ghost use Rattle.std.specs.Prelude.{◌≡◌, Err, OnErr, Some};
+ghost use Rattle.vdb_coord.specs.Blocks.{vdb};
 ghost use Rattle.vdb_tree.specs.Field.{combine, replace as replaced};
-ghost use Rattle.vdb_tree.specs.Layout.{bits_of, field_of};
+ghost use Rattle.vdb_tree.specs.Layout.{field_of};
 ghost use Rattle.vdb_tree.specs.Outcome.{IsOutcome, ObeysLimit};
 ghost use Rattle.vdb_value.specs.Blends.{blended};
 ghost use Rattle.vdb_composite.specs.Mixes.{HasMix, mixed, mixed_value};
@@ -12,7 +13,7 @@ use crate::mix::Mix;
 use crate::root_limit::exceeds;
 use vdb_node::Stored;
 use vdb_pool::Steps;
-use vdb_tree::{TreeOf, TreeRefusal};
+use vdb_tree::{Tree, TreeRefusal};
 use vdb_value::Blend;
 
 /// Sets each coordinate to the greater of its two values, active if either was. The background becomes the greater of
@@ -21,21 +22,13 @@ use vdb_value::Blend;
 /// The new tree is built beside the old one, with tiles where both have tiles. The call fails with `RootLimit` if
 /// more upper extents than the root limit would hold a cell other than the background, and with `Memory` after an
 /// allocation failure. Both leave the tree as it was.
-pub fn maximum<
-    V: Stored<WU> + Stored<WL> + Stored<WF>,
-    const U: u32,
-    const L: u32,
-    const F: u32,
-    const WU: usize,
-    const WL: usize,
-    const WF: usize,
->(
-    tree: &mut TreeOf<V, U, L, F, WU, WL, WF>,
-    other: &TreeOf<V, U, L, F, WU, WL, WF>,
+pub fn maximum<V: Stored<512> + Stored<64> + Stored<8>>(
+    tree: &mut Tree<V>,
+    other: &Tree<V>,
     steps: &mut Steps,
 ) -> Result<(), TreeRefusal>
-    ensures outcome { IsOutcome V.eq (bits_of U L F) tree.old.limit (field_of (bits_of U L F) tree.old)
-        (combine V.greater (field_of (bits_of U L F) tree.old) (field_of (bits_of U L F) other.now)) (field_of (bits_of U L F) tree.new) result }
+    ensures outcome { IsOutcome V.eq vdb tree.old.limit (field_of vdb tree.old)
+        (combine V.greater (field_of vdb tree.old) (field_of vdb other.now)) (field_of vdb tree.new) result }
     ensures limit { tree.new.limit ≡ tree.old.limit }
     ensures kept { OnErr result (tree.new ≡ tree.old) }
 {
@@ -49,21 +42,13 @@ pub fn maximum<
 /// The new tree is built beside the old one, with tiles where both have tiles. The call fails with `RootLimit` if
 /// more upper extents than the root limit would hold a cell other than the background, and with `Memory` after an
 /// allocation failure. Both leave the tree as it was.
-pub fn minimum<
-    V: Stored<WU> + Stored<WL> + Stored<WF>,
-    const U: u32,
-    const L: u32,
-    const F: u32,
-    const WU: usize,
-    const WL: usize,
-    const WF: usize,
->(
-    tree: &mut TreeOf<V, U, L, F, WU, WL, WF>,
-    other: &TreeOf<V, U, L, F, WU, WL, WF>,
+pub fn minimum<V: Stored<512> + Stored<64> + Stored<8>>(
+    tree: &mut Tree<V>,
+    other: &Tree<V>,
     steps: &mut Steps,
 ) -> Result<(), TreeRefusal>
-    ensures outcome { IsOutcome V.eq (bits_of U L F) tree.old.limit (field_of (bits_of U L F) tree.old)
-        (combine V.lesser (field_of (bits_of U L F) tree.old) (field_of (bits_of U L F) other.now)) (field_of (bits_of U L F) tree.new) result }
+    ensures outcome { IsOutcome V.eq vdb tree.old.limit (field_of vdb tree.old)
+        (combine V.lesser (field_of vdb tree.old) (field_of vdb other.now)) (field_of vdb tree.new) result }
     ensures limit { tree.new.limit ≡ tree.old.limit }
     ensures kept { OnErr result (tree.new ≡ tree.old) }
 {
@@ -76,21 +61,13 @@ pub fn minimum<
 /// The new tree is built beside the old one, with tiles where both have tiles. The call fails with `RootLimit` if
 /// more upper extents than the root limit would hold a cell other than the background, and with `Memory` after an
 /// allocation failure. Both leave the tree as it was.
-pub fn replace<
-    V: Stored<WU> + Stored<WL> + Stored<WF>,
-    const U: u32,
-    const L: u32,
-    const F: u32,
-    const WU: usize,
-    const WL: usize,
-    const WF: usize,
->(
-    tree: &mut TreeOf<V, U, L, F, WU, WL, WF>,
-    other: &TreeOf<V, U, L, F, WU, WL, WF>,
+pub fn replace<V: Stored<512> + Stored<64> + Stored<8>>(
+    tree: &mut Tree<V>,
+    other: &Tree<V>,
     steps: &mut Steps,
 ) -> Result<(), TreeRefusal>
-    ensures outcome { IsOutcome V.eq (bits_of U L F) tree.old.limit (field_of (bits_of U L F) tree.old)
-        (replaced (field_of (bits_of U L F) tree.old) (field_of (bits_of U L F) other.now)) (field_of (bits_of U L F) tree.new) result }
+    ensures outcome { IsOutcome V.eq vdb tree.old.limit (field_of vdb tree.old)
+        (replaced (field_of vdb tree.old) (field_of vdb other.now)) (field_of vdb tree.new) result }
     ensures limit { tree.new.limit ≡ tree.old.limit }
     ensures kept { OnErr result (tree.new ≡ tree.old) }
 {
@@ -99,25 +76,17 @@ pub fn replace<
 }
 
 /// Replaces a tree by its combination with another one, if every two cells combine.
-fn become_mix<
-    V: Stored<WU> + Stored<WL> + Stored<WF>,
-    const U: u32,
-    const L: u32,
-    const F: u32,
-    const WU: usize,
-    const WL: usize,
-    const WF: usize,
->(
-    tree: &mut TreeOf<V, U, L, F, WU, WL, WF>,
-    other: &TreeOf<V, U, L, F, WU, WL, WF>,
+fn become_mix<V: Stored<512> + Stored<64> + Stored<8>>(
+    tree: &mut Tree<V>,
+    other: &Tree<V>,
     mix: Mix,
     background: V,
     steps: &mut Steps,
 ) -> Result<(), TreeRefusal>
-    requires background { mixed_value (blended V.greater V.lesser V.sum_of) mix (field_of (bits_of U L F) tree.old).background (field_of (bits_of U L F) other.now).background ≡ Some background }
-    requires whole { HasMix (blended V.greater V.lesser V.sum_of) mix (field_of (bits_of U L F) tree.old) (field_of (bits_of U L F) other.now) }
-    ensures outcome { IsOutcome V.eq (bits_of U L F) tree.old.limit (field_of (bits_of U L F) tree.old)
-        (mixed (blended V.greater V.lesser V.sum_of) mix (field_of (bits_of U L F) tree.old) (field_of (bits_of U L F) other.now)) (field_of (bits_of U L F) tree.new) result }
+    requires background { mixed_value (blended V.greater V.lesser V.sum_of) mix (field_of vdb tree.old).background (field_of vdb other.now).background ≡ Some background }
+    requires whole { HasMix (blended V.greater V.lesser V.sum_of) mix (field_of vdb tree.old) (field_of vdb other.now) }
+    ensures outcome { IsOutcome V.eq vdb tree.old.limit (field_of vdb tree.old)
+        (mixed (blended V.greater V.lesser V.sum_of) mix (field_of vdb tree.old) (field_of vdb other.now)) (field_of vdb tree.new) result }
     ensures limit { tree.new.limit ≡ tree.old.limit }
     ensures kept { OnErr result (tree.new ≡ tree.old) }
 {
@@ -132,24 +101,16 @@ fn become_mix<
 }
 
 /// Returns why the combination of two trees can't be built.
-pub(crate) fn refusal<
-    V: Stored<WU> + Stored<WL> + Stored<WF>,
-    const U: u32,
-    const L: u32,
-    const F: u32,
-    const WU: usize,
-    const WL: usize,
-    const WF: usize,
->(
-    tree: &TreeOf<V, U, L, F, WU, WL, WF>,
-    other: &TreeOf<V, U, L, F, WU, WL, WF>,
+pub(crate) fn refusal<V: Stored<512> + Stored<64> + Stored<8>>(
+    tree: &Tree<V>,
+    other: &Tree<V>,
     mix: Mix,
     background: V,
     steps: &mut Steps,
 ) -> TreeRefusal
-    requires background { mixed_value (blended V.greater V.lesser V.sum_of) mix (field_of (bits_of U L F) tree.now).background (field_of (bits_of U L F) other.now).background ≡ Some background }
-    requires whole { HasMix (blended V.greater V.lesser V.sum_of) mix (field_of (bits_of U L F) tree.now) (field_of (bits_of U L F) other.now) }
-    ensures { ObeysLimit V.eq (bits_of U L F) tree.now.limit (mixed (blended V.greater V.lesser V.sum_of) mix (field_of (bits_of U L F) tree.now) (field_of (bits_of U L F) other.now)) (Err result) }
+    requires background { mixed_value (blended V.greater V.lesser V.sum_of) mix (field_of vdb tree.now).background (field_of vdb other.now).background ≡ Some background }
+    requires whole { HasMix (blended V.greater V.lesser V.sum_of) mix (field_of vdb tree.now) (field_of vdb other.now) }
+    ensures { ObeysLimit V.eq vdb tree.now.limit (mixed (blended V.greater V.lesser V.sum_of) mix (field_of vdb tree.now) (field_of vdb other.now)) (Err result) }
 {
     if exceeds(tree, other, mix, background, steps) {
         TreeRefusal::RootLimit

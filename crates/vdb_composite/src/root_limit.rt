@@ -1,8 +1,9 @@
 //! Whether the combination of two trees has too many upper extents.
 
 ghost use Rattle.std.specs.Prelude.{◌≡◌, ◌≢◌, ◌<◌, ◌≤◌, false, Some, IsTrue};
+ghost use Rattle.vdb_coord.specs.Blocks.{vdb};
 ghost use Rattle.vdb_tree.specs.ConstantBlocks.{roots};
-ghost use Rattle.vdb_tree.specs.Layout.{bits_of, field_of};
+ghost use Rattle.vdb_tree.specs.Layout.{field_of};
 ghost use Rattle.vdb_value.specs.Blends.{blended};
 ghost use Rattle.vdb_composite.specs.Mixes.{HasMix, mixed, mixed_value};
 
@@ -11,30 +12,22 @@ use crate::search::{Sought, pair_meets};
 use vdb_coord::Coord;
 use vdb_node::Stored;
 use vdb_pool::Steps;
-use vdb_tree::{Pair, TreeOf};
+use vdb_tree::{Pair, Tree};
 use vdb_value::Cell;
 
 /// Returns whether more upper extents than the first tree's limit hold a cell other than the background in the
 /// combination of two trees, all of whose cells combine. It takes no memory.
-pub(crate) fn exceeds<
-    V: Stored<WU> + Stored<WL> + Stored<WF>,
-    const U: u32,
-    const L: u32,
-    const F: u32,
-    const WU: usize,
-    const WL: usize,
-    const WF: usize,
->(
-    tree: &TreeOf<V, U, L, F, WU, WL, WF>,
-    other: &TreeOf<V, U, L, F, WU, WL, WF>,
+pub(crate) fn exceeds<V: Stored<512> + Stored<64> + Stored<8>>(
+    tree: &Tree<V>,
+    other: &Tree<V>,
     mix: Mix,
     background: V,
     steps: &mut Steps,
 ) -> bool
-    requires background { mixed_value (blended V.greater V.lesser V.sum_of) mix (field_of (bits_of U L F) tree.now).background (field_of (bits_of U L F) other.now).background ≡ Some background }
-    requires whole { HasMix (blended V.greater V.lesser V.sum_of) mix (field_of (bits_of U L F) tree.now) (field_of (bits_of U L F) other.now) }
-    ensures more { IsTrue result → tree.now.limit < roots V.eq (bits_of U L F) (mixed (blended V.greater V.lesser V.sum_of) mix (field_of (bits_of U L F) tree.now) (field_of (bits_of U L F) other.now)) }
-    ensures few { result ≡ false → roots V.eq (bits_of U L F) (mixed (blended V.greater V.lesser V.sum_of) mix (field_of (bits_of U L F) tree.now) (field_of (bits_of U L F) other.now)) ≤ tree.now.limit }
+    requires background { mixed_value (blended V.greater V.lesser V.sum_of) mix (field_of vdb tree.now).background (field_of vdb other.now).background ≡ Some background }
+    requires whole { HasMix (blended V.greater V.lesser V.sum_of) mix (field_of vdb tree.now) (field_of vdb other.now) }
+    ensures more { IsTrue result → tree.now.limit < roots V.eq vdb (mixed (blended V.greater V.lesser V.sum_of) mix (field_of vdb tree.now) (field_of vdb other.now)) }
+    ensures few { result ≡ false → roots V.eq vdb (mixed (blended V.greater V.lesser V.sum_of) mix (field_of vdb tree.now) (field_of vdb other.now)) ≤ tree.now.limit }
 {
     let sought = Sought::OtherThan(Cell {
         value: background,

@@ -1,7 +1,8 @@
 //! The sums of two trees' values.
 
 ghost use Rattle.std.specs.Prelude.{◌≡◌, Err, OnErr, Some, true};
-ghost use Rattle.vdb_tree.specs.Layout.{bits_of, field_of};
+ghost use Rattle.vdb_coord.specs.Blocks.{vdb};
+ghost use Rattle.vdb_tree.specs.Layout.{field_of};
 ghost use Rattle.vdb_composite.specs.SumOutcome.{IsSumOutcome};
 
 use crate::build::built;
@@ -10,7 +11,7 @@ use crate::operations::refusal;
 use crate::search::lacks;
 use vdb_node::Stored;
 use vdb_pool::Steps;
-use vdb_tree::{TreeOf, TreeRefusal};
+use vdb_tree::{Tree, TreeRefusal};
 use vdb_value::Blend;
 
 /// Why a sum fails. No cell changes then.
@@ -34,21 +35,13 @@ pub enum SumRefusal {
 /// two values, active or not, have a sum outside their type. Otherwise it fails with `RootLimit` if more upper
 /// extents than the root limit would hold a cell other than the background. Otherwise it fails with `Memory` after an
 /// allocation failure. Each error leaves the tree as it was.
-pub fn sum<
-    V: Stored<WU> + Stored<WL> + Stored<WF>,
-    const U: u32,
-    const L: u32,
-    const F: u32,
-    const WU: usize,
-    const WL: usize,
-    const WF: usize,
->(
-    tree: &mut TreeOf<V, U, L, F, WU, WL, WF>,
-    other: &TreeOf<V, U, L, F, WU, WL, WF>,
+pub fn sum<V: Stored<512> + Stored<64> + Stored<8>>(
+    tree: &mut Tree<V>,
+    other: &Tree<V>,
     steps: &mut Steps,
 ) -> Result<(), SumRefusal>
     requires { V.SUMS ≡ true }
-    ensures outcome { IsSumOutcome V.eq V.sum_of (bits_of U L F) tree.old.limit (field_of (bits_of U L F) tree.old) (field_of (bits_of U L F) other.now) (field_of (bits_of U L F) tree.new) result }
+    ensures outcome { IsSumOutcome V.eq V.sum_of vdb tree.old.limit (field_of vdb tree.old) (field_of vdb other.now) (field_of vdb tree.new) result }
     ensures limit { tree.new.limit ≡ tree.old.limit }
     ensures kept { OnErr result (tree.new ≡ tree.old) }
 {
@@ -62,22 +55,14 @@ pub fn sum<
 }
 
 /// Sets each coordinate to the sum of its two values, for backgrounds that have a sum.
-fn become_sum<
-    V: Stored<WU> + Stored<WL> + Stored<WF>,
-    const U: u32,
-    const L: u32,
-    const F: u32,
-    const WU: usize,
-    const WL: usize,
-    const WF: usize,
->(
-    tree: &mut TreeOf<V, U, L, F, WU, WL, WF>,
-    other: &TreeOf<V, U, L, F, WU, WL, WF>,
+fn become_sum<V: Stored<512> + Stored<64> + Stored<8>>(
+    tree: &mut Tree<V>,
+    other: &Tree<V>,
     background: V,
     steps: &mut Steps,
 ) -> Result<(), SumRefusal>
-    requires { V.sum_of (field_of (bits_of U L F) tree.old).background (field_of (bits_of U L F) other.now).background ≡ Some background }
-    ensures outcome { IsSumOutcome V.eq V.sum_of (bits_of U L F) tree.old.limit (field_of (bits_of U L F) tree.old) (field_of (bits_of U L F) other.now) (field_of (bits_of U L F) tree.new) result }
+    requires { V.sum_of (field_of vdb tree.old).background (field_of vdb other.now).background ≡ Some background }
+    ensures outcome { IsSumOutcome V.eq V.sum_of vdb tree.old.limit (field_of vdb tree.old) (field_of vdb other.now) (field_of vdb tree.new) result }
     ensures limit { tree.new.limit ≡ tree.old.limit }
     ensures kept { OnErr result (tree.new ≡ tree.old) }
 {
@@ -92,22 +77,14 @@ fn become_sum<
 }
 
 /// Returns why the sum of two trees can't be built.
-fn sum_refusal<
-    V: Stored<WU> + Stored<WL> + Stored<WF>,
-    const U: u32,
-    const L: u32,
-    const F: u32,
-    const WU: usize,
-    const WL: usize,
-    const WF: usize,
->(
-    tree: &TreeOf<V, U, L, F, WU, WL, WF>,
-    other: &TreeOf<V, U, L, F, WU, WL, WF>,
+fn sum_refusal<V: Stored<512> + Stored<64> + Stored<8>>(
+    tree: &Tree<V>,
+    other: &Tree<V>,
     background: V,
     steps: &mut Steps,
 ) -> SumRefusal
-    requires { V.sum_of (field_of (bits_of U L F) tree.now).background (field_of (bits_of U L F) other.now).background ≡ Some background }
-    ensures { IsSumOutcome V.eq V.sum_of (bits_of U L F) tree.now.limit (field_of (bits_of U L F) tree.now) (field_of (bits_of U L F) other.now) (field_of (bits_of U L F) tree.now) (Err result) }
+    requires { V.sum_of (field_of vdb tree.now).background (field_of vdb other.now).background ≡ Some background }
+    ensures { IsSumOutcome V.eq V.sum_of vdb tree.now.limit (field_of vdb tree.now) (field_of vdb other.now) (field_of vdb tree.now) (Err result) }
 {
     let mix = Mix::Values(Blend::Sum);
     if lacks(tree, other, mix, steps) {

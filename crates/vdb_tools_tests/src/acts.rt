@@ -9,12 +9,9 @@ use vdb_morph::{dilate, erode};
 use vdb_pool::Steps;
 use vdb_region::{clip, fill};
 use vdb_topology::{intersect, subtract, unite};
-use vdb_tree::{Piece, Tree, Tree433, TreeOf};
+use vdb_tree::{Piece, Tree};
 use vdb_value::Cell;
 use vdb_walk::{Census, Pieces, active_bounds, census, count, list, next_active, uniform};
-
-/// A tree whose extents span 2, 4 and 8 voxels along each axis.
-type Tiny = TreeOf<i32, 1, 1, 1, 1, 1, 1>;
 
 /// A change of a tree. A box is given by its first voxel and its last one. Each change succeeds.
 #[derive(Clone, Copy)]
@@ -63,17 +60,10 @@ fn bounds(rt: &impl Abort, min: Coord, max: Coord) -> Bounds {
 }
 
 // Makes a change of a tree, and returns whether it succeeds.
-fn is_changed<
-    const U: u32,
-    const L: u32,
-    const F: u32,
-    const WU: usize,
-    const WL: usize,
-    const WF: usize,
->(
+fn is_changed(
     rt: &impl Abort,
-    tree: &mut TreeOf<i32, U, L, F, WU, WL, WF>,
-    other: &TreeOf<i32, U, L, F, WU, WL, WF>,
+    tree: &mut Tree<i32>,
+    other: &Tree<i32>,
     change: Change,
     steps: &mut Steps,
 ) -> bool {
@@ -157,17 +147,10 @@ fn expect_piece(
 }
 
 // Checks that a listing yields these items, then nothing, and whether more are left then.
-fn expect_list<
-    const U: u32,
-    const L: u32,
-    const F: u32,
-    const WU: usize,
-    const WL: usize,
-    const WF: usize,
->(
+fn expect_list(
     rt: &impl Abort,
     number: usize,
-    tree: &TreeOf<i32, U, L, F, WU, WL, WF>,
+    tree: &Tree<i32>,
     (bounds, limit): (Bounds, u32),
     items: &[(Coord, i32)],
     more: bool,
@@ -186,17 +169,10 @@ fn expect_list<
 }
 
 // Checks that a tree's pieces are these, and then twice none.
-fn expect_pieces<
-    const U: u32,
-    const L: u32,
-    const F: u32,
-    const WU: usize,
-    const WL: usize,
-    const WF: usize,
->(
+fn expect_pieces(
     rt: &impl Abort,
     number: usize,
-    tree: &TreeOf<i32, U, L, F, WU, WL, WF>,
+    tree: &Tree<i32>,
     wanted: &[Piece<i32>],
     steps: &mut Steps,
 ) {
@@ -208,17 +184,10 @@ fn expect_pieces<
 }
 
 // Checks what an act expects of the voxels one after another; any other act expects nothing of them.
-fn expect_order<
-    const U: u32,
-    const L: u32,
-    const F: u32,
-    const WU: usize,
-    const WL: usize,
-    const WF: usize,
->(
+fn expect_order(
     rt: &impl Abort,
     number: usize,
-    tree: &TreeOf<i32, U, L, F, WU, WL, WF>,
+    tree: &Tree<i32>,
     act: &Act<'_>,
     steps: &mut Steps,
 ) {
@@ -237,20 +206,7 @@ fn expect_order<
 }
 
 // Checks what an act expects of a tree; an act that changes one expects nothing.
-fn expect_act<
-    const U: u32,
-    const L: u32,
-    const F: u32,
-    const WU: usize,
-    const WL: usize,
-    const WF: usize,
->(
-    rt: &impl Abort,
-    number: usize,
-    tree: &TreeOf<i32, U, L, F, WU, WL, WF>,
-    act: &Act<'_>,
-    steps: &mut Steps,
-) {
+fn expect_act(rt: &impl Abort, number: usize, tree: &Tree<i32>, act: &Act<'_>, steps: &mut Steps) {
     match act {
         Act::Cell(p, wanted) => expect_cell(rt, number, Some(tree.get(*p, steps)), Some(*wanted)),
         Act::Count(wanted) => expect_count(rt, number, count(tree, None, steps), *wanted),
@@ -268,21 +224,10 @@ fn expect_act<
     }
 }
 
-// Plays each act in turn on two trees, which are dropped afterwards. The messages of failures number the acts from 0.
-fn play<
-    const U: u32,
-    const L: u32,
-    const F: u32,
-    const WU: usize,
-    const WL: usize,
-    const WF: usize,
->(
-    rt: &impl Abort,
-    mut tree: TreeOf<i32, U, L, F, WU, WL, WF>,
-    mut other: TreeOf<i32, U, L, F, WU, WL, WF>,
-    acts: &[Act<'_>],
-    steps: &mut Steps,
-) {
+/// Plays each act in turn on a fresh tree with background 0, beside another one. The messages of failures number the acts from 0.
+pub fn play(rt: &impl Abort, alloc: Global, acts: &[Act<'_>], steps: &mut Steps) {
+    let mut tree = Tree::new(alloc, 0, 4096);
+    let mut other = Tree::new(alloc, 0, 4096);
     for (number, act) in acts.iter().enumerate() {
         match act {
             Act::Change(change) => {
@@ -297,22 +242,4 @@ fn play<
             _ => expect_act(rt, number, &tree, act, steps),
         }
     }
-}
-
-/// Plays acts on a fresh tree of the standard layout with background 0, beside another one.
-pub fn play_standard(rt: &impl Abort, alloc: Global, acts: &[Act<'_>], steps: &mut Steps) {
-    let tree = Tree::new(alloc, 0, 4096);
-    play(rt, tree, Tree::new(alloc, 0, 4096), acts, steps);
-}
-
-/// The same with the layout of 4, 3 and 3 bits.
-pub fn play_433(rt: &impl Abort, alloc: Global, acts: &[Act<'_>], steps: &mut Steps) {
-    let tree = Tree433::new(alloc, 0, 4096);
-    play(rt, tree, Tree433::new(alloc, 0, 4096), acts, steps);
-}
-
-/// The same with the smallest nodes.
-pub fn play_tiny(rt: &impl Abort, alloc: Global, acts: &[Act<'_>], steps: &mut Steps) {
-    let tree = Tiny::new(alloc, 0, 4096);
-    play(rt, tree, Tiny::new(alloc, 0, 4096), acts, steps);
 }

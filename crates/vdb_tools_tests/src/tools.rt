@@ -1,9 +1,6 @@
-//! Each tool on trees of the standard layout, of 4, 3 and 3 bits, and of the smallest nodes. Expected values were worked out by
-//! hand. tests/library has further tests of each tool.
+//! Each tool on trees. Expected values were worked out by hand. tests/library has further tests of each tool.
 
-use crate::acts::{Act, Change, play_433, play_standard, play_tiny};
-use std::alloc::Global;
-use std::process::Abort;
+use crate::acts::{Act, Change, play};
 use vdb_coord::{Bounds, Coord};
 use vdb_pool::Steps;
 use vdb_tree::Piece;
@@ -28,13 +25,6 @@ fn off(value: i32) -> Cell<i32> {
 // Fills the cube between two voxels on the diagonal.
 fn fill<'a>(first: i32, last: i32, cell: Cell<i32>) -> Act<'a> {
     Act::Change(Change::Fill(all(first), all(last), cell))
-}
-
-// Plays acts on a tree of each layout.
-fn play(rt: &impl Abort, alloc: Global, acts: &[Act<'_>], steps: &mut Steps) {
-    play_standard(rt, alloc, acts, steps);
-    play_433(rt, alloc, acts, steps);
-    play_tiny(rt, alloc, acts, steps);
 }
 
 #[test]
@@ -163,38 +153,31 @@ fn voxels_in_block_order(rt: HostRuntime) {
     play(&rt, rt.alloc(), &acts, &mut Steps::new(&rt));
 }
 
-// A voxel, and another one in the next extent of 8 voxels. Then the census has these numbers.
-fn of_two_voxels<'a>(census: [u64; 4]) -> [Act<'a>; 4] {
-    [
+// The second voxel lies in the next leaf extent.
+#[test]
+fn sizes_of_fields(rt: HostRuntime) {
+    let acts = [
         fill(0, 0, on(1)),
         Act::Census([1, 1, 1, 1]),
         fill(8, 8, on(1)),
-        Act::Census(census),
-    ]
+        Act::Census([1, 1, 1, 2]),
+    ];
+    play(&rt, rt.alloc(), &acts, &mut Steps::new(&rt));
 }
 
-#[test]
-fn sizes_of_fields(rt: HostRuntime) {
-    let mut steps = Steps::new(&rt);
-    let (large, small) = ([1, 1, 1, 2], [2, 2, 2, 2]);
-    play_standard(&rt, rt.alloc(), &of_two_voxels(large), &mut steps);
-    play_433(&rt, rt.alloc(), &of_two_voxels(large), &mut steps);
-    play_tiny(&rt, rt.alloc(), &of_two_voxels(small), &mut steps);
-}
-
-// An upper extent of 8 voxels along each axis that is one tile.
+// An upper extent that is one tile.
 #[test]
 fn pieces(rt: HostRuntime) {
-    let bounds = Bounds::new(all(0), all(7)).expect(&rt, "a box");
+    let bounds = Bounds::new(all(0), all(4095)).expect(&rt, "a box");
     let tile = Piece {
         bounds,
         cell: on(3),
     };
     let acts = [
         Act::Pieces(&[]),
-        fill(0, 7, on(3)),
+        fill(0, 4095, on(3)),
         Act::Pieces(&[tile]),
         Act::Census([1, 0, 0, 0]),
     ];
-    play_tiny(&rt, rt.alloc(), &acts, &mut Steps::new(&rt));
+    play(&rt, rt.alloc(), &acts, &mut Steps::new(&rt));
 }

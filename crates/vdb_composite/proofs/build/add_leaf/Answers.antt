@@ -1,14 +1,14 @@
+use Rattle.vdb_coord.specs.Blocks.{vdb}
 use Rattle.vdb_tree.specs.Field.{Field}
-use Rattle.vdb_tree.specs.Layout.{bits_of, field_of}
+use Rattle.vdb_tree.specs.Layout.{field_of}
 use Rattle.vdb_value.specs.Blends.{blended}
 use Rattle.vdb_composite.proofs.MixLeaves.{leaf_adds}
 use Rattle.vdb_composite.proofs.build.add_leaf.Goals as goal
 
 pub returns-in-Ok-clause-adds : goal.returns-in-Ok-clause-adds
 returns-in-Ok-clause-adds g c = λ _.
-    let bits = bits_of g.row.U g.row.L g.row.F in
-    let f : Field g.row.V.Denot = field_of bits c.args.tree.now in
-    let h : Field g.row.V.Denot = field_of bits c.args.other.now in
-    leaf_adds (blended g.V.Voxel.greater g.V.Voxel.lesser g.V.Voxel.sum_of) c.args.mix c.args.bounds c.min-corner.ensures.bounds f h (field_of bits c.args.made.now) (field_of bits c.write_leaf.new.self) bits c.requires.block c.mix_cells.new.scratch
+    let f : Field g.row.V.Denot = field_of vdb c.args.tree.now in
+    let h : Field g.row.V.Denot = field_of vdb c.args.other.now in
+    leaf_adds (blended g.V.Voxel.greater g.V.Voxel.lesser g.V.Voxel.sum_of) c.args.mix c.args.bounds c.min-corner.ensures.bounds f h (field_of vdb c.args.made.now) (field_of vdb c.write_leaf.new.self) vdb c.requires.block c.mix_cells.new.scratch
     (λ d q i. rw (c.take_cells.ensures d q i) (c.mix_cells.ensures c.if-not-mix_cells.false d q i))
     (rw c.min-corner.ensures.corner at c.in-Ok.ensures.outcome.0)

@@ -1,5 +1,6 @@
 use Rattle.std.proofs.Common.{◌≡◌}
-use Rattle.vdb_tree.specs.Layout.{bits_of, field_of}
+use Rattle.vdb_coord.specs.Blocks.{vdb}
+use Rattle.vdb_tree.specs.Layout.{field_of}
 use Rattle.vdb_tree.specs.Pairs.{IsPairWalk}
 use Rattle.vdb_tree.specs.Parts.{left_count}
 use Rattle.vdb_value.specs.Blends.{blended}
@@ -8,12 +9,11 @@ use Rattle.vdb_composite.proofs.build.add_pairs.Given as goal
 
 abbrev pub invariant-pairs : goal.invariant-pairs
 invariant-pairs g l =
-    let bits = bits_of g.row.U g.row.L g.row.F in
     record {
-      walk : IsPairWalk bits l.tree l.other l.walk;
+      walk : IsPairWalk vdb l.tree l.other l.walk;
       limit : l.made.limit ≡ l.fn.made.limit;
-      built : IsBuilt bits l.tree l.other (blended g.V.Voxel.greater g.V.Voxel.lesser g.V.Voxel.sum_of) l.mix l.fn.background (field_of bits l.made) l.walk.at;
+      built : IsBuilt vdb l.tree l.other (blended g.V.Voxel.greater g.V.Voxel.lesser g.V.Voxel.sum_of) l.mix l.fn.background (field_of vdb l.made) l.walk.at;
     }
 
 abbrev pub decreases-pairs : goal.decreases-pairs
-decreases-pairs g l = left_count (bits_of g.row.U g.row.L g.row.F) l.walk.at
+decreases-pairs g l = left_count vdb l.walk.at

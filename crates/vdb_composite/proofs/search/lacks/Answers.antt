@@ -1,8 +1,9 @@
 use Rattle.std.proofs.Common.{rules}
 use Rattle.std.specs.Prelude.{IsSome}
+use Rattle.vdb_coord.specs.Blocks.{vdb}
 use Rattle.vdb_coord.specs.declared.Coord.{Coord}
 use Rattle.vdb_tree.specs.Field.{Field}
-use Rattle.vdb_tree.specs.Layout.{bits_of, field_of}
+use Rattle.vdb_tree.specs.Layout.{field_of}
 use Rattle.vdb_value.specs.Blends.{blended}
 use Rattle.vdb_composite.specs.Mixes.{mixed_cell}
 use Rattle.vdb_composite.proofs.Mixed.{flat_some}
@@ -17,18 +18,17 @@ pairs-walk-requires g c =
     let leaf = g.met.V.Stored-3.row_small in (
       search rules,
       (
-        internal_small _ _ g.row.WU _ c.mask_words.ensures.upper upper.1 upper.1 upper.0,
-        (internal_small _ _ g.row.WL _ c.mask_words.ensures.lower lower.1 lower.1 lower.0, leaf_small _ _ g.row.WF _ c.mask_words.ensures.leaf leaf.1 leaf.1 leaf.0),
+        internal_small _ _ 512 _ c.mask_words.ensures.upper upper.1 upper.1 upper.0,
+        (internal_small _ _ 64 _ c.mask_words.ensures.lower lower.1 lower.1 lower.0, leaf_small _ _ 8 _ c.mask_words.ensures.leaf leaf.1 leaf.1 leaf.0),
       ),
     )
 
 pub pairs-init : goal.pairs-init
 pairs-init g c =
-    let bits = bits_of g.row.U g.row.L g.row.F in
-    let f : Field g.row.V.Denot = field_of bits c.args.tree.now in
-    let h : Field g.row.V.Denot = field_of bits c.args.other.now in
+    let f : Field g.row.V.Denot = field_of vdb c.args.tree.now in
+    let h : Field g.row.V.Denot = field_of vdb c.args.other.now in
     let P : Coord → Type 0 = λ q. IsSome (mixed_cell (blended g.V.Voxel.greater g.V.Voxel.lesser g.V.Voxel.sum_of) c.args.mix (f.cell q) (h.cell q)) in
-    record { walk = c.pairs-walk.ensures.walk; passed = passed_start bits c.args.tree.now c.args.other.now P (λ q i both. flat_some (blended g.V.Voxel.greater g.V.Voxel.lesser g.V.Voxel.sum_of) c.args.mix f.background h.background c.requires.background (f.cell q) (h.cell q) both.0 both.1) c.pairs-walk.result.at c.pairs-walk.ensures.at }
+    record { walk = c.pairs-walk.ensures.walk; passed = passed_start vdb c.args.tree.now c.args.other.now P (λ q i both. flat_some (blended g.V.Voxel.greater g.V.Voxel.lesser g.V.Voxel.sum_of) c.args.mix f.background h.background c.requires.background (f.cell q) (h.cell q) both.0 both.1) c.pairs-walk.result.at c.pairs-walk.ensures.at }
 
 pub returns-then-pair_meets-clause-found : goal.returns-then-pair_meets-clause-found
 returns-then-pair_meets-clause-found g c = λ _.
@@ -37,19 +37,17 @@ returns-then-pair_meets-clause-found g c = λ _.
 
 pub pairs-preserved : goal.pairs-preserved
 pairs-preserved g c =
-    let bits = bits_of g.row.U g.row.L g.row.F in
-    let f : Field g.row.V.Denot = field_of bits c.args.tree.now in
-    let h : Field g.row.V.Denot = field_of bits c.args.other.now in
+    let f : Field g.row.V.Denot = field_of vdb c.args.tree.now in
+    let h : Field g.row.V.Denot = field_of vdb c.args.other.now in
     let P : Coord → Type 0 = λ q. IsSome (mixed_cell (blended g.V.Voxel.greater g.V.Voxel.lesser g.V.Voxel.sum_of) c.args.mix (f.cell q) (h.cell q)) in
     record {
       walk = c.next_pair.ensures.walk;
-      passed = passed_next bits c.args.tree.now c.args.other.now P (λ q i both. flat_some (blended g.V.Voxel.greater g.V.Voxel.lesser g.V.Voxel.sum_of) c.args.mix f.background h.background c.requires.background (f.cell q) (h.cell q) both.0 both.1) c.pairs.walk c.next_pair.new.walk c.in-Some.pair.bounds c.in-Some.ensures.block c.pairs.invariant.passed (c.pair_meets.ensures.missed c.if-pair_meets.false);
+      passed = passed_next vdb c.args.tree.now c.args.other.now P (λ q i both. flat_some (blended g.V.Voxel.greater g.V.Voxel.lesser g.V.Voxel.sum_of) c.args.mix f.background h.background c.requires.background (f.cell q) (h.cell q) both.0 both.1) c.pairs.walk c.next_pair.new.walk c.in-Some.pair.bounds c.in-Some.ensures.block c.pairs.invariant.passed (c.pair_meets.ensures.missed c.if-pair_meets.false);
     }
 
 pub returns-clause-none : goal.returns-clause-none
 returns-clause-none g c = λ _.
-    let bits = bits_of g.row.U g.row.L g.row.F in
-    let f : Field g.row.V.Denot = field_of bits c.args.tree.now in
-    let h : Field g.row.V.Denot = field_of bits c.args.other.now in
+    let f : Field g.row.V.Denot = field_of vdb c.args.tree.now in
+    let h : Field g.row.V.Denot = field_of vdb c.args.other.now in
     let P : Coord → Type 0 = λ q. IsSome (mixed_cell (blended g.V.Voxel.greater g.V.Voxel.lesser g.V.Voxel.sum_of) c.args.mix (f.cell q) (h.cell q)) in
-    passed_end bits c.args.tree.now c.args.other.now P (λ q i both. flat_some (blended g.V.Voxel.greater g.V.Voxel.lesser g.V.Voxel.sum_of) c.args.mix f.background h.background c.requires.background (f.cell q) (h.cell q) both.0 both.1) c.pairs.walk c.next_pair.new.walk c.in_default.ensures.end c.in_default.ensures.none_left c.pairs.invariant.passed
+    passed_end vdb c.args.tree.now c.args.other.now P (λ q i both. flat_some (blended g.V.Voxel.greater g.V.Voxel.lesser g.V.Voxel.sum_of) c.args.mix f.background h.background c.requires.background (f.cell q) (h.cell q) both.0 both.1) c.pairs.walk c.next_pair.new.walk c.in_default.ensures.end c.in_default.ensures.none_left c.pairs.invariant.passed

@@ -1,5 +1,6 @@
 use Rattle.std.specs.Prelude.{IsSome}
-use Rattle.vdb_tree.specs.Layout.{bits_of, field_of}
+use Rattle.vdb_coord.specs.Blocks.{vdb}
+use Rattle.vdb_tree.specs.Layout.{field_of}
 use Rattle.vdb_tree.specs.Pairs.{IsPairWalk}
 use Rattle.vdb_tree.specs.Parts.{left_count}
 use Rattle.vdb_value.specs.Blends.{blended}
@@ -9,11 +10,10 @@ use Rattle.vdb_composite.proofs.search.lacks.Given as goal
 
 abbrev pub invariant-pairs : goal.invariant-pairs
 invariant-pairs g l =
-    let bits = bits_of g.row.U g.row.L g.row.F in
     record {
-      walk : IsPairWalk bits l.tree l.other l.walk;
-      passed : IsPassed bits l.tree l.other (λ q. IsSome (mixed_cell (blended g.V.Voxel.greater g.V.Voxel.lesser g.V.Voxel.sum_of) l.mix ((field_of bits l.tree).cell q) ((field_of bits l.other).cell q))) l.walk.at;
+      walk : IsPairWalk vdb l.tree l.other l.walk;
+      passed : IsPassed vdb l.tree l.other (λ q. IsSome (mixed_cell (blended g.V.Voxel.greater g.V.Voxel.lesser g.V.Voxel.sum_of) l.mix ((field_of vdb l.tree).cell q) ((field_of vdb l.other).cell q))) l.walk.at;
     }
 
 abbrev pub decreases-pairs : goal.decreases-pairs
-decreases-pairs g l = left_count (bits_of g.row.U g.row.L g.row.F) l.walk.at
+decreases-pairs g l = left_count vdb l.walk.at

@@ -1,16 +1,18 @@
-use Rattle.std.proofs.Common.{◌∙◌, ap}
+use Rattle.std.proofs.Common.{◌<◌, ◌∙◌, ap, subst, sym, ℕ}
+use Rattle.vdb_coord.specs.Blocks.{node_bits, vdb}
 use Rattle.vdb_coord.specs.declared.Level.TheVariants.{Leaf}
 use Rattle.vdb_coord.proofs.Positions.{entries_is}
 use Rattle.vdb_node.specs.Leaf.{cell_in}
+use Rattle.vdb_node.specs.Nodes.{entry_count}
 use Rattle.vdb_tree.specs.Field.{Field, off}
-use Rattle.vdb_tree.specs.Layout.{bits_of, field_of}
+use Rattle.vdb_tree.specs.Layout.{field_of}
 use Rattle.vdb_tree.proofs.Sizes.{leaf_small}
 use Rattle.vdb_composite.proofs.search.voxel.Goals as goal
 
 pub entry-requires : goal.entry-requires
 entry-requires g c =
     let small = g.met.V.Stored-3.row_small in
-    (leaf_small _ _ g.row.WF _ c.mask_words.ensures.leaf small.1 small.1 small.0, rw (c.from.ensures, ← entries_is (bits_of g.row.U g.row.L g.row.F) Leaf) c.requires.within)
+    (leaf_small _ _ 8 _ c.mask_words.ensures.leaf small.1 small.1 small.0, subst (λ (n : ℕ). n < entry_count (node_bits vdb Leaf)) (sym c.from.ensures) (subst (λ (n : ℕ). c.args.index < n) (entries_is vdb Leaf) c.requires.within))
 
 pub returns-in-Some : goal.returns-in-Some
 returns-in-Some g c = λ q i _.
@@ -19,7 +21,6 @@ returns-in-Some g c = λ q i _.
 
 pub returns-in-None : goal.returns-in-None
 returns-in-None g c = λ q i e.
-    let bits = bits_of g.row.U g.row.L g.row.F in
-    let f : Field g.row.V.Denot = field_of bits c.args.tree.now in
+    let f : Field g.row.V.Denot = field_of vdb c.args.tree.now in
     let part = rw c.in-None.is at c.requires.leaf in
     part.cells q i ∙ ap (cell_in (off f.background) c.args.leaf.now) e ∙ (rw c.from.ensures at c.entry.ensures) (off f.background)

@@ -1,9 +1,10 @@
 use Rattle.std.proofs.Common.{◌∙◌, ◌≤◌, ap, arith, ℕ}
+use Rattle.vdb_coord.specs.Blocks.{vdb}
 use Rattle.vdb_coord.specs.Faces.{faces}
 use Rattle.vdb_coord.specs.Space.{everywhere}
 use Rattle.vdb_coord.specs.declared.Level.TheVariants.{Leaf, Lower, Upper}
 use Rattle.vdb_tree.specs.Field.{Field, clip, off}
-use Rattle.vdb_tree.specs.Layout.{bits_of, cell_at, field_of}
+use Rattle.vdb_tree.specs.Layout.{cell_at, field_of}
 use Rattle.vdb_tree.specs.ConstantBlocks.{roots}
 use Rattle.vdb_tree.proofs.Uniform.{exact_by}
 use Rattle.vdb_region.specs.internal.Beyond.{clear}
@@ -16,26 +17,24 @@ least a b c h k = omega (arith, h, k)
 
 pub returns-in-Err-clause-outcome : goal.returns-in-Err-clause-outcome
 returns-in-Err-clause-outcome g c =
-    let bits = bits_of g.row.U g.row.L g.row.F in
     let old = c.args.tree.now in
     let eq = g.V.PartialEq.eq in
     let exact = exact_by eq g.V.Ord.cmp g.met.V.Ord.matches_eq g.met.V.Voxel.exact in
-    let few = least (roots eq bits (clip c.args.bounds (field_of bits old))) (roots eq bits (field_of bits old)) old.limit
-    (clip_within eq exact g.met.V.Eq.laws.refl bits c.args.bounds old.background (cell_at bits old)) (rw c.limit.ensures.value at c.limit.ensures.kept) in
+    let few = least (roots eq vdb (clip c.args.bounds (field_of vdb old))) (roots eq vdb (field_of vdb old)) old.limit
+    (clip_within eq exact g.met.V.Eq.laws.refl vdb c.args.bounds old.background (cell_at vdb old)) (rw c.limit.ensures.value at c.limit.ensures.kept) in
     let memory = c.in-Err.ensures.background_cell (ap off c.background.ensures) in
     rw memory (c.prune.ensures.field ∙ c.in-Err.ensures.field, few)
 
 pub returns-in-Ok-clause-outcome : goal.returns-in-Ok-clause-outcome
 returns-in-Ok-clause-outcome g c =
-    let bits = bits_of g.row.U g.row.L g.row.F in
     let old = c.args.tree.now in
     let b = c.args.bounds in
     let eq = g.V.PartialEq.eq in
     let exact = exact_by eq g.V.Ord.cmp g.met.V.Ord.matches_eq g.met.V.Voxel.exact in
-    let few = least (roots eq bits (clip b (field_of bits old))) (roots eq bits (field_of bits old)) old.limit
-    (clip_within eq exact g.met.V.Eq.laws.refl bits b old.background (cell_at bits old)) (rw c.limit.ensures.value at c.limit.ensures.kept) in
-    let around = c.clear_ring.ensures.field ∙ ap (λ (h : Field g.row.V.Denot). clear everywhere (hull bits Upper b) faces h) c.in-Ok.ensures.field in
-    let roots_left = c.clear_ring-in-Ok.ensures.field ∙ ap (λ (h : Field g.row.V.Denot). clear (hull bits Upper b) (hull bits Lower b) faces h) around in
-    let lowers_left = c.clear_ring-in-Ok-2.ensures.field ∙ ap (λ (h : Field g.row.V.Denot). clear (hull bits Lower b) (hull bits Leaf b) faces h) roots_left in
-    let all = c.clear_ring-in-Ok-3.ensures.field ∙ ap (λ (h : Field g.row.V.Denot). clear (hull bits Leaf b) b faces h) lowers_left in
-    (all ∙ clear_all old.background (cell_at bits old) bits b, few)
+    let few = least (roots eq vdb (clip b (field_of vdb old))) (roots eq vdb (field_of vdb old)) old.limit
+    (clip_within eq exact g.met.V.Eq.laws.refl vdb b old.background (cell_at vdb old)) (rw c.limit.ensures.value at c.limit.ensures.kept) in
+    let around = c.clear_ring.ensures.field ∙ ap (λ (h : Field g.row.V.Denot). clear everywhere (hull vdb Upper b) faces h) c.in-Ok.ensures.field in
+    let roots_left = c.clear_ring-in-Ok.ensures.field ∙ ap (λ (h : Field g.row.V.Denot). clear (hull vdb Upper b) (hull vdb Lower b) faces h) around in
+    let lowers_left = c.clear_ring-in-Ok-2.ensures.field ∙ ap (λ (h : Field g.row.V.Denot). clear (hull vdb Lower b) (hull vdb Leaf b) faces h) roots_left in
+    let all = c.clear_ring-in-Ok-3.ensures.field ∙ ap (λ (h : Field g.row.V.Denot). clear (hull vdb Leaf b) b faces h) lowers_left in
+    (all ∙ clear_all old.background (cell_at vdb old) vdb b, few)
