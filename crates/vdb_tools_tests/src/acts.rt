@@ -21,8 +21,6 @@ type Tiny = TreeOf<i32, 1, 1, 1, 1, 1, 1>;
 pub enum Change {
     Fill(Coord, Coord, Cell<i32>),
     Clip(Coord, Coord),
-    Dilate,
-    Erode,
     /// Combines the tree with another one.
     Unite,
     Subtract,
@@ -80,8 +78,6 @@ fn is_changed<
     let outcome = match change {
         Change::Fill(min, max, cell) => fill(tree, bounds(rt, min, max), cell, steps),
         Change::Clip(min, max) => clip(tree, bounds(rt, min, max), steps),
-        Change::Dilate => dilate(tree, 1, steps),
-        Change::Erode => erode(tree, 1, steps),
         Change::Unite => unite(tree, other, steps),
         Change::Subtract => subtract(tree, other, steps),
         Change::Intersect => intersect(tree, other, steps),
@@ -315,4 +311,36 @@ pub fn play_433(rt: &impl Abort, alloc: Global, acts: &[Act<'_>], steps: &mut St
 pub fn play_tiny(rt: &impl Abort, alloc: Global, acts: &[Act<'_>], steps: &mut Steps) {
     let tree = Tiny::new(alloc, 0, 4096);
     play(rt, tree, Tiny::new(alloc, 0, 4096), acts, steps);
+}
+
+/// One iteration, after which a tree has this number of active voxels.
+#[derive(Clone, Copy)]
+pub enum Iteration {
+    Dilate(u128),
+    Erode(u128),
+}
+
+/// Runs iterations on a fresh tree of the standard layout, with background 0 and the value 7 at one active voxel. The values stay.
+pub fn play_iterations(
+    rt: &impl Abort,
+    alloc: Global,
+    p: Coord,
+    iterations: &[Iteration],
+    steps: &mut Steps,
+) {
+    let mut tree: Tree<i32> = Tree::new(alloc, 0, 4096);
+    let cell = Cell { value: 7, on: true };
+    let is_filled = fill(&mut tree, bounds(rt, p, p), cell, steps).is_ok();
+    expect_changed(rt, 0, is_filled);
+    for (number, iteration) in iterations.iter().enumerate() {
+        let (outcome, wanted) = match iteration {
+            Iteration::Dilate(active) => (dilate(&mut tree, 1, steps), *active),
+            Iteration::Erode(active) => (erode(&mut tree, 1, steps), *active),
+        };
+        expect_changed(rt, number, outcome.is_ok());
+        let active = count(&tree, None, steps);
+        expect_count(rt, number, active, wanted);
+        let value = tree.get(p, steps).value;
+        assert_eq!(rt; value, 7, "iteration {number}");
+    }
 }

@@ -1,7 +1,7 @@
 //! Each tool on trees of the standard layout, of 4, 3 and 3 bits, and of the smallest nodes. Expected values were worked out by
 //! hand. tests/library has further tests of each tool.
 
-use crate::acts::{Act, Change, play_433, play_standard, play_tiny};
+use crate::acts::{Act, Change, Iteration, play_433, play_iterations, play_standard, play_tiny};
 use std::alloc::Global;
 use std::process::Abort;
 use vdb_coord::{Bounds, Coord};
@@ -103,27 +103,17 @@ fn values(rt: HostRuntime) {
     play(&rt, rt.alloc(), &acts, &mut Steps::new(&rt));
 }
 
-// The numbers of voxels at most two faces away from one voxel are 1, 7 and 25.
+// The numbers of voxels at most two faces away from one voxel are 1, 7 and 25. The trees have the standard layout.
 #[test]
 fn iterations(rt: HostRuntime) {
-    let acts = [
-        fill(7, 7, on(7)),
-        Act::Change(Change::Dilate),
-        Act::Count(7),
-        Act::Change(Change::Dilate),
-        Act::Count(25),
-        Act::Cell(at(9, 7, 7), on(0)),
-        Act::Cell(all(8), off(0)),
-        Act::Change(Change::Erode),
-        Act::Count(7),
-        Act::Change(Change::Erode),
-        Act::Count(1),
-        Act::Cell(all(7), on(7)),
-        Act::Change(Change::Erode),
-        Act::Count(0),
-        Act::Cell(all(7), off(7)),
+    let iterations = [
+        Iteration::Dilate(7),
+        Iteration::Dilate(25),
+        Iteration::Erode(7),
+        Iteration::Erode(1),
+        Iteration::Erode(0),
     ];
-    play(&rt, rt.alloc(), &acts, &mut Steps::new(&rt));
+    play_iterations(&rt, rt.alloc(), all(7), &iterations, &mut Steps::new(&rt));
 }
 
 #[test]
