@@ -4,7 +4,7 @@ use Rattle.std.specs.Prelude.{◌&&◌, if◌then◌else◌}
 use Rattle.std.specs.List.{list_any}
 use Rattle.std.proofs.lemmas.Bool.Decides.{eqb_tells}
 use Rattle.std.proofs.lemmas.Int.{ints}
-use Rattle.vdb_coord.specs.Blocks.{offset}
+use Rattle.vdb_coord.specs.Blocks.{offset, vdb}
 use Rattle.vdb_coord.specs.Faces.{faces, toward}
 use Rattle.vdb_coord.specs.Space.{coord, coord_eq}
 use Rattle.vdb_coord.specs.declared.Coord.{Coord}
@@ -15,7 +15,6 @@ use Rattle.vdb_coord.proofs.Boxes.{not_true}
 use Rattle.vdb_coord.proofs.Division.{parts, quotient, quotient_of, rest, rest_below, rest_of}
 use Rattle.vdb_coord.proofs.Members.{coord_equiv, coord_exact}
 use Rattle.vdb_mask.specs.Mask.{is_on}
-use Rattle.vdb_tree.specs.Layout.{bits_of}
 use Rattle.vdb_morph.specs.internal.Behind.{state_beside}
 use Rattle.vdb_node.specs.Beside.{bit_after, bit_before}
 use Rattle.vdb_morph.specs.internal.Beside.{bit_beside, is_on_beside}
@@ -123,8 +122,8 @@ on_in_own false own i = refl
 abbrev index_of : ℕ → ℕ → ℕ → ℕ
 index_of x y z = (x / 1 * 8 + y / 1) * 8 + z / 1
 
-module _ (u l : ℕ) (own other : List Bool) (q : Coord) where
-  pub beside_is : (face : Face) → bit_beside face (is_on own) (is_on other) (offset (bits_of u l 3) Leaf q) ≡ state_beside (bits_of u l 3) own other face q
+module _ (own other : List Bool) (q : Coord) where
+  pub beside_is : (face : Face) → bit_beside face (is_on own) (is_on other) (offset vdb Leaf q) ≡ state_beside vdb own other face q
   beside_is MinusX =
       before_is own other q.x (λ n. coord n (quotient 8 q.y) (quotient 8 q.z)) (λ n. n.x) (λ n. refl) 64 (λ d. index_of d (rest 8 q.y) (rest 8 q.z))
       (omega (arith, below q.x, below q.y, below q.z)) (λ e. omega (arith, e)) (λ h. omega (arith, h))
@@ -144,15 +143,15 @@ module _ (u l : ℕ) (own other : List Bool) (q : Coord) where
       after_is own other q.z (λ n. coord (quotient 8 q.x) (quotient 8 q.y) n) (λ n. n.z) (λ n. refl) 1 (λ d. index_of (rest 8 q.x) (rest 8 q.y) d)
       (omega (arith, below q.x, below q.y, below q.z)) (λ e. omega (arith, e)) (λ h. omega (arith, h))
 
-module _ (u l : ℕ) (own : List Bool) (q : Coord) where
+module _ (own : List Bool) (q : Coord) where
   -- behind any face
-  pub beside_any_is : is_on_beside own (offset (bits_of u l 3) Leaf q) ≡ list_any (λ face. is_around (bits_of u l 3) q (toward face q) && is_on own (offset (bits_of u l 3) Leaf (toward face q))) faces
+  pub beside_any_is : is_on_beside own (offset vdb Leaf q) ≡ list_any (λ face. is_around vdb q (toward face q) && is_on own (offset vdb Leaf (toward face q))) faces
   beside_any_is =
-      any_same (λ face. bit_beside face (is_on own) (is_on []) (offset (bits_of u l 3) Leaf q))
-      (λ face. is_around (bits_of u l 3) q (toward face q) && is_on own (offset (bits_of u l 3) Leaf (toward face q)))
-      (λ face. beside_is u l own [] q face ∙ on_in_own (is_around (bits_of u l 3) q (toward face q)) own (offset (bits_of u l 3) Leaf (toward face q)))
+      any_same (λ face. bit_beside face (is_on own) (is_on []) (offset vdb Leaf q))
+      (λ face. is_around vdb q (toward face q) && is_on own (offset vdb Leaf (toward face q)))
+      (λ face. beside_is own [] q face ∙ on_in_own (is_around vdb q (toward face q)) own (offset vdb Leaf (toward face q)))
       faces
 
 -- each offset lies in the first 8 words
-pub offset_low : (u l : ℕ) (q : Coord) (k : ℕ) → 8 ≤ k → offset (bits_of u l 3) Leaf q < 64 * k
-offset_low u l q k h = omega (arith, below q.x, below q.y, below q.z, h)
+pub offset_low : (q : Coord) (k : ℕ) → 8 ≤ k → offset vdb Leaf q < 64 * k
+offset_low q k h = omega (arith, below q.x, below q.y, below q.z, h)

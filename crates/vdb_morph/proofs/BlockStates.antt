@@ -57,10 +57,6 @@ module _ {V : Type 0} where
         | inr e ↦ rw e (sym at)
       ])
 
-  -- tests that agree everywhere give the same result
-  pub same_test : (s t : Coord → Bool) (f g : Field V) → ((q : Coord) → s q ≡ t q) → taken s g f ≡ taken t g f
-  same_test s t f g same = same_cells f.background _ _ (λ q inside. ap (λ b. cond b (g.cell q) (f.cell q)) (same q))
-
 -- boolean cells that compare equal are equal
 pub same_truths : (c d : Cell Bool) (r : Bool) → r ≡ cell_eq beq c d → IsTrue r → c ≡ d
 same_truths c d r is holds = cell_exact beq (λ x y. (booleans_Decides x y).0) bool_eq_equiv.refl c d (sym is ∙ holds)

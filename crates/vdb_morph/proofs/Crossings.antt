@@ -5,7 +5,7 @@ use Rattle.std.proofs.Math.IntN.{pred_ℤ-*ℤ, suc_ℤ-*ℤ, -ℤ_one, +ℤ_one
 use Rattle.std.proofs.lemmas.Bool.Decides.{eqb_tells}
 use Rattle.std.proofs.lemmas.Int.{ints}
 use Rattle.std.proofs.lemmas.Nat.{pow_pos}
-use Rattle.vdb_coord.specs.Blocks.{block, block_around, block_number, block_numbers}
+use Rattle.vdb_coord.specs.Blocks.{block, block_around, block_number, block_numbers, vdb}
 use Rattle.vdb_coord.specs.Components.{first_of, last_of, number_at}
 use Rattle.vdb_coord.specs.Entries.{AreBits}
 use Rattle.vdb_coord.specs.Faces.{neighbour, toward}
@@ -21,6 +21,10 @@ use Rattle.vdb_coord.proofs.InRange.{numbered_in_range}
 use Rattle.vdb_coord.proofs.Meeting.{number_of_first}
 use Rattle.vdb_morph.specs.internal.Behind.{layer, opposite}
 use Rattle.vdb_morph.proofs.Layers.{apart, no_neighbour, some_neighbour}
+
+-- the bits that nodes of a standard tree have
+pub vdb_bits : AreBits vdb
+vdb_bits = ((omega arith, omega arith), (omega arith, omega arith), (omega arith, omega arith))
 
 -- ---- there and back
 

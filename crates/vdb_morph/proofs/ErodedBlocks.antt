@@ -1,10 +1,9 @@
 -- Erosion face by face, in a leaf extent and at a voxel.
-use Rattle.std.proofs.Common.{◌≡◌, refl, sym, ap, ◌∙◌, ℕ, ◌+◌, ◌<◌, Bool, true, false, cond, List, [], ◌∷◌, take, get_or, inl, inr, IsTrue}
-use Rattle.std.specs.Prelude.{◌&&◌, if◌then◌else◌, Some, None}
+use Rattle.std.proofs.Common.{◌≡◌, refl, sym, ap, ◌∙◌, ℕ, ◌+◌, ◌<◌, Bool, true, false, List, [], ◌∷◌, take, get_or, inl, inr, IsTrue}
+use Rattle.std.specs.Prelude.{◌&&◌, if◌then◌else◌}
 use Rattle.std.specs.List.{filter_map, list_all}
 use Rattle.std.proofs.Math.Bool.{and-true}
-use Rattle.std.proofs.lemmas.List.Folds.{list_all_at, list_all_more}
-use Rattle.std.proofs.lemmas.Option.{same_Some}
+use Rattle.std.proofs.lemmas.List.Folds.{list_all_more}
 use Rattle.vdb_coord.specs.Blocks.{block_number, block_numbers, offset}
 use Rattle.vdb_coord.specs.Entries.{AreBits}
 use Rattle.vdb_coord.specs.Faces.{faces, neighbour, toward}
@@ -54,32 +53,6 @@ module _ {V : Type 0} (f : Field V) where
   stays_more i face q few =
       and_more (f.cell q).on (list_all (λ x. state_behind f x q) (take i faces)) (state_behind f (get_or faces i face) q)
       ∙ ap (λ b. (f.cell q).on && b) (sym (list_all_more (λ x. state_behind f x q) faces i face few))
-
-  -- the voxels behind the first faces are all active, and so is one more
-  pub behind_more : (i : ℕ) (face : Face) (q : Coord) → i < 6 → list_all (λ x. state_behind f x q) (take i faces) ≡ true → state_behind f (get_or faces i face) q ≡ true
-      → list_all (λ x. state_behind f x q) (take (i + 1) faces) ≡ true
-  behind_more i face q few before here = list_all_more (λ x. state_behind f x q) faces i face few ∙ rw (before, here) refl
-
-  -- one of them is inactive
-  pub behind_off : (i : ℕ) (face : Face) (q : Coord) → IsTrue (is_inside everywhere q) → i < 6 → state_behind f (get_or faces i face) q ≡ false → ((erode f).cell q).on ≡ false
-  behind_off i face q inside few here =
-      sym (eroded_is q inside) ∙ ap (λ b. (f.cell q).on && b) (list_all_at (λ x. state_behind f x q) faces i face few here) ∙ and_false (f.cell q).on
-    where
-      and_false : (b : Bool) → (b && false) ≡ false
-      and_false true = refl
-      and_false false = refl
-
-  -- no voxel behind a face is inactive
-  pub behind_on : (q : Coord) → IsTrue (is_inside everywhere q) → list_all (λ x. state_behind f x q) faces ≡ true → (f.cell q).on ≡ ((erode f).cell q).on
-  behind_on q inside all = sym (and-true (f.cell q).on) ∙ ap (λ b. (f.cell q).on && b) (sym all) ∙ eroded_is q inside
-
-  -- the neighbour behind a face
-  pub neighbour_state : (face : Face) (q r : Coord) → neighbour face q ≡ Some r → (f.cell r).on ≡ state_behind f face q
-  neighbour_state face q r h = let e = chosen (is_inside everywhere (toward face q)) (toward face q) r h in rw e.0 (ap (λ (x : Coord). (f.cell x).on) (sym e.1))
-    where
-      chosen : (b : Bool) (x y : Coord) → cond b (Some x) None ≡ Some y → (b ≡ true) × (x ≡ y)
-      chosen true x y h = (refl, same_Some x y h)
-      chosen false x y h = cc
 
   -- an inactive voxel stays inactive
   pub off_eroded : (q : Coord) → IsTrue (is_inside everywhere q) → (f.cell q).on ≡ false → ((erode f).cell q).on ≡ false

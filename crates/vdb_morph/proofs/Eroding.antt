@@ -44,9 +44,9 @@ pub is_around_same : (bits : Bits) (p q : Coord) → block_number bits Leaf q �
 is_around_same bits p q e = subst (λ (n : Coord). coord_eq (block_number bits Leaf q) n ≡ true) e (coord_equiv.refl (block_number bits Leaf q))
 
 -- a box that is the leaf extent around a coordinate lies in that block
-pub is_around_block : (bits known : Bits) → known ≡ bits → (p : Coord) (box block : Box) → box ≡ block → block ≡ block_around known Leaf p → (q : Coord) → IsTrue (is_inside box q) → is_around bits p q ≡ true
-is_around_block bits known same p box block e is q i =
-    let inside : is_inside (block_around bits Leaf p) q ≡ true = subst (λ (b : Bits). is_inside (block_around b Leaf p) q ≡ true) same (subst (λ (b : Box). is_inside b q ≡ true) (e ∙ is) i) in
+pub is_around_block : (bits : Bits) (p : Coord) (box block : Box) → box ≡ block → block ≡ block_around bits Leaf p → (q : Coord) → IsTrue (is_inside box q) → is_around bits p q ≡ true
+is_around_block bits p box block e is q i =
+    let inside : is_inside (block_around bits Leaf p) q ≡ true = subst (λ (b : Box). is_inside b q ≡ true) (e ∙ is) i in
     is_around_same bits p q (number_in_block bits Leaf (block_number bits Leaf p) q inside)
 
 -- a part of a leaf lies in the leaf extent of its corner

@@ -7,7 +7,6 @@ pub mod LeafWords
 pub mod BesideStates
 pub mod BlockStates
 pub mod ErodedBlocks
-pub mod VoxelWrites
 pub mod Eroding
 pub mod Settling
 pub mod Activating

@@ -10,7 +10,7 @@ use Rattle.vdb_coord.specs.declared.face.Face.TheVariants.{MinusX, PlusX, MinusY
 use Rattle.vdb_coord.proofs.Boxes.{both, not_true}
 use Rattle.vdb_coord.proofs.Meeting.{within_each}
 use Rattle.vdb_value.specs.declared.Cell.{Cell}
-use Rattle.vdb_tree.specs.Field.{Field, field, fill, new, off, unite}
+use Rattle.vdb_tree.specs.Field.{Field, field, fill}
 use Rattle.vdb_tree.proofs.Fields.{cell_inside, same_cells}
 use Rattle.vdb_morph.specs.internal.Behind.{is_behind, is_behind_any}
 use Rattle.vdb_morph.specs.internal.Iterating.{spread, with_active}

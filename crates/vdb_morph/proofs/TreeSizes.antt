@@ -14,7 +14,3 @@ tree_small a b size ha hb hs =
     let lowers = up 8 uppers + 56 in
     let leaves = up 8 lowers + 56 in
     omega (arith, up_le b 0, up_le 4 background, up_le 8 limit, up_le 1 table, up_le 8 swept, up_le 8 uppers, up_le 8 lowers, up_le (max 1 (max a 8)) leaves)
-
--- the words of a mask
-pub words_small : (words : ℕ) → words ≤ 512 → up 8 (0 + words * 8) < 2 ^ 63
-words_small words few = omega (arith, few, up_le 8 (0 + words * 8))

@@ -1,16 +1,15 @@
 //! What lies behind the faces of boxes and blocks.
 
 ghost use Rattle.std.specs.Prelude.{◌≡◌, false, IfSome, IsNone, IsTrue};
-ghost use Rattle.vdb_coord.specs.Blocks.{block_number, block_numbers};
+ghost use Rattle.vdb_coord.specs.Blocks.{block_number, block_numbers, vdb};
 ghost use Rattle.vdb_coord.specs.Boxes.{is_bounds};
-ghost use Rattle.vdb_coord.specs.Entries.{AreBits};
 ghost use Rattle.vdb_coord.specs.Faces.{toward};
 ghost use Rattle.vdb_coord.specs.Space.{everywhere, is_inside};
 ghost use Rattle.vdb_coord.specs.declared.Coord.{Coord};
 ghost use Rattle.vdb_coord.specs.declared.Level.TheVariants.{Leaf as leaf_level};
 ghost use Rattle.vdb_morph.specs.internal.Behind.{is_behind, layer as layer_of, opposite as opposite_of};
 
-use vdb_coord::{Bits, Bounds, Coord, Face, Level};
+use vdb_coord::{Bounds, Coord, Face, Level};
 
 /// Returns the voxels right behind a face of a box: `None` if the box reaches the end of the range there.
 pub(crate) fn behind(bounds: Bounds, face: Face) -> Option<Bounds>
@@ -42,12 +41,11 @@ fn layer(bounds: Bounds, face: Face) -> (Coord, Coord)
 
 /// Returns a coordinate of the leaf extent right behind a face of p's leaf extent: `None` if p's leaf extent reaches the end of
 /// the range there.
-pub(crate) fn block_behind(bits: Bits, p: Coord, face: Face) -> Option<Coord>
-    requires { AreBits bits }
-    ensures there { IfSome result (λ r. block_number bits leaf_level r ≡ toward face (block_number bits leaf_level p)) }
-    ensures nowhere { IsNone result → is_inside (block_numbers bits leaf_level) (toward face (block_number bits leaf_level p)) ≡ false }
+pub(crate) fn block_behind(p: Coord, face: Face) -> Option<Coord>
+    ensures there { IfSome result (λ r. block_number vdb leaf_level r ≡ toward face (block_number vdb leaf_level p)) }
+    ensures nowhere { IsNone result → is_inside (block_numbers vdb leaf_level) (toward face (block_number vdb leaf_level p)) ≡ false }
 {
-    let (corner, _) = layer(p.block_in(bits, Level::Leaf), face);
+    let (corner, _) = layer(p.block(Level::Leaf), face);
     corner.neighbour(face)
 }
 

@@ -1,4 +1,4 @@
-//! Dilation and erosion of the active voxels of a tree, by faces.
+//! Dilation and erosion of the active voxels of a standard tree, by faces.
 //!
 //! An iteration of dilation activates each voxel that has an active face neighbour. An iteration of erosion deactivates each
 //! voxel that has an inactive one. An iteration reads the states from before it. A neighbour past the range of coordinates
@@ -9,7 +9,7 @@
 //! - `states`: trees of states alone.
 //! - `faces`: what lies behind the faces of boxes and blocks.
 //! - `words`: the states behind the faces of a leaf's voxels, a word at a time.
-//! - `spread_block`, `erode_block`: one iteration in a leaf extent, by the words of the states if a leaf has 3 bits.
+//! - `spread_block`, `erode_block`: one iteration in a leaf extent, by the words of the states.
 //! - `dilated`, `eroded`: one iteration over a whole tree.
 //! - `iterations`: the calls on a tree.
 #![tactic(auto)]

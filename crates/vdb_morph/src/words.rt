@@ -1,14 +1,13 @@
-//! The states behind the faces of the voxels of a leaf of 3 bits. A word has the states of one x: a byte for each y, a bit for
+//! The states behind the faces of the voxels of a leaf. A word has the states of one x: a byte for each y, a bit for
 //! each z.
 
-ghost use Rattle.std.specs.Prelude.{◌≡◌, ◌+◌, ◌*◌, ◌<◌, ◌≤◌, ◌&&◌, ℕ};
+ghost use Rattle.std.specs.Prelude.{◌≡◌, ◌+◌, ◌*◌, ◌<◌, ◌&&◌, ℕ};
 ghost use Rattle.std.specs.List.{list_any};
-ghost use Rattle.vdb_coord.specs.Blocks.{offset};
+ghost use Rattle.vdb_coord.specs.Blocks.{offset, vdb};
 ghost use Rattle.vdb_coord.specs.Faces.{faces, toward};
 ghost use Rattle.vdb_coord.specs.declared.Coord.{Coord};
 ghost use Rattle.vdb_coord.specs.declared.Level.TheVariants.{Leaf as leaf_level};
 ghost use Rattle.vdb_mask.specs.Mask.{has_bit, is_on};
-ghost use Rattle.vdb_tree.specs.Layout.{bits_of};
 ghost use Rattle.vdb_morph.specs.internal.Behind.{state_beside};
 ghost use Rattle.vdb_morph.specs.internal.Beside.{bit_beside, is_on_beside};
 ghost use Rattle.vdb_morph.specs.internal.Iterating.{is_around};
@@ -19,9 +18,8 @@ use vdb_node::words::{after_y, after_z, before_y, before_z};
 
 /// Returns, at the entry of each voxel, the state behind its face, from the states of its own leaf extent and of the leaf extent
 /// behind that face.
-pub(crate) fn beside<const W: usize>(own: &Mask<W>, other: &Mask<W>, face: Face) -> Mask<W>
-    requires { 8 ≤ W }
-    ensures { (u l : ℕ) (q : Coord) → is_on result (offset (bits_of u l 3) leaf_level q) ≡ state_beside (bits_of u l 3) own.now other.now face q }
+pub(crate) fn beside(own: &Mask<8>, other: &Mask<8>, face: Face) -> Mask<8>
+    ensures { (q : Coord) → is_on result (offset vdb leaf_level q) ≡ state_beside vdb own.now other.now face q }
 {
     let mut result = Mask::off();
     for k in 0..8 {
@@ -31,9 +29,8 @@ pub(crate) fn beside<const W: usize>(own: &Mask<W>, other: &Mask<W>, face: Face)
 }
 
 /// Returns, at the entry of each voxel, whether a voxel behind one of its faces lies in the same leaf extent and is on.
-pub(crate) fn beside_any<const W: usize>(own: &Mask<W>) -> Mask<W>
-    requires { 8 ≤ W }
-    ensures { (u l : ℕ) (q : Coord) → is_on result (offset (bits_of u l 3) leaf_level q) ≡ list_any (λ face. is_around (bits_of u l 3) q (toward face q) && is_on own.now (offset (bits_of u l 3) leaf_level (toward face q))) faces }
+pub(crate) fn beside_any(own: &Mask<8>) -> Mask<8>
+    ensures { (q : Coord) → is_on result (offset vdb leaf_level q) ≡ list_any (λ face. is_around vdb q (toward face q) && is_on own.now (offset vdb leaf_level (toward face q))) faces }
 {
     let mut result = Mask::off();
     for k in 0..8 {
@@ -44,9 +41,8 @@ pub(crate) fn beside_any<const W: usize>(own: &Mask<W>) -> Mask<W>
 
 /// Returns word k of the states behind a face, from the states of the own leaf extent and of the one behind that face.
 #[inline]
-fn word_beside<const W: usize>(own: &Mask<W>, other: &Mask<W>, face: Face, k: u32) -> u64
-    requires words { 8 ≤ W }
-    requires within { k < 8 }
+fn word_beside(own: &Mask<8>, other: &Mask<8>, face: Face, k: u32) -> u64
+    requires { k < 8 }
     ensures { (j : ℕ) → j < 64 → bit_beside face (is_on own.now) (is_on other.now) (64 * k + j) ≡ has_bit result j }
 {
     match face {
@@ -73,9 +69,8 @@ fn word_beside<const W: usize>(own: &Mask<W>, other: &Mask<W>, face: Face, k: u3
 
 /// Returns word k of the mask of the voxels with a neighbour that lies in the same leaf extent and is on.
 #[inline]
-fn word_beside_any<const W: usize>(own: &Mask<W>, k: u32) -> u64
-    requires words { 8 ≤ W }
-    requires within { k < 8 }
+fn word_beside_any(own: &Mask<8>, k: u32) -> u64
+    requires { k < 8 }
     ensures { (j : ℕ) → j < 64 → is_on_beside own.now (64 * k + j) ≡ has_bit result j }
 {
     let word = own.word(k);

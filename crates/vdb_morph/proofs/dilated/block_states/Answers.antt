@@ -1,21 +1,18 @@
 use Rattle.std.proofs.Common.{◌∙◌, ap, arith, refl, sym, Bool, List}
-use Rattle.vdb_coord.specs.Blocks.{offset}
+use Rattle.vdb_coord.specs.Blocks.{offset, vdb}
 use Rattle.vdb_coord.specs.declared.Level.TheVariants.{Leaf}
-use Rattle.vdb_coord.proofs.Positions.{offset_below}
 use Rattle.vdb_mask.specs.Mask.{is_on}
-use Rattle.vdb_tree.specs.Layout.{bits_of}
 use Rattle.vdb_value.specs.declared.Cell.{Cell}
+use Rattle.vdb_morph.proofs.BesideStates.{offset_low}
 use Rattle.vdb_morph.proofs.Spreading.{from_around}
 use Rattle.vdb_morph.proofs.dilated.block_states.Goals as goal
 
 pub returns-in-Some : goal.returns-in-Some
 returns-in-Some g c = λ q inside h.
-    let bits = bits_of g.row.U g.row.L g.row.F in
-    ap (λ (m : List Bool). is_on m (offset bits Leaf q)) (c.copied.ensures.same ∙ c.states.ensures.same)
-    ∙ sym (ap (λ (d : Cell g.row.V.Denot). d.on) (c.in-Some.ensures.leaf q inside (from_around bits c.args.p q h)))
+    ap (λ (m : List Bool). is_on m (offset vdb Leaf q)) (c.copied.ensures.same ∙ c.states.ensures.same)
+    ∙ sym (ap (λ (d : Cell g.row.V.Denot). d.on) (c.in-Some.ensures.leaf q inside (from_around vdb c.args.p q h)))
 
 pub returns-in-None : goal.returns-in-None
 returns-in-None g c = λ q inside h.
-    let bits = bits_of g.row.U g.row.L g.row.F in
-    c.filled.ensures.within (offset bits Leaf q) (let below = offset_below bits Leaf q in let capacity = c.has_leaf_words.ensures.capacity in omega (arith, below, capacity))
-    ∙ ap (λ (d : Cell g.row.V.Denot). d.on) (c.get.ensures.cell ∙ sym (c.in-None.ensures.tile refl q inside (from_around bits c.args.p q h)))
+    c.filled.ensures.within (offset vdb Leaf q) (offset_low q 8 (omega arith))
+    ∙ ap (λ (d : Cell g.row.V.Denot). d.on) (c.get.ensures.cell ∙ sym (c.in-None.ensures.tile refl q inside (from_around vdb c.args.p q h)))

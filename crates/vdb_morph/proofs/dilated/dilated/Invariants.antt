@@ -1,6 +1,7 @@
 use Rattle.std.proofs.Common.{◌≡◌}
+use Rattle.vdb_coord.specs.Blocks.{vdb}
 use Rattle.vdb_coord.specs.Space.{everywhere}
-use Rattle.vdb_tree.specs.Layout.{bits_of, field_of}
+use Rattle.vdb_tree.specs.Layout.{field_of}
 use Rattle.vdb_tree.specs.Parts.{IsWalk, left_count}
 use Rattle.vdb_tree.specs.declared.queries.parts.Skip.TheVariants.{Inactive}
 use Rattle.vdb_morph.proofs.Spreading.{IsPartly}
@@ -8,13 +9,12 @@ use Rattle.vdb_morph.proofs.dilated.dilated.Given as goal
 
 abbrev pub invariant-parts : goal.invariant-parts
 invariant-parts g l =
-    let bits = bits_of g.row.U g.row.L g.row.F in
     record {
-      walk : IsWalk bits l.tree l.walk;
+      walk : IsWalk vdb l.tree l.walk;
       skip : l.walk.skip ≡ Inactive;
       box : l.walk.box ≡ everywhere;
-      partly : IsPartly bits (field_of bits l.tree) l.walk.at (field_of bits l.states);
+      partly : IsPartly vdb (field_of vdb l.tree) l.walk.at (field_of vdb l.states);
     }
 
 abbrev pub decreases-parts : goal.decreases-parts
-decreases-parts g l = left_count (bits_of g.row.U g.row.L g.row.F) l.walk.at
+decreases-parts g l = left_count vdb l.walk.at

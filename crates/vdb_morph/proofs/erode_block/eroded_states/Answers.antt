@@ -1,37 +1,33 @@
 -- Face by face.
 use Rattle.std.proofs.Common.{◌≡◌, ap, ◌∙◌, refl, sym, arith, get_or, take, ℕ, Bool, List, ◌&&◌}
-use Rattle.vdb_coord.specs.Blocks.{offset}
+use Rattle.vdb_coord.specs.Blocks.{offset, vdb}
 use Rattle.vdb_coord.specs.Faces.{faces}
 use Rattle.vdb_coord.specs.declared.Level.TheVariants.{Leaf}
 use Rattle.vdb_coord.specs.declared.face.Face.TheVariants.{MinusX}
 use Rattle.vdb_mask.specs.Mask.{is_on}
-use Rattle.vdb_tree.specs.Layout.{bits_of, field_of}
+use Rattle.vdb_tree.specs.Layout.{field_of}
 use Rattle.vdb_morph.specs.internal.BlockStates.{state_behind}
 use Rattle.vdb_morph.proofs.ErodedBlocks.{eroded_is, off_eroded, stays_by, stays_first, stays_more}
 use Rattle.vdb_morph.proofs.erode_block.eroded_states.Goals as goal
 
 pub returns-then-all_off : goal.returns-then-all_off
 returns-then-all_off g c = λ q inside around.
-    let bits = bits_of g.row.U g.row.L g.row.F in
-    let none = c.if-all_off.ensures.0 refl (offset bits Leaf q) in
-    none ∙ sym (off_eroded (field_of bits c.args.tree.now) q inside (sym (c.states_at-own.ensures q inside around) ∙ none))
+    let none = c.if-all_off.ensures.0 refl (offset vdb Leaf q) in
+    none ∙ sym (off_eroded (field_of vdb c.args.tree.now) q inside (sym (c.states_at-own.ensures q inside around) ∙ none))
 
 pub loop-face-init : goal.loop-face-init
 loop-face-init g c = λ q inside around.
-    let bits = bits_of g.row.U g.row.L g.row.F in
-    ap (λ (m : List Bool). is_on m (offset bits Leaf q)) c.copied-left.ensures.same ∙ c.states_at-own.ensures q inside around ∙ stays_first (field_of bits c.args.tree.now) q
+    ap (λ (m : List Bool). is_on m (offset vdb Leaf q)) c.copied-left.ensures.same ∙ c.states_at-own.ensures q inside around ∙ stays_first (field_of vdb c.args.tree.now) q
 
 pub loop-face-preserved : goal.loop-face-preserved
 loop-face-preserved g c = λ q inside around.
-    let bits = bits_of g.row.U g.row.L g.row.F in
-    let f = field_of bits c.args.tree.now in
+    let f = field_of vdb c.args.tree.now in
     c.narrow.ensures q inside around
     ∙ ap (λ b. b && state_behind f (get_or faces c.loop-face.face-index MinusX) q) (c.loop-face.invariant q inside around)
     ∙ stays_more f c.loop-face.face-index MinusX q c.loop-face-test.true
 
 pub returns : goal.returns
 returns g c = λ q inside around.
-    let bits = bits_of g.row.U g.row.L g.row.F in
-    let f = field_of bits c.args.tree.now in
+    let f = field_of vdb c.args.tree.now in
     let all : c.loop-face.face-index ≡ 6 = omega arith in
     c.loop-face.invariant q inside around ∙ ap (λ (n : ℕ). stays_by f (take n faces) q) all ∙ eroded_is f q inside

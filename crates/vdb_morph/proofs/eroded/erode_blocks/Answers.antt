@@ -1,44 +1,37 @@
-use Rattle.std.proofs.Common.{◌<◌, refl, subst, true}
+use Rattle.std.proofs.Common.{refl, subst, true}
 use Rattle.std.specs.Prelude.{Option}
-use Rattle.vdb_coord.specs.Order.{IsNextCoord}
-use Rattle.vdb_coord.specs.declared.Bits.{Bits}
+use Rattle.vdb_coord.specs.Blocks.{vdb}
 use Rattle.vdb_coord.specs.declared.Coord.{Coord}
-use Rattle.vdb_coord.specs.declared.Level.TheVariants.{Leaf}
 use Rattle.vdb_tree.specs.Field.{Field}
-use Rattle.vdb_tree.specs.Layout.{bits_of, cell_at, field_of}
-use Rattle.vdb_tree.specs.Parts.{left_count}
+use Rattle.vdb_tree.specs.Layout.{cell_at, field_of}
 use Rattle.vdb_morph.specs.internal.Iterating.{is_around}
 use Rattle.vdb_morph.proofs.Eroding.{IsDoneTo, done_more, done_none, erodes_none, erodes_taken, erodes_then, nearer_left, taken_eroded}
 use Rattle.vdb_morph.proofs.eroded.erode_blocks.Goals as goal
 
 pub coords-init : goal.coords-init
 coords-init g c =
-    let bits = bits_of g.row.U g.row.L g.row.F in
-    let f : Field g.row.V.Denot = field_of bits c.args.tree.now in
+    let f : Field g.row.V.Denot = field_of vdb c.args.tree.now in
     record {
-      done = done_none f bits c.args.bounds (field_of bits c.args.states.now) c.min.ensures.bounds c.min.result c.min.ensures.corner;
-      erodes = erodes_none f (field_of bits c.args.states.now);
+      done = done_none f vdb c.args.bounds (field_of vdb c.args.states.now) c.min.ensures.bounds c.min.result c.min.ensures.corner;
+      erodes = erodes_none f (field_of vdb c.args.states.now);
     }
 
 pub coords-smaller : goal.coords-smaller
 coords-smaller g c =
-    subst (λ (b : Bits). left_count b c.next_coord_in-at.result < left_count b c.coords.at) c.bits-bits.ensures.value
-    (nearer_left c.bits-bits.result c.in-Some.p c.coords.at c.next_coord_in-at.result c.in-Some.is c.next_coord_in-at.ensures.nearer)
+    nearer_left vdb c.in-Some.p c.coords.at c.next_coord_in-at.result c.in-Some.is c.next_coord_in-at.ensures.nearer
 
 pub coords-preserved : goal.coords-preserved
 coords-preserved g c =
-    let bits = bits_of g.row.U g.row.L g.row.F in
-    let f : Field g.row.V.Denot = field_of bits c.args.tree.now in
+    let f : Field g.row.V.Denot = field_of vdb c.args.tree.now in
     let old = c.coords.states in
-    let s = field_of bits old in
-    let u = field_of bits c.erode_block.new.states in
+    let s = field_of vdb old in
+    let u = field_of vdb c.erode_block.new.states in
     let p = c.in-Some.p in
     let is = c.in_ok-erode_block.ensures (refl {a = true}) in
-    let erodes = erodes_taken f (is_around bits p) old.background (cell_at bits old) u is in
-    let done = subst (λ (o : Option Coord). IsDoneTo f bits c.args.bounds s o) c.in-Some.is c.coords.invariant.done in
+    let erodes = erodes_taken f (is_around vdb p) old.background (cell_at vdb old) u is in
+    let done = subst (λ (o : Option Coord). IsDoneTo f vdb c.args.bounds s o) c.in-Some.is c.coords.invariant.done in
     record {
       done =
-          done_more f bits c.args.bounds s u c.min.ensures.bounds p done erodes (taken_eroded f (is_around bits p) old.background (cell_at bits old) u is) c.next_coord_in-at.result
-          (subst (λ (b : Bits). IsNextCoord b Leaf c.args.bounds p c.next_coord_in-at.result) c.bits-bits.ensures.value c.next_coord_in-at.ensures.next);
-      erodes = erodes_then f (field_of bits c.args.states.now) s u c.coords.invariant.erodes erodes;
+          done_more f vdb c.args.bounds s u c.min.ensures.bounds p done erodes (taken_eroded f (is_around vdb p) old.background (cell_at vdb old) u is) c.next_coord_in-at.result c.next_coord_in-at.ensures.next;
+      erodes = erodes_then f (field_of vdb c.args.states.now) s u c.coords.invariant.erodes erodes;
     }

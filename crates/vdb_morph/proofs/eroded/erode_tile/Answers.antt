@@ -1,5 +1,6 @@
+use Rattle.vdb_coord.specs.Blocks.{vdb}
 use Rattle.vdb_tree.specs.Field.{Field}
-use Rattle.vdb_tree.specs.Layout.{bits_of, cell_at, field_of}
+use Rattle.vdb_tree.specs.Layout.{cell_at, field_of}
 use Rattle.vdb_walk.proofs.Cuts.{same_boxes}
 use Rattle.vdb_morph.specs.internal.Iterating.{is_around}
 use Rattle.vdb_morph.proofs.Eroding.{bounds_within, erodes_taken, is_around_block, taken_eroded}
@@ -7,17 +8,15 @@ use Rattle.vdb_morph.proofs.eroded.erode_tile.Goals as goal
 
 pub returns-clause-here : goal.returns-clause-here
 returns-clause-here g c =
-    let bits = bits_of g.row.U g.row.L g.row.F in
-    let f : Field g.row.V.Denot = field_of bits c.args.tree.now in
+    let f : Field g.row.V.Denot = field_of vdb c.args.tree.now in
     let old = c.args.states.now in
     let p = c.min-corner.result in
-    let same = same_boxes c.args.bounds c.block_in.result c.if-ne.ensures in
-    λ ok q i either. taken_eroded f (is_around bits p) old.background (cell_at bits old) (field_of bits c.erode_block.new.states) (c.erode_block.ensures ok) q (bounds_within c.args.bounds c.min-corner.ensures.bounds q i)
-    (is_around_block bits c.bits.result c.bits.ensures.value p c.args.bounds c.block_in.result same c.block_in.ensures q i)
+    let same = same_boxes c.args.bounds c.block.result c.if-ne.ensures in
+    λ ok q i either. taken_eroded f (is_around vdb p) old.background (cell_at vdb old) (field_of vdb c.erode_block.new.states) (c.erode_block.ensures ok) q (bounds_within c.args.bounds c.min-corner.ensures.bounds q i)
+    (is_around_block vdb p c.args.bounds c.block.result same c.block.ensures q i)
 
 pub returns-clause-erodes : goal.returns-clause-erodes
 returns-clause-erodes g c =
-    let bits = bits_of g.row.U g.row.L g.row.F in
-    let f : Field g.row.V.Denot = field_of bits c.args.tree.now in
+    let f : Field g.row.V.Denot = field_of vdb c.args.tree.now in
     let old = c.args.states.now in
-    λ ok. erodes_taken f (is_around bits c.min-corner.result) old.background (cell_at bits old) (field_of bits c.erode_block.new.states) (c.erode_block.ensures ok)
+    λ ok. erodes_taken f (is_around vdb c.min-corner.result) old.background (cell_at vdb old) (field_of vdb c.erode_block.new.states) (c.erode_block.ensures ok)

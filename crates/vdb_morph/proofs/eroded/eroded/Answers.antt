@@ -1,6 +1,7 @@
-use Rattle.std.proofs.Common.{◌≡◌, ap, refl, rules, ◌∙◌, Some, true}
+use Rattle.std.proofs.Common.{◌≡◌, ap, arith, refl, rules, ◌∙◌, Some, true}
+use Rattle.vdb_coord.specs.Blocks.{vdb}
 use Rattle.vdb_coord.specs.Space.{Box, everywhere}
-use Rattle.vdb_tree.specs.Layout.{bits_of, cell_at, field_of}
+use Rattle.vdb_tree.specs.Layout.{cell_at, field_of}
 use Rattle.vdb_tree.proofs.Sizes.{internal_small, leaf_small}
 use Rattle.vdb_morph.proofs.Eroding.{part_within, underway_all, underway_first, underway_more}
 use Rattle.vdb_morph.proofs.eroded.eroded.Goals as goal
@@ -12,25 +13,23 @@ parts-walk-requires g c =
     let leaf = g.met.V.Stored-3.row_small in (
       search rules,
       (
-        internal_small _ _ g.row.WU _ c.mask_words.ensures.upper upper.1 upper.1 upper.0,
-        (internal_small _ _ g.row.WL _ c.mask_words.ensures.lower lower.1 lower.1 lower.0, leaf_small _ _ g.row.WF _ c.mask_words.ensures.leaf leaf.1 leaf.1 leaf.0),
+        internal_small _ _ 512 _ (omega arith) upper.1 upper.1 upper.0,
+        (internal_small _ _ 64 _ (omega arith) lower.1 lower.1 lower.0, leaf_small _ _ 8 _ (omega arith) leaf.1 leaf.1 leaf.0),
       ),
     )
 
 pub parts-init : goal.parts-init
 parts-init g c =
-    let bits = bits_of g.row.U g.row.L g.row.F in
     let at : c.parts-walk.result.at ≡ Some everywhere.min = c.parts-walk.ensures.at ∙ ap (λ (b : Box). Some b.min) c.all.ensures in
     record {
       walk = c.parts-walk.ensures.walk;
       skip = c.parts-walk.ensures.skip;
       box = c.parts-walk.ensures.bounds ∙ c.all.ensures;
-      underway = underway_first bits c.args.tree.now (field_of bits c.in_ok-states.states) c.in_ok-states.ensures c.parts-walk.result.at at;
+      underway = underway_first vdb c.args.tree.now (field_of vdb c.in_ok-states.states) c.in_ok-states.ensures c.parts-walk.result.at at;
     }
 
 pub parts-preserved : goal.parts-preserved
 parts-preserved g c =
-    let bits = bits_of g.row.U g.row.L g.row.F in
     let had = c.parts.invariant in
     let yields = c.in-Some.ensures.part in
     let done = c.in_ok-erode_part.ensures in
@@ -39,13 +38,12 @@ parts-preserved g c =
       skip = yields.passes.skip ∙ had.skip;
       box = yields.passes.box ∙ had.box;
       underway =
-          underway_more bits c.args.tree.now c.parts.walk c.next_part.new.walk had.box had.skip c.in-Some.part.bounds yields (field_of bits c.parts.states) (field_of bits c.erode_part.new.states) had.underway (done.erodes (refl {a = true}))
-          (λ q i. done.here (refl {a = true}) q i (had.underway.either q (part_within bits c.args.tree.now c.parts.walk c.next_part.new.walk had.box c.in-Some.part.bounds yields q i)));
+          underway_more vdb c.args.tree.now c.parts.walk c.next_part.new.walk had.box had.skip c.in-Some.part.bounds yields (field_of vdb c.parts.states) (field_of vdb c.erode_part.new.states) had.underway (done.erodes (refl {a = true}))
+          (λ q i. done.here (refl {a = true}) q i (had.underway.either q (part_within vdb c.args.tree.now c.parts.walk c.next_part.new.walk had.box c.in-Some.part.bounds yields q i)));
     }
 
 pub returns : goal.returns
 returns g c =
-    let bits = bits_of g.row.U g.row.L g.row.F in
     let had = c.parts.invariant in
     let states = c.parts.states in
-    underway_all bits c.args.tree.now c.parts.walk c.next_part.new.walk had.box had.skip c.in_default.ensures.end c.in_default.ensures.none_left states.background (cell_at bits states) had.underway
+    underway_all vdb c.args.tree.now c.parts.walk c.next_part.new.walk had.box had.skip c.in_default.ensures.end c.in_default.ensures.none_left states.background (cell_at vdb states) had.underway

@@ -1,23 +1,21 @@
 use Rattle.std.proofs.Common.{◌≡◌, ◌∙◌, ap, arith, ℕ, Bool}
+use Rattle.vdb_coord.specs.Blocks.{vdb}
 use Rattle.vdb_tree.specs.Field.{dilate, iterations}
-use Rattle.vdb_tree.specs.Layout.{Layout, bits_of, field_of}
+use Rattle.vdb_tree.specs.Layout.{Layout, field_of}
 use Rattle.vdb_morph.specs.internal.Iterating.{topology}
 use Rattle.vdb_morph.proofs.IterationLaws.{dilated_more, of_ok}
 use Rattle.vdb_morph.proofs.iterations.dilated_states.Goals as goal
 
 pub loop-init : goal.loop-init
 loop-init g c =
-    let bits = bits_of g.row.U g.row.L g.row.F in
-    of_ok (λ (states : Layout Bool). field_of bits states ≡ topology (dilate (field_of bits c.args.tree.now))) c.dilated.result c.in_ok-states.states c.in_ok-states.ensures.value c.dilated.ensures
+    of_ok (λ (states : Layout Bool). field_of vdb states ≡ topology (dilate (field_of vdb c.args.tree.now))) c.dilated.result c.in_ok-states.states c.in_ok-states.ensures.value c.dilated.ensures
 
 pub loop-preserved : goal.loop-preserved
 loop-preserved g c =
-    let bits = bits_of g.row.U g.row.L g.row.F in
-    dilated_more (field_of bits c.args.tree.now) c.loop.counter (field_of bits c.loop.states) c.loop.invariant (field_of bits c.in_ok-states-2.states)
-    (of_ok (λ (states : Layout Bool). field_of bits states ≡ topology (dilate (field_of bits c.loop.states))) c.dilated-in-loop.result c.in_ok-states-2.states c.in_ok-states-2.ensures.value c.dilated-in-loop.ensures)
+    dilated_more (field_of vdb c.args.tree.now) c.loop.counter (field_of vdb c.loop.states) c.loop.invariant (field_of vdb c.in_ok-states-2.states)
+    (of_ok (λ (states : Layout Bool). field_of vdb states ≡ topology (dilate (field_of vdb c.loop.states))) c.dilated-in-loop.result c.in_ok-states-2.states c.in_ok-states-2.ensures.value c.dilated-in-loop.ensures)
 
 pub returns : goal.returns
 returns g c = λ some.
-    let bits = bits_of g.row.U g.row.L g.row.F in
     let all : c.loop.counter ≡ c.args.iterations = omega arith in
-    c.loop.invariant ∙ ap (λ (n : ℕ). topology (iterations n dilate (field_of bits c.args.tree.now))) all
+    c.loop.invariant ∙ ap (λ (n : ℕ). topology (iterations n dilate (field_of vdb c.args.tree.now))) all

@@ -1,24 +1,22 @@
-use Rattle.std.proofs.Common.{arith, refl}
-use Rattle.vdb_tree.specs.Layout.{bits_of, field_of}
+use Rattle.std.proofs.Common.{refl}
+use Rattle.vdb_coord.specs.Blocks.{vdb}
+use Rattle.vdb_tree.specs.Layout.{field_of}
 use Rattle.vdb_tree.proofs.Uniform.{exact_by}
-use Rattle.vdb_morph.proofs.TreeSizes.{tree_small, words_small}
+use Rattle.vdb_morph.proofs.TreeSizes.{tree_small}
 use Rattle.vdb_morph.proofs.IterationLaws.{eroded_few, eroded_outcome}
 use Rattle.vdb_morph.proofs.iterations.erode.Goals as goal
 
 pub eroded_states-requires : goal.eroded_states-requires
 eroded_states-requires g c =
     let small = g.met.V.Voxel.small in
-    let few = c.mask_words.ensures in
-    (tree_small _ _ _ small.1 small.1 small.0, (omega arith, (words_small g.row.WU few.upper, (words_small g.row.WL few.lower, words_small g.row.WF few.leaf))))
+    tree_small _ _ _ small.1 small.1 small.0
 
 pub returns-in-Some-clause-outcome : goal.returns-in-Some-clause-outcome
 returns-in-Some-clause-outcome g c =
-    let bits = bits_of g.row.U g.row.L g.row.F in
-    eroded_outcome g.V.PartialEq.eq bits c.args.tree.now.limit c.args.iterations c.requires.some (field_of bits c.args.tree.now) (field_of bits c.intersect.new.tree) (field_of bits c.in-Some.states) (c.in-Some.ensures c.requires.some) c.intersect.result c.intersect.ensures.outcome
+    eroded_outcome g.V.PartialEq.eq vdb c.args.tree.now.limit c.args.iterations c.requires.some (field_of vdb c.args.tree.now) (field_of vdb c.intersect.new.tree) (field_of vdb c.in-Some.states) (c.in-Some.ensures c.requires.some) c.intersect.result c.intersect.ensures.outcome
 
 pub returns-in-None-clause-outcome : goal.returns-in-None-clause-outcome
 returns-in-None-clause-outcome g c =
-    let bits = bits_of g.row.U g.row.L g.row.F in
-    let f = field_of bits c.args.tree.now in
+    let f = field_of vdb c.args.tree.now in
     let exact = exact_by g.V.PartialEq.eq g.V.Ord.cmp g.met.V.Ord.matches_eq g.met.V.Voxel.exact in
-    (refl, eroded_few g.V.PartialEq.eq bits c.args.tree.now.limit c.args.iterations c.requires.some f exact g.met.V.Eq.laws.refl c.limit.result c.limit.ensures.kept c.limit.ensures.value)
+    (refl, eroded_few g.V.PartialEq.eq vdb c.args.tree.now.limit c.args.iterations c.requires.some f exact g.met.V.Eq.laws.refl c.limit.result c.limit.ensures.kept c.limit.ensures.value)

@@ -1,23 +1,21 @@
 use Rattle.std.proofs.Common.{◌≡◌, ◌∙◌, ap, arith, ℕ, Bool}
+use Rattle.vdb_coord.specs.Blocks.{vdb}
 use Rattle.vdb_tree.specs.Field.{erode, iterations}
-use Rattle.vdb_tree.specs.Layout.{Layout, bits_of, field_of}
+use Rattle.vdb_tree.specs.Layout.{Layout, field_of}
 use Rattle.vdb_morph.specs.internal.Iterating.{topology}
 use Rattle.vdb_morph.proofs.IterationLaws.{eroded_more, of_ok}
 use Rattle.vdb_morph.proofs.iterations.eroded_states.Goals as goal
 
 pub loop-init : goal.loop-init
 loop-init g c =
-    let bits = bits_of g.row.U g.row.L g.row.F in
-    of_ok (λ (states : Layout Bool). field_of bits states ≡ topology (erode (field_of bits c.args.tree.now))) c.eroded.result c.in_ok-states.states c.in_ok-states.ensures.value c.eroded.ensures
+    of_ok (λ (states : Layout Bool). field_of vdb states ≡ topology (erode (field_of vdb c.args.tree.now))) c.eroded.result c.in_ok-states.states c.in_ok-states.ensures.value c.eroded.ensures
 
 pub loop-preserved : goal.loop-preserved
 loop-preserved g c =
-    let bits = bits_of g.row.U g.row.L g.row.F in
-    eroded_more (field_of bits c.args.tree.now) c.loop.counter (field_of bits c.loop.states) c.loop.invariant (field_of bits c.in_ok-states-2.states)
-    (of_ok (λ (states : Layout Bool). field_of bits states ≡ topology (erode (field_of bits c.loop.states))) c.eroded-in-loop.result c.in_ok-states-2.states c.in_ok-states-2.ensures.value c.eroded-in-loop.ensures)
+    eroded_more (field_of vdb c.args.tree.now) c.loop.counter (field_of vdb c.loop.states) c.loop.invariant (field_of vdb c.in_ok-states-2.states)
+    (of_ok (λ (states : Layout Bool). field_of vdb states ≡ topology (erode (field_of vdb c.loop.states))) c.eroded-in-loop.result c.in_ok-states-2.states c.in_ok-states-2.ensures.value c.eroded-in-loop.ensures)
 
 pub returns : goal.returns
 returns g c = λ some.
-    let bits = bits_of g.row.U g.row.L g.row.F in
     let all : c.loop.counter ≡ c.args.iterations = omega arith in
-    c.loop.invariant ∙ ap (λ (n : ℕ). topology (iterations n erode (field_of bits c.args.tree.now))) all
+    c.loop.invariant ∙ ap (λ (n : ℕ). topology (iterations n erode (field_of vdb c.args.tree.now))) all

@@ -1,16 +1,16 @@
 -- The marks join the states of a leaf.
 use Rattle.std.proofs.Common.{◌∙◌, ◌||◌, Bool, List, ap, is_some, sym}
+use Rattle.vdb_coord.specs.Blocks.{vdb}
 use Rattle.vdb_mask.specs.Mask.{is_on}
-use Rattle.vdb_tree.specs.Layout.{bits_of, cell_at}
+use Rattle.vdb_tree.specs.Layout.{cell_at}
 use Rattle.vdb_morph.proofs.Marks.{marked_leaf}
 use Rattle.vdb_morph.proofs.states.mark.Goals as goal
 
 pub returns-in-Some : goal.returns-in-Some
-returns-in-Some g c = λ _.
-    let bits = bits_of g.row.U g.row.L g.row.F in
+returns-in-Some c = λ _.
     let old = c.args.states.now in
     let marks = c.args.marks.now in
     let held = c.copied-joined.ensures.same ∙ c.states.ensures.same in
     c.set_states.ensures.field (c.set_states.ensures.answer ∙ sym c.leaf.ensures.there ∙ ap is_some c.in-Some.is)
-    ∙ marked_leaf bits c.args.p marks old.background (cell_at bits old) c.in-Some.leaf.now c.union.new.self c.in-Some.ensures.leaf
+    ∙ marked_leaf vdb c.args.p marks old.background (cell_at vdb old) c.in-Some.leaf.now c.union.new.self c.in-Some.ensures.leaf
     (λ i. c.union.ensures i ∙ ap (λ (m : List Bool). is_on m i || is_on marks i) held)

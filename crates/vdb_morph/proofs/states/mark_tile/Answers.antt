@@ -1,21 +1,20 @@
 -- An active tile stays, and an inactive one becomes a leaf with the marks.
 use Rattle.std.proofs.Common.{◌∙◌, sym}
-use Rattle.vdb_tree.specs.Layout.{bits_of, cell_at, field_of}
+use Rattle.vdb_coord.specs.Blocks.{vdb}
+use Rattle.vdb_tree.specs.Layout.{cell_at, field_of}
 use Rattle.vdb_tree.specs.Leaves.{with_leaf}
 use Rattle.vdb_morph.proofs.Marks.{changed_if_ok, marked_active, marked_inactive}
 use Rattle.vdb_morph.proofs.states.mark_tile.Goals as goal
 
 pub returns-then-cell : goal.returns-then-cell
-returns-then-cell g c = λ _.
-    let bits = bits_of g.row.U g.row.L g.row.F in
+returns-then-cell c = λ _.
     let old = c.args.states.now in
-    marked_active bits c.args.p c.args.marks.now old.background (cell_at bits old) c.get-cell.result (λ q inside same. c.requires q inside same ∙ sym c.get-cell.ensures.cell) c.if-cell.true
+    marked_active vdb c.args.p c.args.marks.now old.background (cell_at vdb old) c.get-cell.result (λ q inside same. c.requires q inside same ∙ sym c.get-cell.ensures.cell) c.if-cell.true
 
 pub returns : goal.returns
-returns g c = λ ok.
-    let bits = bits_of g.row.U g.row.L g.row.F in
+returns c = λ ok.
     let old = c.args.states.now in
     let leaf = c.set_states.new.self in
-    changed_if_ok (field_of bits old) (with_leaf bits c.args.p leaf (field_of bits old)) (field_of bits c.write_leaf.new.self) c.write_leaf.result ok c.write_leaf.ensures.outcome.0
-    ∙ marked_inactive bits c.args.p c.args.marks.now old.background (cell_at bits old) c.get-cell.result (λ q inside same. c.requires q inside same ∙ sym c.get-cell.ensures.cell) c.if-cell.false
+    changed_if_ok (field_of vdb old) (with_leaf vdb c.args.p leaf (field_of vdb old)) (field_of vdb c.write_leaf.new.self) c.write_leaf.result ok c.write_leaf.ensures.outcome.0
+    ∙ marked_inactive vdb c.args.p c.args.marks.now old.background (cell_at vdb old) c.get-cell.result (λ q inside same. c.requires q inside same ∙ sym c.get-cell.ensures.cell) c.if-cell.false
     c.in_ok-leaf.leaf leaf c.in_ok-leaf.ensures.cells c.set_states.ensures.values c.set_states.ensures.states

@@ -4,4 +4,4 @@ use Rattle.vdb_morph.specs.internal.Beside.{bit_beside}
 use Rattle.vdb_morph.proofs.words.beside.Given as goal
 
 abbrev pub invariant-loop-k : goal.invariant-loop-k
-invariant-loop-k g l = (i : ℕ) → i < 64 * l.k → is_on l.result i ≡ bit_beside l.face (is_on l.own) (is_on l.other) i
+invariant-loop-k l = (i : ℕ) → i < 64 * l.k → is_on l.result i ≡ bit_beside l.face (is_on l.own) (is_on l.other) i

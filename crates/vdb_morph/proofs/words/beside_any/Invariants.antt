@@ -4,4 +4,4 @@ use Rattle.vdb_morph.specs.internal.Beside.{is_on_beside}
 use Rattle.vdb_morph.proofs.words.beside_any.Given as goal
 
 abbrev pub invariant-loop-k : goal.invariant-loop-k
-invariant-loop-k g l = (i : ℕ) → i < 64 * l.k → is_on l.result i ≡ is_on_beside l.own i
+invariant-loop-k l = (i : ℕ) → i < 64 * l.k → is_on l.result i ≡ is_on_beside l.own i
