@@ -5,3 +5,4 @@ pub mod MixLeaves
 pub mod MixSearch
 pub mod MixRoots
 pub mod MixSums
+pub mod TreeSizes

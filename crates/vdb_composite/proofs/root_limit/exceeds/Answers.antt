@@ -12,14 +12,16 @@ use Rattle.vdb_composite.proofs.MixRoots.{HasFound, found_again, found_all, foun
 use Rattle.vdb_composite.proofs.Mixed.{mixed_flat, mixed_off, mixed_unlike}
 use Rattle.vdb_tree.proofs.Uniform.{exact_by}
 use Rattle.vdb_tree.proofs.Sizes.{internal_small, leaf_small}
+use Rattle.vdb_composite.proofs.TreeSizes.{tree_small}
 use Rattle.vdb_composite.proofs.root_limit.exceeds.Goals as goal
 
 pub pairs-walk-requires : goal.pairs-walk-requires
 pairs-walk-requires g c =
+    let small = g.met.V.Voxel.small in
     let upper = g.met.V.Stored-1.row_small in
     let lower = g.met.V.Stored-2.row_small in
     let leaf = g.met.V.Stored-3.row_small in (
-      search rules,
+      tree_small _ _ _ small.1 small.1 small.0,
       (
         internal_small _ _ 512 _ c.mask_words.ensures.upper upper.1 upper.1 upper.0,
         (internal_small _ _ 64 _ c.mask_words.ensures.lower lower.1 lower.1 lower.0, leaf_small _ _ 8 _ c.mask_words.ensures.leaf leaf.1 leaf.1 leaf.0),

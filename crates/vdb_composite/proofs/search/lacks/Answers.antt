@@ -9,14 +9,16 @@ use Rattle.vdb_composite.specs.Mixes.{mixed_cell}
 use Rattle.vdb_composite.proofs.Mixed.{flat_some}
 use Rattle.vdb_composite.proofs.MixWalks.{passed_end, passed_next, passed_start}
 use Rattle.vdb_tree.proofs.Sizes.{internal_small, leaf_small}
+use Rattle.vdb_composite.proofs.TreeSizes.{tree_small}
 use Rattle.vdb_composite.proofs.search.lacks.Goals as goal
 
 pub pairs-walk-requires : goal.pairs-walk-requires
 pairs-walk-requires g c =
+    let small = g.met.V.Voxel.small in
     let upper = g.met.V.Stored-1.row_small in
     let lower = g.met.V.Stored-2.row_small in
     let leaf = g.met.V.Stored-3.row_small in (
-      search rules,
+      tree_small _ _ _ small.1 small.1 small.0,
       (
         internal_small _ _ 512 _ c.mask_words.ensures.upper upper.1 upper.1 upper.0,
         (internal_small _ _ 64 _ c.mask_words.ensures.lower lower.1 lower.1 lower.0, leaf_small _ _ 8 _ c.mask_words.ensures.leaf leaf.1 leaf.1 leaf.0),

@@ -5,15 +5,17 @@ use Rattle.vdb_coord.specs.Space.{Box, everywhere, is_inside}
 use Rattle.vdb_coord.specs.declared.Coord.{Coord}
 use Rattle.vdb_tree.specs.Layout.{field_of}
 use Rattle.vdb_tree.proofs.Sizes.{internal_small, leaf_small}
+use Rattle.vdb_morph.proofs.TreeSizes.{tree_small}
 use Rattle.vdb_morph.proofs.Spreading.{IsPartly, leaf_more, of_leaf, of_tile, partly_first, partly_last, partly_values, tile_kept, tile_more, tree_cut}
 use Rattle.vdb_morph.proofs.dilated.dilated.Goals as goal
 
 pub parts-walk-requires : goal.parts-walk-requires
 parts-walk-requires g c =
+    let small = g.met.V.Voxel.small in
     let upper = g.met.V.Stored-1.row_small in
     let lower = g.met.V.Stored-2.row_small in
     let leaf = g.met.V.Stored-3.row_small in (
-      search rules,
+      tree_small _ _ _ small.1 small.1 small.0,
       (
         internal_small _ _ 512 _ (omega arith) upper.1 upper.1 upper.0,
         (internal_small _ _ 64 _ (omega arith) lower.1 lower.1 lower.0, leaf_small _ _ 8 _ (omega arith) leaf.1 leaf.1 leaf.0),

@@ -3,15 +3,17 @@ use Rattle.vdb_coord.specs.Blocks.{vdb}
 use Rattle.vdb_coord.specs.Space.{Box, everywhere}
 use Rattle.vdb_tree.specs.Layout.{cell_at, field_of}
 use Rattle.vdb_tree.proofs.Sizes.{internal_small, leaf_small}
+use Rattle.vdb_morph.proofs.TreeSizes.{tree_small}
 use Rattle.vdb_morph.proofs.Eroding.{part_within, underway_all, underway_first, underway_more}
 use Rattle.vdb_morph.proofs.eroded.eroded.Goals as goal
 
 pub parts-walk-requires : goal.parts-walk-requires
 parts-walk-requires g c =
+    let small = g.met.V.Voxel.small in
     let upper = g.met.V.Stored-1.row_small in
     let lower = g.met.V.Stored-2.row_small in
     let leaf = g.met.V.Stored-3.row_small in (
-      search rules,
+      tree_small _ _ _ small.1 small.1 small.0,
       (
         internal_small _ _ 512 _ (omega arith) upper.1 upper.1 upper.0,
         (internal_small _ _ 64 _ (omega arith) lower.1 lower.1 lower.0, leaf_small _ _ 8 _ (omega arith) leaf.1 leaf.1 leaf.0),

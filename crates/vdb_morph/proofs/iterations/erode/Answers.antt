@@ -9,7 +9,7 @@ use Rattle.vdb_morph.proofs.iterations.erode.Goals as goal
 pub eroded_states-requires : goal.eroded_states-requires
 eroded_states-requires g c =
     let small = g.met.V.Voxel.small in
-    tree_small _ _ _ small.1 small.1 small.0
+    λ _. tree_small _ _ _ small.1 small.1 small.0
 
 pub returns-in-Some-clause-outcome : goal.returns-in-Some-clause-outcome
 returns-in-Some-clause-outcome g c =
