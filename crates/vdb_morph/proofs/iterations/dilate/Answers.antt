@@ -1,13 +1,7 @@
 use Rattle.vdb_coord.specs.Blocks.{vdb}
 use Rattle.vdb_tree.specs.Layout.{field_of}
-use Rattle.vdb_morph.proofs.TreeSizes.{tree_small}
 use Rattle.vdb_morph.proofs.IterationLaws.{dilated_outcome}
 use Rattle.vdb_morph.proofs.iterations.dilate.Goals as goal
-
-pub dilated_states-requires : goal.dilated_states-requires
-dilated_states-requires g c =
-    let small = g.met.V.Voxel.small in
-    λ _. tree_small _ _ _ small.1 small.1 small.0
 
 pub returns-in-Some-clause-outcome : goal.returns-in-Some-clause-outcome
 returns-in-Some-clause-outcome g c =

@@ -2,14 +2,8 @@ use Rattle.std.proofs.Common.{refl}
 use Rattle.vdb_coord.specs.Blocks.{vdb}
 use Rattle.vdb_tree.specs.Layout.{field_of}
 use Rattle.vdb_tree.proofs.Uniform.{exact_by}
-use Rattle.vdb_morph.proofs.TreeSizes.{tree_small}
 use Rattle.vdb_morph.proofs.IterationLaws.{eroded_few, eroded_outcome}
 use Rattle.vdb_morph.proofs.iterations.erode.Goals as goal
-
-pub eroded_states-requires : goal.eroded_states-requires
-eroded_states-requires g c =
-    let small = g.met.V.Voxel.small in
-    λ _. tree_small _ _ _ small.1 small.1 small.0
 
 pub returns-in-Some-clause-outcome : goal.returns-in-Some-clause-outcome
 returns-in-Some-clause-outcome g c =
