@@ -27,6 +27,13 @@ front_taken : (known : Option (List ℕ)) (n : ℕ) (unread left : List ℕ) →
 front_taken None n unread left e = tt
 front_taken (Some x) n unread left e = ap (λ t. t ++ x) (sym (take-append-drop n unread)) ∙ append_assoc (take n unread) (drop n unread) x ∙ ap (λ t. take n unread ++ (t ++ x)) (sym e)
 
+-- a field has the first of the unread bytes
+pub front_read : (old new : Stock) (known : Option (List ℕ)) (text : List ℕ) (n : ℕ) → text ≡ take n old.unread → n ≤ length old.unread → n ≤ old.capacity → new.unread ≡ drop n old.unread → new.capacity ≡ old.capacity - n
+    → Took (position old known) (position new known) text
+front_read old new known text n same within fits left capacity =
+    subst (Took (position old known) (position new known)) (sym same)
+    (record { bytes = front_taken known n old.unread new.unread left; fewer = omega (arith, length-take n old.unread, within, fits, capacity) })
+
 -- a field goes on with unread bytes
 pub piece_taken : (old : Position) (mid new : Stock) (known : Option (List ℕ)) (field grown : List ℕ) (at n : ℕ) → Took old (position mid known) (take at field) → take (at + n) grown ≡ take at field ++ take n mid.unread
     → new.unread ≡ drop n mid.unread → new.capacity ≡ mid.capacity - n → n ≤ length mid.unread → n ≤ length field - at → at ≤ length field → length field ≤ old.capacity → Took old (position new known) (take (at + n) grown)

@@ -1,12 +1,10 @@
 -- The bytes of values, cells, heads and numbers determine them.
-use Rattle.std.proofs.Common.{◌≡◌, ℕ, ◌<◌, ◌≤◌, ◌^◌, Bool, true, false, ◌&&◌, ◌==◌, List, [], ◌∷◌, ◌++◌, length, refl, sym, ap, subst, ◌∙◌, arith, append-nil}
+use Rattle.std.proofs.Common.{◌≡◌, ℕ, ◌<◌, ◌≤◌, ◌^◌, Bool, true, false, List, [], ◌∷◌, ◌++◌, refl, sym, ap, subst, ◌∙◌, arith, append-nil}
 use Rattle.std.specs.Prelude.{if◌then◌else◌, IsTrue, ⊤}
 use Rattle.std.specs.Int.{w16, to_be_bytes}
-use Rattle.std.proofs.lemmas.Bool.Decides.{nat_tests}
-use Rattle.vdb_value.specs.Values.{are_bytes_of, byte_count}
+use Rattle.vdb_value.specs.Values.{are_bytes_of}
 use Rattle.vdb_value.specs.declared.Cell.{Cell}
 use Rattle.vdb_value.specs.declared.Kind.{Kind}
-use Rattle.vdb_value.specs.declared.Kind.TheVariants as kinds
 use Rattle.vdb_tree.specs.Field.{off}
 use Rattle.vdb_tree.proofs.Uniform.{cell_same}
 use Rattle.vdb_file.specs.Bodies.{cell_bytes}
@@ -15,22 +13,13 @@ use Rattle.vdb_file.specs.declared.loading.block_head.Head.{Head}
 use Rattle.vdb_file.specs.declared.loading.block_head.Head.TheVariants.{Node, One}
 use Rattle.vdb_file.specs.internal.Loading.{IsHead, IsSpelled, head_bytes}
 use Rattle.vdb_file.specs.internal.Reading.{Fails, Position, Took}
-use Rattle.vdb_file.proofs.Unambiguous.{IsCode, Says, says_after, says_fixed, says_map, says_never}
+use Rattle.vdb_file.proofs.Unambiguous.{IsCode, Says, says_after, says_map, says_never}
 use Rattle.vdb_file.proofs.Agreement.{AreValues, says_cell}
 use Rattle.vdb_file.proofs.Numbers.{says_u16}
+use Rattle.vdb_file.proofs.ValueCodes.{value_code}
 use Rattle.vdb_file.proofs.Fronts.{fails_after, fails_none, fails_turn}
 
 -- ---- values
-
--- a value of a type has the type's count of bytes
-bytes_count : (k : Kind) (bytes : List ℕ) → IsTrue (are_bytes_of k bytes) → length bytes ≡ byte_count k
-bytes_count kinds.Bool bytes h = front (length bytes) _ h
-  where
-    front : (n : ℕ) (b : Bool) → (n == 1 && b) ≡ true → n ≡ 1
-    front n true h = grind (arith, nat_tests)
-    front n false h = grind (arith, nat_tests)
-bytes_count kinds.I32 bytes h = grind (arith, nat_tests)
-bytes_count kinds.I64 bytes h = grind (arith, nat_tests)
 
 -- values of one type, told apart by their bytes and by a test
 pub voxel_values : {V : Type 0} (eq : V → V → Bool) (value_bytes : V → List ℕ) (is_value : V → Type 0) (kind : Kind) → ((x y : V) → eq x y ≡ true → x ≡ y) → ((x : V) → eq x x ≡ true)
@@ -38,7 +27,7 @@ pub voxel_values : {V : Type 0} (eq : V → V → Bool) (value_bytes : V → Lis
 voxel_values eq value_bytes is_value kind exact itself known bytes_exact = record {
   exact = exact;
   itself = itself;
-  code = λ a b pa pb. says_map (bytes_exact a b pa pb) (says_fixed (value_bytes a) (value_bytes b) (bytes_count kind (value_bytes a) (known a pa) ∙ sym (bytes_count kind (value_bytes b) (known b pb))));
+  code = value_code value_bytes is_value kind known bytes_exact;
 }
 
 module _ {V : Type 0} {eq : V → V → Bool} {value_bytes : V → List ℕ} {P : V → Type 0} (values : AreValues eq value_bytes P) (background : V) where

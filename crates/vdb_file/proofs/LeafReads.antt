@@ -1,6 +1,6 @@
 -- The voxels of a leaf block, read one after another into a leaf.
-use Rattle.std.proofs.Common.{◌≡◌, ℕ, zero, suc, ◌+◌, ◌*◌, ◌<◌, ◌^◌, Bool, true, false, not, List, [], ◌∷◌, ◌++◌, length, length-append, refl, sym, ap, subst, ◌∙◌, ◌⊎◌, inl, inr, arith}
-use Rattle.std.specs.Prelude.{◌↔◌, Option, Some, None, if◌then◌else◌}
+use Rattle.std.proofs.Common.{◌≡◌, ℕ, zero, suc, ◌+◌, ◌*◌, ◌<◌, ◌^◌, Bool, true, false, not, List, [], ◌∷◌, ◌++◌, length, length-append, append-nil, refl, sym, ap, subst, ◌∙◌, ◌⊎◌, inl, inr, arith}
+use Rattle.std.specs.Prelude.{◌↔◌, Option, Some, None, Result, Ok, Err, IfOk, IfErr, IsTrue, if◌then◌else◌}
 use Rattle.std.specs.Int.{w16, to_be_bytes}
 use Rattle.std.specs.List.{flat_map}
 use Rattle.std.specs.Ordering.{nat_cmp}
@@ -18,7 +18,9 @@ use Rattle.vdb_coord.proofs.Nesting.{corner_inside, corner_of_entry, entry_holds
 use Rattle.vdb_coord.proofs.Positions.{entries_is, offset_below}
 use Rattle.vdb_node.specs.Leaf.{IsConstantLeaf, Leaf as LeafOf, SetsVoxel, cell_in}
 use Rattle.vdb_node.specs.Nodes.{entry_count}
+use Rattle.vdb_value.specs.Values.{are_bytes_of, byte_count}
 use Rattle.vdb_value.specs.declared.Cell.{Cell}
+use Rattle.vdb_value.specs.declared.Kind.{Kind}
 use Rattle.vdb_tree.specs.ConstantBlocks.{cell_eq, is_background, is_constant}
 use Rattle.vdb_tree.specs.Field.{Field, off}
 use Rattle.vdb_tree.proofs.Uniform.{cell_exact, cell_same, uniform_cells, uniform_from}
@@ -27,12 +29,13 @@ use Rattle.vdb_file.specs.declared.fault.LoadFault.{LoadFault}
 use Rattle.vdb_file.specs.internal.Following.{Follows}
 use Rattle.vdb_file.specs.internal.LeafVoxels.{HasValues, IsMixed, IsVoxel, leaf_field, voxel_bytes, voxel_count, voxels_bytes}
 use Rattle.vdb_file.specs.internal.Loading.{IsIndex, IsSpelled}
-use Rattle.vdb_file.specs.internal.Reading.{Fails, Position, Took}
-use Rattle.vdb_file.proofs.Unambiguous.{IsCode}
+use Rattle.vdb_file.specs.internal.Reading.{Fails, Position, Reads, Took}
+use Rattle.vdb_file.proofs.Unambiguous.{IsCode, says_fixed}
 use Rattle.vdb_file.proofs.Numbers.{says_u16}
+use Rattle.vdb_file.proofs.ValueCodes.{bytes_count}
 use Rattle.vdb_file.proofs.Agreement.{Agree, AreValues, is_held}
 use Rattle.vdb_file.proofs.Ordered.{by_member, last_more, last_of, none_kept}
-use Rattle.vdb_file.proofs.Fronts.{fails_after, fails_first, fails_turn, took_nothing}
+use Rattle.vdb_file.proofs.Fronts.{fails_after, fails_first, fails_none, fails_turn, took_nothing}
 use Rattle.vdb_file.proofs.RowFrames.{below_member, corner_in_block, member_below}
 use Rattle.vdb_file.proofs.Rows.{Adds, Row, adds_outside, held, held_more, texts_more}
 use Rattle.vdb_file.proofs.RowReads.{IsNextOf, entry_bytes, entry_read, no_row, within}
@@ -73,6 +76,18 @@ module _ {V : Type 0} (eq : V → V → Bool) (value_bytes : V → List ℕ) (P 
       fails_after (IsVoxel eq P background most before) (voxel_bytes eq value_bytes) (to_be_bytes w16 i) (λ e. i ≡ e.0) (λ e. to_be_bytes w16 e.0) (λ e. cell_bytes eq value_bytes e.1) fault old mid took
       (λ e is. let within = index.within in let other = is.index.within in says_u16 i e.0 (omega (arith, within, small)) (omega (arith, other, small))) (λ e is. refl)
       (fails_turn (λ e. IsVoxel eq P background most before e × (i ≡ e.0)) (λ e. cell_bytes eq value_bytes e.1) (IsSpelled eq P background) (cell_bytes eq value_bytes) (λ e. e.1) fault mid (λ e is. is.0.cell) (λ e is. refl) h)
+
+module _ {V : Type 0} (eq : V → V → Bool) (value_bytes : V → List ℕ) where
+  -- as many bytes as a voxel has were read: they are a voxel's, or no voxel is ahead
+  pub voxel_answer : (P : V → Type 0) (kind : Kind) → ((x : V) → P x → IsTrue (are_bytes_of kind (value_bytes x))) → (background : V) (most : ℕ) (before : Option ℕ) (old mid : Position) (bytes : List ℕ) → length bytes ≡ 3 + byte_count kind → Took old mid bytes
+      → (result : Result (ℕ × Cell V) LoadFault) → IfOk result (IsVoxel eq P background most before) → IfOk result (λ e. voxel_bytes eq value_bytes e ≡ bytes)
+      → IfErr result (λ fault. (e : ℕ × Cell V) → IsVoxel eq P background most before e → voxel_bytes eq value_bytes e ≡ bytes → ⊥) → Reads (λ e. e) (IsVoxel eq P background most before) (voxel_bytes eq value_bytes) result old mid
+  voxel_answer P kind known background most before old mid bytes long took (Ok e) is same none = (is, subst (Took old mid) (sym same) took)
+  voxel_answer P kind known background most before old mid bytes long took (Err fault) is same none =
+      fails_after (IsVoxel eq P background most before) (voxel_bytes eq value_bytes) bytes (λ e. bytes ≡ voxel_bytes eq value_bytes e) (voxel_bytes eq value_bytes) (λ e. []) fault old mid took
+      (λ e v. says_fixed bytes (voxel_bytes eq value_bytes e) (let count = bytes_count kind (value_bytes e.1.value) (known e.1.value v.cell.value) in omega (arith, long, count)))
+      (λ e v. sym (append-nil (voxel_bytes eq value_bytes e)))
+      (fails_none (λ e. IsVoxel eq P background most before e × (bytes ≡ voxel_bytes eq value_bytes e)) (λ e. []) fault mid (λ e v. none e v.0 (sym v.1)))
 
 -- ---- a leaf as a field
 

@@ -148,7 +148,7 @@ pub(crate) fn take_entry_number<S: Source>(
 }
 
 /// Returns whether the number of an entry comes after the one before.
-fn index_follows(before: Option<u16>, i: u16) -> bool
+pub(crate) fn index_follows(before: Option<u16>, i: u16) -> bool
     ensures { IsTrue result ↔ Follows nat_cmp before i }
 {
     match before {

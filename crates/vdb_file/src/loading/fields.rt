@@ -48,11 +48,14 @@ pub(crate) fn take_bytes<S: Source, const N: usize>(
         (ahead input.old (S.state reader.old)) (ahead input.new (S.state reader.new)) }
     ensures inner { IfErr result IsInner }
 {
-    if let Some(bytes) = input.take_array::<N>() {
-        return Ok(bytes);
-    }
     let mut bytes = [0; N];
-    take_field(input, reader, &mut bytes)?;
+    match input.peek(N) {
+        Some(unread) => {
+            bytes.copy_from_slice(unread);
+            input.skip(N);
+        }
+        None => take_field(input, reader, &mut bytes)?,
+    }
     Ok(bytes)
 }
 

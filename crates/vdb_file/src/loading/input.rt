@@ -1,6 +1,6 @@
 //! Buffers the bytes of a file on their way from a reader.
 
-ghost use Rattle.std.specs.Prelude.{◌≡◌, ℕ, ◌+◌, ◌++◌, ◌-◌, ◌<◌, ◌≤◌, ◌||◌, true, false, List, [], Option, is_err, length, min, take, drop, IfErr, IfNone, IfSome, Ok, OnOk, Some};
+ghost use Rattle.std.specs.Prelude.{◌≡◌, ℕ, ◌+◌, ◌++◌, ◌-◌, ◌<◌, ◌≤◌, ◌||◌, true, false, List, [], Option, is_err, length, min, take, drop, IfErr, IfSome, Ok, OnOk, Some};
 ghost use Rattle.std.specs.Io.KnownBytes.{IsAtEnd, Keeps, prepend_known};
 ghost use Rattle.vdb_file.specs.Faults.{is_read_fault};
 ghost use Rattle.vdb_file.specs.internal.Reading.{EndsWith, GaveWithin, byte_total};
@@ -112,29 +112,34 @@ impl Input {
         Ok(())
     }
 
-    /// Reads the next unread bytes, as many as the array has. Returns `None` if fewer are unread or the fields may not have that
-    /// many.
+    /// Returns the next unread bytes, this many. Returns `None` if fewer are unread or the fields may not have that many.
+    pub(crate) fn peek(&self, count: usize) -> Option<&[u8]>
+        ensures bytes { IfSome result (λ bytes. bytes.now ≡ take count self.now.unread) }
+        ensures within { IfSome result (λ bytes. count ≤ length self.now.unread) }
+        ensures capacity { IfSome result (λ bytes. count ≤ self.now.capacity) }
+    {
+        if count > self.end - self.start || count > self.capacity {
+            return None;
+        }
+        Some(&self.page[self.start..self.start + count])
+    }
+
+    /// Passes over unread bytes, this many.
     #[tactic(auto, unfolding(crate::specs::internal::Reading::GaveWithin))]
-    pub(crate) fn take_array<const N: usize>(&mut self) -> Option<[u8; N]>
-        ensures some { IfSome result (λ bytes. self.old.unread ≡ bytes ++ self.new.unread) }
-        ensures capacity { IfSome result (λ bytes. N + self.new.capacity ≡ self.old.capacity) }
-        ensures none { IfNone result (self.new ≡ self.old) }
+    pub(crate) fn skip(&mut self, count: usize)
+        requires within { count ≤ length self.old.unread }
+        requires fits { count ≤ self.old.capacity }
+        ensures unread { self.new.unread ≡ drop count self.old.unread }
+        ensures capacity { self.new.capacity ≡ self.old.capacity - count }
         ensures ended { self.new.ended ≡ self.old.ended }
         ensures total { (known : Option (List ℕ)) → byte_total self.new known ≡ byte_total self.old known }
         ensures given { (n m given empty : ℕ) → GaveWithin n m self.old given empty → GaveWithin n m self.new given empty }
     {
-        if N > self.end - self.start || N > self.capacity {
-            return None;
-        }
-        let mut bytes = [0; N];
-        bytes.copy_from_slice(&self.page[self.start..self.start + N]);
-        self.start += N;
-        self.capacity -= N;
-        Some(bytes)
+        self.start += count;
+        self.capacity -= count;
     }
 
     /// Copies unread bytes into a field from one position on, as many as are unread and the field needs. Returns how many.
-    #[tactic(auto, unfolding(crate::specs::internal::Reading::GaveWithin))]
     pub(crate) fn run(&mut self, field: &mut [u8], at: usize) -> usize
         requires within { at ≤ length field.old }
         requires fits { length field.old ≤ at + self.old.capacity }
@@ -147,10 +152,8 @@ impl Input {
         ensures given { (n m given empty : ℕ) → GaveWithin n m self.old given empty → GaveWithin n m self.new given empty }
     {
         let count = (field.len() - at).min(self.end - self.start);
-        let next = self.start + count;
-        field[at..at + count].copy_from_slice(&self.page[self.start..next]);
-        self.start = next;
-        self.capacity -= count;
+        field[at..at + count].copy_from_slice(&self.page[self.start..self.start + count]);
+        self.skip(count);
         count
     }
 }
