@@ -12,7 +12,7 @@ use denote.Struct.Owning.{shape}
 use Rattle.std.specs.declared.option.Option.{Option}
 use Rattle.vdb_c.specs.Kept.{freeing, owns_boxed}
 use Rattle.vdb_c.specs.HeldScene.{Row}
-use Rattle.vdb_c.specs.contracts.held_scene.HeldScene as held_scene
+use Rattle.vdb_c.specs.contracts.handles.held_scene.HeldScene as held_scene
 use Rattle.vdb_c.proofs.Pointers.{pointer_val}
 
 abbrev pub HeldScene : RattleType

@@ -12,7 +12,7 @@ use denote.Struct.Owning.{shape}
 use Rattle.std.specs.declared.option.Option.{Option}
 use Rattle.vdb_c.specs.Kept.{freeing, owns_boxed}
 use Rattle.vdb_c.specs.HeldView.{Row}
-use Rattle.vdb_c.specs.contracts.held_view.HeldView as held_view
+use Rattle.vdb_c.specs.contracts.handles.held_view.HeldView as held_view
 use Rattle.vdb_c.proofs.Pointers.{pointer_val}
 
 abbrev pub HeldView : RattleType

@@ -17,7 +17,7 @@ use Rattle.core.proofs.alloc.Calls.{Al, handle_tells}
 use Rattle.core.proofs.cell.Inside.{Good}
 use Rattle.std.specs.declared.option.Option.{Option}
 use Rattle.vdb_c.specs.Kept.{owns_boxed}
-use Rattle.vdb_c.specs.contracts.kept.Kept as kept
+use Rattle.vdb_c.specs.contracts.handles.kept.Kept as kept
 use Rattle.vdb_c.proofs.Pointers.{beside_val}
 
 module _ (R Z : RattleType) (L : Laws Z) (g : Ghosts Z.Denot) where

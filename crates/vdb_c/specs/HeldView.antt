@@ -6,7 +6,7 @@ use denote.RawPtr.{Ptr}
 use Rattle.std.specs.Coded.{coded_option}
 use Rattle.std.specs.declared.option.Option.{Option}
 use Rattle.vdb_c.specs.declared.handles.view.View.{View}
-use Rattle.vdb_c.specs.contracts.view.View as view
+use Rattle.vdb_c.specs.contracts.handles.view.View as view
 use Rattle.vdb_c.specs.Kept.{freeing, owns_boxed}
 
 -- a view, as the logic describes it

@@ -4,7 +4,7 @@ use Rattle.std.specs.declared.option.Option.{Option}
 use Rattle.std.specs.declared.option.Option.TheVariants.{Some}
 use Rattle.vdb_scene.specs.declared.any_grid.AnyGrid.{AnyGrid}
 use Rattle.vdb_c.specs.declared.handles.held_grid.HeldGrid.{HeldGrid}
-use Rattle.vdb_c.specs.contracts.held_grid.HeldGrid.{the_row}
+use Rattle.vdb_c.specs.contracts.handles.held_grid.HeldGrid.{the_row}
 use Rattle.vdb_c.specs.HeldGrid.{Row}
 
 -- the same pointer, with this grid

@@ -30,8 +30,8 @@ use Rattle.std.specs.declared.option.Option.{Option}
 use Rattle.std.specs.declared.option.Option.TheVariants.{None}
 use Rattle.vdb_c.proofs.Pointers.{beside_val, beside_fits}
 use Rattle.vdb_c.proofs.KeptValues.{kept_in}
-use Rattle.vdb_c.specs.contracts.kept.nothing.{ended, clauses}
-use Rattle.vdb_c.specs.contracts.kept.nothing.Key.{name as #self}
+use Rattle.vdb_c.specs.contracts.handles.kept.nothing.{ended, clauses}
+use Rattle.vdb_c.specs.contracts.handles.kept.nothing.Key.{name as #self}
 use Rattle.vdb_c.proofs.handles.kept.nothing.Statement.{statement}
 use Rattle.vdb_c.proofs.handles.kept.nothing.Code as code
 

@@ -40,8 +40,8 @@ use Rattle.std_alloc.specs.Box.Ownership.{box_owns}
 use Rattle.vdb_c.specs.Kept.{freeing, owns_boxed}
 use Rattle.vdb_c.proofs.Pointers.{beside_val, beside_fits, all_one, is_testable, either}
 use Rattle.vdb_c.proofs.KeptValues.{Kept, kept_in, kept_out}
-use Rattle.vdb_c.specs.contracts.kept.unless_null.{ended, clauses}
-use Rattle.vdb_c.specs.contracts.kept.unless_null.Key.{name as #self}
+use Rattle.vdb_c.specs.contracts.handles.kept.unless_null.{ended, clauses}
+use Rattle.vdb_c.specs.contracts.handles.kept.unless_null.Key.{name as #self}
 use Rattle.vdb_c.proofs.handles.kept.unless_null.Statement.{statement}
 use Rattle.vdb_c.proofs.handles.kept.unless_null.Code as code
 

@@ -37,8 +37,8 @@ use Rattle.vdb_c.specs.HeldGrid.{Row}
 use Rattle.vdb_c.specs.LendsGrid.{with_grid}
 use Rattle.vdb_c.proofs.Pointers.{pointer_val, is_testable, either}
 use Rattle.vdb_c.proofs.HeldGridValues.{HeldGrid, held_grid_in, held_grid_out}
-use Rattle.vdb_c.specs.contracts.held_grid.HeldGrid.grid_mut.{ended, clauses}
-use Rattle.vdb_c.specs.contracts.held_grid.HeldGrid.grid_mut.Key.{name as #self}
+use Rattle.vdb_c.specs.contracts.handles.held_grid.HeldGrid.grid_mut.{ended, clauses}
+use Rattle.vdb_c.specs.contracts.handles.held_grid.HeldGrid.grid_mut.Key.{name as #self}
 use Rattle.vdb_c.proofs.handles.held_grid.HeldGrid.grid_mut.Statement.{statement}
 use Rattle.vdb_c.proofs.handles.held_grid.HeldGrid.grid_mut.Code as code
 

@@ -27,8 +27,8 @@ use Rattle.vdb_c.specs.HeldGrid.{Row}
 use Rattle.vdb_c.proofs.Pointers.{pointer_val, pointer_fits, beside_val, beside_fits}
 use Rattle.vdb_c.proofs.KeptValues.{kept_in}
 use Rattle.vdb_c.proofs.HeldGridValues.{HeldGrid, held_grid_out}
-use Rattle.vdb_c.specs.contracts.held_grid.HeldGrid.kept.{ended, clauses}
-use Rattle.vdb_c.specs.contracts.held_grid.HeldGrid.kept.Key.{name as #self}
+use Rattle.vdb_c.specs.contracts.handles.held_grid.HeldGrid.kept.{ended, clauses}
+use Rattle.vdb_c.specs.contracts.handles.held_grid.HeldGrid.kept.Key.{name as #self}
 use Rattle.vdb_c.proofs.handles.held_grid.HeldGrid.kept.Statement.{statement}
 use Rattle.vdb_c.proofs.handles.held_grid.HeldGrid.kept.Code as code
 

@@ -26,8 +26,8 @@ use Rattle.vdb_c.specs.HeldGrid.{Row}
 use Rattle.vdb_c.proofs.Pointers.{pointer_val, pointer_fits, beside_val, beside_fits}
 use Rattle.vdb_c.proofs.KeptValues.{Kept, kept_out}
 use Rattle.vdb_c.proofs.HeldGridValues.{held_grid_in}
-use Rattle.vdb_c.specs.contracts.held_grid.HeldGrid.of.{ended, clauses}
-use Rattle.vdb_c.specs.contracts.held_grid.HeldGrid.of.Key.{name as #self}
+use Rattle.vdb_c.specs.contracts.handles.held_grid.HeldGrid.of.{ended, clauses}
+use Rattle.vdb_c.specs.contracts.handles.held_grid.HeldGrid.of.Key.{name as #self}
 use Rattle.vdb_c.proofs.handles.held_grid.HeldGrid.of.Statement.{statement}
 use Rattle.vdb_c.proofs.handles.held_grid.HeldGrid.of.Code as code
 

@@ -27,8 +27,8 @@ use Rattle.vdb_c.specs.HeldScene.{Row}
 use Rattle.vdb_c.proofs.Pointers.{pointer_val, pointer_fits, beside_val, beside_fits}
 use Rattle.vdb_c.proofs.KeptValues.{kept_in}
 use Rattle.vdb_c.proofs.HeldSceneValues.{HeldScene, held_scene_out}
-use Rattle.vdb_c.specs.contracts.held_scene.HeldScene.kept.{ended, clauses}
-use Rattle.vdb_c.specs.contracts.held_scene.HeldScene.kept.Key.{name as #self}
+use Rattle.vdb_c.specs.contracts.handles.held_scene.HeldScene.kept.{ended, clauses}
+use Rattle.vdb_c.specs.contracts.handles.held_scene.HeldScene.kept.Key.{name as #self}
 use Rattle.vdb_c.proofs.handles.held_scene.HeldScene.kept.Statement.{statement}
 use Rattle.vdb_c.proofs.handles.held_scene.HeldScene.kept.Code as code
 

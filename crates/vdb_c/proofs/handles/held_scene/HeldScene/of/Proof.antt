@@ -26,8 +26,8 @@ use Rattle.vdb_c.specs.HeldScene.{Row}
 use Rattle.vdb_c.proofs.Pointers.{pointer_val, pointer_fits, beside_val, beside_fits}
 use Rattle.vdb_c.proofs.KeptValues.{Kept, kept_out}
 use Rattle.vdb_c.proofs.HeldSceneValues.{held_scene_in}
-use Rattle.vdb_c.specs.contracts.held_scene.HeldScene.of.{ended, clauses}
-use Rattle.vdb_c.specs.contracts.held_scene.HeldScene.of.Key.{name as #self}
+use Rattle.vdb_c.specs.contracts.handles.held_scene.HeldScene.of.{ended, clauses}
+use Rattle.vdb_c.specs.contracts.handles.held_scene.HeldScene.of.Key.{name as #self}
 use Rattle.vdb_c.proofs.handles.held_scene.HeldScene.of.Statement.{statement}
 use Rattle.vdb_c.proofs.handles.held_scene.HeldScene.of.Code as code
 

@@ -27,8 +27,8 @@ use Rattle.vdb_c.specs.HeldView.{Row}
 use Rattle.vdb_c.proofs.Pointers.{pointer_val, pointer_fits, beside_val, beside_fits}
 use Rattle.vdb_c.proofs.KeptValues.{kept_in}
 use Rattle.vdb_c.proofs.HeldViewValues.{HeldView, held_view_out}
-use Rattle.vdb_c.specs.contracts.held_view.HeldView.kept.{ended, clauses}
-use Rattle.vdb_c.specs.contracts.held_view.HeldView.kept.Key.{name as #self}
+use Rattle.vdb_c.specs.contracts.handles.held_view.HeldView.kept.{ended, clauses}
+use Rattle.vdb_c.specs.contracts.handles.held_view.HeldView.kept.Key.{name as #self}
 use Rattle.vdb_c.proofs.handles.held_view.HeldView.kept.Statement.{statement}
 use Rattle.vdb_c.proofs.handles.held_view.HeldView.kept.Code as code
 

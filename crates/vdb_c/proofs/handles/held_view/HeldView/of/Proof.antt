@@ -26,8 +26,8 @@ use Rattle.vdb_c.specs.HeldView.{Row}
 use Rattle.vdb_c.proofs.Pointers.{pointer_val, pointer_fits, beside_val, beside_fits}
 use Rattle.vdb_c.proofs.KeptValues.{Kept, kept_out}
 use Rattle.vdb_c.proofs.HeldViewValues.{held_view_in}
-use Rattle.vdb_c.specs.contracts.held_view.HeldView.of.{ended, clauses}
-use Rattle.vdb_c.specs.contracts.held_view.HeldView.of.Key.{name as #self}
+use Rattle.vdb_c.specs.contracts.handles.held_view.HeldView.of.{ended, clauses}
+use Rattle.vdb_c.specs.contracts.handles.held_view.HeldView.of.Key.{name as #self}
 use Rattle.vdb_c.proofs.handles.held_view.HeldView.of.Statement.{statement}
 use Rattle.vdb_c.proofs.handles.held_view.HeldView.of.Code as code
 

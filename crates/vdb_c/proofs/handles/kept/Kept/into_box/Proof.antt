@@ -39,8 +39,8 @@ use Rattle.std_alloc.proofs.boxed.Box.from_raw.Met.{met}
 use Rattle.vdb_c.specs.Kept.{owns_boxed}
 use Rattle.vdb_c.proofs.Pointers.{beside_val, beside_fits, either, not_some}
 use Rattle.vdb_c.proofs.KeptValues.{Kept, kept_out}
-use Rattle.vdb_c.specs.contracts.kept.Kept.into_box.{ended, clauses}
-use Rattle.vdb_c.specs.contracts.kept.Kept.into_box.Key.{name as #self}
+use Rattle.vdb_c.specs.contracts.handles.kept.Kept.into_box.{ended, clauses}
+use Rattle.vdb_c.specs.contracts.handles.kept.Kept.into_box.Key.{name as #self}
 use Rattle.vdb_c.proofs.handles.kept.Kept.into_box.Statement.{statement}
 use Rattle.vdb_c.proofs.handles.kept.Kept.into_box.Code as code
 

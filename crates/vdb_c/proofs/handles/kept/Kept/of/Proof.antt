@@ -34,8 +34,8 @@ use Rattle.std_alloc.specs.contracts.boxed.Box.into_raw_with_allocator as callee
 use Rattle.std_alloc.proofs.boxed.Box.into_raw_with_allocator.Met.{met}
 use Rattle.vdb_c.proofs.Pointers.{beside_val, beside_fits}
 use Rattle.vdb_c.proofs.KeptValues.{kept_in}
-use Rattle.vdb_c.specs.contracts.kept.Kept.of.{ended, clauses}
-use Rattle.vdb_c.specs.contracts.kept.Kept.of.Key.{name as #self}
+use Rattle.vdb_c.specs.contracts.handles.kept.Kept.of.{ended, clauses}
+use Rattle.vdb_c.specs.contracts.handles.kept.Kept.of.Key.{name as #self}
 use Rattle.vdb_c.proofs.handles.kept.Kept.of.Statement.{statement}
 use Rattle.vdb_c.proofs.handles.kept.Kept.of.Code as code
 
