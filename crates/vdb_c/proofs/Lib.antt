@@ -23,3 +23,4 @@ pub mod LeafFields
 pub mod VoxelCalls
 pub mod SameTrees
 pub mod LoadFaults
+pub mod Swaps

@@ -126,18 +126,13 @@ fn swap(alloc: Global, scene: &mut Scene, name: &[u8], handle: &mut GridHandle) 
     let Some(mut grid) = handle.grid.take(alloc) else {
         return EMPTY;
     };
-    let code = match Name::new(name) {
-        Some(name) => {
-            if scene.swap(&name, &mut grid) {
-                DONE
-            } else {
-                NO_GRID
-            }
-        }
-        None => NO_NAME,
+    let Some(name) = Name::new(name) else {
+        handle.grid.put(alloc, grid);
+        return NO_NAME;
     };
+    let found = scene.swap(&name, &mut grid);
     handle.grid.put(alloc, grid);
-    code
+    if found { DONE } else { NO_GRID }
 }
 
 /// Returns a grid that takes the place of another for a while.
