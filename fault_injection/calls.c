@@ -251,7 +251,9 @@ static int close_fails(int file)
 {
     if (!is_own(file))
         return 0;
-    int fails = has_error(own[file] == WRITTEN ? "close-written" : "close");
+    struct stat found;
+    int is_kept = own[file] == WRITTEN && syscall(SYS_fstat, file, &found) == 0 && found.st_nlink > 0;
+    int fails = has_error(is_kept ? "close-written" : "close");
     own[file] = 0;
     return fails;
 }

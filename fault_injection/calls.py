@@ -16,7 +16,7 @@ FAULTS = {
     "read": [EIO, EINTR, "one-byte"],
     "write": [EIO, ENOSPC, EINTR, "one-byte", "no-byte"],
     "close": [EIO, EINTR],
-    "close-written": [EIO, ENOSPC, EINTR],  # of a file that was opened to be written
+    "close-written": [EIO, ENOSPC, EINTR],  # of a file that was opened to be written and isn't removed
     "fsync": [EIO, ENOSPC, EINTR],
     "rename": [EIO, ENOSPC],
     "ftruncate": [EIO, EINTR],
