@@ -105,11 +105,16 @@ def check_long(place):
             place.check(place.read("back.vdbs") == place.read("bad.vdbs"), "a file of 268,435,456 bytes: other bytes")
 
 
+def check_changes(place, seed, count):
+    """Files that are changed at random."""
+    chance = random.Random(seed)
+    for number in range(count):
+        check_text(place, f"change {number}", changed(chance, chance.choice([*vectors.CUT.values(), vectors.LARGER["tiles"][:400]])))
+
+
 def check(place, seed, scenes):
     check_vectors(place)
     check_constant(place)
     check_bytes(place)
     check_long(place)
-    chance = random.Random(seed)
-    for number in range(10 * scenes):
-        check_text(place, f"change {number}", changed(chance, chance.choice([*vectors.CUT.values(), vectors.LARGER["tiles"][:400]])))
+    check_changes(place, seed, 10 * scenes)
