@@ -4,16 +4,17 @@
 rows in crates/vdb_rows/data.
 
 The shim counts calls of malloc, realloc and the other allocating functions, from the first read on. A row is run once, and at an
-allocation the program is copied: in the copy this allocation alone fails. Of a row with more than 250 allocations the first 250 fail
-and some 200 of the others at even distances, and a line says so. ALLOCATIONS gives another number than 250. The rows are played side
-by side, one on each processor. Each copy must show:
+allocation the program is copied: in the copy this allocation alone fails. Of a row with more than 2,000 allocations the first 2,000 fail
+and some of the others, and a line says so. ALLOCATIONS gives another number than 2,000. The rows are played side by side, one on each
+processor. Each copy must show:
 
 - The command whose allocation failed answers `error memory`, and no other command does. If the row has another error for
   that command, it answers this one. Only in a dilation may `memory` replace `root-limit`.
 - The scene then saves the same bytes as the scene before that command.
 - Each accessor with a last coordinate answers the same there as before.
-- The command and all that follow, given again, have the row's answers, and the scene saves the row's bytes.
 - No allocation fails outside a command, or in a command that allocates nothing: the row marks those lines.
+- The command and all that follow, given again, have the row's answers, and the scene saves the row's bytes. The first 250 copies show
+  this, the first of each line and some 200 of the others at even distances. The others have the same scene and accessors then.
 
 In further runs one allocation and all after it fail. The lines that don't answer `error memory` must then answer, and the
 scene must save, as if the others weren't in the script."""
@@ -28,8 +29,8 @@ from program import FAST, Run, Tally, Workplace, content, counts
 from vectors import rows_of
 
 ALL_AFTER_RUNS = 20
-EACH_UP_TO = int(os.environ.get("ALLOCATIONS", "250"))
-SAMPLED = 200
+EACH_UP_TO = int(os.environ.get("ALLOCATIONS", "2000"))
+REPLAYED, SAMPLED = min(EACH_UP_TO, 250), 200
 PATIENCE = 1_200  # seconds for a row and its copies
 SUBJECTS = ["accessors", "boxes", "dilate-and-erode", "layouts", "metadata", "pruned-leaf", "root-limit", "two-grids", "value-ranges", "voxels"]
 ALLOCATES_NOTHING = {"get", "drop", "prune", "count", "bounds", "list", "slice", "census", "unmeta", "metas"}
@@ -80,7 +81,7 @@ class Row:
         self.lines = [line.text[:-1] for line in commands]
         self.answers = [line.answered for line in commands]
         self.marked = {index for index, line in enumerate(commands) if line.allocates_nothing}
-        self.before = {}
+        self.before, self.read = {}, {}
 
     def check(self, holds, what):
         self.tally.check(holds, f"{self.name}: {what}")
@@ -105,32 +106,46 @@ class Row:
         for index in range(len(self.lines)):
             rest = [*self.probes_after(index), b"", *self.lines[index:]]
             (folder / f"{index + 1}.rest").write_bytes(script_of(rest))
-        stride = max(0, allocations - EACH_UP_TO) // SAMPLED + 1
+        stride = max(0, allocations - REPLAYED) // SAMPLED + 1
         script = self.place.path_of("script", script_of(self.lines))
-        words, injected = ["--save", "saved"], {"branches": folder, "branch_each": EACH_UP_TO, "branch_stride": stride}
-        trunk = self.place.execute(words, script, PATIENCE, **injected)
+        injected = {"branches": folder, "branch_each": EACH_UP_TO, "branch_replays": REPLAYED, "branch_stride": stride}
+        trunk = self.place.execute(["--save", "saved"], script, PATIENCE, **injected)
         self.check((trunk.status, trunk.answers, trunk.errors) == (whole.status, whole.answers, b""), f"with copies: {trunk.status}, {trunk.errors!r}")
         met = trunk.counts.get("allocations", 0)
-        numbers = [it for it in range(1, met + 1) if it <= EACH_UP_TO or it % stride == 0]
-        if len(numbers) < met:
-            print(f"{self.name}: {len(numbers)} of {met} allocations", flush=True)
-        for number in numbers:
-            self.one(number, folder / str(number), whole)
+        failed = sorted(int(it.name) for it in folder.iterdir() if it.is_dir())
+        wanted = {it for it in range(1, met + 1) if it <= EACH_UP_TO or it % stride == 0}
+        self.check({*failed} >= wanted, f"no copy at the allocations {sorted(wanted - {*failed})[:9]}")
+        if len(failed) < met:
+            print(f"{self.name}: {len(failed)} of {met} allocations", flush=True)
+        lines = {number: self.one(number, folder / str(number), whole) for number in failed}
+        replayed = {number: index for number, (index, is_replayed) in lines.items() if is_replayed}
+        wanted = {it for it in range(1, met + 1) if it <= REPLAYED or it % stride == 0}
+        self.check({*replayed} >= wanted and {*replayed.values()} == {index for index, _ in lines.values()}, f"only {[*replayed]} play the rest")
 
     def one(self, number, folder, whole):
-        """Checks the copy in which this allocation failed."""
-        files = {name: content(folder / name) if (folder / name).exists() else None for name in ("answers", "before", "saved")}
+        """Checks the copy in which this allocation failed. Returns the index of the line, and whether the copy has played the rest."""
         found = counts(folder / "report")
-        ends = found.get("status"), found.get("status-before")
-        failed_after = found.get("failed-after", 0)
-        answers = whole.answers[:failed_after] + (files["answers"] or b"")
-        run = planted("allocations", Run(ends[0], answers, b"", files["before"], found), {"fail_allocation": number})
+        is_replayed, ends = bool(found.get("replayed")), (found.get("status"), found.get("status-before"))
+        before, answers = self.kept(folder / ("before" if is_replayed else "saved")), self.kept(folder / "answers") or b""
+        answers = whole.answers[: found.get("failed-after", 0)] + answers
+        run = planted("allocations", Run(ends[0], answers, b"", before, found), {"fail_allocation": number})
         index = self.line_after(run.counts.get("failed-after", 0))
-        self.check(ends == (1, 1), f"allocation {number}: the statuses are {ends}")
+        self.check(ends == (1, 1 if is_replayed else None), f"allocation {number}: the statuses are {ends}")
         self.check(index is not None, f"allocation {number} failed outside any command")
         if index is not None:
-            self.failed_line(number, index, run)
-            self.check(files["saved"] == whole.saved, f"allocation {number}, line {index + 1}: given again, the row ends with another scene")
+            self.failed_line(number, index, run, is_replayed)
+        if is_replayed:
+            self.check(self.kept(folder / "saved") == whole.saved, f"allocation {number}: given again, the row ends with another scene")
+        return index, is_replayed
+
+    def kept(self, path):
+        """Returns the bytes of a file, or None. Those of many links to a file are read once."""
+        if not path.exists():
+            return None
+        number = path.stat().st_ino
+        if number not in self.read:
+            self.read[number] = content(path)
+        return self.read[number]
 
     def all_after(self, number):
         """Checks the run in which this allocation and all after it fail."""
@@ -153,8 +168,8 @@ class Row:
             written -= len(answer)
         return None
 
-    def failed_line(self, number, index, run):
-        """Checks the line in which this allocation failed: the scene and the accessors then, and the line given again."""
+    def failed_line(self, number, index, run, is_replayed):
+        """Checks the line in which this allocation failed: the scene and the accessors then, and the line and the rest given again."""
         what = f"allocation {number}, line {index + 1}"
         line = self.lines[index]
         allocates_nothing = line.split()[0].decode() in ALLOCATES_NOTHING or index in self.marked
@@ -167,7 +182,8 @@ class Row:
         wanted = before + error + probed
         self.check(run.answers.startswith(wanted), f"{what}: the failed command and the probes after it have other answers")
         self.check(run.saved == saved, f"{what}: the scene is not the one before")
-        self.check(run.answers == wanted + b"".join(self.answers[index:]), f"{what}: given again, it answers otherwise")
+        rest = self.answers[index:] if is_replayed else []
+        self.check(run.answers == wanted + b"".join(rest), f"{what}: given again, it answers otherwise")
 
     def probes_after(self, index):
         """Returns the probes of accessors after a line in which an allocation failed."""

@@ -1,6 +1,10 @@
 /* SPDX-License-Identifier: Apache-2.0 */
 // Makes each allocation of one run fail without a run from the start for each: at an allocation the program is copied, and the copy goes
-// on with this allocation failing. README.md says what a copy reads and writes.
+// on with this allocation failing. allocations.py says what a copy shows. The variables:
+//   BRANCHES=FOLDER    the copies read FOLDER/LINE.rest, whose empty line is behind the probes, and write to FOLDER/ALLOCATION
+//   BRANCH_EACH=N      the program is copied at each of the first N allocations
+//   BRANCH_REPLAYS=N   the first N copies, and the first of each line, play the rest of the script; the others end behind the probes
+//   BRANCH_STRIDE=N    it is copied at every N-th allocation too, and this copy plays the rest
 #define _GNU_SOURCE
 #include "faults.h"
 #include <errno.h>
@@ -17,7 +21,9 @@
 enum { NONE, TRUNK, BRANCH, TWIG };
 
 static int what;
-static long each, stride;  // the allocations up to the first number fail, and then those whose number the second one divides
+static long each, replays, stride;
+static int replaying;      // whether the copy plays the rest of the script
+static long copied;        // the lines of the script at the last copy
 static int script;         // what is read in place of standard input
 static off_t read_to;
 static long lines;         // the lines of the script that were read
@@ -26,6 +32,7 @@ void begin_branches(void)
 {
     const char *folder = getenv("BRANCHES");
     each = number("BRANCH_EACH", 0);
+    replays = number("BRANCH_REPLAYS", 0);
     stride = number("BRANCH_STRIDE", 0);
     if (folder && chdir(folder) != 0)
         abort();
@@ -75,8 +82,12 @@ static void share(const char *folder, const char *name, const char *kept)
 int branches(long allocation)
 {
     char folder[32], report[48], rest[32], before[32];
-    if (what != TRUNK || (allocation > each && (stride == 0 || allocation % stride != 0)))
+    if (what != TRUNK)
         return 0;
+    replaying = allocation <= replays || (stride > 0 && allocation % stride == 0) || lines != copied;
+    if (!replaying && allocation > each)
+        return 0;
+    copied = lines;
     sprintf(folder, "%ld", allocation);
     sprintf(report, "%s/report", folder);
     sprintf(rest, "%ld.rest", lines);
@@ -84,8 +95,10 @@ int branches(long allocation)
         abort();
     if (!is_copy(report, "status")) {
         sprintf(before, "%ld.before", lines);
-        share(folder, "before", before);
-        share(folder, "saved", "last");
+        share(folder, replaying ? "before" : "saved", before);
+        if (replaying)
+            share(folder, "saved", "last");
+        append_to(report, "replayed", replaying);
         return 0;
     }
     what = BRANCH;
@@ -110,7 +123,7 @@ ssize_t read_script(int file, void *place, size_t size)
     if (what != BRANCH || end != place)
         return count;
     // the empty line behind the probes
-    if (is_copy("report", "status-before")) {
+    if (!replaying || is_copy("report", "status-before")) {
         what = TWIG;
         return 0;
     }

@@ -37,7 +37,8 @@ struct file {
 static const char *below, *call_log, *call_name;
 static long call_at, fault, calls, named, faults;
 static int all_after, process, dying;
-static char own[1024];  // whether each descriptor is of an own file
+enum { READ = 1, WRITTEN };
+static char own[1024];  // whether each descriptor is of an own file, and how that was opened
 static struct file files[16];
 static int file_count;
 
@@ -60,7 +61,7 @@ void end_calls(const char *report)
 {
     long open = 0, renamed = 0;
     for (int file = 3; file < (int)sizeof own; file++)
-        open += own[file];
+        open += own[file] != 0;
     for (int at = 0; at < file_count; at++)
         renamed += files[at].renamed;
     append_to(report, "calls", calls);
@@ -94,8 +95,8 @@ static void hold(int descriptor, const char *path, int flags)
     struct stat found;
     if (descriptor < 0 || descriptor >= (int)sizeof own)
         return;
-    own[descriptor] = 1;
-    if ((flags & O_ACCMODE) == O_RDONLY || syscall(SYS_fstat, descriptor, &found) != 0 || !S_ISREG(found.st_mode))
+    own[descriptor] = (flags & O_ACCMODE) == O_RDONLY ? READ : WRITTEN;
+    if (own[descriptor] == READ || syscall(SYS_fstat, descriptor, &found) != 0 || !S_ISREG(found.st_mode))
         return;
     struct file *file = file_of(&found);
     if (file) {
@@ -248,9 +249,12 @@ FILE *fopen64(const char *path, const char *mode)
 // Returns whether the closing of this descriptor has an error. It is closed all the same, as Linux does.
 static int close_fails(int file)
 {
-    int fails = is_failing("close", file);
-    if (is_own(file))
-        own[file] = 0;
+    if (!is_own(file))
+        return 0;
+    struct stat found;
+    int is_kept = own[file] == WRITTEN && syscall(SYS_fstat, file, &found) == 0 && found.st_nlink > 0;
+    int fails = has_error(is_kept ? "close-written" : "close");
+    own[file] = 0;
     return fails;
 }
 

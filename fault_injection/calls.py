@@ -15,7 +15,8 @@ FAULTS = {
     "open": [EIO, ENOSPC, EMFILE, EINTR],
     "read": [EIO, EINTR, "one-byte"],
     "write": [EIO, ENOSPC, EINTR, "one-byte", "no-byte"],
-    "close": [EIO, ENOSPC, EINTR],
+    "close": [EIO, EINTR],
+    "close-written": [EIO, ENOSPC, EINTR],  # of a file that was opened to be written and isn't removed
     "fsync": [EIO, ENOSPC, EINTR],
     "rename": [EIO, ENOSPC],
     "ftruncate": [EIO, EINTR],
@@ -43,6 +44,8 @@ def play(saver, at, name, number, fault, **more):
     TALLY.check(good or done.status in saver.statuses, f"{what}: status {done.status}, {done.errors!r}")
     TALLY.check(b"Traceback" not in done.errors and b"terminate called" not in done.errors, f"{what}: {done.errors!r}")
     TALLY.check(bool(done.errors) != good or name == "write" or more, f"{what}: status {done.status}, {done.errors!r}")
+    may_hide = name != "close-written" or fault == EINTR or saver.in_place or saver.in_child
+    TALLY.check(may_hide or not good, f"{what}: the error isn't told")
     TALLY.check(done.answers == saver.answers if good else saver.answers.startswith(done.answers), f"{what}: answers {done.answers!r}")
     TALLY.check(saver.is_new(done.saved) if good else is_kept(saver, at, done), f"{what}: {done.status}, saved is {done.saved!r}")
     made = {"save.vdbs 644"} if at == "nothing" and (good or saver.in_place and done.saved is not None) else set()

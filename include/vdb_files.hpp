@@ -118,14 +118,10 @@ inline void synchronise(const std::string &place)
     ::close(file);
 }
 
-// Writes a file beside `place`, which replaces it when its bytes are on the disk. Returns the error or 0.
-inline int write_beside(const std::string &place, const struct stat *old, const std::vector<uint8_t> &bytes)
+// Closes a file beside `place`, which it replaces if the step before is `done`, and else removes it. Returns the error or 0.
+inline int close_beside(int file, bool done, const std::string &beside, const std::string &place)
 {
-    std::string beside;
-    const int file = open_beside(place, old ? 0600 : 0666, beside);
-    if (file < 0)
-        return errno;
-    int error = closed(file, write(file, bytes) && (!old || resemble(file, *old)) && ::fsync(file) == 0);
+    int error = closed(file, done);
     if (error == 0 && ::rename(beside.c_str(), place.c_str()) != 0)
         error = errno;
     if (error != 0)
@@ -133,6 +129,17 @@ inline int write_beside(const std::string &place, const struct stat *old, const 
     else
         synchronise(place);
     return error;
+}
+
+// Writes a file beside `place`, which replaces it when its bytes are on the disk. Returns the error or 0.
+inline int write_beside(const std::string &place, const struct stat *old, const std::vector<uint8_t> &bytes)
+{
+    std::string beside;
+    const int file = open_beside(place, old ? 0600 : 0666, beside);
+    if (file < 0)
+        return errno;
+    const bool done = write(file, bytes) && (!old || resemble(file, *old)) && ::fsync(file) == 0;
+    return close_beside(file, done, beside, place);
 }
 
 // Writes a pipe or a device itself. Returns the error or 0.

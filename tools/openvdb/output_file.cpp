@@ -10,6 +10,7 @@
 #include <fstream>
 #include <sys/stat.h>
 #include <unistd.h>
+#include <utility>
 
 using namespace vdb::detail;
 
@@ -67,8 +68,8 @@ OutputFile::~OutputFile() {
 void OutputFile::close_all() {
     if (special >= 0) close(special);
     if (descriptor < 0) return;
-    close(descriptor);
     unlink(temporary.c_str());
+    close(descriptor);
 }
 
 void OutputFile::write_at(uint64_t offset, std::string_view bytes) {
@@ -84,11 +85,9 @@ void OutputFile::write_at(uint64_t offset, std::string_view bytes) {
 
 void OutputFile::commit() {
     if (special >= 0) return copy();
-    if (fsync(descriptor) != 0) fail(std::strerror(errno));
-    if (std::rename(temporary.c_str(), target.c_str()) != 0) fail(std::strerror(errno));
-    synchronise(target);
-    close(descriptor);
-    descriptor = -1;
+    const bool done = fsync(descriptor) == 0;
+    const int error = close_beside(std::exchange(descriptor, -1), done, temporary, target);
+    if (error != 0) fail(std::strerror(error));
 }
 
 /// Writes the temporary file's bytes to what is no regular file.
@@ -102,4 +101,6 @@ void OutputFile::copy() {
         part.resize(size_t(stream.gcount()));
         if (stream.bad() || !vdb::detail::write(special, part)) fail(std::strerror(errno));
     } while (!part.empty());
+    const int error = closed(std::exchange(special, -1), true);
+    if (error != 0) fail(std::strerror(error));
 }

@@ -55,7 +55,7 @@ def check_text(place, what, text):
         return
     status, answers, lines = place.convert("vdbs2vdb", "bad.vdbs", "bad.vdb")
     place.equal((status, answers, len(lines), place.read("bad.vdb")), (1, "", 1, b"old"), what)
-    program, name, byte, word = (lines or [":::"])[0].split(": ")[:4]
+    program, name, byte, word = [*"".join(lines[:1]).split(": "), "", "", ""][:4]
     place.equal((program, name, word), ("vdbs2vdb", "bad.vdbs", wanted[0]), what)
     place.check(wanted[1] is None or byte == f"byte {wanted[1]}", f"{what}: {lines}, not byte {wanted[1]}")
 
@@ -73,6 +73,9 @@ def check_vectors(place):
         place.equal(wanted_of(text)[0], word, f"the fault of {what}")
         check_text(place, what, text)
     check_text(place, "a byte more", vectors.ACTIVE + b"x")
+    full = vectors.with_root(2, b"r", [b"\x01\0\0\0\3"] * 4096)  # more than the reader's buffer holds
+    check_text(place, "4,096 root blocks", full)
+    check_text(place, "4,096 root blocks without a byte", full[:-1])
 
 
 def check_bytes(place):
@@ -105,11 +108,16 @@ def check_long(place):
             place.check(place.read("back.vdbs") == place.read("bad.vdbs"), "a file of 268,435,456 bytes: other bytes")
 
 
+def check_changes(place, seed, count):
+    """Files that are changed at random."""
+    chance = random.Random(seed)
+    for number in range(count):
+        check_text(place, f"change {number}", changed(chance, chance.choice([*vectors.CUT.values(), vectors.LARGER["tiles"][:400]])))
+
+
 def check(place, seed, scenes):
     check_vectors(place)
     check_constant(place)
     check_bytes(place)
     check_long(place)
-    chance = random.Random(seed)
-    for number in range(10 * scenes):
-        check_text(place, f"change {number}", changed(chance, chance.choice([*vectors.CUT.values(), vectors.LARGER["tiles"][:400]])))
+    check_changes(place, seed, 10 * scenes)

@@ -1,18 +1,18 @@
 # SPDX-License-Identifier: Apache-2.0
-"""Mutated .vdb files: vdb2vdbs, built with sanitizers, converts each or names one reason, and what it writes is a scene file.
+"""Mutated files under sanitizers: vdb2vdbs converts each .vdb file or names one reason, and what it writes is a scene file. Both
+converters answer to the scene files of faults.py as they do without sanitizers.
 
 OpenVDB 10 itself writes past its buffers for some of them. A report whose place is in OpenVDB's library is counted and no failure, as
 is one of an allocation that no memory has: without sanitizers that ends with status 1."""
-import os
 import random
 import re
 
 import encoding
-from faults import changed
+import faults
 from vdb_files import WRITTEN, RandomFile
+from workplace import Workplace
 
 TURNS = 10
-ENVIRONMENT = {**os.environ, "ASAN_OPTIONS": "max_allocation_size_mb=1024:detect_leaks=0"}
 NO_MEMORY = "AddressSanitizer: requested allocation size"
 FRAME = re.compile(r" *#\d+ 0x")
 
@@ -27,7 +27,7 @@ def check_mutated(place, what, text):
     """Converts these bytes in a folder that has an old file under the name to write. Returns whether OpenVDB's library failed."""
     place.write("mutated.vdb", text)
     place.write("mutated.vdbs", b"old")
-    status, _, lines = place.convert("sanitized", "mutated.vdb", "mutated.vdbs", env=ENVIRONMENT)
+    status, _, lines = place.convert("vdb2vdbs", "mutated.vdb", "mutated.vdbs")
     told = [line for line in lines if not line.startswith("vdb2vdbs: mutated.vdb: ")]
     if any(NO_MEMORY in line for line in told) or is_of_openvdb(told):
         for name in place.leftovers():
@@ -42,12 +42,20 @@ def check_mutated(place, what, text):
 
 
 def check(place, seed, scenes):
+    with Workplace(place.here, ".san") as sanitized:
+        check_vdb_files(sanitized, seed, scenes)
+        faults.check_vectors(sanitized)
+        faults.check_changes(sanitized, seed, 2 * scenes)
+        place.passed, place.failed = place.passed + sanitized.passed, place.failed + sanitized.failed
+
+
+def check_vdb_files(place, seed, scenes):
     failed = 0
     for number in range(seed, seed + scenes // 4):
         chance = random.Random(f"mutated {number}")
         lines = list(RandomFile(chance).lines(chance.choice(WRITTEN)))
         place.probed("make", "good.vdb", lines)
         for turn in range(TURNS):
-            failed += check_mutated(place, f"file {number}, change {turn}", changed(chance, place.read("good.vdb")))
+            failed += check_mutated(place, f"file {number}, change {turn}", faults.changed(chance, place.read("good.vdb")))
     print(f"mutations: OpenVDB's library or the memory failed for {failed} of {scenes // 4 * TURNS} files")
     place.check(failed < scenes // 4 * TURNS, "no mutated file was read")

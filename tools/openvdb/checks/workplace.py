@@ -8,14 +8,16 @@ import tempfile
 from pathlib import Path
 
 CONVERTERS = ["vdb2vdbs", "vdbs2vdb"]
+# what the converters with sanitizers see; an allocation of more than a gigabyte fails there
+ENVIRONMENT = {**os.environ, "ASAN_OPTIONS": "max_allocation_size_mb=1024:detect_leaks=0"}
 
 
 class Workplace:
     """A temporary folder with copies of the converters, and the tally of checks."""
 
     def __init__(self, here, ending=""):
-        """`ending` is that of the converters to copy: `.cov` for those that count what runs."""
-        self.counts = ending == ".cov"
+        """`ending` is that of the converters to copy: `.cov` for those that count what runs, `.san` for those with sanitizers."""
+        self.here, self.counts = here, ending == ".cov"
         self.vdb = os.path.abspath(os.environ.get("VDB", here.parents[1] / "crates" / "vdb" / "out" / "vdb"))
         if not os.access(self.vdb, os.X_OK):
             sys.exit(f"test: no program {self.vdb}: build it by 'rt run < stdin' in crates/vdb, or name one in VDB")
@@ -26,7 +28,6 @@ class Workplace:
         self.programs.mkdir()
         for name in CONVERTERS:
             shutil.copy(here / f"{name}{ending}", self.programs / name)
-        shutil.copy(here / "sanitized", self.programs)
         self.passed = self.failed = 0
 
     def __enter__(self):
@@ -63,7 +64,7 @@ class Workplace:
     def convert(self, program, *words, **options):
         """Runs a converter in the folder: its status, standard output and the lines of standard error."""
         words = [self.programs / program, *words]
-        done = subprocess.run(words, cwd=self.folder, capture_output=True, timeout=300, check=False, **options)
+        done = subprocess.run(words, cwd=self.folder, env=ENVIRONMENT, capture_output=True, timeout=300, check=False, **options)
         return done.returncode, done.stdout.decode(), done.stderr.decode(errors="replace").splitlines()
 
     def is_converted(self, program, *words, told=(), what=""):
