@@ -87,7 +87,8 @@ def apart(call: "Callable[[], Result]") -> "Result":
 def lent(grids: "Mapping[bytes, Lender]") -> "Iterator[Encoded]":
     """Yields a scene of grids, by their names. No cell is copied, unless a grid has two names. Meanwhile the handles have other grids, so
     nobody else may use them, and Ctrl-C must not come between: `apart` sees to that."""
-    made, handles = Encoded(), {}
+    made = Encoded()
+    handles: "dict[bytes, Held]" = {}
     for name, (grid, pairs) in grids.items():
         handles[name] = copied(grid) if grid in handles.values() else grid
         made.scene.call_with("put", new_grid(KINDS["bool"], False, 1), name, len(name))
