@@ -15,7 +15,7 @@ module _ (s t : Scene) (name : List ℕ) (was is : AnyGrid) where
   -- by whether the scene has a grid of the name
   found_or_not : (o : Option GridEntry) (found : Bool) → SwapsGrid o s name t was is found
       → OnFound o (if found then done else no_grid) ((t ≡ s) × (Some is ≡ Some was))
-        (λ e. ((if found then done else no_grid) ≡ done) × PutsGrid s name (record e { grid = was }) t × (Some is ≡ Some e.grid))
+      (λ e. ((if found then done else no_grid) ≡ done) × PutsGrid s name (record e { grid = was }) t × (Some is ≡ Some e.grid))
   found_or_not None found h = (rw h.0 refl, (h.1, ap Some h.2))
   found_or_not (Some e) found h = (rw h.0 refl, h.1, ap Some h.2)
 
