@@ -5,8 +5,8 @@ rows in crates/vdb_rows/data.
 
 The shim counts calls of malloc, realloc and the other allocating functions, from the first read on. A row is run once, and at an
 allocation the program is copied: in the copy this allocation alone fails. Of a row with more than 2,000 allocations the first 2,000 fail
-and some of the others, and a line says so. ALLOCATIONS gives another number than 2,000. The rows are played side by side, one on each
-processor. Each copy must show:
+and some of the others, and a line says so. Of a row that takes more than 0.05 s of a processor it is the first 250. ALLOCATIONS gives
+another number, for all rows. The rows are played side by side, one on each processor. Each copy must show:
 
 - The command whose allocation failed answers `error memory`, and no other command does. If the row has another error for
   that command, it answers this one. Only in a dilation may `memory` replace `root-limit`.
@@ -20,6 +20,7 @@ In further runs one allocation and all after it fail. The lines that don't answe
 scene must save, as if the others weren't in the script."""
 import concurrent.futures
 import os
+import resource
 import sys
 import tempfile
 from itertools import repeat
@@ -31,12 +32,19 @@ from vectors import rows_of
 ALL_AFTER_RUNS = 20
 EACH_UP_TO = int(os.environ.get("ALLOCATIONS", "2000"))
 REPLAYED, SAMPLED = min(EACH_UP_TO, 250), 200
+SLOW = 1e9 if "ALLOCATIONS" in os.environ else 0.05  # processor seconds of a row of which only REPLAYED fail, and the sample
 PATIENCE = 1_200  # seconds for a row and its copies
 SUBJECTS = ["accessors", "boxes", "dilate-and-erode", "layouts", "metadata", "pruned-leaf", "root-limit", "two-grids", "value-ranges", "voxels"]
 ALLOCATES_NOTHING = {"get", "drop", "prune", "count", "bounds", "list", "slice", "census", "unmeta", "metas"}
 BY_ACCESSOR = {"get", "set", "unset", "only", "state"}
 LONG = (b"list ", b"slice ", b"metas ")
 MEMORY = b"error memory\n"
+
+
+def spent():
+    """Returns the processor seconds of the programs that have ended."""
+    used = resource.getrusage(resource.RUSAGE_CHILDREN)
+    return used.ru_utime + used.ru_stime
 
 
 def answer_of_each(lines, answers):
@@ -91,29 +99,31 @@ class Row:
 
     def all(self):
         """Checks all runs of the row."""
+        begun = spent()
         whole = self.run(self.lines)
+        most = REPLAYED if spent() - begun > SLOW else EACH_UP_TO
         self.check(whole.answers == b"".join(self.answers), "the answers are not the row's")
         self.check(whole.saved is not None and "allocations" in whole.counts, "the run didn't end by itself")
         allocations = whole.counts.get("allocations", 0)
         self.check(allocations > 0 or b"ok\n" not in self.answers, "the shim counted no allocation")
         with tempfile.TemporaryDirectory(prefix="branches-", dir=FAST) as folder:
-            self.each(whole, allocations, Path(folder))
+            self.each(whole, allocations, most, Path(folder))
         for number in range(1, allocations + 1, -(-allocations // ALL_AFTER_RUNS) or 1):
             self.all_after(number)
 
-    def each(self, whole, allocations, folder):
-        """Runs the row with a copy at each allocation, and checks the copies."""
+    def each(self, whole, allocations, most, folder):
+        """Runs the row with a copy at each allocation up to the last of `most`, and at the sampled ones, and checks the copies."""
         for index in range(len(self.lines)):
             rest = [*self.probes_after(index), b"", *self.lines[index:]]
             (folder / f"{index + 1}.rest").write_bytes(script_of(rest))
         stride = max(0, allocations - REPLAYED) // SAMPLED + 1
         script = self.place.path_of("script", script_of(self.lines))
-        injected = {"branches": folder, "branch_each": EACH_UP_TO, "branch_replays": REPLAYED, "branch_stride": stride}
+        injected = {"branches": folder, "branch_each": most, "branch_replays": REPLAYED, "branch_stride": stride}
         trunk = self.place.execute(["--save", "saved"], script, PATIENCE, **injected)
         self.check((trunk.status, trunk.answers, trunk.errors) == (whole.status, whole.answers, b""), f"with copies: {trunk.status}, {trunk.errors!r}")
         met = trunk.counts.get("allocations", 0)
         failed = sorted(int(it.name) for it in folder.iterdir() if it.is_dir())
-        wanted = {it for it in range(1, met + 1) if it <= EACH_UP_TO or it % stride == 0}
+        wanted = {it for it in range(1, met + 1) if it <= most or it % stride == 0}
         self.check({*failed} >= wanted, f"no copy at the allocations {sorted(wanted - {*failed})[:9]}")
         if len(failed) < met:
             print(f"{self.name}: {len(failed)} of {met} allocations", flush=True)

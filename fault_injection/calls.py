@@ -44,7 +44,7 @@ def play(saver, at, name, number, fault, **more):
     TALLY.check(good or done.status in saver.statuses, f"{what}: status {done.status}, {done.errors!r}")
     TALLY.check(b"Traceback" not in done.errors and b"terminate called" not in done.errors, f"{what}: {done.errors!r}")
     TALLY.check(bool(done.errors) != good or name == "write" or more, f"{what}: status {done.status}, {done.errors!r}")
-    may_hide = name != "close-written" or fault == EINTR or saver.in_place or saver.in_child
+    may_hide = name != "close-written" or fault == EINTR or saver.runs_vdb
     TALLY.check(may_hide or not good, f"{what}: the error isn't told")
     TALLY.check(done.answers == saver.answers if good else saver.answers.startswith(done.answers), f"{what}: answers {done.answers!r}")
     TALLY.check(saver.is_new(done.saved) if good else is_kept(saver, at, done), f"{what}: {done.status}, saved is {done.saved!r}")

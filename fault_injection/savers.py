@@ -34,7 +34,8 @@ os.umask(0o022)
 @dataclass
 class Saver:
     """A program: its words, in which LOAD, SAVE and SCRIPT stand for files, and its statuses after a fault. `answers` is what it prints,
-    `saved` what it must save over `old`. It saves `in_place` or by a new file; the faults may be those of the program `in_child` alone."""
+    `saved` what it must save over `old`. It saves `in_place` or by a new file; the faults may be those of the program `in_child` alone. One
+    that `runs_vdb` may drop the error of closing a file, which `vdb` drops; the fsync of vdb-run tells a disk's."""
 
     name: str
     place: Workplace
@@ -47,6 +48,7 @@ class Saver:
     places: tuple = PLACES
     in_place: bool = False
     in_child: bool = False
+    runs_vdb: bool = False
 
     def play(self, at="nothing", **injected) -> Run:
         """Runs the program, which saves where `nothing` is, an old file behind a `link`, or a `pipe`. Returns the run, with its calls on
@@ -145,12 +147,12 @@ def converted(program, given, folder):
 
 
 def vdb():
-    return Saver("vdb", Workplace(), ["--load", "LOAD", "--save", "SAVE", "SCRIPT"], (3, 4), ROW.answered, in_place=True)
+    return Saver("vdb", Workplace(), ["--load", "LOAD", "--save", "SAVE", "SCRIPT"], (3, 4), ROW.answered, in_place=True, runs_vdb=True)
 
 
 def vdb_run():
     words = [TOP / "tools" / "vdb-run", "--vdb", PROGRAM, "--load", "LOAD", "--save", "SAVE", "SCRIPT"]
-    return Saver("vdb-run", Copies(), words, (2, 3, 4), ROW.answered)
+    return Saver("vdb-run", Copies(), words, (2, 3, 4), ROW.answered, runs_vdb=True)
 
 
 def child():
@@ -159,7 +161,7 @@ def child():
     program.write_text(WITH_SHIM, encoding="ascii")
     program.chmod(0o700)
     words = [TOP / "tools" / "vdb-run", "--vdb", program, "--load", "LOAD", "--save", "SAVE", "SCRIPT"]
-    return Saver("vdb below vdb-run", place, words, (3, 4), ROW.answered, in_child=True)
+    return Saver("vdb below vdb-run", place, words, (3, 4), ROW.answered, in_child=True, runs_vdb=True)
 
 
 def cpp():
