@@ -1,7 +1,7 @@
 //! Calls on the voxels of a box, or on all voxels.
 ghost use Rattle.std.specs.Prelude.{◌≡◌, ⊤, IsTrue};
 ghost use Rattle.vdb_coord.specs.Blocks.{vdb};
-ghost use Rattle.vdb_tree.specs.Field.{dilate, erode, iterations};
+ghost use Rattle.vdb_tree.specs.Field.{dilate, erode, iterations as iterated};
 ghost use Rattle.vdb_tree.specs.Outcome.{IsOutcome};
 ghost use Rattle.vdb_morph.specs.Growth.{IsGrowth};
 ghost use Rattle.vdb_scene.specs.Grids.{IsPruned, IsVoxelised, grid_field, grid_root_limit};
@@ -111,7 +111,7 @@ pub extern "C" fn vdb_grid_voxelise(handle: &mut GridHandle, corners: &Corners) 
 #[unsafe(no_mangle)]
 pub extern "C" fn vdb_grid_dilate(handle: &mut GridHandle, iterations: u32) -> i32
     ensures { OnHeld handle.old.grid.held handle.new.grid.held result ⊤ (λ g h. OnValid (iterations_of iterations) g h result ⊤ (λ n.
-        Changes g h result (IsGrowth scalar_eq vdb (grid_root_limit g) (grid_field g) (iterations n dilate (grid_field g)) (grid_field h)))) }
+        Changes g h result (IsGrowth scalar_eq vdb (grid_root_limit g) (grid_field g) (iterated n dilate (grid_field g)) (grid_field h)))) }
 {
     let Some(grid) = handle.grid.grid_mut() else {
         return EMPTY;
@@ -127,7 +127,7 @@ pub extern "C" fn vdb_grid_dilate(handle: &mut GridHandle, iterations: u32) -> i
 #[unsafe(no_mangle)]
 pub extern "C" fn vdb_grid_erode(handle: &mut GridHandle, iterations: u32) -> i32
     ensures { OnHeld handle.old.grid.held handle.new.grid.held result ⊤ (λ g h. OnValid (iterations_of iterations) g h result ⊤ (λ n.
-        Changes g h result (IsOutcome scalar_eq vdb (grid_root_limit g) (grid_field g) (iterations n erode (grid_field g)) (grid_field h)))) }
+        Changes g h result (IsOutcome scalar_eq vdb (grid_root_limit g) (grid_field g) (iterated n erode (grid_field g)) (grid_field h)))) }
 {
     let Some(grid) = handle.grid.grid_mut() else {
         return EMPTY;
