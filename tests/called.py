@@ -132,12 +132,13 @@ def main():
     session = reached(calls, called_in(main_text, public_of), STEP)
     scene = next(it for it in names if it.endswith(STEP)).rpartition("::")[0]
     commands = {word.lower(): reached(calls, [f"{scene}::{method}"]) - session for word, method in COMMAND.findall(COMMANDS.read_text(encoding="utf-8"))}
-    sources = {it.stem: it.read_text(encoding="utf-8") for it in sorted((CRATES / STATIC / "src").glob("*.rt"))}
-    by_c = {stem: reached(calls, called_in(text, public_of)) for stem, text in sources.items()}
+    folder = CRATES / STATIC / "src"
+    sources = {str(it.relative_to(folder).with_suffix("")): it.read_text(encoding="utf-8") for it in sorted(folder.rglob("*.rt"))}
+    by_c = {file: reached(calls, called_in(text, public_of)) for file, text in sources.items()}
     texts, failed = tests(), 0
     for name, (crate, _, of, function) in public_of.items():
         by = ["each row"] * (name in session) + [word for word, found in commands.items() if name in found]
-        by += [f"C {stem}" for stem, found in by_c.items() if name in found]
+        by += [f"C {file}" for file, found in by_c.items() if name in found]
         by += [it for it, text in texts.items() if is_called(text, crate, of, function)]
         failed += not by
         if not by or not words or any(it in name for it in words):
