@@ -10,7 +10,7 @@ from typing import Callable, Iterator, Mapping, Sequence, Tuple, TypeVar
 import numpy as np
 
 from .arrays import box_of, new_grid
-from .errors import SceneTooLongError, TooLongFault
+from .errors import RangeError, SceneTooLongError, TooLongFault
 from .forms import COORDINATE_SPAN, KINDS, MAX_FILE, MAX_NAME, MAX_TEXT
 from .library import BUFFER, Held, SceneHandle
 
@@ -42,7 +42,7 @@ class Encoded:
         made, written = np.empty(MAX_FILE, np.uint8), c_uint64()  # memory that isn't written is only reserved
         try:
             self.scene.call("save", made.ctypes.data_as(BUFFER), MAX_FILE, byref(written))
-        except TooLongFault:
+        except (TooLongFault, RangeError):  # it is longer than a file, or than the buffer
             raise SceneTooLongError(self.length(), MAX_FILE) from None
         return made[: written.value]
 
