@@ -294,7 +294,7 @@ class Calls(unittest.TestCase):
 
 class Scenes(unittest.TestCase):
     def test_ctrl_c_ends_a_load_a_save_and_a_comparison_at_once(self):
-        grid = vdb.Grid.from_array(np.random.default_rng(1).integers(1, 2**40, (96, 96, 96)))
+        grid = vdb.Grid.from_array(np.random.default_rng(1).integers(1, 2**40, (144, 144, 144)))
         scene = vdb.Scene({"a": grid, "b": grid.copy()})
         data, whole = scene.to_bytes(), grid.copy()
         for call in (scene.to_bytes, lambda: vdb.loads(data), lambda: scene["a"] == scene["b"], lambda: pickle.dumps(grid)):
