@@ -10,7 +10,7 @@ import by_openvdb
 from allocations import answer_of_each, memory_may_replace
 from by_c import C
 from by_package import Package, loaded_by_package, vdb
-from cells import TooLarge
+from cells import EXTENTS, TooLarge
 from drivers import same
 from language import Scene, error_of
 from program import Workplace
@@ -21,15 +21,26 @@ MEMORY = [b"error memory\n"]
 DOUBTFUL = re.compile(rb"meta \S+ (end|more|error) ")  # makes lines of `metas` that look like the last one, or like an error
 
 
+def refused_nodes(scene, line, answer):
+    """Returns how many upper, lower and leaf nodes a dilation needs before it is refused: its states."""
+    words = line.decode("latin-1").split()
+    if words[:1] != ["dilate"] or answer != ["error root-limit"]:
+        return [0, 0, 0]
+    cells = scene.grids[words[1]].cells
+    for _ in range(int(words[2])):
+        cells = cells.iterated(True)
+    return [cells.uneven(side) for side in EXTENTS]
+
+
 def vetted(lines, most=MOST_NODES, scene=None):
-    """Returns the lines that the model can answer, and whose scene has no more nodes, each with its answer, and the last scene. The first
-    scene has no grids unless it is given."""
+    """Returns the lines that the model can answer, and that need no more nodes, each with its answer, and the last scene. The first scene has
+    no grids unless it is given."""
     scene, kept = scene or Scene(), []
     for line in lines:
         before = {name: grid.copy() for name, grid in scene.grids.items()}
         try:
             answer = scene.answer(line)
-            if any(map(operator.gt, scene.nodes(), most)):
+            if any(map(operator.gt, scene.nodes(), most)) or any(map(operator.gt, refused_nodes(scene, line, answer), most)):
                 raise TooLarge
             kept.append((line, answer))
         except TooLarge:
