@@ -23,7 +23,7 @@ fn expect_whole<const W: usize>(
 }
 
 // The first and the last value, turned on and off one by one.
-pub fn try_values_at_both_ends<const W: usize>(rt: &impl Abort)
+pub(crate) fn try_values_at_both_ends<const W: usize>(rt: &impl Abort)
     requires some { 0 < W }
     requires few { W ≤ 512 }
 {
@@ -46,7 +46,7 @@ pub fn try_values_at_both_ends<const W: usize>(rt: &impl Abort)
 }
 
 // The first and the last word, read and written.
-pub fn try_words_at_both_ends<const W: usize>(rt: &impl Abort)
+pub(crate) fn try_words_at_both_ends<const W: usize>(rt: &impl Abort)
     requires some { 0 < W }
     requires few { W ≤ 512 }
 {

@@ -9,16 +9,16 @@ use vdb_mask::Mask;
 use vdb_node::{Entry, Internal, Leaf, Span, Stored, VoxelBox};
 use vdb_value::Cell;
 
-pub fn on<V>(value: V) -> Cell<V> {
+pub(crate) fn on<V>(value: V) -> Cell<V> {
     Cell { value, on: true }
 }
 
-pub fn off<V>(value: V) -> Cell<V> {
+pub(crate) fn off<V>(value: V) -> Cell<V> {
     Cell { value, on: false }
 }
 
 // Expects of a leaf the cell at an index, the cell of all, and how many are on.
-pub fn expect_leaf<V: Stored<W>, const LOG2: u32, const W: usize>(
+pub(crate) fn expect_leaf<V: Stored<W>, const LOG2: u32, const W: usize>(
     rt: &impl Abort,
     leaf: &Leaf<V, LOG2, W>,
     i: u32,
@@ -34,7 +34,7 @@ pub fn expect_leaf<V: Stored<W>, const LOG2: u32, const W: usize>(
 }
 
 // Tests a leaf of `count` entries, each `one`, by setting the last to `other` and back.
-pub fn try_leaf<V: Stored<W>, const LOG2: u32, const W: usize>(
+pub(crate) fn try_leaf<V: Stored<W>, const LOG2: u32, const W: usize>(
     rt: &impl Abort,
     alloc: Global,
     one: V,
@@ -64,7 +64,7 @@ pub fn try_leaf<V: Stored<W>, const LOG2: u32, const W: usize>(
 }
 
 // Expects of an internal node the entry at an index, the cell of all, and the first child.
-pub fn expect_node<V: Stored<W>, const LOG2: u32, const W: usize>(
+pub(crate) fn expect_node<V: Stored<W>, const LOG2: u32, const W: usize>(
     rt: &impl Abort,
     node: &Internal<V, LOG2, W>,
     i: u32,
@@ -79,7 +79,7 @@ pub fn expect_node<V: Stored<W>, const LOG2: u32, const W: usize>(
     assert_eq!(rt; node.next_child(0), child);
 }
 
-pub fn expect_entry<V: Stored<W>, const LOG2: u32, const W: usize>(
+pub(crate) fn expect_entry<V: Stored<W>, const LOG2: u32, const W: usize>(
     rt: &impl Abort,
     node: &Internal<V, LOG2, W>,
     i: u32,
@@ -92,7 +92,7 @@ pub fn expect_entry<V: Stored<W>, const LOG2: u32, const W: usize>(
 
 // Tests an internal node of `count` entries, each a tile of `one`, by setting the last to another
 // tile, to a child and to the first tile again.
-pub fn try_internal<V: Stored<W>, const LOG2: u32, const W: usize>(
+pub(crate) fn try_internal<V: Stored<W>, const LOG2: u32, const W: usize>(
     rt: &impl Abort,
     alloc: Global,
     one: V,
@@ -123,7 +123,7 @@ pub fn try_internal<V: Stored<W>, const LOG2: u32, const W: usize>(
 }
 
 // A leaf with these two voxels active, which are one if they are equal, has this bounding box.
-pub fn try_box(
+pub(crate) fn try_box(
     rt: &impl Abort,
     alloc: Global,
     one: u32,
