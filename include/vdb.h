@@ -16,10 +16,10 @@
  *
  * Handles. A vdb_grid, vdb_view or vdb_scene is a struct in the memory of the caller. It starts empty: VDB_GRID_INIT,
  * VDB_VIEW_INIT, VDB_SCENE_INIT, or all bytes 0. Calls create a grid, view or scene in it. vdb_grid_free, vdb_view_free and
- * vdb_scene_free end that and leave the handle empty. Never change a field. Never copy a handle by assignment, unless the old
+ * vdb_scene_free delete it and leave the handle empty. Never change a field. Never copy a handle by assignment, unless the old
  * one isn't used again: vdb_grid_copy makes a second grid, and vdb_view_share a second view.
  *
- * Codes. Each call on a handle returns a code, except the three that free. VDB_OK is 0: done. After any other code no cell,
+ * Codes. Each call on a handle returns a code, except the three that free. After any code but VDB_OK no cell,
  * background, root limit or metadata has changed, no handle holds another grid, view or scene, and no pointer argument points
  * to another value. Two calls are exceptions: vdb_grid_write_many and vdb_grid_write_box may have set some voxels, and say
  * which. Tiles and leaves may change after VDB_MEMORY and VDB_ROOT_LIMIT: for example, a fill, clip or voxelise that lacks
@@ -143,24 +143,24 @@ enum {
 
 /* The codes. */
 enum {
-    VDB_OK = 0,
-    VDB_EMPTY = 1,
-    VDB_MEMORY = 2,
-    VDB_ROOT_LIMIT = 3,
-    VDB_RANGE = 4,
-    VDB_SUM_RANGE = 5,
-    VDB_KINDS = 6,
-    VDB_NO_SUM = 7,
-    VDB_NO_GRID = 8,
-    VDB_NAME = 9,
-    VDB_NAME_TAKEN = 10,
-    VDB_GRID_LIMIT = 11,
-    VDB_META_LIMIT = 12,
-    VDB_NO_META = 13,
-    VDB_TEXT = 14,
-    VDB_BUFFER = 15,
-    VDB_SAME_GRID = 16,
-    /* Faults of a scene file. */
+    VDB_OK = 0, /* done */
+    VDB_EMPTY = 1, /* a handle that the call needs is empty */
+    VDB_MEMORY = 2, /* an allocation failed */
+    VDB_ROOT_LIMIT = 3, /* the grid would need more root blocks than its root limit */
+    VDB_RANGE = 4, /* an argument is out of range */
+    VDB_SUM_RANGE = 5, /* a sum is outside the type of the grid's values */
+    VDB_KINDS = 6, /* the two grids have values of different types */
+    VDB_NO_SUM = 7, /* booleans have no sum */
+    VDB_NO_GRID = 8, /* the scene has no such grid */
+    VDB_NAME = 9, /* the bytes are no name */
+    VDB_NAME_TAKEN = 10, /* the scene has a grid of this name */
+    VDB_GRID_LIMIT = 11, /* the scene has 64 grids */
+    VDB_META_LIMIT = 12, /* the grid has 16 metadata pairs */
+    VDB_NO_META = 13, /* the grid has no such metadata pair */
+    VDB_TEXT = 14, /* the bytes are no metadata text */
+    VDB_BUFFER = 15, /* the buffer is too small */
+    VDB_SAME_GRID = 16, /* both handles of the call are the same */
+    /* Faults of a scene file. docs/FORMAT.md describes each. */
     VDB_FILE_MAGIC = 20,
     VDB_FILE_VERSION = 21,
     VDB_FILE_TRUNCATED = 22,
@@ -179,7 +179,7 @@ enum {
     VDB_FILE_TOO_LONG = 35
 };
 
-/* Let compilers warn of a null pointer and of a code that isn't used. */
+/* Lets compilers warn of a null pointer and of a code that isn't used. */
 #ifdef __GNUC__
 #define VDB_NONNULL __attribute__((nonnull))
 #define VDB_CODE __attribute__((nonnull, warn_unused_result)) int32_t
@@ -188,10 +188,10 @@ enum {
 #define VDB_CODE int32_t
 #endif
 
-/* Returns the version of the library, as VDB_VERSION has that of this header. */
+/* Returns the version of the library, a number like VDB_VERSION. */
 int32_t vdb_version(void);
 
-/* Writes to *text where the text of a code begins: characters up to a 0, which stay there and are never freed. */
+/* Sets *text to the text of a code, which ends with a 0 and is never freed. */
 VDB_NONNULL void vdb_message_at(int32_t code, const char **text);
 
 /* Returns the text of a code, which is never freed. */
@@ -326,8 +326,8 @@ VDB_CODE vdb_grid_next_leaves(vdb_grid *grid, int32_t x, int32_t y, int32_t z, v
 
 /* ---- Many voxels of a grid at once ---------------------------------------------------------------------------------- */
 
-/* Values and states are arrays with lengths of their own, in elements: int64_t values, and uint8_t states. An array of length 0 is left out: that part isn't read, or the voxels keep it. Its pointer
- * isn't null. */
+/* Values (int64_t) and states (uint8_t) are arrays with lengths of their own, in elements. An array of length 0 is left out: that part
+ * isn't read, or the voxels keep it. Its pointer isn't null. */
 
 /* Writes the value and the state of each voxel of `at` to the element of the same index, through an accessor or without one.
  * VDB_RANGE: no such accessor, or the length of an array is neither `count` nor 0. */
@@ -347,11 +347,11 @@ VDB_CODE vdb_grid_write_many(vdb_grid *grid, int32_t accessor, const vdb_coord *
 VDB_CODE vdb_grid_read_box(vdb_grid *grid, const vdb_box *box, const vdb_strides *strides, int64_t *values, size_t values_len,
                            uint8_t *states, size_t states_len);
 
-/* Sets each voxel of a box to the value and the state of its element, by x, then y, then z, through an accessor or without one.
+/* Sets each voxel of a box to the value and the state of its element, by x, then y, then z, through an accessor or without one. A box
+ * of at least 8 voxels along each axis takes the least time: it is written leaf by leaf.
  * VDB_RANGE: no such accessor, corners out of order, or rows that overlap by their strides; an array that is neither of length 0 nor
- * long enough, both of length 0, or a value outside the type. Nothing has changed then. VDB_ROOT_LIMIT, VDB_MEMORY: the first *written voxels
- * of the box in that order are set, and the one after them failed. After VDB_OK, *written is the number of voxels of the box. A box of
- * at least 8 voxels along each axis takes the least time: it is written leaf by leaf. */
+ * long enough, both of length 0, or a value outside the type. Nothing has changed then. VDB_ROOT_LIMIT, VDB_MEMORY: the first *written
+ * voxels of the box in that order are set, and the one after them failed. After VDB_OK, *written is the number of voxels of the box. */
 VDB_CODE vdb_grid_write_box(vdb_grid *grid, int32_t accessor, const vdb_box *box, const vdb_strides *strides, const int64_t *values,
                             size_t values_len, const uint8_t *states, size_t states_len, size_t *written);
 
@@ -375,14 +375,14 @@ VDB_NONNULL void vdb_view_free(vdb_view *view);
 /* Returns the value and the state of a voxel, from the root. */
 VDB_CODE vdb_view_get(vdb_view *view, int32_t x, int32_t y, int32_t z, int64_t *value, int32_t *active);
 
-/* Write the values and the states of many voxels, or of a box, to arrays, as vdb_grid_get_many and vdb_grid_read_box do. VDB_RANGE: as
- * these say. */
+/* Writes the values and the states of many voxels, or of a box, to arrays, as vdb_grid_get_many and vdb_grid_read_box do, with the same
+ * codes. */
 VDB_CODE vdb_view_get_many(vdb_view *view, const vdb_coord *at, size_t count, int64_t *values, size_t values_len, uint8_t *states,
                            size_t states_len);
 VDB_CODE vdb_view_read_box(vdb_view *view, const vdb_box *box, const vdb_strides *strides, int64_t *values, size_t values_len,
                            uint8_t *states, size_t states_len);
 
-/* Return what the calls of the same names for a grid return, with the same codes. */
+/* Returns what the call of the same name for a grid returns, with the same codes. */
 VDB_CODE vdb_view_kind(vdb_view *view, int32_t *kind);
 VDB_CODE vdb_view_background(vdb_view *view, int64_t *value);
 VDB_CODE vdb_view_limit(vdb_view *view, uint32_t *limit);
@@ -416,7 +416,7 @@ VDB_CODE vdb_scene_load(vdb_scene *scene, const uint8_t *bytes, size_t len);
 /* Returns the length of the scene's file in bytes. A file has at most 268,435,456. */
 VDB_CODE vdb_scene_length(vdb_scene *scene, uint64_t *length);
 
-/* Writes the scene's file into a buffer, and returns its length. VDB_FILE_TOO_LONG. VDB_BUFFER. VDB_MEMORY. */
+/* Writes the scene's file into a buffer of `len` bytes, and returns its length. VDB_FILE_TOO_LONG. VDB_BUFFER. VDB_MEMORY. */
 VDB_CODE vdb_scene_save(vdb_scene *scene, uint8_t *bytes, size_t len, uint64_t *written);
 
 /* Returns the number of grids. */
@@ -426,10 +426,10 @@ VDB_CODE vdb_scene_count(vdb_scene *scene, uint64_t *count);
  * bytes are always enough. */
 VDB_CODE vdb_scene_name(vdb_scene *scene, size_t index, char *out, size_t room, uint64_t *used);
 
-/* Moves a grid into the scene. Its handle is empty then. VDB_NAME. VDB_NAME_TAKEN. VDB_GRID_LIMIT. VDB_MEMORY. */
+/* Moves a grid into the scene under a new name, and leaves its handle empty. VDB_NAME. VDB_NAME_TAKEN. VDB_GRID_LIMIT. VDB_MEMORY. */
 VDB_CODE vdb_scene_put(vdb_scene *scene, const char *name, size_t len, vdb_grid *grid);
 
-/* Moves a grid out of the scene, and replaces the grid of the handle by it. Its metadata are gone then. VDB_NAME. VDB_NO_GRID.
+/* Moves a grid out of the scene, and replaces the grid of the handle by it. Its metadata are lost. VDB_NAME. VDB_NO_GRID.
  * VDB_MEMORY. */
 VDB_CODE vdb_scene_take(vdb_scene *scene, const char *name, size_t len, vdb_grid *grid);
 
@@ -458,7 +458,7 @@ VDB_CODE vdb_scene_meta_remove(vdb_scene *scene, const char *name, size_t len, c
 
 /* ---- The test of two handles ----------------------------------------------------------------------------------------- */
 
-/* The library takes it that two handles differ. So each of these names stands for a test, and then the call. */
+/* The library assumes that two handles differ. So each of these names is a macro for a test followed by the call. */
 #define VDB_OF_TWO(call, handle)                                                                                                \
     static inline VDB_CODE call##_of_two(handle *first, handle *second)                                                         \
     {                                                                                                                           \

@@ -9,8 +9,8 @@
 //     std::cout << organ.count() << " active voxels\n";
 //
 // A call that fails throws: MemoryError if an allocation failed, std::system_error if a file can't be read or written,
-// otherwise Error with the code of vdb.h. Every cell, background, limit and metadata pair is then as it was, unless the call is
-// write_many or write_box. Tiles and leaves may have changed.
+// std::overflow_error if a count exceeds 2^64 - 1, otherwise Error with the code of vdb.h. Every cell, background, limit and
+// metadata pair is then as it was, unless the call is write_many or write_box. Tiles and leaves may have changed.
 //
 // Owners move and don't copy; copy() makes a second grid. A moved-from grid or scene is empty, and its calls throw VDB_EMPTY.
 // A call that is const changes no cell, but it may change what an owner counts and caches. So no call, const or not, may run on
@@ -44,7 +44,7 @@ inline bool operator!=(const vdb_coord &a, const vdb_coord &b) { return !(a == b
 inline bool operator==(const vdb_box &a, const vdb_box &b) { return a.min == b.min && a.max == b.max; }
 inline bool operator!=(const vdb_box &a, const vdb_box &b) { return !(a == b); }
 
-// Spreads the three numbers over all bits by two odd factors.
+// Hashes a coordinate: two odd factors spread its three numbers over all bits.
 template <> struct std::hash<vdb_coord> {
     std::size_t operator()(const vdb_coord &at) const noexcept
     {
@@ -62,8 +62,8 @@ using Box = vdb_box;
 using Census = vdb_census;
 using Strides = vdb_strides;
 
-// The elements of an array or a vector, which it doesn't own: std::span, and the same in C++17, so that programs and libraries of
-// different standards may be linked.
+// The elements of an array or a vector that something else owns, like std::span. It is one type in C++17 and C++20, so code of both
+// may be linked.
 template <typename T> class Span {
 public:
     Span() = default;
@@ -239,8 +239,8 @@ public:
     void dilate(uint32_t iterations = 1) { check(vdb_grid_dilate(&grid_, iterations)); }
     void erode(uint32_t iterations = 1) { check(vdb_grid_erode(&grid_, iterations)); }
 
-    // The same, with a call of progress(done, iterations) after each iteration. They are made on a copy, so if progress throws, the grid
-    // stays as it was.
+    // Dilates or erodes a copy, calls progress(done, iterations) after each iteration, and then replaces the grid by the copy. If
+    // progress throws, the grid stays as it was.
     template <typename Progress> void dilate(uint32_t iterations, Progress &&progress) { iterate(vdb_grid_dilate, iterations, progress); }
     template <typename Progress> void erode(uint32_t iterations, Progress &&progress) { iterate(vdb_grid_erode, iterations, progress); }
 
@@ -276,7 +276,7 @@ public:
         check(code);
     }
 
-    // With itself as the other grid, a grid is combined with a copy.
+    // The second grid may be this one: the call then uses a copy of it.
     void unite(const Grid &other) { combine(vdb_grid_unite, other); }
     void subtract(const Grid &other) { combine(vdb_grid_subtract, other); }
     void intersect(const Grid &other) { combine(vdb_grid_intersect, other); }
@@ -587,7 +587,7 @@ public:
         return {value, active != 0};
     }
 
-    // Reads many voxels, or a box, as a Grid does.
+    // Reads many voxels, or a box, as Grid does.
     void get_many(Span<const Coord> at, Span<int64_t> values, Span<uint8_t> states = {}) const
     {
         check(vdb_view_get_many(&view_, detail::data_of(at), at.size(), detail::data_of(values), values.size(), detail::data_of(states),
@@ -599,7 +599,7 @@ public:
         check(vdb_view_read_box(&view_, &box, &strides, detail::data_of(values), values.size(), detail::data_of(states), states.size()));
     }
 
-    // Reports and walks, as a Grid has them.
+    // The reports and walks of Grid.
     Kind kind() const
     {
         int32_t kind = 0;
@@ -691,8 +691,8 @@ public:
         return made;
     }
 
-    // Writes the scene file: a file beside it, which replaces an old one when it is whole. Permissions stay, and a link is followed. A pipe
-    // or a device is written itself.
+    // Writes the scene to a temporary file in the same folder, which then replaces `path`. Permissions stay, and a link is followed. A
+    // pipe or a device is written itself.
     void save_file(const std::string &path) const { detail::replace(path, to_bytes(path)); }
 
     // Returns the bytes of the scene file. `file` is its name in the text of an error.
@@ -737,7 +737,8 @@ public:
     // Moves a grid into the scene, which leaves `grid` empty.
     void put(std::string_view name, Grid &&grid) { check(vdb_scene_put(&scene_, detail::bytes_of(name), name.size(), &grid.grid_)); }
 
-    // The same with metadata pairs. If it throws, `grid` has the grid again, or the scene has it if memory doesn't suffice for that.
+    // Moves a grid with metadata pairs into the scene. If it throws, `grid` has the grid again, or the scene keeps it if memory doesn't
+    // suffice to move it back.
     void put(std::string_view name, Grid &&grid, const std::map<std::string, std::string> &pairs)
     {
         put(name, std::move(grid));
@@ -758,7 +759,7 @@ public:
         return std::forward<Use>(use)(lent.grid);
     }
 
-    // The same for `use` that only reads the grid.
+    // Calls `use` with a grid of the scene, as `edit` does, for `use` that only reads it.
     template <typename Use> decltype(auto) read(std::string_view name, Use &&use) const
     {
         const Lent lent(scene_, name);
