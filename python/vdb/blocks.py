@@ -86,7 +86,7 @@ def places(origins: np.ndarray, mask: np.ndarray) -> np.ndarray:
 
 def numbered(origins: np.ndarray, numbers: np.ndarray) -> np.ndarray:
     """Returns the coordinates (m x 3, int32) of voxels of leaves by their numbers, 512 a leaf."""
-    return origins[numbers >> 9] + OFFSETS[numbers & 511]
+    return origins.take(numbers >> 9, axis=0) + OFFSETS.take(numbers & 511, axis=0)
 
 
 def boxes(parts: Iterator[Part]) -> Iterator[Boxes]:
@@ -166,7 +166,7 @@ def labels_of_rows(rows: Rows, total: Labels) -> "Iterator[Labels]":
         if FEW * found < voxels:  # the leaves have many labels
             break
         voxels -= found
-    numbers = np.flatnonzero(np.unpackbits(left.view(np.uint8), bitorder="little"))
+    numbers = np.flatnonzero(np.unpackbits(left.view(np.uint8), bitorder="little").view(np.bool_))
     values = values.ravel()[numbers]
     others = ~counted(total, values, origins.min(axis=0), origins.max(axis=0) + 7)
     at = numbered(origins, numbers[others])
