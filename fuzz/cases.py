@@ -71,14 +71,13 @@ class Cases:
 
     def __init__(self):
         self.place = Workplace()
-        self.played = {"calls of C": 0, "calls of Python": 0}
+        self.played = {"calls of C": 0, "calls of Python": 0, "lines of OpenVDB": 0}
 
     # -- scripts
 
     def script(self, lines, chance):
-        """Plays a script by the program and by both libraries, with the answers and the file of the model."""
-        kept, scene = vetted(lines)
-        return self.vetted_script(kept, scene, chance) or (by_openvdb.fault(lines) if by_openvdb.PROGRAM else "")
+        """Plays a script by the program, both libraries and OpenVDB, with the answers and the file of the model."""
+        return self.vetted_script(*vetted(lines), chance)
 
     def vetted_script(self, kept, scene, chance):
         lines, wanted = [line for line, _ in kept], as_bytes(answer for _, answer in kept)
@@ -93,7 +92,8 @@ class Cases:
         if scene.parts() <= MOST_PARTS and scene.saved() != run.saved:
             return "the program saves another file than the model"
         at = chance.randrange(len(lines) + 1)
-        return self.called(kept, run.saved, chance) or (self.in_two(lines, at, run) if chance.random() < 0.3 else "")
+        fault = self.called(kept, run.saved, chance) or (self.in_two(lines, at, run) if chance.random() < 0.3 else "")
+        return fault or self.by_openvdb(lines)
 
     def in_two(self, lines, at, run):
         """Plays a script in two sessions, the second of which loads what the first saved."""
@@ -116,6 +116,12 @@ class Cases:
                 return f"{name}: another file than the program's"
             driver.end()
         return ""
+
+    def by_openvdb(self, lines):
+        """Plays a script by OpenVDB, if it is there."""
+        count, fault = by_openvdb.compared(lines) if by_openvdb.PROGRAM else (0, "")
+        self.played["lines of OpenVDB"] += count
+        return fault
 
     def row(self, row, chance):
         """Plays a row, whose answers and files must be those of the model."""
