@@ -9,7 +9,8 @@ It reports and exits with status 1 if
 - the example in docs/LIBRARY.md differs from `run` of `first` in library_examples, which CI compiles,
 - `vdb --version` or README.md has another version than VERSION,
 - the tables of docs/PROOFS.md differ from those of definitions.py; --write renews them,
-- a number in a document differs from its source: of commands, crates, edits, checks, definitions, limits, minutes of CI.
+- a number in a document differs from its source: of commands, crates, edits, checks, definitions, limits, minutes of CI,
+- docs/TESTING.md tells another least number of results of a suite than CI asks for.
 """
 import os
 import re
@@ -116,6 +117,13 @@ def counts(sums):
     ]
 
 
+def untold_suites():
+    """Yields the suites of CI whose least number of results docs/TESTING.md doesn't tell."""
+    for name, least in re.findall(r'Suite\("(.*?)", .*?, ([\d_]+)\),', text(".ci/suites.py")):
+        if not re.search(rf"[|,] {re.escape(name)}: {int(least):,}(?![\d,]*\d)", text("docs/TESTING.md")):
+            yield f"docs/TESTING.md: not '{name}: {int(least):,}'"
+
+
 def wrong_counts(name, expected):
     """Yields the counts of a document that are wrong."""
     tens = ["twenty", *(f"twenty-{it}" for it in "one two three four five six seven eight nine".split())]
@@ -154,7 +162,7 @@ def main():
     if sys.argv[1:] == ["--write"]:
         with open(f"{TOP}/docs/PROOFS.md", "w", encoding="utf-8") as file:
             file.write(proofs)
-    found = [*stale_numbers(), *wrong_limits()]
+    found = [*stale_numbers(), *wrong_limits(), *untold_suites()]
     if proofs != text("docs/PROOFS.md"):
         found.append("docs/PROOFS.md: the tables are out of date; .ci/documents.py --write renews them")
     words = sum(len(text(name).split()) for name in names)

@@ -70,7 +70,7 @@ def stages(options):
             Suite("edits", ["RT_JOBS=2", "nice", "-n", "10", "edits/run", "--ci"], 22),
             Suite("library tests", ["tests/library/run"], 220),
             Suite("tests of tools/openvdb", ["tools/openvdb/test"], 1),
-            Suite("fault injection", ["fault_injection/run"], 5_000),
+            Suite("fault injection", ["fault_injection/run"], 100_000),
             Suite("planted faults", ["fault_injection/planted.py", "some"], 10),
             Suite("fuzzing", [python, "fuzz/run"], 2_000),
             Suite("planted bugs", [python, "tests/bugs", "--ci"], 10),
