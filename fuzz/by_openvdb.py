@@ -1,16 +1,18 @@
 # SPDX-License-Identifier: Apache-2.0
 """Plays scripts by OpenVDB, where its meaning is ours: by the program of bench/openvdb, or by another one that the variable OPENVDB names."""
+import math
 import os
 import re
 import subprocess
 
 from cells import TooLarge
-from language import NUMBER, TOP, Scene, error_of
+from language import NUMBER, TOP, Scene, error_of, has_form
 
 FOLDER = TOP / "bench" / "openvdb"
 PROGRAM = os.environ.get("OPENVDB", FOLDER / "unoptimised")
 FAR = 2**30  # OpenVDB's sums of greater numbers overflow, and its boxes that reach the ends of an axis don't end
 MOST_ACTIVE = 100_000  # voxels of a grid that it dilates or erodes, since it allocates each
+MOST_CUT = 1_000  # leaf extents that a filled box cuts, since it allocates each, even if its cells are equal
 SECONDS = 60
 # the ends of lines that tell what each grid has at the end of a script
 ENDS = {"count": "all", "bounds": "", "census": "", "list": f"{-FAR} {-FAR} {-FAR} {FAR} {FAR} {FAR} 400"}
@@ -25,11 +27,19 @@ def build():
         subprocess.run(["flock", FOLDER, "make", "-s", "-C", FOLDER, PROGRAM.name], check=True)
 
 
+def cut_leaves(numbers):
+    """Returns how many leaf extents lie partly in a box."""
+    ends = [*zip(map(int, numbers[:3]), map(int, numbers[3:]))]
+    return math.prod(high // 8 - low // 8 + 1 for low, high in ends) - math.prod(max(0, (high + 1) // 8 + -low // 8) for low, high in ends)
+
+
 def is_alike(scene, words):
     """Returns whether OpenVDB gives a command the meaning that it has here, after all commands before."""
     if not words or words[0] in UNLIKE:
         return False
     if any(re.fullmatch(NUMBER, it) and abs(int(it)) > FAR for it in words):
+        return False
+    if words[0] == "fill" and has_form(words) and cut_leaves(words[2:8]) > MOST_CUT:
         return False
     grid = scene.grids.get(words[1]) if words[0] in ("dilate", "erode") and len(words) > 1 else None
     return grid is None or grid.cells.count() <= MOST_ACTIVE
