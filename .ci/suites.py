@@ -15,6 +15,7 @@ import os
 import re
 import resource
 import shutil
+import signal
 import subprocess
 import sys
 import time
@@ -188,6 +189,7 @@ def main():
         print(__doc__.strip())
         return 0 if unknown == ["--help"] else 2
     begun, results = time.time(), []
+    signal.signal(signal.SIGINT, signal.default_int_handler)  # tests of Ctrl-C need it, and a shell's background commands ignore it
     install()
     for stage in stages(options):
         if "--proofs" in options and stage[0].name != "proofs":
