@@ -5,14 +5,14 @@ import os
 import re
 import subprocess
 
-from cells import TooLarge
+from cells import EXTENTS, TooLarge
 from language import NUMBER, TOP, Scene, error_of, has_form
 
 FOLDER = TOP / "bench" / "openvdb"
 PROGRAM = os.environ.get("OPENVDB", FOLDER / "unoptimised")
 FAR = 2**30  # OpenVDB's sums of greater numbers overflow, and its boxes that reach the ends of an axis don't end
 MOST_ACTIVE = 100_000  # voxels of a grid that it dilates or erodes, since it allocates each
-MOST_CUT = 1_000  # leaf extents that a filled box cuts, since it allocates each, even if its cells are equal
+MOST_NODES = 1_000  # that a filled box needs, since it allocates one for each extent that the box cuts, even if all cells are equal
 SECONDS = 60
 # the ends of lines that tell what each grid has at the end of a script
 ENDS = {"count": "all", "bounds": "", "census": "", "list": f"{-FAR} {-FAR} {-FAR} {FAR} {FAR} {FAR} 400"}
@@ -27,10 +27,12 @@ def build():
         subprocess.run(["flock", FOLDER, "make", "-s", "-C", FOLDER, PROGRAM.name], check=True)
 
 
-def cut_leaves(numbers):
-    """Returns how many leaf extents lie partly in a box."""
+def nodes_of(numbers):
+    """Returns how many entries of the root table, and nodes, a filled box needs."""
     ends = [*zip(map(int, numbers[:3]), map(int, numbers[3:]))]
-    return math.prod(high // 8 - low // 8 + 1 for low, high in ends) - math.prod(max(0, (high + 1) // 8 + -low // 8) for low, high in ends)
+    met = [math.prod(high // side - low // side + 1 for low, high in ends) for side in EXTENTS]
+    whole = [math.prod(max(0, (high + 1) // side + -low // side) for low, high in ends) for side in EXTENTS]
+    return met[0] + sum(met) - sum(whole)
 
 
 def is_alike(scene, words):
@@ -39,7 +41,7 @@ def is_alike(scene, words):
         return False
     if any(re.fullmatch(NUMBER, it) and abs(int(it)) > FAR for it in words):
         return False
-    if words[0] == "fill" and has_form(words) and cut_leaves(words[2:8]) > MOST_CUT:
+    if words[0] == "fill" and has_form(words) and nodes_of(words[2:8]) > MOST_NODES:
         return False
     grid = scene.grids.get(words[1]) if words[0] in ("dilate", "erode") and len(words) > 1 else None
     return grid is None or grid.cells.count() <= MOST_ACTIVE
@@ -55,7 +57,7 @@ def compared(lines):
             words = line.decode("latin-1").split()
             answer = scene.answer(line) if is_alike(scene, words) else None
             has_limit = words[:1] == ["grid"] and len(words) == 5  # the root limit, which OpenVDB's grids lack
-            if scene.nodes()[-1] > 300 or error_of(answer) in ("sum-range", "root-limit") or (has_limit and error_of(answer)):
+            if max(scene.nodes()) > 300 or error_of(answer) in ("sum-range", "root-limit") or (has_limit and error_of(answer)):
                 raise TooLarge
             kept += [(b" ".join(line.split()[:4]) if has_limit else line, answer)] if answer else []
         except TooLarge:
