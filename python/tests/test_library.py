@@ -273,8 +273,10 @@ class Calls(unittest.TestCase):
         for error, text, call in (
             (ValueError, "the value 2147483648 is outside i32", lambda: grid.fill(box, MOST + 1)),
             (TypeError, "the value of an i32 grid is an integer", lambda: grid.fill(box, 1.5)),
+            (TypeError, "the value of an i32 grid is an integer", lambda: grid.fill(box, True)),
             (ValueError, "greater than the maximum", lambda: grid.fill(box[::-1], 1)),
             (ValueError, "outside 32 bits", lambda: grid[0, 0, MOST + 1]),
+            (ValueError, "outside 32 bits", lambda: grid.fill((box[0], (0, 0, MOST + 1)), 1)),
             (TypeError, "three integers", lambda: grid[0, 0]),
             (ValueError, "1 to 16, not 17", lambda: grid.dilate(17)),
             (ValueError, "1 to 16, not 0", lambda: grid.erode(0)),
