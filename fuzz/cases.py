@@ -72,6 +72,7 @@ class Cases:
     def __init__(self):
         self.place = Workplace()
         self.played = {"calls of C": 0, "calls of Python": 0, "lines of OpenVDB": 0}
+        self.has_peer = bool(by_openvdb.PROGRAM)
 
     # -- scripts
 
@@ -118,8 +119,8 @@ class Cases:
         return ""
 
     def by_openvdb(self, lines):
-        """Plays a script by OpenVDB, if it is there."""
-        count, fault = by_openvdb.compared(lines) if by_openvdb.PROGRAM else (0, "")
+        """Plays a script by OpenVDB, if it is to play."""
+        count, fault = by_openvdb.compared(lines) if self.has_peer else (0, "")
         self.played["lines of OpenVDB"] += count
         return fault
 
