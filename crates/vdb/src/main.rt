@@ -53,7 +53,7 @@ fn keep_freed_memory(alloc: Global) -> Option<Vec<u8>> {
     block(alloc, LAST)
 }
 
-/// Allocates a block of so many bytes.
+/// Allocates a block of `bytes` bytes.
 fn block(alloc: Global, bytes: usize) -> Option<Vec<u8>> {
     Vec::with_capacity(alloc, bytes).ok()
 }

@@ -40,7 +40,7 @@ pub(crate) fn count_leaves(grid: &AnyGrid) -> u64
 }
 
 /// Copies the first leaves in block order: to each element of `origins` the first coordinate of one, and to the row of that number its
-/// 512 values and its 8 words of states. `values` or `states` may be empty, and stays so. It writes to `copied` how many it copied.
+/// 512 values and its 8 words of states. `values` or `states` may be empty, and is then not written. It writes to `copied` how many it copied.
 #[unsafe(no_mangle)]
 pub extern "C" fn vdb_grid_first_leaves(
     handle: &mut GridHandle,

@@ -1,5 +1,8 @@
 -- The voxels of a leaf that aren't the background.
-use Rattle.std.proofs.Common.{◌≡◌, ℕ, ◌+◌, ◌<◌, Bool, true, false, not, List, ◌++◌, refl, sym, ap, subst, ◌∙◌, length}
+use Rattle.std.proofs.Common.{◌≡◌, ℕ, ◌+◌, ◌-◌, ◌<◌, ◌≤◌, Bool, true, false, not, List, ◌++◌, arith, refl, sym, ap, subst, ◌∙◌, length, length-take-le, take, take-take}
+use Rattle.std.proofs.lemmas.Slice.{take-put_mid}
+use Rattle.std.proofs.Math.Seq.{take-append-add}
+use borrow.Rule.Slice.PartMut.{put_mid}
 use Rattle.std.specs.Prelude.{◌↔◌, IfSome, Option, Some, None, is_some}
 use Rattle.std.specs.Int.{w16, to_be_bytes}
 use Rattle.vdb_coord.specs.Blocks.{block_around, block_number, entries, node_bits, offset}
@@ -24,7 +27,7 @@ use Rattle.vdb_value.specs.declared.Cell.{Cell}
 use Rattle.vdb_file.specs.Bodies.{cell_bytes, listed, voxel_body}
 use Rattle.vdb_file.specs.internal.Written.{Puts, Sent, numbered, passing}
 use Rattle.vdb_file.proofs.ListedEntries.{around, listed_is}
-use Rattle.vdb_file.proofs.Passing.{counted_in, counted_out, entry_put, numbered_same, passing_in, passing_out, passing_same}
+use Rattle.vdb_file.proofs.Passing.{counted_in, counted_out, numbered_more, numbered_same, passing_in, passing_out, passing_same}
 
 module _ {V : Type 0} (eq : V → V → Bool) (leaf : LeafOf V) (d background : Cell V) where
   -- whether the voxel isn't the background
@@ -38,17 +41,29 @@ module _ {V : Type 0} (eq : V → V → Bool) (leaf : LeafOf V) (d background : 
     pub voxel_passed : not (cell_eq eq cell background) ≡ false → count ≡ length (passing stands i) → count ≡ length (passing stands (i + 1))
     voxel_passed h = counted_out stands i count (ap (λ (c : Cell V). not (cell_eq eq c background)) at ∙ h)
 
-  module _ (value_bytes : V → List ℕ) (i : ℕ) (cell : Cell V) (at : cell_in d leaf i ≡ cell) (a b c : Sent)
-      (so_far : Puts a b (numbered (λ k. cell_bytes eq value_bytes (cell_in d leaf k)) (passing stands i))) where
-    pub voxel_put : not (cell_eq eq cell background) ≡ true → Puts b c (to_be_bytes w16 i ++ cell_bytes eq value_bytes cell) → Puts a c (numbered (λ k. cell_bytes eq value_bytes (cell_in d leaf k)) (passing stands (i + 1)))
-    voxel_put h more =
-        entry_put (λ k. cell_bytes eq value_bytes (cell_in d leaf k)) a b c (passing stands i) i (passing stands (i + 1)) so_far
-        (subst (λ (x : Cell V). Puts b c (to_be_bytes w16 i ++ cell_bytes eq value_bytes x)) (sym at) more)
-        (passing_in stands i (ap (λ (x : Cell V). not (cell_eq eq x background)) at ∙ h))
+  module _ (value_bytes : V → List ℕ) (i : ℕ) (cell : Cell V) (at : cell_in d leaf i ≡ cell) (front : List ℕ)
+      (so_far : front ≡ numbered (λ k. cell_bytes eq value_bytes (cell_in d leaf k)) (passing stands i)) where
+    pub voxel_added : not (cell_eq eq cell background) ≡ true → front ++ (to_be_bytes w16 i ++ cell_bytes eq value_bytes cell) ≡ numbered (λ k. cell_bytes eq value_bytes (cell_in d leaf k)) (passing stands (i + 1))
+    voxel_added h =
+        let entry : ℕ → List ℕ = λ k. cell_bytes eq value_bytes (cell_in d leaf k) in
+        ap (λ (l : List ℕ). l ++ (to_be_bytes w16 i ++ cell_bytes eq value_bytes cell)) so_far
+        ∙ ap (λ (x : Cell V). numbered entry (passing stands i) ++ (to_be_bytes w16 i ++ cell_bytes eq value_bytes x)) (sym at)
+        ∙ sym (ap (numbered entry) (passing_in stands i (ap (λ (x : Cell V). not (cell_eq eq x background)) at ∙ h)) ∙ numbered_more entry (passing stands i) i)
 
-    pub voxel_left : not (cell_eq eq cell background) ≡ false → Puts a b (numbered (λ k. cell_bytes eq value_bytes (cell_in d leaf k)) (passing stands (i + 1)))
+    pub voxel_left : not (cell_eq eq cell background) ≡ false → front ≡ numbered (λ k. cell_bytes eq value_bytes (cell_in d leaf k)) (passing stands (i + 1))
     voxel_left h =
-        subst (λ (is : List ℕ). Puts a b (numbered (λ k. cell_bytes eq value_bytes (cell_in d leaf k)) is)) (sym (passing_out stands i (ap (λ (x : Cell V). not (cell_eq eq x background)) at ∙ h))) so_far
+        so_far ∙ ap (numbered (λ k. cell_bytes eq value_bytes (cell_in d leaf k))) (sym (passing_out stands i (ap (λ (x : Cell V). not (cell_eq eq x background)) at ∙ h)))
+
+-- a part of a row was written, and its first bytes are kept
+pub part_kept : (k : ℕ) (xs ys front bytes : List ℕ) (a s : ℕ) → a + k ≤ length xs → length ys ≡ k → s ≤ k → take a xs ≡ front → take s ys ≡ bytes → take (a + s) (put_mid a (a + k - a) xs ys) ≡ front ++ bytes
+part_kept k xs ys front bytes a s fits long few before here =
+    let there : length (take a xs) ≡ a = length-take-le a xs (omega (arith, fits)) in
+    sym (take-take (a + s) (a + k) (put_mid a (a + k - a) xs ys) (omega (arith, few)))
+    ∙ ap (take (a + s)) (take-put_mid a (a + k - a) xs ys (a + k) (omega (arith, long)) (omega (arith, fits)))
+    ∙ ap (λ (n : ℕ). take (n + s) (take a xs ++ ys)) (sym there)
+    ∙ take-append-add (take a xs) ys s
+    ∙ ap (λ (l : List ℕ). l ++ take s ys) before
+    ∙ ap (λ (l : List ℕ). front ++ l) here
 
 -- ---- the leaf of a tree, or none
 

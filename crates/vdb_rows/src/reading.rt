@@ -139,7 +139,7 @@ fn take_saved<'a>(alloc: Global, row: &mut Row<'a>, line: Line<'a>) -> Result<()
     Ok(())
 }
 
-/// Returns the scene file that the lines above spell, or an empty one that begins at this line.
+/// Returns the scene file that the lines above encode, or an empty one that begins at this line.
 fn begun<'a>(alloc: Global, above: Option<Scene<'a>>, line: Line<'a>) -> Scene<'a> {
     match above {
         Some(scene) => scene,

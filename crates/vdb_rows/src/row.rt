@@ -16,10 +16,10 @@ impl<'a> Line<'a> {
     }
 }
 
-/// A scene file that a row spells.
+/// A scene file that a row encodes.
 #[derive(Drop)]
 pub struct Scene<'a> {
-    /// The first line that spells it.
+    /// The first line that encodes it.
     pub line: Line<'a>,
     pub bytes: Vec<u8>,
 }

@@ -9,7 +9,7 @@ use std::alloc::{AllocError, Global};
 
 /// The end of the text of `--help`: commands, arguments, limits, an example and the exit statuses.
 const COMMANDS: &str = "\
-A script is one command a line. Each command is answered before the next line is read.
+A script has one command per line. Each command is answered before the next line is read.
 
 Grids:
   grid NAME KIND BACKGROUND [ROOTS]  create a grid; KIND is bool, i32 or i64
@@ -112,7 +112,7 @@ fn command<'a>(alloc: Global) -> Result<Command<'a>, AllocError>
     );
     let command = Command::new(alloc, "vdb")
         .version("1.1.0")
-        .about("Runs a script on sparse voxel grids and prints one answer a command.")
+        .about("Runs a script on sparse voxel grids and prints one answer per command.")
         .after_help(COMMANDS);
     let command = command.arg(load)?.arg(save)?.arg(script_word(alloc))?;
     Ok(command)

@@ -56,7 +56,7 @@ pub fn play<R: Read, W: Write>(
         × Consumes (Some bytes) (R.remaining (source script.new)) given
         × Appends (W.contents (source answers.old)) (W.contents (source answers.new)) written
         × PlaysFrom (scene_of scene.old) bytes result.fault result.refused given written (scene_of scene.new) }
-    // A fault is one of the script or of its answers. A fault of reading or writing comes if and only if that reader or writer
+    // A fault is one of the script or of its answers. A fault of reading or writing occurs exactly if that reader or writer
     // failed.
     ensures faults { IfSome result.fault IsOfScript }
     ensures script { (result.fault ≡ Some (Fault.Script ScriptFault.Read)) ↔ IsTrue (has_failed script.new) }

@@ -69,7 +69,7 @@ pub fn session<L: Read, R: Read, W: Write, S: Write>(
     ensures script_once { empty_reads script.new ≤ empty_reads script.old + 1 }
     // If any reader gives more bytes than the limit, the script is too long.
     ensures script_too_long { bytes_given script.old + 2 ^ 24 < bytes_given script.new → result.fault ≡ Some (Fault.Script ScriptFault.TooLong) }
-    // A fault of reading or writing comes if and only if that reader or writer failed.
+    // A fault of reading or writing occurs exactly if that reader or writer failed.
     ensures load { (result.fault ≡ Some (Fault.Load LoadFault.Read)) ↔ IsTrue (any_failed load.new) }
     ensures script { (result.fault ≡ Some (Fault.Script ScriptFault.Read)) ↔ IsTrue (has_failed script.new) }
     ensures answers { (result.fault ≡ Some Fault.Answers) ↔ IsTrue (has_failed answers.new) }

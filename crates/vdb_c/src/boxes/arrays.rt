@@ -17,7 +17,7 @@ use vdb_pool::Steps;
 use vdb_scene::AnyGrid;
 
 /// Writes the value and the state of each voxel of a box to its elements of `values` and `states`. No other element changes, and an
-/// empty array stays so.
+/// empty array isn't written.
 #[unsafe(no_mangle)]
 pub extern "C" fn vdb_grid_read_box(
     handle: &mut GridHandle,

@@ -26,8 +26,8 @@ use vdb_pool::Steps;
 use vdb_scene::ACCESSORS;
 use vdb_value::Cell;
 
-/// Writes the voxels of a wide box leaf by leaf, if each voxel that changes gets a leaf. Returns whether it does; if not, no voxel
-/// changes.
+/// Makes the leaves that the writes of a wide box need, and writes the box leaf by leaf. Returns false, and changes no voxel, if a
+/// leaf can't be made.
 pub(crate) fn write_leaves<V: Number>(
     grid: &mut Grid<V, ACCESSORS>,
     bounds: Bounds,
@@ -144,7 +144,7 @@ fn is_kept<V: Number>(
     }
 }
 
-/// Writes the voxels of a box leaf by leaf, each of which lies in a leaf or keeps its cell. The other leaf holds the cells meanwhile.
+/// Writes the voxels of a box leaf by leaf. Each voxel lies in a leaf or keeps its cell. `leaf` holds the cells of each one meanwhile.
 fn write_each<V: Number>(
     grid: &mut Grid<V, ACCESSORS>,
     leaf: &mut Leaf<V, 3, 8>,

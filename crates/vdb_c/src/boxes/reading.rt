@@ -151,7 +151,7 @@ fn lay_values<V: Number>(
     }
 }
 
-/// Writes the cells that a tile or a leaf has in its part of a box to the part's elements. An empty array stays so.
+/// Writes the cells that a tile or a leaf has in its part of a box to the part's elements. An empty array isn't written.
 fn lay_part<V: Number>(
     content: &Content<V, &Leaf<V, 3, 8>>,
     bounds: Bounds,
@@ -220,7 +220,7 @@ fn lay_start<V: Number>(
 }
 
 /// Writes the values and the states of a box of a tree to the elements of its voxels. No other element changes, and an empty array
-/// stays so. It takes no memory (OpenVDB's `copyToDense`): first it writes the inactive background where the root table may lack an
+/// isn't written. It takes no memory (OpenVDB's `copyToDense`): first it writes the inactive background where the root table may lack an
 /// entry, then tile by tile and leaf by leaf what the tree has.
 pub(crate) fn read_box<V: Number>(
     tree: &Tree<V>,

@@ -168,8 +168,8 @@ fn write_voxels(
     }
 }
 
-/// Writes the voxels of a box of a grid of one type: a wide box leaf by leaf, if no allocation and no root limit is in the way, and any
-/// other one row by row, until a write fails.
+/// Writes the voxels of a box of a grid of one type: a wide box leaf by leaf. If that fails, or the box isn't wide, it writes row by row
+/// up to the first write that fails.
 #[tactic(auto, unfolding(crate::specs::BoxWrites::WritesBoxUpToIn))]
 fn write_cells<V: Number>(
     grid: &mut Grid<V, ACCESSORS>,

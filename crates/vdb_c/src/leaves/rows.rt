@@ -18,7 +18,7 @@ use vdb_node::Leaf;
 use vdb_pool::Steps;
 use vdb_tree::Tree;
 
-/// Returns whether an array of this length has a row of elements for each of so many leaves, or is empty.
+/// Returns whether an array of this length has a row of elements for each of `count` leaves, or is empty.
 pub(crate) fn has_rows(size: usize, count: usize, len: usize) -> bool
     requires { size ≤ 512 }
     ensures { result ≡ has_a_row size count len }

@@ -24,7 +24,7 @@ use vdb_tree::{Path, Tree, Write};
 use vdb_value::{Cell, Kind};
 
 /// Writes the value and the state of each voxel of `at` to `values` and `states`, through an accessor or, with -1, from the root.
-/// Each array has an element for each voxel, or is empty and stays so.
+/// Each array has an element for each voxel, or is empty and not written.
 #[unsafe(no_mangle)]
 pub extern "C" fn vdb_grid_get_many(
     handle: &mut GridHandle,

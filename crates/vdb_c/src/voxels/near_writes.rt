@@ -20,7 +20,7 @@ use vdb_value::Kind;
 /// Sets the value and the state of a voxel, if the type has the value, and the leaf that ends the path of an accessor holds the voxel or,
 /// if `IN_LOWER`, another leaf of the path's lower node does. Returns whether this is so; if not, nothing changes.
 ///
-/// This is a const parameter so that each of the two has one caller, into which LLVM then inlines it.
+/// `IN_LOWER` is a const parameter so that each value has one caller, into which LLVM then inlines this function.
 #[inline(always)]
 pub(crate) fn set_near<const IN_LOWER: bool>(
     grid: &mut AnyGrid,

@@ -1,4 +1,4 @@
--- The voxels of a leaf block while they are read.
+-- The voxels of a leaf extent while they are read.
 use Rattle.std.specs.Prelude.{◌≡◌, ℕ, Bool, false, if◌then◌else◌, List, ◌++◌, length, Option}
 use Rattle.std.specs.Int.{w16, to_be_bytes}
 use Rattle.vdb_coord.specs.Blocks.{block_around, block_number, offset, sub_block}
@@ -20,7 +20,7 @@ pub record HasValues {V : Type 0} (P : V → Type 0) (background : V) (f : Field
   pub values : (p : Coord) → P (f.cell p).value
 
 module _ {V : Type 0} where
-  -- the field with the cells of a leaf in p's leaf block, and with the background elsewhere
+  -- the field with the cells of a leaf in p's leaf extent, and with the background elsewhere
   abbrev pub leaf_field : Bits → Coord → V → LeafOf V → Field V
   leaf_field bits p background leaf = record {
     background = background;
@@ -33,7 +33,7 @@ module _ {V : Type 0} where
       pub index : IsIndex most before e.0
       pub cell : IsSpelled eq is_value background e.1
 
-    -- a field whose cells in p's leaf block differ
+    -- a field whose cells in p's leaf extent differ
     pub record IsMixed (bits : Bits) (p : Coord) (f : Field V) : Type 0 where
       pub values : HasValues is_value background f
       pub differs : is_constant eq f (block_around bits Leaf p) ≡ false
@@ -43,7 +43,7 @@ module _ {V : Type 0} where
     abbrev pub voxel_bytes : ℕ × Cell V → List ℕ
     voxel_bytes e = to_be_bytes w16 e.0 ++ cell_bytes eq value_bytes e.1
 
-    -- the listed voxels of p's leaf block, each after its number
+    -- the listed voxels of p's leaf extent, each after its number
     abbrev pub voxels_bytes : Bits → Coord → Field V → List ℕ
     voxels_bytes bits p f = let b = block_around bits Leaf p in numbered (λ i. voxel_body eq value_bytes bits f (sub_block bits Leaf b i)) (listed eq value_bytes bits f Leaf b)
 

@@ -107,7 +107,7 @@ pub(crate) fn take_head<V: Voxel, S: Source>(
     }
 }
 
-/// Reads the number of an entry, below `most`, which must come after the one before.
+/// Reads the number of an entry, below `most`, which must be greater than the one before.
 pub(crate) fn take_index<S: Source>(
     most: u16,
     before: Option<u16>,
@@ -130,7 +130,7 @@ pub(crate) fn take_index<S: Source>(
     Ok(i)
 }
 
-/// Reads the number of an entry of one of the level's nodes, which must come after the one before.
+/// Reads the number of an entry of one of the level's nodes, which must be greater than the one before.
 pub(crate) fn take_entry_number<S: Source>(
     level: Level,
     before: Option<u16>,
@@ -174,7 +174,7 @@ fn take_coord<S: Source>(input: &mut Input, reader: &mut S) -> Result<Coord, Loa
     Ok(Coord { x, y, z })
 }
 
-/// Reads the key of a root block, which must come after the one before.
+/// Reads the key of a root block, which must be greater than the one before.
 pub(crate) fn take_key<S: Source>(
     before: Option<Coord>,
     input: &mut Input,

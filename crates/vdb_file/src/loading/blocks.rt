@@ -145,7 +145,7 @@ fn take_entries<V: GridValue, S: Source>(
     Ok(())
 }
 
-/// Reads the number of an entry of the level's block around a coordinate, which must come after the one before, and then the entry.
+/// Reads the number of an entry of the level's block around a coordinate, which must be greater than the one before, and then the entry.
 #[cycle(blocks)]
 fn take_next<V: GridValue, S: Source>(
     level: Level,

@@ -84,7 +84,7 @@ pub(crate) struct Named {
     pub(crate) metas: Metas,
 }
 
-/// Reads a name, which must come after `before`, and then its grid.
+/// Reads a name, which must be greater than `before`, and then its grid.
 pub(crate) fn take_named<S: Source>(
     alloc: Global,
     input: &mut Input,

@@ -1,4 +1,4 @@
-//! Reads the voxels of a leaf block.
+//! Reads the voxels of a leaf extent.
 
 ghost use Rattle.std.specs.Prelude.{◌≡◌, ℕ, ◌+◌, ◌≤◌, false, Err, IfErr, IfOk, Some, length};
 ghost use Rattle.vdb_coord.specs.Blocks.{vdb};
@@ -17,10 +17,10 @@ use std::alloc::Global;
 use vdb_node::{Leaf, Stored};
 use vdb_value::{Cell, Kind, Voxel};
 
-/// The number of voxels of a leaf block.
+/// The number of voxels of a leaf extent.
 pub(crate) const VOXELS: u16 = 512;
 
-/// Reads this many voxels of a leaf block whose cells differ: all voxels that aren't the background. Returns a leaf with these
+/// Reads this many voxels of a leaf extent whose cells differ: all voxels that aren't the background. Returns a leaf with these
 /// cells.
 pub(crate) fn take_listed_voxels<V: Stored<8>, S: Source>(
     alloc: Global,
@@ -58,7 +58,7 @@ pub(crate) fn take_listed_voxels<V: Stored<8>, S: Source>(
     }
 }
 
-/// Reads the number of a voxel, which must come after the one before, and then its cell, which must not be the background.
+/// Reads the number of a voxel, which must be greater than the one before, and then its cell, which must not be the background.
 fn take_voxel<V: Voxel, S: Source>(
     most: u16,
     before: Option<u16>,
@@ -94,7 +94,7 @@ fn voxel_len<V: Voxel>() -> usize
     }
 }
 
-/// Returns the voxel with these bytes: its number, which must come after the one before, and then its cell, which must not be the
+/// Returns the voxel with these bytes: its number, which must be greater than the one before, and then its cell, which must not be the
 /// background.
 fn voxel_of<V: Voxel>(
     most: u16,

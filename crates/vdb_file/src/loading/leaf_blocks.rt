@@ -1,4 +1,4 @@
-//! Reads the leaf blocks of a tree from a file.
+//! Reads the leaf extents of a tree from a file.
 
 ghost use Rattle.std.specs.Prelude.{◌≡◌, Err, IfErr, OnOk};
 ghost use Rattle.vdb_coord.specs.Blocks.{block_around, vdb};
@@ -47,7 +47,7 @@ pub(crate) fn fill_block<V: GridValue>(
     }
 }
 
-/// Gives the cells of a leaf to the leaf block around a coordinate. The table has room for its root block, so an error can only
+/// Gives the cells of a leaf to the leaf extent around a coordinate. The table has room for its root block, so an error can only
 /// be an allocation failure.
 fn write_leaf_block<V: GridValue>(
     p: Coord,
@@ -67,7 +67,7 @@ fn write_leaf_block<V: GridValue>(
     }
 }
 
-/// Reads this many voxels of the leaf block around a coordinate. The block's cells must differ.
+/// Reads this many voxels of the leaf extent around a coordinate. The block's cells must differ.
 fn take_leaf<V: GridValue, S: Source>(
     p: Coord,
     count: u16,
@@ -90,7 +90,7 @@ fn take_leaf<V: GridValue, S: Source>(
     write_leaf_block(p, &leaf, tree, steps)
 }
 
-/// Reads the leaf block around a coordinate, which still holds nothing but the background.
+/// Reads the leaf extent around a coordinate, which still holds nothing but the background.
 pub(crate) fn take_leaf_block<V: GridValue, S: Source>(
     p: Coord,
     tree: &mut Tree<V>,

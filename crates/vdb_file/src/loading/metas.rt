@@ -39,7 +39,7 @@ fn take_text<S: Source>(input: &mut Input, reader: &mut S) -> Result<MetaText, L
     }
 }
 
-/// Reads a key, which must come after `before`, and then its text.
+/// Reads a key, which must be greater than `before`, and then its text.
 fn take_pair<S: Source>(
     input: &mut Input,
     reader: &mut S,

@@ -15,7 +15,7 @@ use crate::loading::input::Input;
 use crate::loading::source::Source;
 use vdb_scene::{NAME_LIMIT, Name};
 
-/// Reads a name, which must come after `before`. Returns `fault` if it has another form or doesn't come after it.
+/// Reads a name, which must be greater than `before`. Returns `fault` if it has another form or isn't greater.
 pub(crate) fn take_name<S: Source>(
     input: &mut Input,
     reader: &mut S,

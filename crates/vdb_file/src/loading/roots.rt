@@ -77,7 +77,7 @@ fn take_keyed_roots<V: GridValue, S: Source>(
     Ok(())
 }
 
-/// Reads the key of a root block, which must come after the one before, and then the block.
+/// Reads the key of a root block, which must be greater than the one before, and then the block.
 fn take_next_root<V: GridValue, S: Source>(
     before: Option<Coord>,
     tree: &mut Tree<V>,

@@ -1,6 +1,6 @@
-//! Writes the cells, voxels and leaf blocks of a tree.
+//! Writes the cells, voxels and leaf extents of a tree.
 
-ghost use Rattle.std.specs.Prelude.{◌≡◌, ◌≤◌, ◌∷◌, ◌++◌, ◌||◌, true, not, is_err, is_some, length, IfSome, IsOk, OnOk};
+ghost use Rattle.std.specs.Prelude.{◌≡◌, ◌≤◌, ◌*◌, ◌∷◌, ◌++◌, ◌||◌, true, not, is_err, is_some, length, take, IfSome, IsOk, OnOk};
 ghost use Rattle.std.specs.Int.{w16, to_be_bytes};
 ghost use Rattle.vdb_coord.specs.Blocks.{block, block_around, entries, sub_block, vdb};
 ghost use Rattle.vdb_coord.specs.declared.Level.TheVariants.{Leaf as leaf_level};
@@ -27,6 +27,12 @@ use vdb_value::{Cell, Voxel};
 
 /// The byte before the entries of a block whose cells differ.
 const NODE: u8 = 3;
+
+/// The most bytes of a voxel: two for its number, one for its state and up to eight for its value.
+const VOXEL: usize = 11;
+
+/// The most bytes of a leaf's voxels, and of one more.
+const VOXELS: usize = 5643;
 
 /// Writes a cell: one byte for its state, and then its value.
 pub(crate) fn put_cell<V: Voxel, W: Write, const C: u32>(
@@ -122,67 +128,52 @@ pub(crate) fn count_listed<V: GridValue>(
     count
 }
 
-/// Returns how many of the first voxels of a leaf aren't the background.
-fn count_voxels<V: Stored<8>>(leaf: &Leaf<V, 3, 8>, background: Cell<V>, n: u32) -> u16
-    requires within { n ≤ entry_count 3 }
-    requires few { n ≤ 32768 }
-    ensures { (d : Cell V) → result ≡ length (passing (λ i. not (cell_eq V.eq (cell_in d leaf.now i) background)) n) }
+/// Returns the bytes of a voxel, its number and then its cell, and how many these are.
+#[inline(always)]
+fn voxel_bytes<V: Voxel>(i: u16, cell: Cell<V>) -> ([u8; VOXEL], usize)
+    ensures few { result.1 ≤ VOXEL }
+    ensures bytes { take result.1 result.0 ≡ to_be_bytes w16 i ++ cell_bytes V.eq V.bytes_of cell }
 {
-    let mut count = 0;
-    for i in 0..n {
-        if leaf.entry(i) != background {
-            count += 1;
-        }
-    }
-    count
-}
-
-/// Writes the number of a voxel, and then its cell, as one piece.
-fn put_voxel<V: Voxel, W: Write, const C: u32>(
-    out: &mut Output<C>,
-    writer: &mut Watched<W>,
-    i: u16,
-    cell: Cell<V>,
-) -> Result<(), SaveFault>
-    ensures counts { C ≡ 1 → IsOk result }
-    ensures puts { OnOk result (Puts (sent C out.old (W.contents (source writer.old))) (sent C out.new (W.contents (source writer.new)))
-        (to_be_bytes w16 i ++ cell_bytes V.eq V.bytes_of cell)) }
-    ensures failed { has_failed writer.new ≡ (has_failed writer.old || is_err result) }
-{
-    let mut bytes = [0; 11];
+    let mut bytes = [0; VOXEL];
     bytes[..2].copy_from_slice(&i.to_be_bytes());
     bytes[2] = if cell.on { 2 } else { 1 };
     let mut value = [0; 8];
     let count = cell.value.to_bytes(&mut value);
     bytes[3..].copy_from_slice(&value);
-    out.put(writer, &bytes[..3 + count])
+    (bytes, 3 + count)
 }
 
-/// Writes those of the first voxels of a leaf that aren't the background, each after its number.
-fn put_voxels<V: Stored<8>, W: Write, const C: u32>(
-    out: &mut Output<C>,
-    writer: &mut Watched<W>,
+/// Encodes those of the first voxels of a leaf that aren't the background, each after its number. Returns how many bytes and how
+/// many voxels these are. It writes each voxel behind the last one that is kept, so that no branch depends on the cells.
+#[inline(always)]
+fn encode_voxels<V: Stored<8>>(
     leaf: &Leaf<V, 3, 8>,
     background: Cell<V>,
     n: u32,
-) -> Result<(), SaveFault>
+    bytes: &mut [u8; VOXELS],
+) -> (usize, u16)
     requires within { n ≤ entry_count 3 }
-    requires few { n ≤ 32768 }
-    ensures counts { C ≡ 1 → IsOk result }
-    ensures puts { (d : Cell V) → OnOk result (Puts (sent C out.old (W.contents (source writer.old))) (sent C out.new (W.contents (source writer.new)))
-        (numbered (λ i. cell_bytes V.eq V.bytes_of (cell_in d leaf.now i)) (passing (λ i. not (cell_eq V.eq (cell_in d leaf.now i) background)) n))) }
-    ensures failed { has_failed writer.new ≡ (has_failed writer.old || is_err result) }
+    requires few { n ≤ 512 }
+    ensures few { result.0 ≤ VOXEL * n }
+    ensures count { (d : Cell V) → result.1 ≡ length (passing (λ i. not (cell_eq V.eq (cell_in d leaf.now i) background)) n) }
+    ensures bytes { (d : Cell V) → take result.0 bytes.new
+        ≡ numbered (λ i. cell_bytes V.eq V.bytes_of (cell_in d leaf.now i)) (passing (λ i. not (cell_eq V.eq (cell_in d leaf.now i) background)) n) }
 {
+    let mut len = 0;
+    let mut count = 0;
     for i in 0..n {
         let cell = leaf.entry(i);
+        let (voxel, size) = voxel_bytes(i as u16, cell);
+        bytes[len..len + VOXEL].copy_from_slice(&voxel);
         if cell != background {
-            put_voxel(out, writer, i as u16, cell)?;
+            len += size;
+            count += 1;
         }
     }
-    Ok(())
+    (len, count)
 }
 
-/// Returns the cell of the leaf block around a coordinate if all its voxels have that cell.
+/// Returns the cell of the leaf extent around a coordinate if all its voxels have that cell.
 fn one_cell<V: GridValue>(tree: &Tree<V>, p: Coord, leaf: &Leaf<V, 3, 8>) -> Option<Cell<V>>
     requires { IsLeafAround vdb (field_of vdb tree.now) p leaf.now }
     ensures test { is_some result ≡ is_constant V.eq (field_of vdb tree.now) (block_around vdb leaf_level p) }
@@ -192,7 +183,7 @@ fn one_cell<V: GridValue>(tree: &Tree<V>, p: Coord, leaf: &Leaf<V, 3, 8>) -> Opt
     leaf.constant()
 }
 
-/// Writes the body of the leaf block around a coordinate, which has a leaf.
+/// Writes the body of the leaf extent around a coordinate, which has a leaf.
 fn put_leaf_cells<V: GridValue, W: Write, const C: u32>(
     out: &mut Output<C>,
     writer: &mut Watched<W>,
@@ -214,12 +205,13 @@ fn put_leaf_cells<V: GridValue, W: Write, const C: u32>(
         on: false,
     };
     let n = u32::from(Bits::VDB.entries(Level::Leaf));
-    let count = count_voxels(leaf, background, n);
+    let mut bytes = [0; VOXELS];
+    let (len, count) = encode_voxels(leaf, background, n, &mut bytes);
     put_head(out, writer, count)?;
-    put_voxels(out, writer, leaf, background, n)
+    out.put(writer, &bytes[..len])
 }
 
-/// Writes the body of the leaf block around a coordinate.
+/// Writes the body of the leaf extent around a coordinate.
 pub(crate) fn put_leaf<V: GridValue, W: Write, const C: u32>(
     out: &mut Output<C>,
     writer: &mut Watched<W>,

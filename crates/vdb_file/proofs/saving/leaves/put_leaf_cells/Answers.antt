@@ -8,19 +8,15 @@ use Rattle.vdb_tree.specs.Layout.{field_of}
 use Rattle.vdb_tree.proofs.Uniform.{exact_by}
 use Rattle.vdb_file.specs.Bodies.{voxel_body}
 use Rattle.vdb_file.proofs.LeafVoxels.{listed_voxels, voxels_put}
+use Rattle.vdb_file.proofs.Outputs.{puts_same}
 use Rattle.vdb_file.proofs.PutBlocks.{node_put}
 use Rattle.vdb_file.proofs.Standard.{standard_bits}
 use Rattle.vdb_file.proofs.saving.leaves.put_leaf_cells.Goals as goal
 
-pub count_voxels-count-requires : goal.count_voxels-count-requires
-count_voxels-count-requires g c =
+pub encode_voxels-len-requires : goal.encode_voxels-len-requires
+encode_voxels-len-requires g c =
     let count : c.from-n.result ≡ entries vdb Leaf = c.from-n.ensures ∙ c.entries.ensures in
     record { within = omega (arith, count); few = omega (arith, count) }
-
-pub put_voxels-requires : goal.put_voxels-requires
-put_voxels-requires g c =
-    let count : c.from-n.result ≡ entries vdb Leaf = c.from-n.ensures ∙ c.entries.ensures in
-    (omega arith, (omega (arith, count), omega (arith, count)))
 
 pub returns-clause-puts : goal.returns-clause-puts
 returns-clause-puts g c =
@@ -31,8 +27,9 @@ returns-clause-puts g c =
     let inside = fits_everywhere c.args.p (search rules) (search rules) (search rules) in
     let n : c.from-n.result ≡ entries vdb Leaf = c.from-n.ensures ∙ c.entries.ensures in
     let listed_are = listed_voxels eq exact g.met.V.Eq.laws.refl vdb standard_bits t c.args.p inside c.args.leaf.now c.requires bytes in
-    let count = (rw (c.background.ensures, n) at c.count_voxels-count.ensures (off t.background)) ∙ ap length (sym listed_are) in
-    on_ok_weaker c.put_voxels.result
-    (λ h. node_put eq bytes vdb (field_of vdb t) (voxel_body eq bytes vdb (field_of vdb t)) Leaf (block_around vdb Leaf c.args.p) _ _ _ c.count_voxels-count.result (sym c.in_default.ensures.test) c.in_ok-put_head.ensures.puts count
-    (voxels_put eq exact g.met.V.Eq.laws.refl vdb standard_bits t c.args.p inside c.args.leaf.now c.requires bytes _ _ h))
-    (rw (c.background.ensures, n) at c.put_voxels.ensures.puts (off t.background))
+    let count = (rw (c.background.ensures, n) at c.encode_voxels-len.ensures.count (off t.background)) ∙ ap length (sym listed_are) in
+    let encoded = rw (c.background.ensures, n) at c.encode_voxels-len.ensures.bytes (off t.background) in
+    on_ok_weaker c.put.result
+    (λ h. node_put eq bytes vdb (field_of vdb t) (voxel_body eq bytes vdb (field_of vdb t)) Leaf (block_around vdb Leaf c.args.p) _ _ _ c.encode_voxels-len.result.1 (sym c.in_default.ensures.test) c.in_ok-put_head.ensures.puts count
+    (voxels_put eq exact g.met.V.Eq.laws.refl vdb standard_bits t c.args.p inside c.args.leaf.now c.requires bytes _ _ (puts_same _ _ _ _ encoded h)))
+    c.put.ensures.puts

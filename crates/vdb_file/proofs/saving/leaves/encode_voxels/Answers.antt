@@ -1,0 +1,72 @@
+use Rattle.std.proofs.Common.{arith, ◌≡◌, ◌≤◌, ◌∙◌, ℕ, ◌+◌, ◌-◌, refl, ap, sym, drop, length, length-drop, length-take-le, take}
+use Rattle.std.proofs.lemmas.Slice.{take-put_mid_below}
+use borrow.Rule.Slice.PartMut.{put_mid, same_len_mid}
+use Rattle.vdb_node.specs.Leaf.{cell_in}
+use Rattle.vdb_file.specs.Bodies.{cell_bytes}
+use Rattle.vdb_file.specs.internal.Written.{numbered, passing}
+use Rattle.vdb_file.proofs.LeafVoxels.{part_kept, stands, voxel_added, voxel_counted, voxel_left, voxel_passed}
+use Rattle.vdb_file.proofs.Passing.{passing_few}
+use Rattle.vdb_file.proofs.saving.leaves.encode_voxels.Goals as goal
+use Rattle.vdb_file.proofs.saving.leaves.encode_voxels.Goals.{then-ne, else-ne}
+
+pub overflow_add-count : goal.overflow_add-count
+overflow_add-count g c =
+    let d = c.entry-cell.result in
+    let few = passing_few (stands g.V.PartialEq.eq c.args.leaf.now d c.args.background) c.loop-i.i in
+    let counted = c.loop-i.invariant.count d in
+    let less = c.loop-i-test.true in
+    let most = c.requires.few in
+    omega (arith, few, counted, less, most)
+
+pub loop-i-preserved : goal.loop-i-preserved
+loop-i-preserved g c =
+    let eq = g.V.PartialEq.eq in
+    let leaf = c.args.leaf.now in
+    let bytes = g.V.Voxel.bytes_of in
+    let few = c.loop-i.invariant.few in
+    let long = c.loop-i.invariant.long in
+    let less = c.loop-i-test.true in
+    let most = c.requires.few in
+    let size = c.voxel_bytes-size.ensures.few in
+    let written = c.copy_from_slice.ensures.len in
+    let fits : c.loop-i.len + 11 ≤ length c.loop-i.bytes = omega (arith, few, long, less, most) in
+    let whole : length c.copy_from_slice.new.self ≡ 11 = omega (arith, written, length-take-le (c.loop-i.len + 11 - c.loop-i.len) (drop c.loop-i.len c.loop-i.bytes) (omega (arith, fits, length-drop c.loop-i.len c.loop-i.bytes))) in
+    record {
+      few = elim c.if-ne.branch [
+        | then-ne w ↦ let is = w.len-is in omega (arith, is, few, size)
+        | else-ne w ↦ let is = w.len-is in omega (arith, is, few)
+      ];
+      long = same_len_mid c.loop-i.len (c.loop-i.len + 11 - c.loop-i.len) c.loop-i.bytes c.copy_from_slice.new.self written ∙ long;
+      count = λ d.
+          let e = c.entry-cell.ensures d in
+          elim c.if-ne.branch [
+            | then-ne w ↦ w.count-is ∙ voxel_counted eq leaf d c.args.background c.loop-i.i c.loop-i.count c.entry-cell.result e (sym c.ne.ensures ∙ w.if-ne.true) (c.loop-i.invariant.count d)
+            | else-ne w ↦ w.count-is ∙ voxel_passed eq leaf d c.args.background c.loop-i.i c.loop-i.count c.entry-cell.result e (sym c.ne.ensures ∙ w.if-ne.false) (c.loop-i.invariant.count d)
+          ];
+      bytes = λ d.
+          let e = c.entry-cell.ensures d in
+          elim c.if-ne.branch [
+            | then-ne w ↦
+                ap (λ (n : ℕ). take n (put_mid c.loop-i.len (c.loop-i.len + 11 - c.loop-i.len) c.loop-i.bytes c.copy_from_slice.new.self)) w.len-is
+                ∙ part_kept 11 c.loop-i.bytes c.copy_from_slice.new.self _ _ c.loop-i.len c.voxel_bytes-size.result.1 fits whole size refl (ap (take c.voxel_bytes-size.result.1) c.copy_from_slice.ensures.after ∙ c.voxel_bytes-size.ensures.bytes)
+                ∙ voxel_added eq leaf d c.args.background bytes c.loop-i.i c.entry-cell.result e _ (c.loop-i.invariant.bytes d) (sym c.ne.ensures ∙ w.if-ne.true)
+            | else-ne w ↦
+                ap (λ (n : ℕ). take n (put_mid c.loop-i.len (c.loop-i.len + 11 - c.loop-i.len) c.loop-i.bytes c.copy_from_slice.new.self)) w.len-is
+                ∙ take-put_mid_below c.loop-i.len (c.loop-i.len + 11 - c.loop-i.len) c.loop-i.bytes c.copy_from_slice.new.self c.loop-i.len (omega arith) (omega (arith, fits))
+                ∙ voxel_left eq leaf d c.args.background bytes c.loop-i.i c.entry-cell.result e _ (c.loop-i.invariant.bytes d) (sym c.ne.ensures ∙ w.if-ne.false)
+          ];
+    }
+
+pub returns-clause-count : goal.returns-clause-count
+returns-clause-count g c d =
+    let last = c.loop-i.auto.i-end in
+    let past = c.loop-i-test.false in
+    let e : c.loop-i.i ≡ c.args.n = omega (arith, last, past) in
+    c.loop-i.invariant.count d ∙ ap (λ (n : ℕ). length (passing (stands g.V.PartialEq.eq c.args.leaf.now d c.args.background) n)) e
+
+pub returns-clause-bytes : goal.returns-clause-bytes
+returns-clause-bytes g c d =
+    let last = c.loop-i.auto.i-end in
+    let past = c.loop-i-test.false in
+    let e : c.loop-i.i ≡ c.args.n = omega (arith, last, past) in
+    c.loop-i.invariant.bytes d ∙ ap (λ (n : ℕ). numbered (λ k. cell_bytes g.V.PartialEq.eq g.V.Voxel.bytes_of (cell_in d c.args.leaf.now k)) (passing (stands g.V.PartialEq.eq c.args.leaf.now d c.args.background) n)) e

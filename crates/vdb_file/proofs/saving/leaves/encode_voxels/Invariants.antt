@@ -1,0 +1,16 @@
+use Rattle.std.proofs.Common.{◌≡◌, ◌≤◌, ◌*◌, length, take}
+use Rattle.vdb_node.specs.Leaf.{cell_in}
+use Rattle.vdb_value.specs.declared.Cell.{Cell}
+use Rattle.vdb_file.specs.Bodies.{cell_bytes}
+use Rattle.vdb_file.specs.internal.Written.{numbered, passing}
+use Rattle.vdb_file.proofs.LeafVoxels.{stands}
+use Rattle.vdb_file.proofs.saving.leaves.encode_voxels.Given as goal
+
+-- the voxels passed that aren't the background are counted and encoded
+abbrev pub invariant-loop-i : goal.invariant-loop-i
+invariant-loop-i g l = record {
+  few : l.len ≤ 11 * l.i;
+  long : length l.bytes ≡ 5643;
+  count : (d : Cell g.row.V.Denot) → l.count ≡ length (passing (stands g.V.PartialEq.eq l.leaf d l.background) l.i);
+  bytes : (d : Cell g.row.V.Denot) → take l.len l.bytes ≡ numbered (λ k. cell_bytes g.V.PartialEq.eq g.V.Voxel.bytes_of (cell_in d l.leaf k)) (passing (stands g.V.PartialEq.eq l.leaf d l.background) l.i);
+}
