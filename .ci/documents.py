@@ -5,7 +5,7 @@
 It reports and exits with status 1 if
 
 - a relative link of a Markdown file names no file or no heading,
-- a sentence outside tables and code has more than 30 words, README.md more than 700, or all documents together more than 27,000,
+- a sentence outside tables and code has more than 30 words, README.md more than 700, or all documents together more than 28,000,
 - the example in docs/LIBRARY.md differs from `run` of `first` in library_examples, which CI compiles,
 - `vdb --version` or README.md has another version than VERSION,
 - the tables of docs/PROOFS.md differ from those of definitions.py; --write renews them,
@@ -19,7 +19,7 @@ import sys
 
 from definitions import TOP, tables, text
 
-WORDS, README_WORDS, ALL_WORDS = 30, 700, 27_000
+WORDS, README_WORDS, ALL_WORDS = 30, 700, 28_000
 LINK = re.compile(r"\]\(([^)\s]+)\)")
 ITEM = re.compile(r"^\s*(?:[-*]|\d+\.)\s")
 END = re.compile(r"(?<=[.!?])[\"')*_`]*\s+")
