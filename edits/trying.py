@@ -59,9 +59,10 @@ def texts_of(crate, spans):
 
 
 def changed_by(spans, functions):
-    """The paths of the functions whose bodies hold these spans, with None for a span in no body."""
-    around = [function_at(functions.get(path, []), start, end) for path, start, end, _ in spans]
-    return {it and it.path for it in around}
+    """The paths of the functions whose bodies or proofs hold these spans, with None for a span in no body."""
+    proofs = {"::".join(path.split("/")[1:-1]) for path, *_ in spans if path.startswith("proofs/")}
+    around = [function_at(functions.get(path, []), start, end) for path, start, end, _ in spans if not path.startswith("proofs/")]
+    return proofs | {it and it.path for it in around}
 
 
 def fault_of(edit, functions):
