@@ -26,8 +26,9 @@ OPEN = re.compile(r"note: `([^`]+)` of (?:\./)?proofs/(\S+)/Answers\.antt must p
 # what refuses an answer that names something which the edit took away: it says nothing of a clause
 LOST = re.compile(r"is not in scope|has no field|is no name|has no `")
 
-# what the check says of a function: whether it is proved, or what its proof lacks
+# what the check says of a function: whether it is proved, or what its proof lacks; of many open goals it prints no note
 SAID = re.compile(r"fn \w+::(\S+): (.*)")
+UNPROVED = re.compile(r"`search` did not prove (`[^`]+`(?:, `[^`]+`)*)")
 
 # what the front end says of a text that it cannot read
 UNREAD = re.compile(r"(?:\./)?(?:src|specs)/\S+:\d+:\d+: error: .*")
@@ -195,6 +196,8 @@ def goals_of(crate, output):
         refused, opened, told = REFUSED.match(line), OPEN.match(line), SAID.match(line)
         if told:
             said[told[1]] = told[2]
+            unproved = UNPROVED.search(told[2])
+            goals.setdefault(told[1], []).extend(unproved[1].strip("`").split("`, `") if unproved else [])
         if refused or opened:
             path, goal = goal_of(crate, *(refused.group(1, 2) if refused else opened.group(2, 1)))
             (lost if refused and LOST.search(refused[3]) else goals).setdefault(path, []).append(goal)
@@ -219,7 +222,7 @@ def judged(edit, goals, lost, said, seconds):
     if goal:
         fault = ""
     elif found or gone:
-        told = [*found, *(f"{it} (its answer only names what is gone)" for it in gone)]
+        told = [*dict.fromkeys(found), *(f"{it} (its answer only names what is gone)" for it in gone)]
         fault = f"{clause} is not among the open goals: {', '.join(told)}"
     else:
         fault = f"no goal is open, and the check says: {said.get(name, 'nothing')[:300]}"
