@@ -26,6 +26,10 @@ OPEN = re.compile(r"note: `([^`]+)` of (?:\./)?proofs/(\S+)/Answers\.antt must p
 # what refuses an answer that names something which the edit took away: it says nothing of a clause
 LOST = re.compile(r"is not in scope|has no field|is no name|has no `")
 
+# what the check says of a function: whether it is proved, or what its proof lacks; of many open goals it prints no note
+SAID = re.compile(r"fn \w+::(\S+): (.*)")
+UNPROVED = re.compile(r"`search` did not prove (`[^`]+`(?:, `[^`]+`)*)")
+
 # what the front end says of a text that it cannot read
 UNREAD = re.compile(r"(?:\./)?(?:src|specs)/\S+:\d+:\d+: error: .*")
 
@@ -59,9 +63,10 @@ def texts_of(crate, spans):
 
 
 def changed_by(spans, functions):
-    """The paths of the functions whose bodies hold these spans, with None for a span in no body."""
-    around = [function_at(functions.get(path, []), start, end) for path, start, end, _ in spans]
-    return {it and it.path for it in around}
+    """The paths of the functions whose bodies or proofs hold these spans, with None for a span in no body."""
+    proofs = {"::".join(path.split("/")[1:-1]) for path, *_ in spans if path.startswith("proofs/")}
+    around = [function_at(functions.get(path, []), start, end) for path, start, end, _ in spans if not path.startswith("proofs/")]
+    return proofs | {it and it.path for it in around}
 
 
 def fault_of(edit, functions):
@@ -116,8 +121,7 @@ def try_batch(crate, batch):
     spans = [it for edit in batch for it in spans_of(edit, folder_of(crate))]
     output, seconds = check(crate, texts_of(crate, spans), sorted({it.heads["function"] for it in batch}))
     if re.match(r"only=\d+ ", output.rstrip().rpartition("\n")[2]):
-        goals, lost = goals_of(crate, output)
-        return [judged(it, goals, lost, seconds / len(batch)) for it in batch]
+        return [judged(it, *goals_of(crate, output), seconds / len(batch)) for it in batch]
     if len(batch) > 1:
         return [it for part in (batch[: len(batch) // 2], batch[len(batch) // 2 :]) for it in try_batch(crate, part)]
     unread = UNREAD.search(output)
@@ -186,14 +190,18 @@ def goal_of(crate, folder, goal):
 
 
 def goals_of(crate, output):
-    """The open goals of each function that a check names, and those whose answer only names what is gone."""
-    goals, lost = {}, {}
+    """The open goals of each function that a check names, those whose answer only names what is gone, and what the check says of the function."""
+    goals, lost, said = {}, {}, {}
     for line in output.splitlines():
-        refused, opened = REFUSED.match(line), OPEN.match(line)
+        refused, opened, told = REFUSED.match(line), OPEN.match(line), SAID.match(line)
+        if told:
+            said[told[1]] = told[2]
+            unproved = UNPROVED.search(told[2])
+            goals.setdefault(told[1], []).extend(unproved[1].strip("`").split("`, `") if unproved else [])
         if refused or opened:
             path, goal = goal_of(crate, *(refused.group(1, 2) if refused else opened.group(2, 1)))
             (lost if refused and LOST.search(refused[3]) else goals).setdefault(path, []).append(goal)
-    return goals, lost
+    return goals, lost, said
 
 
 def is_meant(goal, clause):
@@ -206,16 +214,16 @@ def is_meant(goal, clause):
     return re.match(r"returns\b", goal) and goal.partition("-clause-")[2] in ("", clause)
 
 
-def judged(edit, goals, lost, seconds):
-    """How an edit ended, from the open goals of each function."""
+def judged(edit, goals, lost, said, seconds):
+    """How an edit ended, from the open goals of each function and what the check says of it."""
     name, clause = edit.heads["function"], edit.heads["clause"]
     found, gone = goals.get(name, []), lost.get(name, [])
     goal = next((it for it in found if is_meant(it, clause)), "")
     if goal:
         fault = ""
     elif found or gone:
-        told = [*found, *(f"{it} (its answer only names what is gone)" for it in gone)]
+        told = [*dict.fromkeys(found), *(f"{it} (its answer only names what is gone)" for it in gone)]
         fault = f"{clause} is not among the open goals: {', '.join(told)}"
     else:
-        fault = "no goal is open"
+        fault = f"no goal is open, and the check says: {said.get(name, 'nothing')[:300]}"
     return Tried(edit, goal, fault, seconds)
