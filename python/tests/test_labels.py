@@ -24,7 +24,7 @@ def sample(seed, kind=None):
 
 
 def grid_of(values, active, low, form="pruned"):
-    """A grid of the engine whose tree has tiles, or none, or what `set_box` leaves."""
+    """A grid of the engine whose tree has tiles, or none, or what `write_box` leaves."""
     grid = vdb.Grid.from_array(values, active, low)
     if form == "voxelised" and grid.bounds:
         grid.voxelise(grid.bounds)
