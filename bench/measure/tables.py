@@ -89,7 +89,7 @@ def measured(part, head):
     runs = "1 run" if part["runs"] == 1 else f"{part['runs']} runs"
     text = f"{part['facts']['Date']}, {runs}, in {part['seconds'] / 60:.1f} minutes, load average {load[0]} before."
     if not machine.is_idle(load):
-        text += " **The machine wasn't idle in the minute before.**"
+        text += " **The machine wasn't idle in the minute before, so these figures may be worth little.**"
     if part["quick"]:
         text += " **A quick run, with fewer rows and runs.**"
     other = [f"{name}: {fact}" for name, fact in part["facts"].items() if name not in OWN and fact != head.get(name)]
