@@ -6,6 +6,7 @@ pub mod NonConstantBlocks
 pub mod NonConstantLeaves
 pub mod LeafTests
 pub mod Surrounds
+pub mod CoveredRuns
 pub mod BoxOrder
 pub mod Firsts
 pub mod LeafSeeks

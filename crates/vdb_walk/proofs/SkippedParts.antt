@@ -18,20 +18,21 @@ use Rattle.vdb_tree.proofs.PartStarts.{gone_before}
 use Rattle.vdb_walk.specs.internal.BlocksFrom.{IsPartStart, IsSkippedTo}
 use Rattle.vdb_walk.proofs.NonConstantBlocks.{from_on, left_from, true_or_false}
 
+-- what comes before a coordinate that isn't left isn't left either
+pub earlier_gone : (bits : Bits) (at : Option Coord) (p : Coord) → is_left bits at p ≡ false → (r : Coord) → ComesBefore bits r p → is_left bits at r ≡ false
+earlier_gone bits None p h r before = refl
+earlier_gone bits (Some a) p h r before = ap not (comes_on bits r p a before (gone_before bits a p h))
+
 module _ {V : Type 0} (bits : Bits) (t : Layout V) where
   -- the first coordinate of a part
   pub part_start : (old new : TreeWalk V) (part : Box) → is_bounds part ≡ true → YieldsBox bits t old new part → (q : Coord) → q ≡ part.min → IsPartStart bits t old (Some q)
   part_start old new part bounds yields q e = subst (λ (s : Coord). IsPartStart bits t old (Some s)) (sym e) (
     yields.inside part.min corner,
-    λ r i left before. yields.passes.passed r i left (gone new.at (yields.gone part.min corner) r before) (not_true (is_inside part r) (λ k. not_before_min bits part r k before)),
+    λ r i left before. yields.passes.passed r i left (earlier_gone bits new.at part.min (yields.gone part.min corner) r before) (not_true (is_inside part r) (λ k. not_before_min bits part r k before)),
   )
     where
       corner : is_inside part part.min ≡ true
       corner = min_inside part (both (is_box part) (is_within part everywhere) bounds).0
-
-      gone : (at : Option Coord) → is_left bits at part.min ≡ false → (r : Coord) → ComesBefore bits r part.min → is_left bits at r ≡ false
-      gone None h r before = refl
-      gone (Some a) h r before = ap not (comes_on bits r part.min a before (gone_before bits a part.min h))
 
   module _ (box : Box) (skip : Skip) where
     -- the coordinate itself

@@ -6,6 +6,7 @@ use Rattle.std.specs.Prelude.{IfSome, if◌then◌else◌}
 use Rattle.std.proofs.lemmas.Int.{ints}
 use Rattle.vdb_coord.specs.Blocks.{block_cmp, offset}
 use Rattle.vdb_coord.specs.Boxes.{box_of}
+use Rattle.vdb_coord.specs.Order.{ComesBefore}
 use Rattle.vdb_coord.specs.Space.{Box, coord, everywhere, is_between, is_box, is_inside}
 use Rattle.vdb_coord.specs.declared.Bits.{Bits}
 use Rattle.vdb_coord.specs.declared.Coord.{Coord}
@@ -22,7 +23,8 @@ use Rattle.vdb_tree.proofs.Rooted.{or_cases, or_first, or_second}
 use Rattle.vdb_value.specs.declared.Cell.{Cell}
 use Rattle.vdb_walk.specs.internal.Voxels.{is_set, IsInFirstBlock, IsNextSet, IsNextSetAt}
 use Rattle.vdb_walk.specs.Reports.{IsActiveBounds}
-use Rattle.vdb_walk.specs.internal.Surround.{Surrounds, is_in, is_wanted, is_wanted_by}
+use Rattle.vdb_walk.specs.internal.Surround.{IsFoundBetween, IsFoundTo, Surrounds, is_in, is_wanted, is_wanted_by}
+use Rattle.vdb_walk.proofs.SkippedParts.{earlier_gone}
 use Rattle.vdb_walk.proofs.VoxelRows.{run_inside}
 
 -- ---- the bounding box of two boxes
@@ -176,97 +178,97 @@ module _ {V : Type 0} (bits : Bits) (t : Layout V) where
   was_off true h = absurd (h refl)
   was_off false h = refl
 
-  pub active_bounds : (result : Option Box) → Surrounds (is_wanted whole_field None everywhere) result → IfSome result (λ box. IsTrue (is_box box)) → IsActiveBounds whole_field result
-  active_bounds None s order = λ p. was_off (whole_field.cell p).on (λ e. let never : false ≡ true = s.holds p (and_true (is_inside everywhere p) (whole_field.cell p).on (in_space p e) e) in cc)
-  active_bounds (Some box) s order = (
-    λ p e. s.holds p (and_true (is_inside everywhere p) (whole_field.cell p).on (in_space p e) e),
-    λ other h.
-        let each : (q : Coord) → is_inside box q ≡ true → is_inside other q ≡ true = s.least other (λ p w. h p (both (is_inside everywhere p) (whole_field.cell p).on w).1) in
-        and_true (is_inside other box.min) (is_inside other box.max) (each box.min (min_inside box order)) (each box.max (max_inside box order)),
+  bounds_of_all : (result : Option Box) → IsFoundTo bits whole_field None result → IsActiveBounds whole_field result
+  bounds_of_all None s = λ p. was_off (whole_field.cell p).on (λ e. let never : false ≡ true = s.holds p e refl in cc)
+  bounds_of_all (Some box) s = (
+    λ p e. s.holds p e refl,
+    λ other h. and_true (is_inside other box.min) (is_inside other box.max) (s.least other h box.min (min_inside box s.order)) (s.least other h box.max (max_inside box s.order)),
   )
 
+  pub active_bounds : (result : Option Box) (at : Option Coord) → ((p : Coord) → at ≡ Some p → ⊥) → IsFoundTo bits whole_field at result → IsActiveBounds whole_field result
+  active_bounds result None none s = bounds_of_all result s
+  active_bounds result (Some p) none s = absurd (none p refl)
+
 -- ---- a walk that skips inactive parts
-
-turned : (b : Bool) → b ≡ false → not b ≡ true
-turned b h = rw h refl
-
-unturned : (b : Bool) → not b ≡ true → b ≡ false
-unturned true h = cc
-unturned false h = refl
 
 apart : (b : Bool) → b ≡ false → b ≡ true → ⊥
 apart b h k = let never : false ≡ true = sym h ∙ k in cc
 
 module _ {V : Type 0} (bits : Bits) (t : Layout V) where
+  abbrev f : Field V
+  f = field_of bits t
+
   abbrev active : Coord → Bool
-  active p = ((field_of bits t).cell p).on
+  active p = (f.cell p).on
 
-  -- whether the coordinate is active and no longer left
-  abbrev pub is_found : Option Coord → Coord → Bool
-  is_found at p = is_inside everywhere p && (active p && not (is_left bits at p))
+  before : (b : Bool) → not b ≡ false → b ≡ true
+  before true h = refl
+  before false h = cc
 
-  found_is : (at : Option Coord) (p : Coord) → is_inside everywhere p ≡ true → active p ≡ true → is_left bits at p ≡ false → is_found at p ≡ true
-  found_is at p i o l = and_true (is_inside everywhere p) (active p && not (is_left bits at p)) i (and_true (active p) (not (is_left bits at p)) o (turned (is_left bits at p) l))
-
-  is_parts : (at : Option Coord) (p : Coord) → is_found at p ≡ true → (is_inside everywhere p ≡ true) × (active p ≡ true) × (is_left bits at p ≡ false)
-  is_parts at p h =
-      let first = both (is_inside everywhere p) (active p && not (is_left bits at p)) h in
-      let rest = both (active p) (not (is_left bits at p)) first.1 in
-      (first.0, rest.0, unturned (is_left bits at p) rest.1)
-
-  -- at the walk's start no coordinate is found
-  pub found_first : Surrounds (is_found (Some everywhere.min)) None
+  -- before the first coordinate of all, no voxel is active
+  pub found_first : IsFoundTo bits f (Some everywhere.min) None
   found_first = record {
-    holds = λ p w. let h = is_parts (Some everywhere.min) p w in absurd (not_before_min bits everywhere p h.0 (before (is_lt (block_cmp bits p everywhere.min)) h.2));
+    holds = λ p on gone. absurd (not_before_min bits everywhere p (in_space bits t p on) (before (is_lt (block_cmp bits p everywhere.min)) gone));
     least = λ other h p i. absurd (apart false refl i);
+    order = tt;
   }
-    where
-      before : (b : Bool) → not b ≡ false → b ≡ true
-      before true h = refl
-      before false h = cc
+
+  -- a walk that begins at the coordinate or before it
+  pub found_from : (start : Coord) (at : Option Coord) (found : Option Box) → ((q : Coord) → is_inside everywhere q ≡ true → is_left bits at q ≡ false → ComesBefore bits q start) → IsFoundTo bits f (Some start) found → IsFoundTo bits f at found
+  found_from start at found earlier s = record { holds = λ p on gone. s.holds p on (ap not (earlier p (in_space bits t p on) gone)); least = s.least; order = s.order }
 
   module _ (old new : TreeWalk V) (box : old.box ≡ everywhere) (skip : old.skip ≡ Inactive) where
     off_now : (but : Coord → Bool) → Passes bits t old new but → (p : Coord) → is_inside everywhere p ≡ true → is_left bits old.at p ≡ true → is_left bits new.at p ≡ false → but p ≡ false → active p ≡ false
     off_now but passes p i l gone out =
         subst (λ (s : Skip). IsSkipped bits s t p) skip (passes.passed p (subst (λ (b : Box). is_inside b p ≡ true) (sym box) i) l gone out)
 
-    -- a part adds its own coordinates
-    pub found_more : (part : Box) → YieldsBox bits t old new part → (found result : Option Box) → Surrounds (is_found old.at) found → Surrounds (is_wanted (field_of bits t) found part) result → Surrounds (is_found new.at) result
-    found_more part y found result first second = record {
-      holds = λ p w. let h = is_parts new.at p w in elim (bool_cases (is_left bits old.at p)) [
-        | inl l ↦ elim (bool_cases (is_inside part p)) [
-          | inl i ↦ second.holds p (or_second (is_in found p) (is_inside part p && active p) (and_true (is_inside part p) (active p) i h.1))
-          | inr out ↦ absurd (apart (active p) (off_now (is_inside part) y.passes p h.0 l h.2 out) h.1)
-        ]
-        | inr l ↦ second.holds p (or_first (is_in found p) (is_inside part p && active p) (first.holds p (found_is old.at p h.0 h.1 l)))
-      ];
-      least = λ other h p i. second.least other (λ q w. elim (or_cases (is_in found q) (is_inside part q && active q) w) [
-        | inl j ↦ first.least other (λ r v. let k = is_parts old.at r v in h r (found_is new.at r k.0 k.1 (still r k.2))) q j
-        | inr a ↦
-            let k = both (is_inside part q) (active q) a in
-            h q (found_is new.at q (subst (λ (b : Box). is_inside b q ≡ true) box (y.inside q k.0)) k.1 (y.gone q k.0))
-      ]) p i;
-    }
-      where
-        still : (r : Coord) → is_left bits old.at r ≡ false → is_left bits new.at r ≡ false
-        still r l = never_left (is_left bits new.at r) (λ n. apart (is_left bits old.at r) l (y.passes.later r n))
-          where
-            never_left : (b : Bool) → (b ≡ true → ⊥) → b ≡ false
-            never_left true n = absurd (n refl)
-            never_left false n = refl
+    module _ (part : Box) (y : YieldsBox bits t old new part) (found : Option Box) (first : IsFoundTo bits f old.at found) where
+      -- a part adds its own coordinates
+      pub found_more : (result : Option Box) → Surrounds (is_wanted f found part) result → IfSome result (λ b. IsTrue (is_box b)) → IsFoundTo bits f new.at result
+      found_more result second order = record {
+        holds = λ p on gone. elim (bool_cases (is_left bits old.at p)) [
+          | inl l ↦ elim (bool_cases (is_inside part p)) [
+            | inl i ↦ second.holds p (or_second (is_in found p) (is_inside part p && active p) (and_true (is_inside part p) (active p) i on))
+            | inr out ↦ absurd (apart (active p) (off_now (is_inside part) y.passes p (in_space bits t p on) l gone out) on)
+          ]
+          | inr l ↦ second.holds p (or_first (is_in found p) (is_inside part p && active p) (first.holds p on l))
+        ];
+        least = λ other h p i. second.least other (λ q w. elim (or_cases (is_in found q) (is_inside part q && active q) w) [
+          | inl j ↦ first.least other h q j
+          | inr a ↦ h q (both (is_inside part q) (active q) a).1
+        ]) p i;
+        order = order;
+      }
+
+      -- nothing is to be added before a coordinate if the box found so far holds everything from the part on and before it
+      pub found_past : is_box part ≡ true → (next : Coord) → IsFoundBetween bits part.min next found → IsFoundTo bits f (Some next) found
+      found_past ordered next covered = record {
+        holds = λ p on gone.
+            let here : (ComesBefore bits p part.min → ⊥) → is_in found p ≡ true = λ from. covered p (in_space bits t p on) from (before (is_lt (block_cmp bits p next)) gone) in
+            elim (bool_cases (is_left bits old.at p)) [
+              | inl l ↦ elim (bool_cases (is_left bits new.at p)) [
+                | inl still ↦ here (λ b. apart (is_left bits new.at p) (earlier_gone bits new.at part.min (y.gone part.min (min_inside part ordered)) p b) still)
+                | inr passed ↦ elim (bool_cases (is_inside part p)) [
+                  | inl i ↦ here (not_before_min bits part p i)
+                  | inr out ↦ absurd (apart (active p) (off_now (is_inside part) y.passes p (in_space bits t p on) l passed out) on)
+                ]
+              ]
+              | inr l ↦ first.holds p on l
+            ];
+        least = first.least;
+        order = first.order;
+      }
 
     -- at the walk's end all coordinates are found
-    pub found_all : Passes bits t old new (λ q. false) → new.at ≡ None → (found : Option Box) → Surrounds (is_found old.at) found → Surrounds (is_wanted (field_of bits t) None everywhere) found
-    found_all passes none found s =
-        same_wanted (is_found old.at) (is_wanted (field_of bits t) None everywhere) found
-        (λ p w. let h = is_parts old.at p w in and_true (is_inside everywhere p) (active p) h.0 h.1)
-        (λ p w.
-        let h = both (is_inside everywhere p) (active p) w in
-        elim (bool_cases (is_left bits old.at p)) [
-          | inl l ↦ absurd (apart (active p) (off_now (λ q. false) passes p h.0 l (ap (λ (o : Option Coord). is_left bits o p) none) refl) h.1)
-          | inr l ↦ found_is old.at p h.0 h.1 l
-        ])
-        s
+    pub found_all : Passes bits t old new (λ q. false) → new.at ≡ None → (found : Option Box) → IsFoundTo bits f old.at found → IsFoundTo bits f None found
+    found_all passes none found s = record {
+      holds = λ p on gone. elim (bool_cases (is_left bits old.at p)) [
+        | inl l ↦ absurd (apart (active p) (off_now (λ q. false) passes p (in_space bits t p on) l (ap (λ (o : Option Coord). is_left bits o p) none) refl) on)
+        | inr l ↦ s.holds p on l
+      ];
+      least = s.least;
+      order = s.order;
+    }
 
 -- ---- the voxels of a leaf
 

@@ -2,6 +2,7 @@
 pub mod Halves
 pub mod BlocksFrom
 pub mod Surround
+pub mod Covered
 pub mod Firsts
 pub mod Voxels
 pub mod PartCells

@@ -3,6 +3,7 @@
 
 mod active_count;
 mod bounding_box;
+mod covered;
 mod first_active;
 mod halves;
 mod held;

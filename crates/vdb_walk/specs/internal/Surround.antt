@@ -1,9 +1,12 @@
 -- Bounding boxes of coordinates. Only private functions and proofs use these definitions.
-use Rattle.std.specs.Prelude.{Bool, false, ◌&&◌, ◌||◌, List, Option, Some, None, IsTrue}
-use Rattle.vdb_coord.specs.Space.{Box, is_inside}
+use Rattle.std.specs.Prelude.{◌≡◌, Bool, false, ◌&&◌, ◌||◌, List, Option, Some, None, IfSome, IsTrue}
+use Rattle.vdb_coord.specs.Order.{ComesBefore}
+use Rattle.vdb_coord.specs.Space.{Box, everywhere, is_box, is_inside}
 use Rattle.vdb_coord.specs.declared.Bits.{Bits}
 use Rattle.vdb_coord.specs.declared.Coord.{Coord}
 use Rattle.vdb_tree.specs.Field.{Field}
+use Rattle.vdb_tree.specs.Parts.{is_left}
+use Rattle.vdb_walk.specs.Reports.{HoldsActive}
 use Rattle.vdb_walk.specs.internal.Voxels.{is_set}
 
 -- whether a box is given and holds the coordinate
@@ -23,3 +26,13 @@ pub record Surrounds (wanted : Coord → Bool) (found : Option Box) : Type 0 whe
 -- whether the coordinate lies in the box found so far, or is a voxel of the leaf's part whose state is on
 abbrev pub is_wanted_by : Bits → List Bool → Option Box → Box → Coord → Bool
 is_wanted_by bits states found part p = is_in found p || (is_inside part p && is_set bits states p)
+
+-- the box found so far, if any, holds everything from p on that comes before `next`
+abbrev pub IsFoundBetween : Bits → Coord → Coord → Option Box → Type 0
+IsFoundBetween bits p next found = (q : Coord) → IsTrue (is_inside everywhere q) → (ComesBefore bits q p → ⊥) → ComesBefore bits q next → IsTrue (is_in found q)
+
+-- the box found so far holds each active voxel before this coordinate, or each of all, and lies within every box that holds all
+pub record IsFoundTo {V : Type 0} (bits : Bits) (f : Field V) (at : Option Coord) (found : Option Box) : Type 0 where
+  pub holds : (p : Coord) → IsTrue (f.cell p).on → is_left bits at p ≡ false → IsTrue (is_in found p)
+  pub least : (other : Box) → HoldsActive f other → (p : Coord) → IsTrue (is_in found p) → IsTrue (is_inside other p)
+  pub order : IfSome found (λ box. IsTrue (is_box box))
