@@ -1,6 +1,6 @@
 //! Writes the cells, voxels and leaf extents of a tree.
 
-ghost use Rattle.std.specs.Prelude.{◌≡◌, ◌≤◌, ◌*◌, ◌∷◌, ◌++◌, ◌||◌, true, not, is_err, is_some, length, take, IfSome, IsOk, OnOk};
+ghost use Rattle.std.specs.Prelude.{◌≡◌, ◌≤◌, ◌*◌, if◌then◌else◌, ◌∷◌, ◌++◌, ◌||◌, true, not, is_err, is_some, length, take, IfSome, IsOk, OnOk};
 ghost use Rattle.std.specs.Int.{w16, to_be_bytes};
 ghost use Rattle.vdb_coord.specs.Blocks.{block, block_around, entries, sub_block, vdb};
 ghost use Rattle.vdb_coord.specs.declared.Level.TheVariants.{Leaf as leaf_level};
@@ -34,6 +34,14 @@ const VOXEL: usize = 11;
 /// The most bytes of a leaf's voxels, and of one more.
 const VOXELS: usize = 5643;
 
+/// Returns the byte of a state.
+#[inline(always)]
+fn state_byte(on: bool) -> u8
+    ensures { result ≡ (if on then 2 else 1) }
+{
+    if on { 2 } else { 1 }
+}
+
 /// Writes a cell: one byte for its state, and then its value.
 pub(crate) fn put_cell<V: Voxel, W: Write, const C: u32>(
     out: &mut Output<C>,
@@ -44,8 +52,7 @@ pub(crate) fn put_cell<V: Voxel, W: Write, const C: u32>(
     ensures puts { OnOk result (Puts (sent C out.old (W.contents (source writer.old))) (sent C out.new (W.contents (source writer.new))) (cell_bytes V.eq V.bytes_of cell)) }
     ensures failed { has_failed writer.new ≡ (has_failed writer.old || is_err result) }
 {
-    let state = if cell.on { 2 } else { 1 };
-    out.put(writer, [state].as_slice())?;
+    out.put(writer, [state_byte(cell.on)].as_slice())?;
     put_value(out, writer, cell.value)
 }
 
@@ -128,19 +135,21 @@ pub(crate) fn count_listed<V: GridValue>(
     count
 }
 
-/// Returns the bytes of a voxel, its number and then its cell, and how many these are.
+/// Writes a voxel to the start of the bytes, its number and then its cell, and returns how many bytes these are. No byte is read
+/// again, which would wait for it.
 #[inline(always)]
-fn voxel_bytes<V: Voxel>(i: u16, cell: Cell<V>) -> ([u8; VOXEL], usize)
-    ensures few { result.1 ≤ VOXEL }
-    ensures bytes { take result.1 result.0 ≡ to_be_bytes w16 i ++ cell_bytes V.eq V.bytes_of cell }
+fn put_voxel<V: Voxel>(bytes: &mut [u8], i: u16, cell: Cell<V>) -> usize
+    requires { length bytes.old ≡ VOXEL }
+    ensures few { result ≤ VOXEL }
+    ensures length { length bytes.new ≡ VOXEL }
+    ensures bytes { take result bytes.new ≡ to_be_bytes w16 i ++ cell_bytes V.eq V.bytes_of cell }
 {
-    let mut bytes = [0; VOXEL];
     bytes[..2].copy_from_slice(&i.to_be_bytes());
-    bytes[2] = if cell.on { 2 } else { 1 };
+    bytes[2..3].copy_from_slice(&[state_byte(cell.on)]);
     let mut value = [0; 8];
     let count = cell.value.to_bytes(&mut value);
-    bytes[3..].copy_from_slice(&value);
-    (bytes, 3 + count)
+    bytes[3..3 + count].copy_from_slice(&value[..count]);
+    3 + count
 }
 
 /// Encodes those of the first voxels of a leaf that aren't the background, each after its number. Returns how many bytes and how
@@ -163,8 +172,7 @@ fn encode_voxels<V: Stored<8>>(
     let mut count = 0;
     for i in 0..n {
         let cell = leaf.entry(i);
-        let (voxel, size) = voxel_bytes(i as u16, cell);
-        bytes[len..len + VOXEL].copy_from_slice(&voxel);
+        let size = put_voxel(&mut bytes[len..len + VOXEL], i as u16, cell);
         if cell != background {
             len += size;
             count += 1;

@@ -27,16 +27,16 @@ loop-i-preserved g c =
     let long = c.loop-i.invariant.long in
     let less = c.loop-i-test.true in
     let most = c.requires.few in
-    let size = c.voxel_bytes-size.ensures.few in
-    let written = c.copy_from_slice.ensures.len in
+    let put = c.put_voxel-size.ensures in
+    let size = put.few in
+    let whole = put.length in
     let fits : c.loop-i.len + 11 ≤ length c.loop-i.bytes = omega (arith, few, long, less, most) in
-    let whole : length c.copy_from_slice.new.self ≡ 11 = omega (arith, written, length-take-le (c.loop-i.len + 11 - c.loop-i.len) (drop c.loop-i.len c.loop-i.bytes) (omega (arith, fits, length-drop c.loop-i.len c.loop-i.bytes))) in
     record {
       few = elim c.if-ne.branch [
         | then-ne w ↦ let is = w.len-is in omega (arith, is, few, size)
         | else-ne w ↦ let is = w.len-is in omega (arith, is, few)
       ];
-      long = same_len_mid c.loop-i.len (c.loop-i.len + 11 - c.loop-i.len) c.loop-i.bytes c.copy_from_slice.new.self written ∙ long;
+      long = same_len_mid c.loop-i.len (c.loop-i.len + 11 - c.loop-i.len) c.loop-i.bytes c.put_voxel-size.new.bytes (omega (arith, whole, fits, length-take-le 11 (drop c.loop-i.len c.loop-i.bytes), length-drop c.loop-i.len c.loop-i.bytes)) ∙ long;
       count = λ d.
           let e = c.entry-cell.ensures d in
           elim c.if-ne.branch [
@@ -47,12 +47,12 @@ loop-i-preserved g c =
           let e = c.entry-cell.ensures d in
           elim c.if-ne.branch [
             | then-ne w ↦
-                ap (λ (n : ℕ). take n (put_mid c.loop-i.len (c.loop-i.len + 11 - c.loop-i.len) c.loop-i.bytes c.copy_from_slice.new.self)) w.len-is
-                ∙ part_kept 11 c.loop-i.bytes c.copy_from_slice.new.self _ _ c.loop-i.len c.voxel_bytes-size.result.1 fits whole size refl (ap (take c.voxel_bytes-size.result.1) c.copy_from_slice.ensures.after ∙ c.voxel_bytes-size.ensures.bytes)
+                ap (λ (n : ℕ). take n (put_mid c.loop-i.len (c.loop-i.len + 11 - c.loop-i.len) c.loop-i.bytes c.put_voxel-size.new.bytes)) w.len-is
+                ∙ part_kept 11 c.loop-i.bytes c.put_voxel-size.new.bytes _ _ c.loop-i.len c.put_voxel-size.result fits whole size refl put.bytes
                 ∙ voxel_added eq leaf d c.args.background bytes c.loop-i.i c.entry-cell.result e _ (c.loop-i.invariant.bytes d) (sym c.ne.ensures ∙ w.if-ne.true)
             | else-ne w ↦
-                ap (λ (n : ℕ). take n (put_mid c.loop-i.len (c.loop-i.len + 11 - c.loop-i.len) c.loop-i.bytes c.copy_from_slice.new.self)) w.len-is
-                ∙ take-put_mid_below c.loop-i.len (c.loop-i.len + 11 - c.loop-i.len) c.loop-i.bytes c.copy_from_slice.new.self c.loop-i.len (omega arith) (omega (arith, fits))
+                ap (λ (n : ℕ). take n (put_mid c.loop-i.len (c.loop-i.len + 11 - c.loop-i.len) c.loop-i.bytes c.put_voxel-size.new.bytes)) w.len-is
+                ∙ take-put_mid_below c.loop-i.len (c.loop-i.len + 11 - c.loop-i.len) c.loop-i.bytes c.put_voxel-size.new.bytes c.loop-i.len (omega arith) (omega (arith, fits))
                 ∙ voxel_left eq leaf d c.args.background bytes c.loop-i.i c.entry-cell.result e _ (c.loop-i.invariant.bytes d) (sym c.ne.ensures ∙ w.if-ne.false)
           ];
     }
