@@ -19,7 +19,7 @@ ghost use Rattle.vdb_walk.specs.internal.Voxels.{IsNextSetAt};
 use crate::held::{Held, without_leaf};
 use crate::listing::list_past;
 use crate::order::first_past;
-use crate::voxels::next_set;
+use crate::voxels::{block_corner, next_set, voxel_at};
 use vdb_coord::{Bits, Bounds, Coord, Level};
 use vdb_mask::Mask;
 use vdb_node::{Internal, Leaf, Stored};
@@ -222,6 +222,7 @@ fn first_in_leaf<V: Stored<W>, const F: u32, const W: usize>(
 
 /// Returns the answer of `first_in_leaf` if `after` and the leaf's next voxel whose state is on both lie in the part. Otherwise
 /// it returns `None`, and a later voxel may still exist. It is the fast path, for most voxels of a leaf.
+#[inline(always)]
 fn near_in_leaf<V: Stored<W>, const F: u32, const W: usize>(
     leaf: &Leaf<V, F, W>,
     bits: Bits,
@@ -248,10 +249,7 @@ fn near_in_leaf<V: Stored<W>, const F: u32, const W: usize>(
         Some(index) => index,
         None => return None,
     };
-    let voxel = part
-        .min()
-        .entry_block_in(bits, Level::Leaf, index as u16)
-        .min();
+    let voxel = voxel_at(bits, part.min(), block_corner(bits, part), index);
     if !part.contains(voxel) {
         return None;
     }

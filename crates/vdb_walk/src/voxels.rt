@@ -64,16 +64,17 @@ pub(crate) fn next_set_in<const W: usize>(
 }
 
 /// Returns the least corner of the leaf block around the part's least corner.
+#[inline(always)]
 pub(crate) fn block_corner(bits: Bits, part: Bounds) -> Coord
     requires { AreBits bits }
     ensures { result ≡ (block_around bits leaf_level part.min).min }
 {
-    let number = part.min().block_number_in(bits, Level::Leaf);
-    number.numbered_block_in(bits, Level::Leaf).min()
+    part.min().block_in(bits, Level::Leaf).min()
 }
 
 /// Returns the voxel of an entry of the leaf around a coordinate. The leaf's extent has this least corner.
-fn voxel_at(bits: Bits, p: Coord, corner: Coord, entry: u32) -> Coord
+#[inline(always)]
+pub(crate) fn voxel_at(bits: Bits, p: Coord, corner: Coord, entry: u32) -> Coord
     requires configured { AreBits bits }
     requires corner { corner ≡ (block_around bits leaf_level p).min }
     requires within { entry < entries bits leaf_level }
@@ -90,6 +91,7 @@ fn voxel_at(bits: Bits, p: Coord, corner: Coord, entry: u32) -> Coord
 }
 
 /// Returns how many voxels a leaf has along an axis.
+#[inline(always)]
 fn width(leaf: u32) -> u32
     requires { leaf ≤ 5 }
     ensures value { result ≡ 2 ^ leaf }
@@ -100,6 +102,7 @@ fn width(leaf: u32) -> u32
 
 /// Returns the number at this position of the block of `2 ^ bits` numbers around a component. The caller gives the block's first
 /// number.
+#[inline(always)]
 fn component_at(first: i32, component: i32, bits: u32, position: u32) -> i32
     requires few { bits ≤ 5 }
     requires first { first ≡ first_of bits (number_at bits component) }
