@@ -66,10 +66,6 @@ from_not_less m n h = search (rules, tests)
 and_true : (a c : Bool) → a ≡ true → c ≡ true → (a && c) ≡ true
 and_true a c h k = search rules
 
-never_first : (c : Bool) → (c && nat_lt 0 0) ≡ false
-never_first true = refl
-never_first false = refl
-
 module _ {X : Type 0} (b : Box) (s : Strides) (part : Box) (of : Coord → X) (xs : List X) where
   -- nothing is filled before the first row
   pub rows_none : (p : Coord) → p ≡ part.min → IsLaid b s (is_first part (rank part p)) of xs xs

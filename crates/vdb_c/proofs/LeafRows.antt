@@ -3,7 +3,7 @@ use Rattle.std.proofs.Common.{◌≡◌, ◌<◌, ◌≤◌, ◌≢◌, ◌⊎�
 use Rattle.std.specs.Prelude.{nat_eq}
 use Rattle.std.proofs.lemmas.Bool.{cases_eq}
 use Rattle.std.proofs.lemmas.Bool.Decides.{nat_tests}
-use Rattle.std.proofs.lemmas.List.{length-set, places}
+use Rattle.std.proofs.lemmas.List.{places}
 use borrow.Rule.Slice.PartMut.{put_mid}
 use Rattle.std.proofs.Math.Nat.{mul-suc}
 use Rattle.std.proofs.lemmas.Nat.{mul-le}
@@ -21,30 +21,6 @@ module _ {X : Type 0} where
 
   pub run_none : (first : ℕ) (run : ℕ → X → Type 0) (xs : List X) → HasRun first 0 run xs xs
   run_none first run xs = record { len = refl; elements = λ i d l _. absurd (omega (arith, l)); before = λ i d l. refl; after = λ i d l. refl }
-
-  -- an empty array
-  pub run_empty : (first size : ℕ) (run : ℕ → X → Type 0) (xs : List X) → length xs ≡ 0 → HasRun first size run xs xs
-  run_empty first size run xs e = record { len = refl; elements = λ i d _ l. absurd (omega (arith, l, e)); before = λ i d l. refl; after = λ i d l. refl }
-
-  -- one more element
-  module _ (first n : ℕ) (run : ℕ → X → Type 0) (old xs ys : List X) (x : X) (room : first + n < length old) (is : run n x) (stored : ys ≡ set xs (first + n) x) (h : HasRun first n run old xs) where
-    here : first + n < length xs
-    here = omega (arith, room, h.len)
-
-    at : (i : ℕ) (d : X) → i < n + 1 → first + i < length old → (i ≡ n) ⊎ (i ≢ n) → run i (get_or (set xs (first + n) x) (first + i) d)
-    at i d l lt (inl same) = rw same (subst (run n) (sym (get_or-set_same xs (first + n) x d here)) is)
-    at i d l lt (inr other) = subst (run i) (sym (get_or-set_other xs (first + n) (first + i) x d (λ e. other (omega (arith, e))))) (h.elements i d (omega (arith, l, other)) lt)
-
-    set_next : HasRun first (n + 1) run old (set xs (first + n) x)
-    set_next = record {
-      len = length-set xs (first + n) x ∙ h.len;
-      elements = λ i d l lt. at i d l lt (cases_eq i n);
-      before = λ i d l. get_or-set_other xs (first + n) i x d (λ e. absurd (omega (arith, e, l))) ∙ h.before i d l;
-      after = λ i d l. get_or-set_other xs (first + n) i x d (λ e. absurd (omega (arith, e, l))) ∙ h.after i d (omega (arith, l));
-    }
-
-    pub run_next : HasRun first (n + 1) run old ys
-    run_next = subst (HasRun first (n + 1) run old) (sym stored) set_next
 
   pub run_as : (first size : ℕ) (run to : ℕ → X → Type 0) (xs ys : List X) → ((i : ℕ) (x : X) → i < size → run i x → to i x) → HasRun first size run xs ys → HasRun first size to xs ys
   run_as first size run to xs ys f h = record { len = h.len; elements = λ i d l lt. f i (get_or ys (first + i) d) l (h.elements i d l lt); before = h.before; after = h.after }

@@ -73,21 +73,6 @@ version_bytes v = to_be_bytes w16 (version_number v)
 pub no_version : (fault : LoadFault) (old : Position) → Fails (λ n. n < 2 ^ 16) (to_be_bytes w16) fault old → Fails (λ (v : Version). ⊤) version_bytes fault old
 no_version fault old h = fails_turn (λ (v : Version). ⊤) version_bytes (λ n. n < 2 ^ 16) (to_be_bytes w16) version_number fault old (λ v p. small_version v) (λ v p. refl) h
 
--- a number that is no version was read
-pub other_version : (fault : LoadFault) (old mid : Position) (n : ℕ) → n < 2 ^ 16 → Took old mid (to_be_bytes w16 n) → (n ≡ 1 → ⊥) → (n ≡ 2 → ⊥) → Fails (λ (v : Version). ⊤) version_bytes fault old
-other_version fault old mid n small took not_one not_two =
-    fails_after (λ (v : Version). ⊤) version_bytes (to_be_bytes w16 n) (λ v. n ≡ version_number v) version_bytes (λ v. []) fault old mid took (λ v p. says_u16 n (version_number v) small (small_version v)) (λ v p. refl)
-    (fails_none (λ (v : Version). ⊤ × (n ≡ version_number v)) (λ v. []) fault mid none)
-  where
-    none : (v : Version) → ⊤ × (n ≡ version_number v) → ⊥
-    none One p = not_one p.1
-    none Two p = not_two p.1
-
-pub starts_with_other : (a b : Option (List ℕ)) (n : ℕ) → n < 2 ^ 16 → Consumes a b (to_be_bytes w16 n) → (n ≡ 1 → ⊥) → (n ≡ 2 → ⊥) → IfSome a StartsWithOther
-starts_with_other None b n small took not_one not_two = tt
-starts_with_other (Some x) None n small took not_one not_two = absurd took
-starts_with_other (Some x) (Some y) n small took not_one not_two = record { number = n; rest = y; begins = took; small = small; not_one = not_one; not_two = not_two }
-
 -- the version comes after `VDBS`
 pub has_other_version : (a b : Option (List ℕ)) → Consumes a b (codes "VDBS") → IfSome b StartsWithOther → IfSome a HasOtherVersion
 has_other_version None b took h = tt

@@ -77,12 +77,6 @@ module _ {A : Type 0} (P : A → Type 0) (code : A → List ℕ) where
   pub fails_none : (fault : LoadFault) (old : Position) → ((a : A) → P a → ⊥) → Fails P code fault old
   fails_none fault old h = record { none = λ claims. some_any old.known (λ bytes. NoFront P code bytes old.capacity) (λ bytes a rest p fits e. h a p) }
 
-  -- the code is too long
-  pub fails_long : (fault : LoadFault) (old : Position) → ((a : A) → P a → old.capacity < length (code a)) → Fails P code fault old
-  fails_long fault old h = record {
-    none = λ claims. some_any old.known (λ bytes. NoFront P code bytes old.capacity) (λ bytes a rest p fits e. let long = h a p in absurd (omega (arith, long, fits)));
-  }
-
   -- the reader ended before the field did
   pub fails_short : (text : List ℕ) (fault : LoadFault) (old mid : Position) → Took old mid text → IsAtEnd mid.known → ((a : A) → P a → length text < length (code a)) → Fails P code fault old
   fails_short text fault old mid took end h = record { none = λ claims. short old.known mid.known took.bytes end }

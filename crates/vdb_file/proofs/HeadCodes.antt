@@ -166,33 +166,6 @@ module _ {V : Type 0} {eq : V → V → Bool} {value_bytes : V → List ℕ} {P 
         same (One c) p = absurd p.1
         same (Node n) p = refl
 
-    -- the byte was no tag of a head
-    pub no_head_tag : (n : ℕ) → (n ≡ 1 → ⊥) → (n ≡ 2 → ⊥) → (n ≡ 3 → ⊥) → (fault : LoadFault) (old mid : Position) → Took old mid (n ∷ []) → Fails (IsHead eq P background most) (head_bytes eq value_bytes) fault old
-    no_head_tag n one two three fault old mid took =
-        fails_after (IsHead eq P background most) (head_bytes eq value_bytes) (n ∷ []) (λ x. ⊥) front behind fault old mid took
-        says split
-        (fails_none (λ x. IsHead eq P background most x × ⊥) behind fault mid (λ x p. p.1))
-      where
-        front : Head V → List ℕ
-        front (One c) = tag c.on ∷ []
-        front (Node n) = 3 ∷ []
-
-        behind : Head V → List ℕ
-        behind (One c) = value_bytes c.value
-        behind (Node n) = to_be_bytes w16 n
-
-        apart : (on : Bool) → n ≡ tag on → ⊥
-        apart true e = two e
-        apart false e = one e
-
-        says : (x : Head V) → IsHead eq P background most x → Says (n ∷ []) (front x) ⊥
-        says (One c) p = says_never n (tag c.on) [] [] (apart c.on)
-        says (Node m) p = says_never n 3 [] [] three
-
-        split : (x : Head V) → IsHead eq P background most x → head_bytes eq value_bytes x ≡ front x ++ behind x
-        split (One c) p = refl
-        split (Node m) p = refl
-
     -- the bytes of a head determine it
     pub says_head : most < 2 ^ 16 → IsCode (IsHead eq P background most) (head_bytes eq value_bytes)
     says_head few (One c) (One d) pc pd = says_map (ap One) (says_cell values c d pc.value pd.value)

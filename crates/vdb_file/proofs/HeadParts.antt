@@ -7,10 +7,9 @@ use Rattle.vdb_file.specs.Spelling.{pairs_bytes}
 use Rattle.vdb_file.specs.internal.Parts.{IsHead, IsLimit, head_code}
 use Rattle.vdb_file.specs.internal.Reading.{Fails, Position, Took}
 use Rattle.vdb_file.specs.declared.fault.LoadFault.{LoadFault}
-use Rattle.vdb_file.specs.declared.loading.versions.Version.TheVariants.{One, Two}
+use Rattle.vdb_file.specs.declared.loading.versions.Version.TheVariants.{Two}
 use Rattle.vdb_file.proofs.Numbers.{says_u32}
-use Rattle.vdb_file.proofs.Fronts.{fails_after, fails_first, fails_none, fails_turn, took_both, took_nothing}
-use Rattle.vdb_file.proofs.PairParts.{none_are_pairs}
+use Rattle.vdb_file.proofs.Fronts.{fails_after, fails_first, fails_none, fails_turn, took_both}
 
 -- a limit has four bytes
 small_limit : (n : ℕ) → IsLimit n → n < 2 ^ 32
@@ -42,8 +41,3 @@ module _ (fault : LoadFault) (old : Position) where
 pub head_read : (old mid new : Position) (n : ℕ) (ps : Pairs) → IsLimit n → ArePairs ps → Took old mid (to_be_bytes w32 n) → Took mid new (pairs_bytes ps)
     → IsHead Two (record { limit = n; pairs = ps }) × Took old new (head_code Two (record { limit = n; pairs = ps }))
 head_read old mid new n ps is are first more = (record { positive = is.0; limited = is.1; pairs = are; old = tt }, took_both old mid new (to_be_bytes w32 n) (pairs_bytes ps) first more)
-
--- version 1 has no bytes for the limit and the pairs
-pub old_head : (p : Position) (ps : Pairs) → ps ≡ [] → IsHead One (record { limit = 4096; pairs = ps }) × Took p p (head_code One (record { limit = 4096; pairs = ps }))
-old_head p ps e =
-    (record { positive = omega arith; limited = omega arith; pairs = subst ArePairs (sym e) none_are_pairs; old = (refl, e) }, took_nothing p)

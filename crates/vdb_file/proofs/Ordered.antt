@@ -57,10 +57,6 @@ module _ {K : Type 0} {cmp : K → K → Ordering} (total : IsTotalOrder cmp) wh
   pub not_before : (k : K) → cmp k k ≡ Less → ⊥
   not_before k h = let back : cmp k k ≡ ordering_reverse (cmp k k) = total.antisymm k k in let more : Less ≡ ordering_reverse Less = sym h ∙ back ∙ ap ordering_reverse h in cc
 
-  pub follows_on : (before : Option K) (k l : K) → Follows cmp before k → cmp k l ≡ Less → Follows cmp before l
-  follows_on None k l f h = tt
-  follows_on (Some b) k l f h = total.trans b k l f h
-
   -- one more member of a sorted list is kept: one past all that were kept before
   pub one_kept_more : (s t : K → Bool) (k : K) (xs : List K) → IsStrictlySortedBy cmp xs → (i : ℕ) → i < length xs → slice_index_or xs i k ≡ k
       → ((l : K) → Contains xs l → (l ≡ k → ⊥) → t l ≡ s l) → t k ≡ true → s k ≡ false → ((l : K) → Contains xs l → cmp k l ≡ Less → s l ≡ false)

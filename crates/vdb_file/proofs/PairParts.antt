@@ -1,9 +1,9 @@
 -- Reads metadata pairs.
-use Rattle.std.proofs.Common.{◌≡◌, ℕ, ◌<◌, ◌≤◌, true, List, [], ◌∷◌, length, refl, sym, subst, arith}
+use Rattle.std.proofs.Common.{◌≡◌, ℕ, true, List, [], ◌∷◌, length, refl, sym, arith}
 use Rattle.std.specs.Prelude.{Option, ⊤}
 use Rattle.std.specs.List.{flat_map}
 use Rattle.std.specs.List.Sorted.{IsStrictlySortedBy}
-use Rattle.vdb_scene.specs.Metas.{Pairs, is_text}
+use Rattle.vdb_scene.specs.Metas.{is_text}
 use Rattle.vdb_scene.specs.ValidScenes.{ArePairs, IsPair}
 use Rattle.vdb_file.specs.Spelling.{counted, pairs_bytes}
 use Rattle.vdb_file.specs.internal.Parts.{AreItems, IsItem, IsNext, name_of, pair_bytes}
@@ -12,7 +12,7 @@ use Rattle.vdb_file.specs.declared.fault.LoadFault.{LoadFault}
 use Rattle.vdb_file.proofs.Unambiguous.{IsCode, says_byte}
 use Rattle.vdb_file.proofs.Numbers.{says_counted}
 use Rattle.vdb_file.proofs.Pairs.{says_pair}
-use Rattle.vdb_file.proofs.Fronts.{fails_after, fails_first, fails_none, fails_turn, took_both}
+use Rattle.vdb_file.proofs.Fronts.{fails_after, fails_first, fails_turn, took_both}
 
 -- the bytes of a pair determine it
 pub pair_code : IsCode IsPair pair_bytes
@@ -52,19 +52,8 @@ module _ (fault : LoadFault) (old : Position) where
     after_pair_count : Fails (λ ps. ArePairs ps × (n ≡ length ps)) (flat_map pair_bytes) fault mid → Fails ArePairs pairs_bytes fault old
     after_pair_count h = fails_after ArePairs pairs_bytes (n ∷ []) (λ ps. n ≡ length ps) (λ ps. length ps ∷ []) (flat_map pair_bytes) fault old mid took (λ ps p. says_byte n (length ps)) (λ ps p. refl) h
 
-    -- no grid has this many pairs
-    pub too_many_pairs : 16 < n → Fails ArePairs pairs_bytes fault old
-    too_many_pairs h = after_pair_count (fails_none (λ ps. ArePairs ps × (n ≡ length ps)) (flat_map pair_bytes) fault mid (λ ps p. let few = p.0.few in absurd (omega (arith, few, p.1, h))))
-
     -- this many pairs aren't ahead
     pub no_pairs : Fails (AreItems IsPair name_of n) (flat_map pair_bytes) fault mid → Fails ArePairs pairs_bytes fault old
     no_pairs h =
         after_pair_count (fails_turn (λ ps. ArePairs ps × (n ≡ length ps)) (flat_map pair_bytes) (AreItems IsPair name_of n) (flat_map pair_bytes) (λ ps. ps) fault mid
         (λ ps p. record { count = sym p.1; each = p.0.each; in_order = p.0.in_order }) (λ ps p. refl) h)
-
--- the count and the pairs were read
-pub pairs_read : (old mid new : Position) (n : ℕ) (ps : Pairs) → n ≤ 16 → AreItems IsPair name_of n ps → Took old mid (n ∷ []) → Took mid new (flat_map pair_bytes ps) → ArePairs ps × Took old new (pairs_bytes ps)
-pairs_read old mid new n ps few are first more = (
-  record { few = omega (arith, are.count, few); in_order = are.in_order; each = are.each },
-  subst (λ k. Took old new (k ∷ flat_map pair_bytes ps)) (sym are.count) (took_both old mid new (n ∷ []) (flat_map pair_bytes ps) first more),
-)

@@ -6,7 +6,6 @@ use Rattle.std.specs.declared.cmp.Ordering.TheVariants.{Less}
 use Rattle.std.proofs.lemmas.List.FromFn.{length-range_with_len}
 use Rattle.vdb_coord.proofs.Nesting.{entry_holds, number_in_block}
 use Rattle.vdb_coord.proofs.Positions.{offset_below}
-use Rattle.vdb_file.proofs.Kept.{few_kept}
 use Rattle.vdb_file.proofs.RowFrames.{below_member, member_below}
 use Rattle.std.specs.List.Sorted.{IsStrictlySortedBy}
 use Rattle.std.specs.Int.{w16, to_be_bytes}
@@ -27,13 +26,13 @@ use Rattle.vdb_tree.proofs.Constants.{entries_few}
 use Rattle.vdb_file.specs.Bodies.{key_bytes, leaf_body, lower_body, root_body, voxel_body}
 use Rattle.vdb_file.proofs.Unambiguous.{Says}
 use Rattle.vdb_file.proofs.Numbers.{FitsKey, says_key, says_u16}
-use Rattle.vdb_file.proofs.Agreement.{Agree, AreAlike, AreValues, is_held}
+use Rattle.vdb_file.proofs.Agreement.{Agree, AreAlike, AreValues}
 use Rattle.vdb_file.proofs.Bodies.{entry_is_leaf, entry_is_lower, says_leaf, says_lower, says_voxel}
 use Rattle.vdb_file.proofs.Roots.{all_coordinates_have, coordinates_have, key_fits, says_root_block}
 use Rattle.vdb_file.proofs.Sorted.{coordinates_sorted}
 use Rattle.vdb_file.proofs.Ordered.{at_member}
 use Rattle.vdb_file.proofs.RowFrames.{leaf_same, lower_same, root_same, voxel_same}
-use Rattle.vdb_file.proofs.Rows.{IsRow, Row, held}
+use Rattle.vdb_file.proofs.Rows.{IsRow, Row}
 
 -- ---- the entries of a block
 
@@ -58,10 +57,6 @@ numbers_sorted bits level = range_sorted 0 (entries bits level)
 pub numbers_count : (bits : Bits) (level : Level) → length (entry_numbers bits level) ≡ entries bits level
 unfolding entry_numbers
 numbers_count bits level = length-range_with_len 0 (entries bits level)
-
--- the count of the listed entries fits 16 bits
-pub few_held : {V : Type 0} (eq : V → V → Bool) (bits : Bits) (few : AreBits bits) (level : Level) (b : Box) (body : Field V → Box → List ℕ) (f : Field V) → length (held eq (node_row bits level b body) f) < 2 ^ 16
-few_held eq bits few level b body f = let kept = few_kept (is_held eq (sub_block bits level b) f) (entry_numbers bits level) in omega (arith, kept, numbers_count bits level, entries_few bits level few)
 
 module _ {V : Type 0} {eq : V → V → Bool} {value_bytes : V → List ℕ} {P : V → Type 0} (values : AreValues eq value_bytes P) (bits : Bits) (few : AreBits bits) (c : Coord) where
   module _ (level : Level) (body : Field V → Box → List ℕ) where

@@ -49,14 +49,6 @@ module _ (version : Version) (fault : LoadFault) (old : Position) where
         after_grid_count (fails_turn (λ s. IsSceneOf version s × (n ≡ length s)) (flat_map (named_bytes version)) (AreItems (IsNamed version) name_of n) (flat_map (named_bytes version)) (λ s. s) fault mid
         (λ s p. record { count = sym p.1; each = p.0.grids; in_order = p.0.in_order }) (λ s p. refl) h)
 
--- the count and the grids were read
-pub grids_read : (version : Version) (old mid new : Position) (n : ℕ) (s : Scene) → n ≤ 64 → AreItems (IsNamed version) name_of n s → Took old mid (to_be_bytes w16 n) → Took mid new (flat_map (named_bytes version) s)
-    → IsSceneOf version s × Took old new (scene_bytes version s)
-grids_read version old mid new n s few are first more = (
-  record { few = omega (arith, are.count, few); in_order = are.in_order; grids = are.each },
-  subst (λ k. Took old new (to_be_bytes w16 k ++ flat_map (named_bytes version) s)) (sym are.count) (took_both old mid new (to_be_bytes w16 n) (flat_map (named_bytes version) s) first more),
-)
-
 -- ---- a file
 
 -- two versions with one number are equal

@@ -1,33 +1,16 @@
 -- Reads bytes after their count.
-use Rattle.std.proofs.Common.{◌≡◌, ℕ, ◌<◌, ◌≤◌, Bool, true, false, List, [], ◌∷◌, length, refl, sym, subst, ◌∙◌, arith, append-nil}
-use Rattle.std.specs.Prelude.{◌&&◌, nat_lt, nat_le, ⊤}
-use Rattle.std.specs.List.{list_all}
-use Rattle.std.proofs.lemmas.Bool.{leb-true, ltb-true}
-use Rattle.vdb_scene.specs.Metas.{is_text, is_text_byte}
-use Rattle.vdb_scene.specs.Names.{is_lower, is_name, is_name_byte}
+use Rattle.std.proofs.Common.{◌≡◌, ℕ, Bool, true, false, List, [], ◌∷◌, length, refl, sym, subst, ◌∙◌, append-nil}
+use Rattle.std.specs.Prelude.{◌&&◌, ⊤}
 use Rattle.vdb_file.specs.Spelling.{counted}
 use Rattle.vdb_file.specs.internal.Reading.{Fails, Position, Took}
 use Rattle.vdb_file.specs.declared.fault.LoadFault.{LoadFault}
 use Rattle.vdb_file.proofs.Unambiguous.{says_byte, says_fixed}
-use Rattle.vdb_file.proofs.Fronts.{fails_after, fails_first, fails_none, fails_turn, took_both}
+use Rattle.vdb_file.proofs.Fronts.{fails_after, fails_first, fails_none, fails_turn}
 
 third : (a b c : Bool) → (a && b && c) ≡ true → c ≡ true
 third true true c h = h
 third true false c h = cc
 third false b c h = cc
-
--- a name has few bytes
-pub few_of_name : (name : List ℕ) → is_name name ≡ true → length name ≤ 16
-few_of_name [] h = cc
-few_of_name (b ∷ bytes) h = let lt = ltb-true (length bytes) 16 (third (is_lower b) (list_all is_name_byte bytes) (nat_lt (length bytes) 16) h) in omega (arith, lt)
-
--- a text has few bytes
-pub few_of_text : (text : List ℕ) → is_text text ≡ true → length text ≤ 64
-few_of_text text h = leb-true (length text) 64 (third (list_all is_text_byte text) (nat_le 1 (length text)) (nat_le (length text) 64) h)
-
--- the count and the bytes were read
-pub counted_read : (old mid new : Position) (len : ℕ) (bytes : List ℕ) → Took old mid (len ∷ []) → Took mid new bytes → length bytes ≡ len → Took old new (counted bytes)
-counted_read old mid new len bytes first more same = subst (λ n. Took old new (n ∷ bytes)) (sym same) (took_both old mid new (len ∷ []) bytes first more)
 
 module _ (P : List ℕ → Type 0) (fault : LoadFault) (old : Position) where
   -- no count is ahead
@@ -38,10 +21,6 @@ module _ (P : List ℕ → Type 0) (fault : LoadFault) (old : Position) where
     -- the count was read
     after_count : Fails (λ t. P t × (len ≡ length t)) (λ t. t) fault mid → Fails P counted fault old
     after_count h = fails_after P counted (len ∷ []) (λ t. len ≡ length t) (λ t. length t ∷ []) (λ t. t) fault old mid took (λ t p. says_byte len (length t)) (λ t p. refl) h
-
-    -- no text has this length
-    pub no_length : (most : ℕ) → ((t : List ℕ) → P t → length t ≤ most) → most < len → Fails P counted fault old
-    no_length most few h = after_count (fails_none (λ t. P t × (len ≡ length t)) (λ t. t) fault mid (λ t p. let short = few t p.0 in absurd (omega (arith, short, p.1, h))))
 
     -- the bytes aren't ahead
     pub no_bytes : Fails (λ bytes. length bytes ≡ len) (λ bytes. bytes) fault mid → Fails P counted fault old

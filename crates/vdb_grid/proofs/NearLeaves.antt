@@ -1,6 +1,6 @@
 -- Paths within one leaf extent.
 use Rattle.std.proofs.Common.{◌≡◌, ℕ, ◌+◌, ◌-◌, ◌≤◌, Bool, true, false, refl, sym, ap, subst, ◌∙◌, arith, inl, inr, List, rules}
-use Rattle.std.specs.Prelude.{Option, Some, None, IfSome, IsSome, is_some, slice_set}
+use Rattle.std.specs.Prelude.{Option, Some, None, IfSome, IsSome, is_some}
 use Rattle.vdb_coord.specs.Blocks.{block_number, vdb}
 use Rattle.vdb_coord.specs.Space.{coord_eq}
 use Rattle.vdb_coord.specs.declared.Coord.{Coord}
@@ -23,7 +23,6 @@ use Rattle.vdb_tree.proofs.Levels.{bool_cases}
 use Rattle.vdb_tree.proofs.Needed.{some_or_none}
 use Rattle.vdb_tree.proofs.Paths.{common_lives, no_leaf_lower, no_leaf_upper}
 use Rattle.vdb_grid.specs.Grid.{ArePathsWhole, has_leaf, last, path}
-use Rattle.vdb_grid.proofs.EachAccessor.{whole_moved}
 
 coord_self : (a b : Coord) → a ≡ b → coord_eq a b ≡ true
 coord_self a b e = rw e (coord_equiv.refl b)
@@ -94,13 +93,6 @@ whole_of_leaf t (ToLeaf u l f) p e h = record {
   whole = let a = h.0.child in let b = h.1.child in let d = h.2.child in rw (d, b, a) refl;
 }
 
--- a path that shares a leaf with p ends in one
-pub shares_leaf : {V : Type 0} (q p : Coord) (path : TreePath V) → ends_in_leaf (common vdb q p path) ≡ true → ends_in_leaf path ≡ true
-shares_leaf q p Empty e = e
-shares_leaf q p (ToUpper u) e = absurd (apart (sym e ∙ no_leaf_upper vdb q p u))
-shares_leaf q p (ToLower u l) e = absurd (apart (sym e ∙ no_leaf_lower vdb q p u l))
-shares_leaf q p (ToLeaf u l f) e = refl
-
 module _ {V : Type 0} (t : Layout V) (q p : Coord) (path : TreePath V) where
   leaf_depth : (other : TreePath V) → ends_in_leaf other ≡ true → depth other ≡ 3
   leaf_depth Empty e = absurd (apart (sym e))
@@ -146,14 +138,6 @@ leaf_down t coords paths k p (Some q) h s e = let below = leaf_visit t q p (path
 pub near_down : {V : Type 0} (t : Layout V) (coords : List (Option Coord)) (paths : List (TreePath V)) (k : ℕ) (p : Coord) (old new : ℕ)
     → ArePathsWhole t coords paths → has_leaf (last coords k) (path paths k) p ≡ true → new ≤ old + 1 → new ≤ old + down_count vdb t p
 near_down t coords paths k p old new h e few = let down = leaf_down t coords paths k p (last coords k) h refl e in omega (arith, few, down)
-
--- the paths of accessors after a write in the leaf that one of them ends in
-pub whole_near : {V : Type 0} (old new : Layout V) (coords : List (Option Coord)) (paths : List (TreePath V)) (k : ℕ) (q p : Coord)
-    → ArePathsWhole old coords paths → last coords k ≡ Some q → ends_in_leaf (common vdb q p (path paths k)) ≡ true
-    → ((other : TreePath V) (r : Coord) → IsWhole vdb old other r → IsWhole vdb new other r)
-    → ArePathsWhole new (slice_set coords k (Some p)) paths
-whole_near old new coords paths k q p h s e keeps =
-    whole_moved new coords paths k p (λ j r f. keeps (path paths j) r (h j r f)) (keeps (path paths k) p (whole_here old q p (path paths k) e (h k q s)))
 
 -- another leaf in a slot leaves every entry as it was
 leaf_entries : {V : Type 0} (t : Layout V) (leaves : Contents (LeafOf V)) (level : Level) (q : Coord) → entry_over vdb level (record t { leaves = leaves }) q ≡ entry_over vdb level t q

@@ -1,9 +1,8 @@
 -- Whole numbers from one to another, one after another.
-use Rattle.std.proofs.Common.{◌≡◌, refl, sym, ap, ◌∙◌, ℕ, zero, suc, ◌+◌, ◌≤◌, ◌<◌, ℤ, pos, negsuc, ◌+ℤ◌, ◌≤ℤ◌, ◌<ℤ◌, true, false, cond, [], ◌∷◌, map, Option, Some, length, int_le, arith}
+use Rattle.std.proofs.Common.{◌≡◌, refl, sym, ap, ◌∙◌, ℕ, zero, suc, ◌+◌, ◌<◌, ℤ, pos, negsuc, ◌+ℤ◌, ◌<ℤ◌, true, [], ◌∷◌, map, Option, Some, length, int_le, arith}
 use Rattle.std.specs.List.{range_with_len}
 use Rattle.std.proofs.lemmas.List.FromFn.{length-map-range_with_len}
 use Rattle.std.proofs.lemmas.List.{length-map}
-use Rattle.std.specs.Int.{int_gap}
 use Rattle.std.proofs.lemmas.Int.{ints}
 use Rattle.vdb_coord.specs.Space.{extent, range}
 use Rattle.vdb_scene.specs.Grids.{grid_field}
@@ -34,23 +33,6 @@ pub range_next : (low high : ℤ) → int_le low high ≡ true → range low hig
 range_next low high h =
     ap (λ n. map (λ k. low +ℤ pos k) (range_with_len 0 n)) (longer low high h)
     ∙ (λ i. first low i ∷ shifted (λ k. low +ℤ pos k) (λ k. (low +ℤ pos 1) +ℤ pos k) (further low) 0 (extent (low +ℤ pos 1) high) i)
-
--- none where the first is past the last
-pub range_none : (low high : ℤ) → int_le low high ≡ false → range low high ≡ []
-range_none low high h = ap (λ b. map (λ k. low +ℤ pos k) (range_with_len 0 (cond b (int_gap low high + 1) 0))) h
-
--- more numbers than a limit
-pub long_if : (low high : ℤ) (most : ℕ) → (low +ℤ pos most) ≤ℤ high → most < extent low high
-long_if (pos a) (pos b) most h = grind (arith, ints)
-long_if (pos a) (negsuc b) most h = grind (arith, ints)
-long_if (negsuc a) (pos b) most h = grind (arith, ints)
-long_if (negsuc a) (negsuc b) most h = grind (arith, ints)
-
-pub short_if : (low high : ℤ) (most : ℕ) → high <ℤ (low +ℤ pos most) → extent low high ≤ most
-short_if (pos a) (pos b) most h = grind (arith, ints)
-short_if (pos a) (negsuc b) most h = grind (arith, ints)
-short_if (negsuc a) (pos b) most h = grind (arith, ints)
-short_if (negsuc a) (negsuc b) most h = grind (arith, ints)
 
 less_or_equal : (x y : ℤ) → x <ℤ y → int_le x y ≡ true
 less_or_equal (pos a) (pos b) h = grind (arith, ints)

@@ -1,5 +1,5 @@
 -- Steps of the abstract scene, from facts about a command.
-use Rattle.std.proofs.Common.{◌≡◌, refl, ap, ◌∙◌, ℕ, Bool, true, false, cond, ◌&&◌, not, List, [], ◌∷◌, Option, Some, None, unwrap_or, Ok, Err, inl, inr}
+use Rattle.std.proofs.Common.{◌≡◌, refl, ap, ◌∙◌, ℕ, Bool, true, false, cond, ◌&&◌, not, List, [], ◌∷◌, Option, Some, None, unwrap_or, Err, inl, inr}
 use Rattle.vdb_scene.specs.Doing.{CarriesOut, ShowsStep}
 use Rattle.vdb_tree.specs.Field.{Field}
 use Rattle.vdb_scene.specs.Scalars.{kind_of}
@@ -10,7 +10,6 @@ use Rattle.vdb_scene.specs.Arguments.{is_accessor, is_coord}
 use Rattle.vdb_scene.specs.Refusals.{first_of_all}
 use Rattle.vdb_scene.specs.Replies.{Refused}
 use Rattle.vdb_scene.specs.Step.{refusal}
-use Rattle.vdb_scene.specs.declared.answer.Answer.{Answer}
 use Rattle.vdb_scene.specs.declared.answer.Answer.TheVariants as answers
 use Rattle.vdb_scene.specs.declared.answer.Refusal.{Refusal}
 use Rattle.vdb_scene.specs.declared.answer.Refusal.TheVariants as refusals
@@ -93,10 +92,6 @@ test_fails true x h = absurd (some_none x h)
     some_none : {A : Type 0} (x : A) → Some x ≡ None → ⊥
     some_none x h = cc
 test_fails false x h = refl
-
--- a command that was carried out is a step
-pub step_done : (s : Scene) (c : Command) (answer : Answer) (next : Scene) → CarriesOut s c (Ok answer) next → ShowsStep s c answer next
-step_done s c answer next h = (h.1.0, h.1.1, inr (inl (h.0, h.1.2, h.2)))
 
 -- and so is one that failed
 pub step_refused : (s : Scene) (c : Command) (r : Refusal) (next : Scene) → CarriesOut s c (Err r) next → ShowsStep s c (answers.Refused r) next

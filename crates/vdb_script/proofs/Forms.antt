@@ -214,14 +214,6 @@ pub no_count : (tokens : List (List ℕ)) → length tokens ≢ 2 → length tok
 no_count tokens two seven =
     or_neither (count_box tokens) (count_all tokens) (whole_takes 7 count_box tokens count_box_takes seven) (whole_takes 2 count_all tokens count_all_takes two)
 
-or_other : (a b : Option (Command × List (List ℕ))) → ((found : Command × List (List ℕ)) → a ≡ Some found → ⊥) → or_else a b ≡ b
-or_other None b none = refl
-or_other (Some found) b none = absurd (none found refl)
-
--- two tokens are a count of all, or of nothing
-pub count_of_two : (tokens : List (List ℕ)) → length tokens ≡ 2 → count tokens ≡ count_all tokens
-count_of_two tokens two = or_other (count_box tokens) (count_all tokens) (λ found e. let many = count_box_takes.count tokens found.0 found.1 e in omega (arith, two, many))
-
 or_whole : (a b : Option (Command × List (List ℕ))) → Err refusals.Syntax ≡ whole b → whole (or_else a b) ≡ whole a
 or_whole None b h = sym h
 or_whole (Some (c, rest)) b h = refl

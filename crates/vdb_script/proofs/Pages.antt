@@ -11,10 +11,6 @@ module _ (a b : Option (List ℕ)) where
   pub cut_before : (bytes more all : List ℕ) → HasCut a b bytes → all ≡ bytes ++ more → HasCut a b all
   cut_before bytes more all h is = (h.0, h.1 ++ more, is ∙ ap (λ l. l ++ more) h.2 ∙ append_assoc h.0 h.1 more, h.3)
 
-  -- nothing is added
-  pub added_none : (before : List ℕ) → Appends a b [] → HasAdded a b before [] before
-  added_none before h = ([], append-nil before, h)
-
 module _ (a b c : Option (List ℕ)) (before part mid : List ℕ) (h : HasAdded a b before part mid) where
   joined : (more behind after : List ℕ) → mid ++ more ≡ behind ++ after → before ++ (part ++ more) ≡ (h.0 ++ behind) ++ after
   joined more behind after is =
@@ -64,12 +60,6 @@ module _ {X : Type 0} (f : X → List ℕ) (all left rest : List X) (x : X) (nex
   so_far_cut g =
       cut_before a c (before ++ (h.0 ++ part)) (flat_map f rest) (before ++ flat_map f all) (cut_later a b c before h.0 mid h.2 part g)
       (ap (λ l. before ++ l) (split ∙ sym (append_assoc h.0 part (flat_map f rest))) ∙ sym (append_assoc before (h.0 ++ part) (flat_map f rest)))
-
--- all items were added
-pub so_far_all : {X : Type 0} (f : X → List ℕ) (all left : List X) (a b : Option (List ℕ)) (before after : List ℕ) → left ≡ [] → AddedSoFar f all left a b before after → HasAdded a b before (flat_map f all) after
-so_far_all f all left a b before after none h =
-    let whole : flat_map f all ≡ h.0 = h.1 ∙ ap (λ xs. h.0 ++ flat_map f xs) none ∙ append-nil h.0 in
-    subst (λ text. HasAdded a b before text after) (sym whole) h.2
 
 -- ---- a text of items and a last line, from an empty page on
 

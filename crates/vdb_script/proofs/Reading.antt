@@ -1,12 +1,12 @@
 -- Lemmas on a line that is read piece by piece.
 use Rattle.std.proofs.Common.{◌≡◌, ◌≢◌, ℕ, ◌+◌, ◌<◌, ◌≤◌, ◌↔◌, Bool, true, false, if◌then◌else◌, IsTrue, List, [], ◌∷◌, ◌++◌, Option, None, Some, ap, sym, ◌∙◌, subst, length, take, drop, get_or, add-one, length-append, length-take, append-nil, append_assoc, drop-cons, take-append-drop, arith, rules}
-use Rattle.std.specs.Io.KnownBytes.{Consumes, Keeps, IsAtEnd, prepend_known}
+use Rattle.std.specs.Io.KnownBytes.{Consumes, Keeps, prepend_known}
 use Rattle.std.proofs.KnownBytes.{Consumes-kept, Consumes-trans}
 use Rattle.std.proofs.lemmas.List.Elements.{All-append, All-from_get_or}
 use Rattle.std.proofs.lemmas.List.{get_or-take}
 use Rattle.std.proofs.lemmas.Bool.{eqb-true, eq-eqb}
 use Rattle.memchr.specs.Find.{Nowhere, Passes, is_byte}
-use Rattle.vdb_script.specs.Reading.{Stock, ahead, budget, NoNewline, KeepsText, YieldsUpTo, YieldsTooMuch, YieldsPart}
+use Rattle.vdb_script.specs.Reading.{Stock, ahead, budget, NoNewline, KeepsText, YieldsUpTo}
 
 -- These bytes of a line have come, and no newline yet.
 pub record Takes (old new : Option (List ℕ)) (before after : Stock) (line : List ℕ) : Type 0 where
@@ -46,34 +46,6 @@ Takes-newline a known before mid after line part t split same inside =
       inside = All-append (λ y. y ≢ 10) line part t.inside inside;
       last = λ e. cc;
     }
-
--- the script's end comes
-pub Takes-end : (a b c : Option (List ℕ)) (before mid after : Stock) (line : List ℕ) → Takes a b before mid line → Keeps b c → IsAtEnd c → after.ended ≡ true → budget after ≡ budget mid → YieldsUpTo a c before after true line
-Takes-end a b c before mid after line t kept end ended same = record {
-  bytes = rw (append-nil line) (Consumes-kept a b c line t.bytes kept);
-  budget = rw (append-nil line) (omega (arith, t.budget));
-  inside = t.inside;
-  last = λ e. (ended, end);
-}
-
--- a byte past the script's limit comes
-pub Takes-further : (a b c : Option (List ℕ)) (before mid : Stock) (line : List ℕ) → Takes a b before mid line → budget mid ≡ 0 → (further : ℕ) × Consumes b c (further ∷ []) → YieldsTooMuch a c before
-Takes-further a b c before mid line t none next = record {
-  part = line;
-  further = next.0;
-  bytes = Consumes-trans a b c line (next.0 ∷ []) t.bytes next.1;
-  budget = omega (arith, t.budget);
-  inside = t.inside;
-}
-
--- the reader fails
-pub Takes-fault : (a b c : Option (List ℕ)) (before mid : Stock) (line : List ℕ) → Takes a b before mid line → Keeps b c → YieldsPart a c before
-Takes-fault a b c before mid line t kept = record {
-  part = line;
-  bytes = Consumes-kept a b c line t.bytes kept;
-  budget = omega (arith, t.budget);
-  inside = t.inside;
-}
 
 -- no byte before a place is a newline
 pub none_before : (bytes : List ℕ) (n : ℕ) → Nowhere (Passes (is_byte 10) bytes) 0 n → NoNewline (take n bytes)

@@ -38,11 +38,6 @@ module _ {V : Type 0} where
   pub none_of : (old new : Listed V) → Yields old None new → take old.left old.rest ≡ []
   none_of old new h = elim h.0 [ inl none ↦ take_none old.left old.rest none | inr limit ↦ ap (λ n. take n old.rest) limit ]
 
-  -- and the voxels after its limit are the ones left
-  pub behind_none : (old new : Listed V) → Yields old None new → drop old.left old.rest ≡ new.rest
-  behind_none old new h =
-      elim h.0 [ inl none ↦ drop_none old.left old.rest none ∙ sym none | inr limit ↦ ap (λ n. drop n old.rest) limit ] ∙ sym (ap (λ (l : Listed V). l.rest) h.1)
-
   drop_some : (n : ℕ) (xs : List (Coord × V)) → n < length xs → drop n xs ≡ [] → ⊥
   drop_some n [] h e = omega (arith, h)
   drop_some zero (x ∷ xs) h e = some_none x xs e

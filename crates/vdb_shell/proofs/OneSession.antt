@@ -88,9 +88,6 @@ record BothUnload (a b : End) : Type 0 where
   written : a.written ≡ b.written
   code : a.code ≡ b.code
 
-abbrev Unloads : Option (List ℕ) → End → Type 0
-Unloads file e = (l : LoadFault) × (e.fault ≡ Some (Load l)) × NoFile file × (e.code ≡ 3) × (e.written ≡ [])
-
 -- the script is played from this scene, and no answer is `error memory`
 abbrev PlaysClear : Scene → List ℕ → Option Fault → ℕ → List ℕ → List ℕ → Scene → Type 0
 PlaysClear first script fault code given written last = (on : PlaysOn first script fault code given written last) × NoMemoryError on.plays.replies

@@ -68,11 +68,6 @@ has_more false front line ls h inside last = λ rest.
 has_more true front line ls h inside last =
     ap (λ l. lines (front ++ l)) (append-nil line) ∙ (h line).0 ∙ ap (λ l. ls ++ l) (lines_last line inside (last refl))
 
--- the lines of a prefix that is all
-pub has_all : (done : Bool) (front : List ℕ) (ls : List (List ℕ)) → HasLines done front ls → lines front ≡ ls
-has_all false front ls h = ap lines (sym (append-nil front)) ∙ (h []).0 ∙ append-nil ls
-has_all true front ls h = h
-
 -- the whole lines of a prefix and of a part of a line
 pub has_whole : (front part : List ℕ) (ls : List (List ℕ)) → HasLines false front ls → NoNewline part → whole_lines (front ++ part) ≡ ls
 has_whole front part ls h inside = (h part).1 ∙ ap (λ l. ls ++ l) (whole_lines_part part inside) ∙ append-nil ls

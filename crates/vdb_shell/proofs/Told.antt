@@ -13,7 +13,7 @@ use Rattle.vdb_script.specs.Text.{answers_text, text}
 use Rattle.vdb_script.specs.declared.source.ScriptFault.TheVariants as script_faults
 use Rattle.vdb_shell.specs.Session.{IsPrefixOf, PlaysFrom, is_refused}
 use Rattle.vdb_shell.specs.declared.fault.Fault.TheVariants.{Script, Answers}
-use Rattle.vdb_shell.proofs.Prefixes.{HasLines, begins_with, has_all, has_at_least, has_more, has_none, has_whole}
+use Rattle.vdb_shell.proofs.Prefixes.{HasLines, begins_with, has_at_least, has_more, has_none, has_whole}
 
 -- ---- runs
 
@@ -102,11 +102,6 @@ none_unread bytes front (u ∷ us) new (Some ys) c is end = absurd (some_bytes (
     some_bytes : (u ∷ us) ++ ys ≡ [] → ⊥
     some_bytes h = cc
 
--- and the prefix is all
-front_all : (bytes front : List ℕ) (new : Option (List ℕ)) → Consumes (Some bytes) new front → IsAtEnd new → bytes ≡ front
-front_all bytes front None c end = absurd c
-front_all bytes front (Some ys) c end = c ∙ ap (λ l. front ++ l) end ∙ append-nil front
-
 -- the bytes after the prefix
 rest_of : (bytes front : List ℕ) (new : Option (List ℕ)) → Consumes (Some bytes) new front → (rest : List ℕ) × (bytes ≡ front ++ rest) × (IsAtEnd new → rest ≡ [])
 rest_of bytes front None c = absurd c
@@ -152,24 +147,6 @@ module _ (s : Scene) (bytes : List ℕ) (known : Option (List ℕ)) (stock : Sto
   -- the bytes that the reader gave so far
   pub handed_given : (left : Option (List ℕ)) → known ≡ prepend_known stock.unread left → Consumes (Some bytes) left (t.front ++ stock.unread)
   handed_given left is = given_all bytes t.front stock.unread known left t.consumed is
-
-  -- the whole script was read
-  pub played_whole : (new left : Option (List ℕ)) (unread : List ℕ) → Consumes known new [] → IsAtEnd new → new ≡ prepend_known unread left
-      → (given : List ℕ) × Consumes (Some bytes) left given × PlaysFrom s bytes None any_refused given (answers_text t.replies) now
-  played_whole new left unread none end is =
-      let consumed : Consumes (Some bytes) new t.front = subst (Consumes (Some bytes) new) (append-nil t.front) (Consumes-trans (Some bytes) known new t.front [] t.consumed none) in
-      let all : bytes ≡ t.front = front_all bytes t.front new consumed end in
-      let nothing : unread ≡ [] = none_unread bytes t.front unread new left consumed is end in
-      let few : length t.front ≤ 2 ^ 24 = omega (arith, t.limit) in (
-        t.front ++ unread,
-        given_all bytes t.front unread new left consumed is,
-        record {
-          replies = t.replies;
-          plays = (omega (arith, few, ap length all), subst (λ ls. Run s ls t.replies now) (sym (ap lines all ∙ has_all t.done t.front t.handed t.lines)) t.run, refl);
-          few = omega (arith, few, length-append t.front unread, ap length nothing);
-          refused = t.refused;
-        },
-      )
 
   -- the reader gave a byte past the limit
   pub played_too_long : (left : Option (List ℕ)) → YieldsTooMuch known left stock

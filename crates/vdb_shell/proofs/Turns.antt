@@ -1,22 +1,22 @@
 -- One step of playing a script: a line whose answer was written, and a line whose answer was not.
-use Rattle.std.proofs.Common.{◌≡◌, refl, sym, ap, ◌∙◌, subst, ℕ, Bool, true, false, ◌||◌, is_err, List, [], ◌∷◌, ◌++◌, ◌^◌, ◌+◌, ◌<◌, ◌≤◌, arith, Option, Some, None, Result, Ok, Err}
+use Rattle.std.proofs.Common.{◌≡◌, refl, sym, ap, ◌∙◌, subst, ℕ, Bool, true, false, ◌||◌, is_err, List, [], ◌∷◌, ◌++◌, ◌^◌, ◌+◌, Option, Some, Result, Ok, Err}
 use Rattle.std.specs.Io.KnownBytes.{Appends, Consumes, prepend_known}
 use Rattle.std.proofs.KnownBytes.{Appends-nil, Appends-trans}
 use Rattle.std.proofs.lemmas.Grind.{flat_map-append}
 use Rattle.vdb_scene.specs.Scene.{Scene}
 use Rattle.vdb_scene.specs.Replies.{Reply}
-use Rattle.vdb_script.specs.Reading.{YieldsEnd, YieldsLine, YieldsPart, YieldsTooMuch, Stock, budget}
+use Rattle.vdb_script.specs.Reading.{YieldsLine, YieldsPart, YieldsTooMuch, Stock, budget}
 use Rattle.vdb_script.specs.Text.{answers_text, text}
 use Rattle.vdb_script.specs.Writing.{HasCut}
 use Rattle.vdb_script.specs.declared.output.WriteFault.{WriteFault}
 use Rattle.vdb_script.specs.declared.source.ScriptFault.{ScriptFault}
 use Rattle.vdb_script.specs.declared.source.ScriptFault.TheVariants.{Read, TooLong}
-use Rattle.vdb_shell.specs.internal.Answering.{GoesOut, TakesTurn, excess_at_end, is_read_ending}
+use Rattle.vdb_shell.specs.internal.Answering.{GoesOut, TakesTurn, is_read_ending}
 use Rattle.vdb_shell.specs.Session.{PlaysFrom}
 use Rattle.vdb_shell.specs.declared.fault.Fault.{Fault}
 use Rattle.vdb_shell.specs.declared.playing.Turn.{Turn}
 use Rattle.vdb_shell.specs.declared.fault.Fault.TheVariants.{Answers, Script}
-use Rattle.vdb_shell.proofs.Told.{Handed, handed_line, handed_none, played_cut, played_part, played_too_long, played_whole}
+use Rattle.vdb_shell.proofs.Told.{Handed, handed_line, handed_none, played_cut, played_part, played_too_long}
 
 -- without a fault the whole answer is written
 went_out : (a b : Option (List ℕ)) (replies : List Reply) (written : Result (Unit {0}) WriteFault) → is_err written ≡ false → GoesOut a b written replies → Appends a b (answers_text replies)
@@ -70,11 +70,6 @@ module _ (s : Scene) (bytes : List ℕ) (known : Option (List ℕ)) (stock : Sto
         let played = played_cut s bytes new after later (any_refused || turn.refused) line_handed.0 left t.0.replies cut.0 cut.2.0 is_left last (cut.2.1, cut.2.2) in
         (played.0, answers_text t.0.replies ++ cut.2.0, played.1, Appends-trans w₀ w w₂ (answers_text t.0.replies) cut.2.0 t.1 cut.2.3, played.2)
 
-  -- a script that was read to its end
-  pub told_end : (new : Option (List ℕ)) (after : Stock) (left : Option (List ℕ)) → YieldsEnd known new after → new ≡ prepend_known after.unread left → Ended s bytes left now any_refused w₀ w None
-  told_end new after left h is =
-      let played = played_whole s bytes known stock now any_refused t.0 new left after.unread h.bytes h.at_end is in (played.0, answers_text t.0.replies, played.1, t.1, played.2)
-
   -- a script that can't be read on
   pub told_fault : (fault : ScriptFault) (left : Option (List ℕ)) → (fault ≡ TooLong → YieldsTooMuch known left stock) → (fault ≡ Read → YieldsPart known left stock) → (fault ≡ Read → stock.ended ≡ true → ⊥)
       → Ended s bytes left now any_refused w₀ w (Some (Script fault))
@@ -94,9 +89,3 @@ never_failed old new ending fresh same failed is = false_true (sym (same ∙ fre
   where
     false_true : false ≡ true → ⊥
     false_true h = cc
-
--- a script whose reader gave more bytes than the limit is too long
-pub too_long_fault : (fault : ScriptFault) (start old new left after : ℕ) → old + left ≤ start + 2 ^ 24 → new + after ≤ old + left + excess_at_end {A = Turn} (Err (Some fault)) → start + 2 ^ 24 < new
-    → Some (Script fault) ≡ Some (Script TooLong)
-too_long_fault Read start old new left after within given more = absurd (omega (arith, within, given, more))
-too_long_fault TooLong start old new left after within given more = refl

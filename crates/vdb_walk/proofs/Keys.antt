@@ -1,26 +1,20 @@
 -- Boxes without a key of the table: each voxel is the inactive background.
-use Rattle.std.proofs.Common.{◌≡◌, ◌⊎◌, inl, inr, sym, ap, refl, ℤ, pos, ◌-ℤ◌, ◌≤ℤ◌, ◌<ℤ◌, Bool, true, false, int_le, arith}
-use Rattle.std.specs.Prelude.{Some, None, if◌then◌else◌}
+use Rattle.std.proofs.Common.{◌≡◌, ◌⊎◌, inl, inr, sym, refl, ℤ, pos, ◌-ℤ◌, ◌≤ℤ◌, ◌<ℤ◌, true, int_le, arith}
 use Rattle.std.specs.Cmp.{int_cmp_is}
-use Rattle.std.specs.Ordering.{int_cmp, is_gt, is_le, ordering_then}
+use Rattle.std.specs.Ordering.{int_cmp, ordering_then}
 use Rattle.std.specs.declared.cmp.Ordering.{Ordering}
 use Rattle.std.specs.declared.cmp.Ordering.TheVariants.{Less, Equal, Greater}
 use Rattle.std.proofs.lemmas.Cmp.{int_ranked}
 use Rattle.std.proofs.lemmas.Int.{ints}
 use Rattle.vdb_coord.specs.Blocks.{block_bits, key}
-use Rattle.vdb_coord.specs.Space.{Box, coord, coord_cmp, everywhere, is_between, is_inside}
+use Rattle.vdb_coord.specs.Space.{Box, coord, coord_cmp, is_between, is_inside}
 use Rattle.vdb_coord.specs.declared.Bits.{Bits}
 use Rattle.vdb_coord.specs.declared.Coord.{Coord}
 use Rattle.vdb_coord.specs.declared.Level.TheVariants.{Upper}
 use Rattle.vdb_coord.proofs.Boxes.{both, three}
 use Rattle.vdb_coord.proofs.Digits.{number_mono}
 use Rattle.vdb_coord.proofs.Meeting.{le_from_test}
-use Rattle.vdb_tree.specs.Field.{off}
-use Rattle.vdb_tree.specs.Layout.{Layout, cell_at, field_of, root_at}
-use Rattle.vdb_tree.specs.Table.{IsNextKey}
-use Rattle.vdb_tree.proofs.Blocks.{never}
-use Rattle.vdb_tree.proofs.Needed.{absent_block, is_some_from, some_or_none}
-use Rattle.vdb_value.specs.declared.Cell.{Cell}
+use Rattle.vdb_tree.specs.Layout.{Layout}
 
 -- ---- the order of coordinates
 
@@ -53,20 +47,6 @@ before_less p q h =
     less_on (int_cmp p.x q.x) _ (compared p.x q.x h.0)
     (less_on (int_cmp p.y q.y) _ (compared p.y q.y h.1) (less_int (p.z -ℤ pos 1) q.z (omega (arith, ints, z))))
 
-greater_int : (k l q : ℤ) → q ≤ℤ l → int_cmp k l ≡ Greater → int_cmp k q ≡ Greater
-greater_int k l q h e = let less = int_ranked k l Greater (sym e) in sym (int_cmp_is k q Greater (omega (arith, ints, h, less)))
-
-equal_int : (k l : ℤ) → int_cmp k l ≡ Equal → k ≡ l
-equal_int k l e = int_ranked k l Equal (sym e)
-
-same_or_greater : (k l q : ℤ) → q ≤ℤ l → int_cmp k l ≡ Equal → (int_cmp k q ≡ Greater) ⊎ (int_cmp k q ≡ Equal)
-same_or_greater k l q h e = by (int_cmp k q) refl
-  where
-    by : (o : Ordering) → o ≡ int_cmp k q → (int_cmp k q ≡ Greater) ⊎ (int_cmp k q ≡ Equal)
-    by Less f = absurd (let less = int_ranked k q Less f in let same = equal_int k l e in omega (arith, ints, h, less, same))
-    by Equal f = inr (sym f)
-    by Greater f = inl (sym f)
-
 -- if one comparison says greater, so does one that says greater or equal and then greater
 greater_on : (a b r s : Ordering) → (a ≡ Greater → b ≡ Greater) → (a ≡ Equal → (b ≡ Greater) ⊎ (b ≡ Equal)) → (r ≡ Greater → s ≡ Greater) → ordering_then a r ≡ Greater → ordering_then b s ≡ Greater
 greater_on Less b r s g e n h = cc
@@ -75,17 +55,6 @@ greater_on Equal b r s g e n h = elim (e refl) [
   | inr f ↦ rw f (n h)
 ]
 greater_on Greater b r s g e n h = rw (g refl) refl
-
--- a coordinate past another comes past all that lie up to that one
-pub past_greater : (k l q : Coord) → IsUpTo q l → coord_cmp k l ≡ Greater → coord_cmp k q ≡ Greater
-past_greater k l q h =
-    greater_on (int_cmp k.x l.x) (int_cmp k.x q.x) _ _ (greater_int k.x l.x q.x h.0) (same_or_greater k.x l.x q.x h.0)
-    (greater_on (int_cmp k.y l.y) (int_cmp k.y q.y) _ _ (greater_int k.y l.y q.y h.1) (same_or_greater k.y l.y q.y h.1) (greater_int k.z l.z q.z h.2))
-
-was_greater : (o : Ordering) → is_le o ≡ false → o ≡ Greater
-was_greater Less h = cc
-was_greater Equal h = cc
-was_greater Greater h = refl
 
 -- ---- the keys over a box
 
@@ -105,33 +74,6 @@ module _ (bits : Bits) (b : Box) (q : Coord) (inside : is_inside b q ≡ true) w
   to_last = let k = block_bits bits Upper in (number_mono k q.x b.max.x parts.0.1, number_mono k q.y b.max.y parts.1.1, number_mono k q.z b.max.z parts.2.1)
 
 module _ {V : Type 0} (bits : Bits) (t : Layout V) where
-  -- each voxel under an absent key is the inactive background
-  absent_background : (q : Coord) → root_at t.root (key bits q) ≡ None → (field_of bits t).cell q ≡ off t.background
-  absent_background q none = either (is_inside everywhere q) (cell_at bits t q) (absent_block bits t q none q refl)
-    where
-      either : (i : Bool) (c : Cell V) → c ≡ off t.background → (if i then c else off t.background) ≡ off t.background
-      either true c e = e
-      either false c e = refl
-
-  -- so no voxel of the box is active
-  pub off_from_background : (b : Box) → ((q : Coord) → is_inside b q ≡ true → (field_of bits t).cell q ≡ off t.background) → (q : Coord) → is_inside b q ≡ true → ((field_of bits t).cell q).on ≡ false
-  off_from_background b h q inside = ap (λ (d : Cell V). d.on) (h q inside)
-
   module _ (b : Box) where
     abbrev pub before : Coord
     before = let k = key bits b.min in coord k.x k.y (k.z -ℤ pos 1)
-
-    -- no key comes past those before the box
-    pub none_background : IsNextKey t.root (Some before) None → (q : Coord) → is_inside b q ≡ true → (field_of bits t).cell q ≡ off t.background
-    none_background next q inside = absent_background q (next (key bits q) (before_less (key bits b.min) (key bits q) (from_first bits b q inside)))
-
-    -- or the first key that does comes past those of the box
-    pub past_background : (k : Coord) → IsNextKey t.root (Some before) (Some k) → is_le (coord_cmp k (key bits b.max)) ≡ false → (q : Coord) → is_inside b q ≡ true → (field_of bits t).cell q ≡ off t.background
-    past_background k next past q inside =
-        elim (some_or_none (root_at t.root (key bits q))) [
-          | inl e ↦
-              let least = next.2 (key bits q) (before_less (key bits b.min) (key bits q) (from_first bits b q inside)) (is_some_from (root_at t.root (key bits q)) e.0 e.1) in
-              let later = past_greater k (key bits b.max) (key bits q) (to_last bits b q inside) (was_greater _ past) in
-              absurd (never least (ap is_gt later))
-          | inr none ↦ absent_background q none
-        ]

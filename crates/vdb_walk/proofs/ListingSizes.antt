@@ -12,9 +12,6 @@ max_b x y n h k = omega (arith, h, k)
 add_b : (x y m n : ℕ) → x ≤ m → y ≤ n → x + y ≤ m + n
 add_b x y m n h k = omega (arith, h, k)
 
-le_b : (x m n : ℕ) → x ≤ m → m ≤ n → x ≤ n
-le_b x m n h k = omega (arith, h, k)
-
 below : (x n : ℕ) → x ≤ n → n < 9223372036854775808 → x < 9223372036854775808
 below x n h k = omega (arith, h, k)
 

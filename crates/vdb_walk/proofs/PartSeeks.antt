@@ -228,7 +228,3 @@ module _ {V : Type 0} (bits : Bits) (t : Layout V) (after : Option Coord) (walk 
   pub listing_after : (found : Option (Coord × V)) → IsFirst bits (IsActivePast bits after (field_of bits t)) part.bounds (option_map (λ item. item.0) found) → IfSome found (λ item. IsListing bits t (Some item.0) walk (Some part))
   listing_after (Some item) h = listing_past bits t after walk part listing item.0 h.1.0
   listing_after None h = tt
-
-  pub not_in_part : (found : Option (Coord × V)) → is_some found ≡ false → IsFirst bits (IsActivePast bits after (field_of bits t)) part.bounds (option_map (λ item. item.0) found) → IsListing bits t after walk None
-  not_in_part (Some item) e h = absurd (false_true (sym e))
-  not_in_part None e h = none_in_part bits t after walk part listing h

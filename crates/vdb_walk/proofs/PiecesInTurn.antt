@@ -265,9 +265,6 @@ module _ {V : Type 0} (bits : Bits) (t : Layout V) where
           cells,
         )
 
-    pub no_piece : IsFirst bits (IsEnteredPast bits t last) everywhere None → IsNextPiece bits passage None
-    no_piece none p ahead = none p ahead.inside (ahead.entry, ahead.past)
-
   -- without a last one, all coordinates are ahead
   pub all_ahead : (found : Option Coord) → IsFirst bits (IsEntered bits t None) everywhere found → IsFirst bits (IsEnteredPast bits t None) everywhere found
   all_ahead found h = first_same bits (IsEntered bits t None) (IsEnteredPast bits t None) everywhere (λ q i k. (k.0, refl)) (λ q i k. (k.0, tt)) found h

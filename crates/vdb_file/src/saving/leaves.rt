@@ -135,8 +135,8 @@ pub(crate) fn count_listed<V: GridValue>(
     count
 }
 
-/// Writes a voxel to the start of the bytes, its number and then its cell, and returns how many bytes these are. No byte is read
-/// again, which would wait for it.
+/// Writes a voxel to the start of the bytes, its number and then its cell, and returns how many bytes these are. It reads no byte
+/// back, since such a read would wait for the store.
 #[inline(always)]
 fn put_voxel<V: Voxel>(bytes: &mut [u8], i: u16, cell: Cell<V>) -> usize
     requires { length bytes.old ≡ VOXEL }
