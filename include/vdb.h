@@ -219,10 +219,10 @@ VDB_CODE vdb_grid_kind(vdb_grid *grid, int32_t *kind);
 VDB_CODE vdb_grid_background(vdb_grid *grid, int64_t *value);
 VDB_CODE vdb_grid_limit(vdb_grid *grid, uint32_t *limit);
 
-/* Returns the value and the state of a voxel, from the root. */
+/* Returns the value and the state of a voxel. Calls without an accessor share the path to the last voxel that one of them read. */
 VDB_CODE vdb_grid_get(vdb_grid *grid, int32_t x, int32_t y, int32_t z, int64_t *value, int32_t *active);
 
-/* Returns the value and the state of a voxel through an accessor or, with VDB_NO_ACCESSOR, from the root.
+/* Returns the value and the state of a voxel through an accessor or, with VDB_NO_ACCESSOR, without one.
  * VDB_RANGE: no such accessor. */
 VDB_CODE vdb_grid_probe(vdb_grid *grid, int32_t accessor, int32_t x, int32_t y, int32_t z, int64_t *value, int32_t *active);
 

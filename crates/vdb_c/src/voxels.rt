@@ -19,8 +19,8 @@ pub(crate) mod near_writes;
 
 use crate::codes::{DONE, EMPTY, OUT_OF_RANGE, tree_code};
 use crate::handles::GridHandle;
-use crate::values::cells::{go_to, near_cell};
-use crate::values::{accessor, is_on, state_number, value, value_number};
+use crate::values::cells::{get, go_to, near_cell};
+use crate::values::{accessor, is_on, state_number, value};
 use crate::voxels::near_writes::set_near;
 use vdb_coord::Coord;
 use vdb_pool::Steps;
@@ -28,7 +28,7 @@ use vdb_scene::{AnyGrid, Scalar};
 use vdb_tree::Write;
 use vdb_value::Kind;
 
-/// Writes the value and the state of a voxel to `value` and `active`, by the descent from the root.
+/// Writes the value and the state of a voxel to `value` and `active`, without an accessor.
 #[unsafe(no_mangle)]
 pub extern "C" fn vdb_grid_get(
     handle: &mut GridHandle,
@@ -44,13 +44,13 @@ pub extern "C" fn vdb_grid_get(
     let Some(grid) = handle.grid.grid_mut() else {
         return EMPTY;
     };
-    let cell = grid.get(Coord { x, y, z }, &mut handle.steps);
-    *value = value_number(cell.value);
+    let cell = get(grid, Coord { x, y, z }, &mut handle.steps);
+    *value = cell.value;
     *active = state_number(cell.on);
     DONE
 }
 
-/// Writes the value and the state of a voxel to `value` and `active`, through an accessor or, with -1, from the root.
+/// Writes the value and the state of a voxel to `value` and `active`, through an accessor or, with -1, without one.
 #[unsafe(no_mangle)]
 pub extern "C" fn vdb_grid_probe(
     handle: &mut GridHandle,
@@ -101,7 +101,7 @@ fn probe_far(
     DONE
 }
 
-/// Sets the value and the state of a voxel, through an accessor or, with -1, from the root.
+/// Sets the value and the state of a voxel, through an accessor or, with -1, without one.
 #[unsafe(no_mangle)]
 pub extern "C" fn vdb_grid_set(
     handle: &mut GridHandle,

@@ -8,8 +8,8 @@ use Rattle.vdb_coord.specs.Blocks.{vdb}
 use Rattle.vdb_coord.specs.declared.Coord.{Coord}
 use Rattle.vdb_tree.specs.Layout.{Layout}
 use Rattle.vdb_tree.specs.Paths.{IsWhole, Lives, TreePath}
-use Rattle.vdb_tree.specs.declared.path.PathOf.TheVariants.{Empty}
-use Rattle.vdb_grid.specs.Grid.{ArePathsWhole, AreUnusedEmpty, last, path}
+use Rattle.vdb_tree.specs.declared.path.PathOf.TheVariants.{Empty, ToUpper, ToLower, ToLeaf}
+use Rattle.vdb_grid.specs.Grid.{ArePathsWhole, AreUnusedEmpty, IsNear, last, path}
 
 below_or : (a b : ℕ) → (a < b) ⊎ (b ≤ a)
 below_or a b = grind arith
@@ -124,10 +124,6 @@ module _ {V : Type 0} (t : Layout V) where
   pub empty_lives : (paths : List (TreePath V)) (k : ℕ) (p : Coord) → path paths k ≡ Empty → Lives vdb t (path paths k) p
   empty_lives paths k p e = rw e tt
 
-  -- a whole path is live
-  pub start_lives : (coords : List (Option Coord)) (paths : List (TreePath V)) (k : ℕ) (p : Coord) → ArePathsWhole t coords paths → last coords k ≡ Some p → Lives vdb t (path paths k) p
-  start_lives coords paths k p h e = (h k p e).lives
-
 module _ {V : Type 0} where
   -- the paths of accessors without a coordinate stay empty if one accessor gets a coordinate
   pub unused_moved : (coords : List (Option Coord)) (paths : List (TreePath V)) (k : ℕ) (p : Coord) → AreUnusedEmpty coords paths → AreUnusedEmpty (slice_set coords k (Some p)) paths
@@ -155,3 +151,22 @@ module _ {V : Type 0} where
       → k < length coords → AreUnusedEmpty coords paths → AreUnusedEmpty (slice_set coords k (Some p)) (slice_set paths k cached)
   unused_set coords paths k p cached b h =
       unused_traced (slice_set coords k (Some p)) paths k p cached (get_or-set_same coords k (Some p) None b) (unused_moved coords paths k p h)
+
+  -- a path without nodes is near
+  pub near_nothing : (t : Layout V) (p : Coord) → IsNear t Empty p
+  near_nothing t p = record { lives = tt; whole = tt }
+
+  -- a whole path is near
+  pub near_whole : (t : Layout V) (cached : TreePath V) (p : Coord) → IsWhole vdb t cached p → IsNear t cached p
+  near_whole t Empty p w = near_nothing t p
+  near_whole t (ToUpper u) p w = record { lives = w.lives; whole = w }
+  near_whole t (ToLower u l) p w = record { lives = w.lives; whole = w }
+  near_whole t (ToLeaf u l f) p w = record { lives = w.lives; whole = w }
+
+  -- it stays near if every whole path stays whole
+  pub near_kept : (old new : Layout V) (cached : TreePath V) (p : Coord) → ((other : TreePath V) (r : Coord) → IsWhole vdb old other r → IsWhole vdb new other r)
+      → IsNear old cached p → IsNear new cached p
+  near_kept old new Empty p keeps h = near_nothing new p
+  near_kept old new (ToUpper u) p keeps h = near_whole new (ToUpper u) p (keeps (ToUpper u) p h.whole)
+  near_kept old new (ToLower u l) p keeps h = near_whole new (ToLower u l) p (keeps (ToLower u l) p h.whole)
+  near_kept old new (ToLeaf u l f) p keeps h = near_whole new (ToLeaf u l f) p (keeps (ToLeaf u l f) p h.whole)

@@ -1,9 +1,9 @@
 -- Grids: a tree with accessors, each of which caches the path to the coordinate that it was last given.
-use Rattle.std.specs.Prelude.{◌≡◌, ℕ, Bool, false, List, Option, Some, None, slice_index_or}
+use Rattle.std.specs.Prelude.{◌≡◌, ℕ, ⊤, Bool, false, List, Option, Some, None, slice_index_or}
 use Rattle.vdb_coord.specs.Blocks.{vdb}
 use Rattle.vdb_coord.specs.declared.Coord.{Coord}
 use Rattle.vdb_tree.specs.Layout.{Layout}
-use Rattle.vdb_tree.specs.Paths.{IsWhole, TreePath, common, ends_in_leaf, ends_in_lower}
+use Rattle.vdb_tree.specs.Paths.{IsWhole, Lives, TreePath, common, ends_in_leaf, ends_in_lower}
 use Rattle.vdb_tree.specs.declared.path.PathOf.TheVariants.{Empty}
 
 -- a grid: a tree of the standard configuration, and for each accessor the coordinate that it was last given and a path
@@ -28,6 +28,16 @@ module _ {V : Type 0} where
   -- the path of each accessor that was given no coordinate is empty
   abbrev pub AreUnusedEmpty : List (Option Coord) → List (TreePath V) → Type 0
   AreUnusedEmpty coords paths = (k : ℕ) → last coords k ≡ None → path paths k ≡ Empty
+
+  -- a path without nodes, or the whole path to this coordinate
+  abbrev pub IsEmptyOrWhole : Layout V → TreePath V → Coord → Type 0
+  IsEmptyOrWhole tree Empty p = ⊤
+  IsEmptyOrWhole tree cached p = IsWhole vdb tree cached p
+
+  -- such a path is live: the path of calls without an accessor
+  pub record IsNear (tree : Layout V) (cached : TreePath V) (p : Coord) : Type 0 where
+    pub lives : Lives vdb tree cached p
+    pub whole : IsEmptyOrWhole tree cached p
 
   -- whether the path that an accessor caches to this coordinate ends in a leaf that holds p
   abbrev pub has_leaf : Option Coord → TreePath V → Coord → Bool

@@ -1,7 +1,8 @@
 //! Paths of accessors, traced again after a change of the tree.
 
 ghost use Rattle.std.specs.Prelude.{◌≡◌, ◌+◌, ◌*◌, ◌≤◌, length};
-ghost use Rattle.vdb_grid.specs.Grid.{ArePathsWhole, AreUnusedEmpty};
+ghost use Rattle.vdb_coord.specs.declared.Coord.{Coord};
+ghost use Rattle.vdb_grid.specs.Grid.{ArePathsWhole, AreUnusedEmpty, IsNear};
 
 use vdb_coord::Coord;
 use vdb_node::Stored;
@@ -27,4 +28,13 @@ pub fn retrace<V: Stored<512> + Stored<64> + Stored<8>>(
             paths[k] = tree.trace(p, steps);
         }
     }
+}
+
+/// Returns the path at which calls without an accessor begin after a change of the tree. It has no node.
+#[inline(always)]
+pub(crate) fn nowhere<V: Stored<512> + Stored<64> + Stored<8>>(tree: &Tree<V>) -> Path<V>
+    ensures { (p : Coord) → IsNear tree.now result p }
+{
+    let _ = tree;
+    Path::Empty
 }

@@ -21,7 +21,7 @@ ghost use Rattle.vdb_composite.specs.SumOutcome.{IsSumOutcome};
 ghost use Rattle.vdb_morph.specs.Growth.{IsGrowth};
 
 use crate::Grid;
-use crate::accessors::retrace;
+use crate::accessors::{nowhere, retrace};
 use vdb_composite::SumRefusal;
 use vdb_coord::{Bounds, Coord};
 use vdb_node::{Leaf, Stored};
@@ -47,6 +47,7 @@ impl<V: Stored<512> + Stored<64> + Stored<8>, const K: usize> Grid<V, K> {
     {
         let outcome = vdb_region::fill(&mut self.tree, bounds, cell, steps);
         retrace(&self.tree, &self.coords, &mut self.paths, steps);
+        self.near_path = nowhere(&self.tree);
         outcome
     }
 
@@ -62,6 +63,7 @@ impl<V: Stored<512> + Stored<64> + Stored<8>, const K: usize> Grid<V, K> {
     {
         let outcome = vdb_region::clip(&mut self.tree, bounds, steps);
         retrace(&self.tree, &self.coords, &mut self.paths, steps);
+        self.near_path = nowhere(&self.tree);
         outcome
     }
 
@@ -74,6 +76,7 @@ impl<V: Stored<512> + Stored<64> + Stored<8>, const K: usize> Grid<V, K> {
     {
         self.tree.prune(steps);
         retrace(&self.tree, &self.coords, &mut self.paths, steps);
+        self.near_path = nowhere(&self.tree);
     }
 
     /// Gives each active voxel of the box a leaf, as the tree's `voxelise` does. It fails with `Memory`. Every cell
@@ -91,6 +94,7 @@ impl<V: Stored<512> + Stored<64> + Stored<8>, const K: usize> Grid<V, K> {
     {
         let outcome = self.tree.voxelise(bounds, steps);
         retrace(&self.tree, &self.coords, &mut self.paths, steps);
+        self.near_path = nowhere(&self.tree);
         outcome
     }
 
@@ -112,6 +116,7 @@ impl<V: Stored<512> + Stored<64> + Stored<8>, const K: usize> Grid<V, K> {
     {
         let outcome = self.tree.touch_leaf(p, steps);
         retrace(&self.tree, &self.coords, &mut self.paths, steps);
+        self.near_path = nowhere(&self.tree);
         outcome
     }
 
@@ -144,6 +149,7 @@ impl<V: Stored<512> + Stored<64> + Stored<8>, const K: usize> Grid<V, K> {
     {
         let outcome = vdb_topology::unite(&mut self.tree, other, steps);
         retrace(&self.tree, &self.coords, &mut self.paths, steps);
+        self.near_path = nowhere(&self.tree);
         outcome
     }
 
@@ -162,6 +168,7 @@ impl<V: Stored<512> + Stored<64> + Stored<8>, const K: usize> Grid<V, K> {
     {
         let outcome = vdb_topology::subtract(&mut self.tree, other, steps);
         retrace(&self.tree, &self.coords, &mut self.paths, steps);
+        self.near_path = nowhere(&self.tree);
         outcome
     }
 
@@ -180,6 +187,7 @@ impl<V: Stored<512> + Stored<64> + Stored<8>, const K: usize> Grid<V, K> {
     {
         let outcome = vdb_topology::intersect(&mut self.tree, other, steps);
         retrace(&self.tree, &self.coords, &mut self.paths, steps);
+        self.near_path = nowhere(&self.tree);
         outcome
     }
 
@@ -194,6 +202,7 @@ impl<V: Stored<512> + Stored<64> + Stored<8>, const K: usize> Grid<V, K> {
     {
         vdb_composite::maximum(&mut self.tree, other, steps)?;
         retrace(&self.tree, &self.coords, &mut self.paths, steps);
+        self.near_path = nowhere(&self.tree);
         Ok(())
     }
 
@@ -208,6 +217,7 @@ impl<V: Stored<512> + Stored<64> + Stored<8>, const K: usize> Grid<V, K> {
     {
         vdb_composite::minimum(&mut self.tree, other, steps)?;
         retrace(&self.tree, &self.coords, &mut self.paths, steps);
+        self.near_path = nowhere(&self.tree);
         Ok(())
     }
 
@@ -222,6 +232,7 @@ impl<V: Stored<512> + Stored<64> + Stored<8>, const K: usize> Grid<V, K> {
     {
         vdb_composite::replace(&mut self.tree, other, steps)?;
         retrace(&self.tree, &self.coords, &mut self.paths, steps);
+        self.near_path = nowhere(&self.tree);
         Ok(())
     }
 
@@ -237,6 +248,7 @@ impl<V: Stored<512> + Stored<64> + Stored<8>, const K: usize> Grid<V, K> {
     {
         vdb_composite::sum(&mut self.tree, other, steps)?;
         retrace(&self.tree, &self.coords, &mut self.paths, steps);
+        self.near_path = nowhere(&self.tree);
         Ok(())
     }
 
@@ -252,6 +264,7 @@ impl<V: Stored<512> + Stored<64> + Stored<8>, const K: usize> Grid<V, K> {
     {
         let outcome = vdb_morph::dilate(&mut self.tree, iterations, steps);
         retrace(&self.tree, &self.coords, &mut self.paths, steps);
+        self.near_path = nowhere(&self.tree);
         outcome
     }
 
@@ -268,6 +281,7 @@ impl<V: Stored<512> + Stored<64> + Stored<8>, const K: usize> Grid<V, K> {
     {
         let outcome = vdb_morph::erode(&mut self.tree, iterations, steps);
         retrace(&self.tree, &self.coords, &mut self.paths, steps);
+        self.near_path = nowhere(&self.tree);
         outcome
     }
 }

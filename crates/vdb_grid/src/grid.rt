@@ -16,7 +16,7 @@ ghost use Rattle.vdb_tree.specs.declared.path.PathOf.TheVariants.{Empty};
 ghost use Rattle.vdb_tree.specs.declared.refusal.TreeRefusal.TheVariants.{Memory};
 ghost use Rattle.vdb_grid.specs.Grid.{has_leaf, has_lower, last, path};
 
-use crate::accessors::retrace;
+use crate::accessors::{nowhere, retrace};
 use std::alloc::Global;
 use std::marker::Model;
 use vdb_coord::Coord;
@@ -24,6 +24,8 @@ use vdb_node::Stored;
 use vdb_pool::Steps;
 use vdb_tree::{Path, Tree, TreeRefusal, Write};
 use vdb_value::Cell;
+
+const ORIGIN: Coord = Coord { x: 0, y: 0, z: 0 };
 
 /// A tree of the standard configuration with `K` accessors (OpenVDB's `Grid` with `ValueAccessor`s that stay valid).
 #[derive(Drop)]
@@ -33,10 +35,13 @@ pub struct Grid<V: Stored<512> + Stored<64> + Stored<8>, const K: usize> {
     pub(crate) coords: [Option<Coord>; K],
     // The path to it; empty if there is none.
     pub(crate) paths: [Path<V>; K],
+    // The coordinate of the last read without an accessor, and the path to it, or an empty one. No contract shows them.
+    pub(crate) near: Coord,
+    pub(crate) near_path: Path<V>,
 }
 
 impl<V: Stored<512> + Stored<64> + Stored<8>, const K: usize> Model for Grid<V, K> {
-    ghost use Rattle.vdb_grid.specs.Grid.{ArePathsWhole, AreUnusedEmpty, GridOf};
+    ghost use Rattle.vdb_grid.specs.Grid.{ArePathsWhole, AreUnusedEmpty, GridOf, IsNear};
 
     ghost Value = { GridOf V };
 
@@ -46,7 +51,8 @@ impl<V: Stored<512> + Stored<64> + Stored<8>, const K: usize> Model for Grid<V, 
       paths = g.paths;
     } };
 
-    ghost invariant = { λ g. ArePathsWhole g.tree g.coords g.paths × AreUnusedEmpty g.coords g.paths };
+    ghost invariant = { λ g. ArePathsWhole g.tree g.coords g.paths × AreUnusedEmpty g.coords g.paths
+        × IsNear g.tree g.near_path g.near };
 }
 
 impl<V: Stored<512> + Stored<64> + Stored<8>, const K: usize> Grid<V, K> {
@@ -64,6 +70,8 @@ impl<V: Stored<512> + Stored<64> + Stored<8>, const K: usize> Grid<V, K> {
             tree: Tree::new(alloc, background, limit),
             coords: [None; K],
             paths: [Path::Empty; K],
+            near: ORIGIN,
+            near_path: Path::Empty,
         }
     }
 
@@ -77,6 +85,8 @@ impl<V: Stored<512> + Stored<64> + Stored<8>, const K: usize> Grid<V, K> {
             tree,
             coords: [None; K],
             paths: [Path::Empty; K],
+            near: ORIGIN,
+            near_path: Path::Empty,
         }
     }
 
@@ -93,6 +103,83 @@ impl<V: Stored<512> + Stored<64> + Stored<8>, const K: usize> Grid<V, K> {
         ensures { result ≡ last self.now.coords k }
     {
         self.coords[k]
+    }
+
+    /// Returns the cell of a voxel, by the descent from the lowest node that contains it of the path to the last voxel that
+    /// was read without an accessor. No accessor's path changes.
+    #[inline(always)]
+    pub fn get(&mut self, p: Coord, steps: &mut Steps) -> Cell<V>
+        ensures cell { result ≡ (field_of vdb self.old.tree).cell p }
+        ensures kept { self.new ≡ self.old }
+        ensures steps { steps.new ≤ steps.old + 3 }
+    {
+        match self.near_get(p, steps) {
+            Some(cell) => cell,
+            None => self.far_get(copied(p), steps),
+        }
+    }
+
+    /// Returns the cell of a voxel, by one visit, if the leaf of the last voxel that was read without an accessor holds it.
+    #[inline(always)]
+    pub fn near_get(&self, p: Coord, steps: &mut Steps) -> Option<Cell<V>>
+        ensures cell { IfSome result (λ cell. cell ≡ (field_of vdb self.now.tree).cell p) }
+        ensures steps { steps.new ≤ steps.old + (if is_some result then 1 else 0) }
+    {
+        self.tree.cell_near(&self.near_path, self.near, p, steps)
+    }
+
+    /// Returns what `get` returns, by the descent. The next calls without an accessor then begin at the path to the voxel.
+    #[inline(never)]
+    pub fn far_get(&mut self, p: Coord, steps: &mut Steps) -> Cell<V>
+        ensures cell { result ≡ (field_of vdb self.old.tree).cell p }
+        ensures kept { self.new ≡ self.old }
+        ensures steps { steps.new ≤ steps.old + 3 }
+    {
+        let cell = self.tree.descend(&mut self.near_path, self.near, p, steps);
+        self.near = p;
+        cell
+    }
+
+    /// Writes a voxel in the leaf of the last voxel that was read without an accessor, if that leaf holds it, by one visit
+    /// and without memory. Returns whether it does; if not, nothing changes.
+    #[inline(always)]
+    pub fn near_set(&mut self, p: Coord, change: Write<V>, steps: &mut Steps) -> bool
+        ensures outcome { IsTrue result → IsOutcome V.eq vdb self.old.tree.limit (field_of vdb self.old.tree)
+            (write p change (field_of vdb self.old.tree)) (field_of vdb self.new.tree) (Ok tt) }
+        ensures limit { self.new.tree.limit ≡ self.old.tree.limit }
+        ensures alone { IsTrue result → IsVoxelWritten vdb self.old.tree self.new.tree p (written change ((field_of vdb self.old.tree).cell p)) }
+        ensures paths { self.new.paths ≡ self.old.paths }
+        ensures last { self.new.coords ≡ self.old.coords }
+        ensures untouched { result ≡ false → self.new ≡ self.old }
+        ensures steps { steps.new ≤ steps.old + (if result then 1 else 0) }
+    {
+        let written = self
+            .tree
+            .write_near(&self.near_path, self.near, p, change, steps);
+        let _ = self.tree.limit(); // no more upper extents than the limit hold anything but the background
+        written
+    }
+
+    /// Writes a voxel, by the descent from the lowest node that contains it of the path to the last voxel that was read
+    /// without an accessor. Only if no leaf holds the voxel, it writes as `write` does. It fails with `RootLimit` or
+    /// `Memory`, and then every cell stays.
+    pub fn set(&mut self, p: Coord, change: Write<V>, steps: &mut Steps) -> Result<(), TreeRefusal>
+        ensures outcome { IsOutcome V.eq vdb self.old.tree.limit (field_of vdb self.old.tree)
+            (write p change (field_of vdb self.old.tree)) (field_of vdb self.new.tree) result }
+        ensures limit { self.new.tree.limit ≡ self.old.tree.limit }
+        ensures last { self.new.coords ≡ self.old.coords }
+        ensures unchanged { written change ((field_of vdb self.old.tree).cell p) ≡ (field_of vdb self.old.tree).cell p → IsOk result }
+        ensures leaf { IsTrue (in_leaf vdb self.old.tree p) → IsOk result }
+        ensures non_constant { is_constant V.eq (field_of vdb self.old.tree) (block_around vdb Leaf p) ≡ false → IsOk result }
+        ensures steps { HasCapacity self.old.tree (key vdb p)
+            ⊎ (written change ((field_of vdb self.old.tree).cell p) ≡ (field_of vdb self.old.tree).cell p)
+            → steps.new ≤ steps.old + (8 + 3 * K) }
+    {
+        let _ = self.get(p, steps);
+        if self.near_set(p, change, steps) {
+            return Ok(());
+        }
+        self.write(p, change, steps)
     }
 
     /// Returns the cell of a voxel through an accessor. The descent begins at the lowest node that the accessor
@@ -193,6 +280,7 @@ impl<V: Stored<512> + Stored<64> + Stored<8>, const K: usize> Grid<V, K> {
     {
         let outcome = self.tree.write(p, change, steps);
         retrace(&self.tree, &self.coords, &mut self.paths, steps);
+        self.near_path = nowhere(&self.tree);
         outcome
     }
 
@@ -332,6 +420,8 @@ impl<V: Stored<512> + Stored<64> + Stored<8>, const K: usize> Grid<V, K> {
             tree,
             coords: [None; K],
             paths: [Path::Empty; K],
+            near: ORIGIN,
+            near_path: Path::Empty,
         })
     }
 }

@@ -100,8 +100,7 @@ impl AnyGrid {
         }
     }
 
-    /// Returns the cell of a voxel through an accessor, or from the root if none is named. The accessor then caches the path to
-    /// the voxel.
+    /// Returns the cell of a voxel through an accessor, or without one. The accessor then caches the path to the voxel.
     #[inline(always)]
     pub fn probe(&mut self, accessor: Option<usize>, at: Coord, steps: &mut Steps) -> Cell<Scalar>
         requires { (k : ℕ) → accessor ≡ Some k → k < ACCESSORS }

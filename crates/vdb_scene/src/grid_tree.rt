@@ -39,7 +39,7 @@ pub fn get<V: GridValue>(tree: &Tree<V>, at: Coord, steps: &mut Steps) -> Cell<S
     of_any_kind(tree.get(at, steps))
 }
 
-/// Returns the cell of a voxel through an accessor, or from the root if none is named.
+/// Returns the cell of a voxel through an accessor, or without one.
 #[inline(always)]
 pub fn probe<V: GridValue>(
     grid: &mut Grid<V, ACCESSORS>,
@@ -55,7 +55,7 @@ pub fn probe<V: GridValue>(
 {
     match accessor {
         Some(k) => of_any_kind(grid.probe(k, at, steps)),
-        None => of_any_kind(grid.tree().get(at, steps)),
+        None => of_any_kind(grid.get(at, steps)),
     }
 }
 
@@ -80,7 +80,7 @@ pub fn write<V: GridValue>(
     let change = of_kind(change);
     match accessor {
         Some(k) => grid.write_by(k, at, change, steps),
-        None => grid.write(at, change, steps),
+        None => grid.set(at, change, steps),
     }
 }
 
@@ -116,6 +116,27 @@ pub fn write_in_leaf<V: GridValue, const IN_LOWER: bool>(
     } else {
         grid.write_in_leaf(k, at, change, steps)
     }
+}
+
+/// Writes a voxel in the leaf of the last voxel that was read without an accessor, if that leaf holds it, by one node visit.
+/// Returns whether it does; if not, nothing changes.
+#[inline(always)]
+pub fn write_nearby<V: GridValue>(
+    grid: &mut Grid<V, ACCESSORS>,
+    at: Coord,
+    change: Write<Scalar>,
+    steps: &mut Steps,
+) -> bool
+    requires { IsTrue (passes (is_of V.KIND) change) }
+    ensures outcome { IsTrue result → IsOutcome scalar_eq vdb grid.old.tree.limit (as_field_of V.as_scalar (field_of vdb grid.old.tree))
+        (write at change (as_field_of V.as_scalar (field_of vdb grid.old.tree))) (as_field_of V.as_scalar (field_of vdb grid.new.tree)) (Ok tt) }
+    ensures limit { grid.new.tree.limit ≡ grid.old.tree.limit }
+    ensures last { grid.new.coords ≡ grid.old.coords }
+    ensures paths { grid.new.paths ≡ grid.old.paths }
+    ensures untouched { result ≡ false → grid.new ≡ grid.old }
+    ensures steps { steps.new ≤ steps.old + (if result then 1 else 0) }
+{
+    grid.near_set(at, of_kind(change), steps)
 }
 
 /// Sets each voxel of a box to one cell, with a value of the grid's type.

@@ -29,7 +29,7 @@ pub use answer::{Answer, Refusal};
 pub use any_grid::{ACCESSORS, AnyGrid};
 pub use command::{Area, Command, Corners, Literal, Num, Point};
 pub use grid_entry::GridEntry;
-pub use grid_tree::{write as write_voxel, write_in_leaf};
+pub use grid_tree::{write as write_voxel, write_in_leaf, write_nearby};
 pub use laws::scene_laws;
 pub use meta_text::{MetaText, TEXT_LIMIT};
 pub use metas::{META_LIMIT, Metas};

@@ -19,7 +19,7 @@ returns-in-Bool-clause-written g c = λ t.
     let old = grids.Bool c.in-Bool.held in
     let new = grids.Bool c.write_in_leaf_if.new.grid in
     let write = (rw (to_z-of_z w64 c.args.given given) at c.cell_write.ensures.write) in
-    let accessor = (rw (to_z-of_z w32 c.args.number number) at c.in-Some-Some.ensures) in
+    let accessor = (rw (to_z-of_z w32 c.args.number number) at c.in-Some.ensures) in
     let done =
     subst (λ (o : Option (Write Scalar)). IsWrittenBy c.in-Bool.held.tree.limit c.args.at o (grid_field old) (grid_field new) (Ok tt)) write (c.write_in_leaf_if.ensures.written t) in
     rw c.in-Bool.is (written_near _ c.args.at _ old new (subst IsSome accessor refl) c.write_in_leaf_if.ensures.limit done)
@@ -31,7 +31,7 @@ returns-in-I32-clause-written g c = λ t.
     let old = grids.I32 c.in-I32.held in
     let new = grids.I32 c.write_in_leaf_if-in-I32.new.grid in
     let write = (rw (to_z-of_z w64 c.args.given given) at c.cell_write-in-I32.ensures.write) in
-    let accessor = (rw (to_z-of_z w32 c.args.number number) at c.in-Some-Some.ensures) in
+    let accessor = (rw (to_z-of_z w32 c.args.number number) at c.in-Some.ensures) in
     let done =
     subst (λ (o : Option (Write Scalar)). IsWrittenBy c.in-I32.held.tree.limit c.args.at o (grid_field old) (grid_field new) (Ok tt)) write (c.write_in_leaf_if-in-I32.ensures.written t) in
     rw c.in-I32.is (written_near _ c.args.at _ old new (subst IsSome accessor refl) c.write_in_leaf_if-in-I32.ensures.limit done)
@@ -43,7 +43,7 @@ returns-in-I64-clause-written g c = λ t.
     let old = grids.I64 c.in-I64.held in
     let new = grids.I64 c.write_in_leaf_if-in-I64.new.grid in
     let write = (rw (to_z-of_z w64 c.args.given given) at c.cell_write-in-I64.ensures.write) in
-    let accessor = (rw (to_z-of_z w32 c.args.number number) at c.in-Some-Some.ensures) in
+    let accessor = (rw (to_z-of_z w32 c.args.number number) at c.in-Some.ensures) in
     let done =
     subst (λ (o : Option (Write Scalar)). IsWrittenBy c.in-I64.held.tree.limit c.args.at o (grid_field old) (grid_field new) (Ok tt)) write (c.write_in_leaf_if-in-I64.ensures.written t) in
     rw c.in-I64.is (written_near _ c.args.at (option_map (write_of c.args.on) (value_of I64 c.args.given)) old new (subst IsSome accessor refl) c.write_in_leaf_if-in-I64.ensures.limit done)

@@ -7,7 +7,7 @@ pub invariant_of-self : goal.invariant_of-self
 invariant_of-self g c =
     let b : c.args.k < length c.self.inside.coords = rw c.self.told c.requires in
     let d : c.args.k < length c.self.inside.paths = rw c.self.told2 c.requires in
-    (whole_set _ _ _ _ _ _ b d c.self.invariant.0 c.descend-cell.ensures.whole, unused_set _ _ _ _ _ b c.self.invariant.1)
+    (whole_set _ _ _ _ _ _ b d c.self.invariant.0 c.descend-cell.ensures.whole, unused_set _ _ _ _ _ b c.self.invariant.1, c.self.invariant.2)
 
 pub returns-clause-near : goal.returns-clause-near
 returns-clause-near g c = λ q e b.

@@ -5,7 +5,7 @@ use Rattle.vdb_grid.proofs.grid.Grid.probe.Goals as goal
 
 pub invariant_of-self : goal.invariant_of-self
 invariant_of-self g c =
-    (whole_moved _ _ _ _ _ c.self.invariant.0 (rw (← c.self.view_is) at c.in-Some.ensures.whole), unused_moved _ _ _ _ c.self.invariant.1)
+    (whole_moved _ _ _ _ _ c.self.invariant.0 (rw (← c.self.view_is) at c.in-Some.ensures.whole), unused_moved _ _ _ _ c.self.invariant.1, c.self.invariant.2)
 
 pub returns-in-Some-clause-below : goal.returns-in-Some-clause-below
 returns-in-Some-clause-below g c = λ q e.

@@ -1,5 +1,6 @@
 use Rattle.std.proofs.Common.{List, Option, Some, arith, ap, refl, set-set, slice_set, ◌∙◌}
 use Rattle.vdb_coord.specs.declared.Coord.{Coord}
+use Rattle.vdb_grid.specs.Grid.{GridOf}
 use Rattle.vdb_grid.proofs.grid.Grid.write_by.Goals as goal
 
 pub returns-then-write_near-2-clause-outcome : goal.returns-then-write_near-2-clause-outcome
@@ -55,3 +56,9 @@ returns-clause-leaf g c =
     let e = c.write_near.ensures.untouched c.if-write_near.false in
     let f = c.write_near-2.ensures.untouched c.if-write_near-2.false in
     rw (← e, ← c.go_to.ensures.tree, ← f) c.write.ensures.leaf
+
+pub returns-clause-last : goal.returns-clause-last
+returns-clause-last g c =
+    let e = c.write_near.ensures.untouched c.if-write_near.false in
+    let f = c.write_near-2.ensures.untouched c.if-write_near-2.false in
+    rw (← e) (c.write.ensures.last ∙ ap (λ (grid : GridOf g.row.V.Denot). grid.coords) f ∙ c.go_to.ensures.last)

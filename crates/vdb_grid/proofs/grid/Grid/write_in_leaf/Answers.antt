@@ -2,11 +2,12 @@ use Rattle.std.proofs.Common.{sym, ◌∙◌}
 use Rattle.vdb_coord.specs.Blocks.{vdb}
 use Rattle.vdb_tree.specs.Field.{written}
 use Rattle.vdb_tree.specs.Layout.{field_of}
+use Rattle.vdb_grid.proofs.EachAccessor.{near_kept}
 use Rattle.vdb_grid.proofs.NearLeaves.{near_elsewhere, whole_here}
 use Rattle.vdb_grid.proofs.grid.Grid.write_in_leaf.Goals as goal
 
 pub invariant_of-self : goal.invariant_of-self
-invariant_of-self g c = (λ k p e. c.write_near-written.ensures.paths _ _ (c.self.invariant.0 k p e), c.self.invariant.1)
+invariant_of-self g c = (λ k p e. c.write_near-written.ensures.paths _ _ (c.self.invariant.0 k p e), c.self.invariant.1, near_kept _ _ _ _ c.write_near-written.ensures.paths c.self.invariant.2)
 
 pub returns-clause-alone : goal.returns-clause-alone
 returns-clause-alone g c = λ t. rw (← c.self.view_is) (c.write_near-written.ensures.alone t)
